@@ -1,5 +1,5 @@
 -- The first dot or colon of a network text, and which family it leaves.
-use Rattle.std.proofs.Common.{◌≡◌, ℕ, Bool, true, false, List, [], ◌∷◌, ◌++◌, sym, ap, ◌∙◌, append-nil}
+use Rattle.std.proofs.Common.{◌≡◌, ℕ, Bool, true, false, true≢false, List, [], ◌∷◌, ◌++◌, sym, ap, ◌∙◌, append-nil}
 use Rattle.ipnetwork_addr.specs.Texts.{colon_first}
 use Rattle.ipnetwork_family.specs.Network.{Network}
 use Rattle.ipnetwork_family.specs.NetworkText.{slash, NamesNetwork, Alone, Suffixed}
@@ -17,17 +17,14 @@ first_mark : (w : ℕ) (Names IsSuffix : List ℕ → ℕ → Type 0) (mark : Bo
 first_mark w Names IsSuffix mark law text n (Alone named full) = ap colon_first (sym (append-nil text)) ∙ law text [] n.address named
 first_mark w Names IsSuffix mark law text n (Suffixed address suffix cut named given) = ap colon_first cut ∙ law address (slash ∷ suffix) n.address named
 
-different : true ≡ false → ⊥
-different e = cc
-
 -- a text with a colon first that names no IPv6 network names none
 pub none_with_colon : ((text rest : List ℕ) (address : ℕ) → NamesV4 text address → colon_first (text ++ rest) ≡ false)
     → (text : List ℕ) → colon_first text ≡ true → ((n : Network) → ¬ (NamesV6Network text n)) → (n : IpNetwork) → ¬ (NamesIpNetwork text n)
-none_with_colon law text colon none (V4 n) named = different (sym colon ∙ first_mark 32 NamesV4 IsV4Suffix false law text n named)
+none_with_colon law text colon none (V4 n) named = true≢false (sym colon ∙ first_mark 32 NamesV4 IsV4Suffix false law text n named)
 none_with_colon law text colon none (V6 n) named = none n named
 
 -- one without that names no IPv4 network names none
 pub none_without_colon : ((text rest : List ℕ) (address : ℕ) → NamesV6 text address → colon_first (text ++ rest) ≡ true)
     → (text : List ℕ) → colon_first text ≡ false → ((n : Network) → ¬ (NamesV4Network text n)) → (n : IpNetwork) → ¬ (NamesIpNetwork text n)
 none_without_colon law text no_colon none (V4 n) named = none n named
-none_without_colon law text no_colon none (V6 n) named = different (sym (first_mark 128 NamesV6 IsV6Suffix true law text n named) ∙ no_colon)
+none_without_colon law text no_colon none (V6 n) named = true≢false (sym (first_mark 128 NamesV6 IsV6Suffix true law text n named) ∙ no_colon)

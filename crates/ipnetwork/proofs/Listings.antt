@@ -1,5 +1,5 @@
 -- The list of a network of either family has the members of its set and no others, and it ascends.
-use Rattle.std.proofs.Common.{ℕ, suc, zero, ◌<◌, List, [], ◌∷◌, length, get_or, ap, sym, subst, arith}
+use Rattle.std.proofs.Common.{◌≡◌, ℕ, suc, zero, ◌<◌, List, [], ◌∷◌, length, get_or, ap, sym, subst, arith}
 use Rattle.std.specs.Prelude.{map, Contains}
 use Rattle.std.specs.List.{AllPairs}
 use Rattle.std.proofs.lemmas.List.{get_or-map, length-map}
@@ -19,36 +19,26 @@ image_listed f x (y ∷ ys) (zero, below, at) = (0, omega arith, ap f at)
 image_listed f x (y ∷ ys) (suc k, below, at) =
     let (j, within, is) = image_listed f x ys (k, omega arith, at) in (suc j, omega arith, is)
 
-v4_listed : (x : ℕ) (xs : List ℕ) → Contains (map addresses.V4 xs) (addresses.V4 x) → Contains xs x
-v4_listed x [] (k, below, at) = absurd (omega arith)
-v4_listed x (y ∷ ys) (zero, below, at) = (0, omega arith, cc)
-v4_listed x (y ∷ ys) (suc k, below, at) =
-    let (j, within, is) = v4_listed x ys (k, omega arith, at) in (suc j, omega arith, is)
+-- and where different elements have different images, no others
+listed_back : {A B : Type 0} (f : A → B) → ((x y : A) → f x ≡ f y → x ≡ y) → (x : A) (xs : List A) → Contains (map f xs) (f x) → Contains xs x
+listed_back f one x [] (k, below, at) = absurd (omega arith)
+listed_back f one x (y ∷ ys) (zero, below, at) = (0, omega arith, one y x at)
+listed_back f one x (y ∷ ys) (suc k, below, at) =
+    let (j, within, is) = listed_back f one x ys (k, omega arith, at) in (suc j, omega arith, is)
 
-no_v6_listed : (x : ℕ) (xs : List ℕ) → Contains (map addresses.V4 xs) (addresses.V6 x) → ⊥
-no_v6_listed x [] (k, below, at) = omega arith
-no_v6_listed x (y ∷ ys) (zero, below, at) = cc
-no_v6_listed x (y ∷ ys) (suc k, below, at) = no_v6_listed x ys (k, omega arith, at)
-
-v6_listed : (x : ℕ) (xs : List ℕ) → Contains (map addresses.V6 xs) (addresses.V6 x) → Contains xs x
-v6_listed x [] (k, below, at) = absurd (omega arith)
-v6_listed x (y ∷ ys) (zero, below, at) = (0, omega arith, cc)
-v6_listed x (y ∷ ys) (suc k, below, at) =
-    let (j, within, is) = v6_listed x ys (k, omega arith, at) in (suc j, omega arith, is)
-
-no_v4_listed : (x : ℕ) (xs : List ℕ) → Contains (map addresses.V6 xs) (addresses.V4 x) → ⊥
-no_v4_listed x [] (k, below, at) = omega arith
-no_v4_listed x (y ∷ ys) (zero, below, at) = cc
-no_v4_listed x (y ∷ ys) (suc k, below, at) = no_v4_listed x ys (k, omega arith, at)
+none_listed : {A B : Type 0} (f : A → B) (z : B) → ((x : A) → f x ≡ z → ⊥) → (xs : List A) → Contains (map f xs) z → ⊥
+none_listed f z none [] (k, below, at) = omega arith
+none_listed f z none (y ∷ ys) (zero, below, at) = none y at
+none_listed f z none (y ∷ ys) (suc k, below, at) = none_listed f z none ys (k, omega arith, at)
 
 -- so the list is the set
 pub listed_members : MembersLaw → IpMembersAreListed
 listed_members law (V4 n) (addresses.V4 x) h =
-    ((λ c. (law 32 n h).each x (v4_listed x (members 32 n) c)), (λ m. image_listed addresses.V4 x (members 32 n) ((law 32 n h).all x m)))
-listed_members law (V4 n) (addresses.V6 x) h = ((λ c. no_v6_listed x (members 32 n) c), (λ m. absurd m))
-listed_members law (V6 n) (addresses.V4 x) h = ((λ c. no_v4_listed x (members 128 n) c), (λ m. absurd m))
+    ((λ c. (law 32 n h).each x (listed_back addresses.V4 (λ y z e. cc) x (members 32 n) c)), (λ m. image_listed addresses.V4 x (members 32 n) ((law 32 n h).all x m)))
+listed_members law (V4 n) (addresses.V6 x) h = ((λ c. none_listed addresses.V4 (addresses.V6 x) (λ y e. cc) (members 32 n) c), (λ m. absurd m))
+listed_members law (V6 n) (addresses.V4 x) h = ((λ c. none_listed addresses.V6 (addresses.V4 x) (λ y e. cc) (members 128 n) c), (λ m. absurd m))
 listed_members law (V6 n) (addresses.V6 x) h =
-    ((λ c. (law 128 n h).each x (v6_listed x (members 128 n) c)), (λ m. image_listed addresses.V6 x (members 128 n) ((law 128 n h).all x m)))
+    ((λ c. (law 128 n h).each x (listed_back addresses.V6 (λ y z e. cc) x (members 128 n) c)), (λ m. image_listed addresses.V6 x (members 128 n) ((law 128 n h).all x m)))
 
 -- numbers that ascend are addresses that do
 images_ascend : (address : ℕ → IpAddr) (xs : List ℕ) → ((x y : ℕ) → x < y → IsAddrBefore (address x) (address y)) → AllPairs (λ x y. x < y) xs

@@ -1,5 +1,5 @@
 -- Texts and values at which a misreading of the definitions would show. Each of these computes.
-use Rattle.std.proofs.Common.{◌≡◌, ℕ, ◌^◌, ◌-◌, ◌<◌, true, false, List, [], ◌∷◌, length, None, Some, refl, ap, arith, lit≤}
+use Rattle.std.proofs.Common.{◌≡◌, ℕ, ◌^◌, ◌-◌, ◌<◌, ◌≤◌, true, false, List, [], ◌∷◌, length, None, Some, refl, ap, arith, lit≤}
 use Rattle.std.specs.Prelude.{codes, map, Ok, Err}
 use Rattle.std.specs.Fmt.{digits}
 use Rattle.std.specs.Hash.{le_bytes}
@@ -115,25 +115,14 @@ pub other_family_and_number : ip_writes (V6 1)
 unfolding le_bytes
 other_family_and_number = refl
 
-pub v4_text_first : ip_of (codes "1.2.3.4") ≡ Some (V4 0x01020304)
+pub either_texts : map ip_of (codes "1.2.3.4" ∷ codes "::1.2.3.4" ∷ codes "1.2.3" ∷ [])
+    ≡ Some (V4 0x01020304) ∷ Some (V6 0x01020304) ∷ None ∷ []
 unfolding digits v6_of gap_below
-v4_text_first = refl
+either_texts = refl
 
-pub v6_text_too : ip_of (codes "::1.2.3.4") ≡ Some (V6 0x01020304)
-unfolding digits v6_of gap_below
-v6_text_too = refl
-
-pub neither : ip_of (codes "1.2.3") ≡ None
-unfolding digits v6_of gap_below
-neither = refl
-
-pub v4_of_either : canonical_ip (V4 1) ≡ codes "0.0.0.1"
+pub either_printed : map canonical_ip (V4 1 ∷ V6 1 ∷ []) ≡ codes "0.0.0.1" ∷ codes "::1" ∷ []
 unfolding digits
-v4_of_either = refl
-
-pub v6_of_either : canonical_ip (V6 1) ≡ codes "::1"
-unfolding digits
-v6_of_either = refl
+either_printed = refl
 
 -- ---- what a reader answers
 
@@ -151,62 +140,42 @@ v6_fault_alone h = let e : 0 ≡ 6 = ap kind h.0 in omega (arith, e)
 pub answers : answer_from {A = ℕ} Ipv6 (Some 1) ∷ answer_from Ipv6 None ∷ [] ≡ Ok 1 ∷ Err Ipv6 ∷ []
 answers = refl
 
-pub v4_fault : addr_fault_text Ipv4 ≡ codes "invalid IPv4 address syntax"
-v4_fault = refl
-
-pub v6_fault : addr_fault_text Ipv6 ≡ codes "invalid IPv6 address syntax"
-v6_fault = refl
-
-pub ip_fault : addr_fault_text Ip ≡ codes "invalid IP address syntax"
-ip_fault = refl
+pub faults : map addr_fault_text (Ipv4 ∷ Ipv6 ∷ Ip ∷ [])
+    ≡ codes "invalid IPv4 address syntax" ∷ codes "invalid IPv6 address syntax"
+    ∷ codes "invalid IP address syntax" ∷ []
+faults = refl
 
 -- ---- bytes of addresses
 
+-- each is a dot, a digit or a colon, or a letter of hex
+only : {P : Type 0} (byte : ℕ) → IsAddressByte byte → (byte ≡ 46 → P) → (48 ≤ byte → byte ≤ 58 → P)
+    → (65 ≤ byte → byte ≤ 70 → P) → (97 ≤ byte → byte ≤ 102 → P) → P
+only byte (Digit low high) dot digit upper lower = digit low (omega arith)
+only byte (UpperHex low high) dot digit upper lower = upper low high
+only byte (LowerHex low high) dot digit upper lower = lower low high
+only byte (Dot is) dot digit upper lower = dot is
+only byte (Colon is) dot digit upper lower = digit (omega arith) (omega arith)
+
 pub none_before_the_dot : (byte : ℕ) → byte < 46 → ¬ (IsAddressByte byte)
-none_before_the_dot byte l (Digit low high) = omega (arith, l, low)
-none_before_the_dot byte l (UpperHex low high) = omega (arith, l, low)
-none_before_the_dot byte l (LowerHex low high) = omega (arith, l, low)
-none_before_the_dot byte l (Dot e) = omega (arith, l, e)
-none_before_the_dot byte l (Colon e) = omega (arith, l, e)
+none_before_the_dot byte l h = only byte h (λ is. omega arith) (λ low high. omega arith) (λ low high. omega arith) (λ low high. omega arith)
 
 pub slash_is_none : ¬ (IsAddressByte 47)
-slash_is_none (Digit low high) = omega (arith, low)
-slash_is_none (UpperHex low high) = omega (arith, low)
-slash_is_none (LowerHex low high) = omega (arith, low)
-slash_is_none (Dot e) = omega (arith, e)
-slash_is_none (Colon e) = omega (arith, e)
+slash_is_none h = only 47 h (λ is. omega arith) (λ low high. omega arith) (λ low high. omega arith) (λ low high. omega arith)
 
 pub none_before_the_capitals : (byte : ℕ) → 58 < byte → byte < 65 → ¬ (IsAddressByte byte)
-none_before_the_capitals byte l m (Digit low high) = omega (arith, l, high)
-none_before_the_capitals byte l m (UpperHex low high) = omega (arith, m, low)
-none_before_the_capitals byte l m (LowerHex low high) = omega (arith, m, low)
-none_before_the_capitals byte l m (Dot e) = omega (arith, l, e)
-none_before_the_capitals byte l m (Colon e) = omega (arith, l, e)
+none_before_the_capitals byte l m h = only byte h (λ is. omega arith) (λ low high. omega arith) (λ low high. omega arith) (λ low high. omega arith)
 
 pub none_from_capital_g : (byte : ℕ) → 70 < byte → byte < 97 → ¬ (IsAddressByte byte)
-none_from_capital_g byte l m (Digit low high) = omega (arith, l, high)
-none_from_capital_g byte l m (UpperHex low high) = omega (arith, l, high)
-none_from_capital_g byte l m (LowerHex low high) = omega (arith, m, low)
-none_from_capital_g byte l m (Dot e) = omega (arith, l, e)
-none_from_capital_g byte l m (Colon e) = omega (arith, l, e)
+none_from_capital_g byte l m h = only byte h (λ is. omega arith) (λ low high. omega arith) (λ low high. omega arith) (λ low high. omega arith)
 
 pub none_from_letter_g : (byte : ℕ) → 102 < byte → ¬ (IsAddressByte byte)
-none_from_letter_g byte l (Digit low high) = omega (arith, l, high)
-none_from_letter_g byte l (UpperHex low high) = omega (arith, l, high)
-none_from_letter_g byte l (LowerHex low high) = omega (arith, l, high)
-none_from_letter_g byte l (Dot e) = omega (arith, l, e)
-none_from_letter_g byte l (Colon e) = omega (arith, l, e)
+none_from_letter_g byte l h = only byte h (λ is. omega arith) (λ low high. omega arith) (λ low high. omega arith) (λ low high. omega arith)
 
 -- ---- the first mark of a text
 
-pub colon_before_a_dot : colon_first (codes "1:2.3") ≡ true
-colon_before_a_dot = refl
-
-pub dot_before_a_colon : colon_first (codes "1.2:3") ≡ false
-dot_before_a_colon = refl
-
-pub no_mark : colon_first (codes "12") ≡ false
-no_mark = refl
+pub first_marks : map colon_first (codes "1:2.3" ∷ codes "1.2:3" ∷ codes "12" ∷ [])
+    ≡ true ∷ false ∷ false ∷ []
+first_marks = refl
 
 -- ---- IPv4 texts
 
@@ -265,18 +234,15 @@ pub lower_case_hex : printed (0xabcd ∷ 0xef ∷ 0x10 ∷ 0x100 ∷ 0x1000 ∷ 
 unfolding digits
 lower_case_hex = refl
 
-pub first_of_equal_runs : printed (0 ∷ 0 ∷ 1 ∷ 0 ∷ 0 ∷ 1 ∷ 0 ∷ 0 ∷ []) ≡ codes "::1:0:0:1:0:0"
+-- the first of equal runs is left out, the longest of others, and none of one group
+pub zeros_left_out :
+    map printed (
+      (0 ∷ 0 ∷ 1 ∷ 0 ∷ 0 ∷ 1 ∷ 0 ∷ 0 ∷ [])
+      ∷ (1 ∷ 0 ∷ 0 ∷ 1 ∷ 0 ∷ 0 ∷ 0 ∷ 0 ∷ [])
+      ∷ (8193 ∷ 3512 ∷ 0 ∷ 1 ∷ 1 ∷ 1 ∷ 1 ∷ 1 ∷ []) ∷ [])
+    ≡ codes "::1:0:0:1:0:0" ∷ codes "1:0:0:1::" ∷ codes "2001:db8:0:1:1:1:1:1" ∷ []
 unfolding digits
-first_of_equal_runs = refl
-
-pub longest_run : printed (1 ∷ 0 ∷ 0 ∷ 1 ∷ 0 ∷ 0 ∷ 0 ∷ 0 ∷ []) ≡ codes "1:0:0:1::"
-unfolding digits
-longest_run = refl
-
-pub run_of_one_group : printed (8193 ∷ 3512 ∷ 0 ∷ 1 ∷ 1 ∷ 1 ∷ 1 ∷ 1 ∷ [])
-    ≡ codes "2001:db8:0:1:1:1:1:1"
-unfolding digits
-run_of_one_group = refl
+zeros_left_out = refl
 
 pub mapped_address : printed (0 ∷ 0 ∷ 0 ∷ 0 ∷ 0 ∷ 65535 ∷ 258 ∷ 772 ∷ []) ≡ codes "::ffff:1.2.3.4"
 unfolding digits

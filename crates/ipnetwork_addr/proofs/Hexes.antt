@@ -1,6 +1,7 @@
 -- The shortest hex of a group, digit by digit.
-use Rattle.std.proofs.Common.{◌≡◌, ◌≢◌, false, ℕ, ◌/◌, ◌%◌, ◌<◌, ◌≤◌, List, [], ◌∷◌, ◌++◌, sym, ap, ◌∙◌, arith, append_assoc, append-nil, flat_map, length, get_or, take, drop, take_all, ne_eqb, eq-eqb}
+use Rattle.std.proofs.Common.{◌≡◌, ◌≢◌, false, ℕ, ◌/◌, ◌%◌, ◌^◌, ◌<◌, ◌≤◌, inl, inr, lit≤, List, [], ◌∷◌, ◌++◌, sym, ap, ◌∙◌, arith, append_assoc, append-nil, flat_map, length, get_or, take, drop, take_all, ne_eqb, eq-eqb}
 use Rattle.std.specs.Fmt.{digits, digit_glyph}
+use Rattle.std.proofs.lemmas.Bool.{cases_lt}
 use Rattle.std.proofs.lemmas.Fmt.{hex_one_digit, hex_two_digits}
 use Rattle.ipnetwork_addr.specs.Texts.{colon}
 use Rattle.ipnetwork_addr.specs.Ipv6Canonical.{hex, hex_groups}
@@ -28,6 +29,18 @@ hex_four n low high =
     let top : n / 16 / 16 / 16 % 16 ≡ n / 4096 = omega arith in
     let next : n / 16 / 16 ≡ n / 256 = omega arith in
     rw (ne_eqb (n / 16) 0 first, ne_eqb (n / 16 / 16) 0 second, ne_eqb (n / 16 / 16 / 16) 0 third, eq-eqb (n / 16 / 16 / 16 / 16) 0 fourth, top, next)
+
+pub length-hex-le : (g : ℕ) → g < 2 ^ 16 → length (hex g) ≤ 4
+length-hex-le g fits = elim (cases_lt g 16) [
+  | inl one ↦ rw (hex_one_digit false g one) (lit≤ tt)
+  | inr h ↦ elim (cases_lt g 256) [
+    | inl two ↦ rw (hex_two_digits false g h two) (lit≤ tt)
+    | inr h ↦ elim (cases_lt g 4096) [
+      | inl three ↦ rw (hex_three g h three) (lit≤ tt)
+      | inr h ↦ rw (hex_four g h fits) (lit≤ tt)
+    ]
+  ]
+]
 
 -- a text, after the digits of a group were pushed one at a time
 pub pushed_one : {text one : List ℕ} (n : ℕ) → n < 16 → IsPushed text (glyph n) one → one ≡ text ++ hex n

@@ -56,21 +56,17 @@ ended_part : (text groups : List ℕ) → IsEnded text groups → 0 < length gro
 ended_part text groups (inl h) some = subst (λ (t : List ℕ). IsTextPart groups t None) (sym h.spelled) (plain_part h.parts groups h.named some)
 ended_part text groups (inr h) some = rw (h.spelled, h.value) (dotted_part h.parts h.front h.last h.address h.named h.dotted)
 
+nothing : (text : List ℕ) (parts : List (List ℕ)) → text ≡ join_with_byte colon parts → AllZip IsGroup parts [] → text ≡ []
+nothing text [] e named = e
+nothing text (p ∷ parts) e named = absurd named
+
 right_of : (text groups : List ℕ) → IsEnded text groups → IsRight groups text
-right_of text [] (inl h) = inr (refl, nothing h.parts h.spelled h.named)
-  where
-    nothing : (parts : List (List ℕ)) → text ≡ join_with_byte colon parts → AllZip IsGroup parts [] → text ≡ []
-    nothing [] e named = e
-    nothing (p ∷ parts) e named = absurd named
+right_of text [] (inl h) = inr (refl, nothing text h.parts h.spelled h.named)
 right_of text [] (inr h) = absurd (omega (arith, ap length h.value, length-append h.front (two_groups h.address)))
 right_of text (g ∷ groups) h = inl (ended_part text (g ∷ groups) h (omega arith))
 
 left_of : (text left_text left next : List ℕ) → text ≡ left_text ++ colon ∷ colon ∷ next → IsPlain left_text left → IsLeft left text (Some next)
-left_of text left_text [] next e h = inr (record { next = next; none = refl; spelled = e ∙ ap (λ t. t ++ colon ∷ colon ∷ next) (nothing h.parts h.spelled h.named); ends = refl })
-  where
-    nothing : (parts : List (List ℕ)) → left_text ≡ join_with_byte colon parts → AllZip IsGroup parts [] → left_text ≡ []
-    nothing [] e named = e
-    nothing (p ∷ parts) e named = absurd named
+left_of text left_text [] next e h = inr (record { next = next; none = refl; spelled = e ∙ ap (λ t. t ++ colon ∷ colon ∷ next) (nothing left_text h.parts h.spelled h.named); ends = refl })
 left_of text left_text (g ∷ groups) next e h =
     inl (subst (λ (t : List ℕ). IsTextPart (g ∷ groups) t (Some next)) (sym (e ∙ ap (λ t. t ++ colon ∷ colon ∷ next) h.spelled)) (left_part h.parts (g ∷ groups) next h.named (omega arith)))
 

@@ -1,12 +1,12 @@
 -- The canonical text of an IPv6 address names it, and is one.
 use Rattle.std.proofs.Common.{◌≡◌, ◌↔◌, subst, ℕ, suc, zero, ◌+◌, ◌%◌, ◌^◌, ◌<◌, ◌≤◌, false, List, [], ◌∷◌, ◌++◌, length, map, take, drop, replicate, refl, sym, ap, ◌∙◌, inl, inr, arith, lit≤, take-add, take-append-drop, length-take-le, length-drop}
 use Rattle.std.proofs.Common.{true≢false, eq-eqb, ◌/◌}
-use Rattle.std.proofs.lemmas.Bool.{cases_lt, cond_both, leb-true, leb-false, eqb-true}
+use Rattle.std.proofs.lemmas.Bool.{cond_both, leb-true, leb-false, eqb-true}
 use Rattle.ipnetwork_addr.specs.Texts.{colon}
 use Rattle.ipnetwork_addr.proofs.ZeroRuns.{gap_found, no_gap, run_is_zeros}
 use Rattle.std.specs.List.{AllZip}
 use Rattle.std.specs.Int.Digits.{number_from_digits, AllBelowBase}
-use Rattle.std.proofs.lemmas.Fmt.{digits_is_IsNumeral, hex_one_digit, hex_two_digits}
+use Rattle.std.proofs.lemmas.Fmt.{digits_is_IsNumeral}
 use Rattle.ipnetwork_addr.specs.Digits.{segments_of}
 use Rattle.ipnetwork_addr.specs.Ipv4Text.{canonical_v4}
 use Rattle.ipnetwork_addr.specs.Ipv6Text.{IsGroup, IsPlain, NamesV6, two_groups}
@@ -14,19 +14,7 @@ use Rattle.ipnetwork_addr.specs.Ipv6Canonical.{hex, hex_groups, IsMapped, IsZero
 use Rattle.ipnetwork_addr.specs.Computed.Ipv6Canonical.{gap_among, canonical_v6}
 use Rattle.ipnetwork_addr.proofs.Ipv4Lemmas.{canonical_v4_names}
 use Rattle.ipnetwork_addr.proofs.Ipv6Names.{v6_unique}
-use Rattle.ipnetwork_addr.proofs.Hexes.{hex_three, hex_four}
-
-length-hex-le : (g : ℕ) → g < 2 ^ 16 → length (hex g) ≤ 4
-length-hex-le g fits = elim (cases_lt g 16) [
-  | inl one ↦ rw (hex_one_digit false g one) (lit≤ tt)
-  | inr h ↦ elim (cases_lt g 256) [
-    | inl two ↦ rw (hex_two_digits false g h two) (lit≤ tt)
-    | inr h ↦ elim (cases_lt g 4096) [
-      | inl three ↦ rw (hex_three g h three) (lit≤ tt)
-      | inr h ↦ rw (hex_four g h fits) (lit≤ tt)
-    ]
-  ]
-]
+use Rattle.ipnetwork_addr.proofs.Hexes.{length-hex-le}
 
 hex_is_group : (g : ℕ) → g < 2 ^ 16 → IsGroup (hex g) g
 hex_is_group g fits =

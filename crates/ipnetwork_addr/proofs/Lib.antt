@@ -31,6 +31,7 @@ pub mod PlainOctet
 pub mod Printed
 pub mod SegmentOctets
 pub mod Shifts
+mod Tables
 mod WideDecimals
 pub mod ZeroRuns
 mod ZeroScan

@@ -1,5 +1,5 @@
 -- The octets of an IPv4 text in the lanes of a vector.
-use Rattle.std.proofs.Common.{◌≡◌, ℕ, ◌+◌, ◌-◌, ◌*◌, ◌/◌, ◌%◌, ◌<◌, ◌≤◌, ◌==◌, inl, inr, cond, nat_lt, List, [], ◌∷◌, ◌++◌, length, map, take, drop, get_or, refl, sym, ap, ◌∙◌, subst, arith, lit≤, take-append-drop, ◌^◌, Bool, true, false, T, ltb, ◌&&◌, ◌||◌, replicate, w8, w32, Option, None, Some, IfSome, zero, suc, ap₂, leb}
+use Rattle.std.proofs.Common.{◌≡◌, ℕ, ◌+◌, ◌-◌, ◌*◌, ◌/◌, ◌%◌, ◌<◌, ◌≤◌, ◌==◌, inl, inr, cond, nat_lt, List, [], ◌∷◌, ◌++◌, length, map, take, drop, get_or, refl, sym, ap, ◌∙◌, subst, arith, lit<, lit≤, take-append-drop, ◌^◌, Bool, true, false, T, ltb, ◌&&◌, ◌||◌, replicate, w8, w32, Option, None, Some, IfSome, zero, suc, ap₂, leb}
 use Rattle.std.proofs.lemmas.Bool.{cases_eq, lt-ltb, lt-leb, agree_below_at, cases_lt, ltb-true}
 use Rattle.std.proofs.lemmas.List.{drop_more, drop-drop, drop-take, take-take, take_rest, get_or-map, get_or-take, get_or_past}
 use Rattle.std.proofs.lemmas.Str.{digit_value_digit}
@@ -129,53 +129,33 @@ worth ds i = get_or ds i 0 * 100 + get_or ds (i + 1) 0 * 10 + get_or ds (i + 2) 
 
 module _ (xs : List ℕ) (row : ℕ) (bytes : AreBytes xs) (size : length xs ≡ 16) (known : row < 81)
     (least : AreAtLeast (lanes xs row) (row_least row)) (most : AreAtLeast most_lanes (lanes xs row)) where
+  octet : (at count n : ℕ) → at + count ≤ 16 → 1 ≤ count → count ≤ 3
+      → cond (nat_lt count 3) 0 1 ≤ hundreds xs at count → cond (count == 2) 1 0 ≤ tens xs at count
+      → hundreds xs at count ≤ 9 → tens xs at count ≤ 9 → ones xs at count ≤ 9
+      → n ≡ hundreds xs at count * 100 + tens xs at count * 10 + ones xs at count → n ≤ 255
+      → IsOctet (take count (drop at xs)) n
+  octet at count n within some few first second high middle low number bound =
+      octet_of_lanes xs at count n bytes size some few
+      (record { within = omega (arith, size); first = first; second = second; high = high; middle = middle; low = low; number = number; bound = bound })
+
+  -- what is known of a lane
+  low : (k : ℕ) → T (ltb k 16) → get_or (row_least row) k 0 ≤ get_or (lanes xs row) k 0
+  low k l = least k (lit< l)
+
+  high : (k : ℕ) → T (ltb k 16) → get_or (lanes xs row) k 0 ≤ get_or most_lanes k 0
+  high k l = most k (lit< l)
+
   octets : (n : ℕ → ℕ) → ((i : ℕ) → i < 4 → n i ≡ worth (lanes xs row) (4 * i)) → ((i : ℕ) → i < 4 → n i ≤ 255)
       → AreOctetsOf xs row (n 0 ∷ n 1 ∷ n 2 ∷ n 3 ∷ [])
   octets n is bound =
       record {
-        first = octet_of_lanes xs 0 (first_count row) (n 0) bytes size (omega arith) (omega arith) (record {
-          within = omega arith;
-          first = least 0 (lit≤ tt);
-          second = least 1 (lit≤ tt);
-          high = most 0 (lit≤ tt);
-          middle = most 1 (lit≤ tt);
-          low = most 2 (lit≤ tt);
-          number = is 0 (lit≤ tt);
-          bound = bound 0 (lit≤ tt);
-        });
-        first_dot = dot_at xs (first_count row) bytes size (omega arith) (least 3 (lit≤ tt)) (most 3 (lit≤ tt));
-        second = octet_of_lanes xs (second_at row) (second_count row) (n 1) bytes size (omega arith) (omega arith) (record {
-          within = omega arith;
-          first = least 4 (lit≤ tt);
-          second = least 5 (lit≤ tt);
-          high = most 4 (lit≤ tt);
-          middle = most 5 (lit≤ tt);
-          low = most 6 (lit≤ tt);
-          number = is 1 (lit≤ tt);
-          bound = bound 1 (lit≤ tt);
-        });
-        second_dot = dot_at xs (second_at row + second_count row) bytes size (omega arith) (least 7 (lit≤ tt)) (most 7 (lit≤ tt));
-        third = octet_of_lanes xs (third_at row) (third_count row) (n 2) bytes size (omega arith) (omega arith) (record {
-          within = omega arith;
-          first = least 8 (lit≤ tt);
-          second = least 9 (lit≤ tt);
-          high = most 8 (lit≤ tt);
-          middle = most 9 (lit≤ tt);
-          low = most 10 (lit≤ tt);
-          number = is 2 (lit≤ tt);
-          bound = bound 2 (lit≤ tt);
-        });
-        third_dot = dot_at xs (third_at row + third_count row) bytes size (omega arith) (least 11 (lit≤ tt)) (most 11 (lit≤ tt));
-        fourth = octet_of_lanes xs (fourth_at row) (fourth_count row) (n 3) bytes size (omega arith) (omega arith) (record {
-          within = omega arith;
-          first = least 12 (lit≤ tt);
-          second = least 13 (lit≤ tt);
-          high = most 12 (lit≤ tt);
-          middle = most 13 (lit≤ tt);
-          low = most 14 (lit≤ tt);
-          number = is 3 (lit≤ tt);
-          bound = bound 3 (lit≤ tt);
-        });
+        first = octet 0 (first_count row) (n 0) (omega arith) (omega arith) (omega arith) (low 0 tt) (low 1 tt) (high 0 tt) (high 1 tt) (high 2 tt) (is 0 (lit≤ tt)) (bound 0 (lit≤ tt));
+        first_dot = dot_at xs (first_count row) bytes size (omega arith) (low 3 tt) (high 3 tt);
+        second = octet (second_at row) (second_count row) (n 1) (omega arith) (omega arith) (omega arith) (low 4 tt) (low 5 tt) (high 4 tt) (high 5 tt) (high 6 tt) (is 1 (lit≤ tt)) (bound 1 (lit≤ tt));
+        second_dot = dot_at xs (second_at row + second_count row) bytes size (omega arith) (low 7 tt) (high 7 tt);
+        third = octet (third_at row) (third_count row) (n 2) (omega arith) (omega arith) (omega arith) (low 8 tt) (low 9 tt) (high 8 tt) (high 9 tt) (high 10 tt) (is 2 (lit≤ tt)) (bound 2 (lit≤ tt));
+        third_dot = dot_at xs (third_at row + third_count row) bytes size (omega arith) (low 11 tt) (high 11 tt);
+        fourth = octet (fourth_at row) (fourth_count row) (n 3) (omega arith) (omega arith) (omega arith) (low 12 tt) (low 13 tt) (high 12 tt) (high 13 tt) (high 14 tt) (is 3 (lit≤ tt)) (bound 3 (lit≤ tt));
         four = refl;
       }
 

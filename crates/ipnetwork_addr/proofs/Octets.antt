@@ -1,5 +1,5 @@
 -- The octet that a text begins with.
-use Rattle.std.proofs.Common.{◌≡◌, ℕ, ◌+◌, ◌/◌, ◌%◌, ◌<◌, ◌≤◌, ◌⊎◌, inl, inr, List, [], ◌∷◌, ◌++◌, get_or, decimal, refl, sym, ap, ◌∙◌, arith}
+use Rattle.std.proofs.Common.{◌≡◌, ℕ, ◌+◌, ◌/◌, ◌%◌, ◌<◌, ◌≤◌, ◌⊎◌, inl, inr, List, ◌∷◌, ◌++◌, drop, get_or, decimal, refl, sym, ap, ◌∙◌, arith}
 use Rattle.std.proofs.lemmas.Bool.{cases_lt}
 use Rattle.std.proofs.lemmas.List.{append_cancel_left}
 use Rattle.std.proofs.lemmas.Fmt.{decimal_digit}
@@ -65,9 +65,5 @@ octet_unique text n m r s h k =
 
 pub dotted_octet_unique : (text : List ℕ) (n m : ℕ) (r s : List ℕ) → BeginsWithDottedOctet text n r → BeginsWithDottedOctet text m s → (n ≡ m) × (r ≡ s)
 dotted_octet_unique text n m r s h k =
-    let same : h.after_dot ≡ k.after_dot = ap (λ t. tail t) (sym h.dotted ∙ k.dotted) in
+    let same : h.after_dot ≡ k.after_dot = ap (drop 1) (sym h.dotted ∙ k.dotted) in
     octet_unique k.after_dot n m r s (rw same at h.begins) k.begins
-  where
-    tail : List ℕ → List ℕ
-    tail [] = []
-    tail (x ∷ xs) = xs

@@ -148,31 +148,28 @@ no_room {text} {rest} {count} {number} {room} s full = none_on s go
     go [] end p = absurd p
     go (g ∷ more) end p = omega arith
 
--- behind a group stands neither the end, a colon nor a dot
-pub no_other_byte : {text rest after : List ℕ} {count number g room : ℕ} → PartSoFar text rest count number → BeginsWithGroup rest g after → after ≢ [] → ((r : List ℕ) → after ≢ colon ∷ r) → ((r : List ℕ) → after ≢ dot ∷ r) → NoPart room text
-no_other_byte {text} {rest} {after} {count} {number} {g} {room} s b some no_colon no_dot =
+-- behind a group stands neither the end nor a colon, and no IPv4 text of which there is a part
+no_part_at_dot : {text rest after : List ℕ} {count number g room : ℕ} → PartSoFar text rest count number → BeginsWithGroup rest g after → after ≢ [] → ((r : List ℕ) → after ≢ colon ∷ r)
+    → ((more next : List ℕ) (address : ℕ) → after ≡ dot ∷ next → NamesV4 rest address → more ≡ two_groups address → room < count + length more)
+    → NoPart room text
+no_part_at_dot {text} {rest} {after} {count} {number} {g} {room} s b some no_colon none =
     none_on s λ more end p. elim (kind_of more rest end g after b p) [
       | IsLast e _ _ ↦ absurd (some e)
-      | IsDot _ m e _ _ _ ↦ absurd (no_dot m e)
+      | IsDot address next e named is_more _ ↦ none more next address e named is_more
       | IsGap m e _ _ ↦ absurd (no_colon (colon ∷ m) e)
       | IsNext m _ e _ _ ↦ absurd (no_colon m e)
     ]
+
+-- behind a group stands neither the end, a colon nor a dot
+pub no_other_byte : {text rest after : List ℕ} {count number g room : ℕ} → PartSoFar text rest count number → BeginsWithGroup rest g after → after ≢ [] → ((r : List ℕ) → after ≢ colon ∷ r) → ((r : List ℕ) → after ≢ dot ∷ r) → NoPart room text
+no_other_byte s b some no_colon no_dot =
+    no_part_at_dot s b some no_colon (λ more next address e named is_more. absurd (no_dot next e))
 
 -- behind a group stands a dot, but there is no IPv4 text, or no room for one
 pub no_dotted : {text rest after : List ℕ} {count number g room : ℕ} → PartSoFar text rest count number → BeginsWithGroup rest g after → after ≢ [] → ((r : List ℕ) → after ≢ colon ∷ r) → NamesNoV4 rest → NoPart room text
-no_dotted {text} {rest} {after} {count} {number} {g} {room} s b some no_colon none =
-    none_on s λ more end p. elim (kind_of more rest end g after b p) [
-      | IsLast e _ _ ↦ absurd (some e)
-      | IsDot address _ _ named _ _ ↦ absurd (none address named)
-      | IsGap m e _ _ ↦ absurd (no_colon (colon ∷ m) e)
-      | IsNext m _ e _ _ ↦ absurd (no_colon m e)
-    ]
+no_dotted s b some no_colon none =
+    no_part_at_dot s b some no_colon (λ more next address e named is_more. absurd (none address named))
 
 pub no_room_dotted : {text rest after : List ℕ} {count number g room : ℕ} → PartSoFar text rest count number → BeginsWithGroup rest g after → after ≢ [] → ((r : List ℕ) → after ≢ colon ∷ r) → room < count + 2 → NoPart room text
 no_room_dotted {text} {rest} {after} {count} {number} {g} {room} s b some no_colon full =
-    none_on s λ more end p. elim (kind_of more rest end g after b p) [
-      | IsLast e _ _ ↦ absurd (some e)
-      | IsDot address _ _ named is_more _ ↦ omega (arith, ap length is_more)
-      | IsGap m e _ _ ↦ absurd (no_colon (colon ∷ m) e)
-      | IsNext m _ e _ _ ↦ absurd (no_colon m e)
-    ]
+    no_part_at_dot s b some no_colon (λ more next address e named is_more. omega (arith, ap length is_more))

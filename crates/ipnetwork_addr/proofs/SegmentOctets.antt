@@ -1,5 +1,5 @@
 -- The octets of segments, by the address that they make up.
-use Rattle.std.proofs.Common.{◌≡◌, ℕ, zero, suc, ◌+◌, ◌*◌, ◌/◌, ◌%◌, ◌^◌, ◌<◌, List, [], ◌∷◌, ◌++◌, length, take, get_or, refl, sym, ap, ◌∙◌, arith, lit<}
+use Rattle.std.proofs.Common.{◌≡◌, ℕ, zero, suc, ◌+◌, ◌*◌, ◌/◌, ◌%◌, ◌^◌, ◌<◌, List, [], ◌∷◌, ◌++◌, take, get_or, refl, sym, ap, ◌∙◌, arith, lit<}
 use Rattle.std.specs.Hash.{le_bytes}
 use Rattle.std.specs.Int.{byte_at, bytes_low_first}
 use Rattle.std.proofs.Math.Nat.{div-div-eq-div-mul}
@@ -31,30 +31,34 @@ segment_octets n d count h =
     ∙ ap (λ b. d % 256 ∷ b ∷ bytes_low_first 2 count (n * 65536 + d)) high
     ∙ ap (λ bs. d % 256 ∷ d / 256 ∷ bs) (octets_before n d 0 count h)
 
--- the octets of the last of the first segments, and those of the segments before it
-last_octets : (xs : List ℕ) (count bytes : ℕ) → count < length xs → get_or xs count 0 < 65536
-    → bytes_low_first 0 (suc (suc bytes)) (number_of_segments (take (count + 1) xs)) ≡ get_or xs count 0 % 256 ∷ get_or xs count 0 / 256 ∷ bytes_low_first 0 bytes (number_of_segments (take count xs))
-last_octets xs count bytes within fit =
-    ap (bytes_low_first 0 (suc (suc bytes))) (number_more 65536 xs count within) ∙ segment_octets (number_of_segments (take count xs)) (get_or xs count 0) bytes fit
+-- the octets of eight segments, by those of the last one and of what stands before it
+by_segments : (octets : ℕ → ℕ → List ℕ) (pair : ℕ → List ℕ → List ℕ) → ((n d count : ℕ) → d < 65536 → octets (suc (suc count)) (n * 65536 + d) ≡ pair d (octets count n))
+    → (xs : List ℕ) → AreSegments xs
+    → octets 16 (number_of_segments xs)
+    ≡ pair (get_or xs 7 0) (pair (get_or xs 6 0) (pair (get_or xs 5 0) (pair (get_or xs 4 0) (pair (get_or xs 3 0) (pair (get_or xs 2 0)
+    (pair (get_or xs 1 0) (pair (get_or xs 0 0) (octets 0 (number_of_segments (take 0 xs))))))))))
+by_segments octets pair one xs h =
+    ap (λ l. octets 16 (number_of_segments l)) (sym (take_all 8 xs (omega (arith, h.eight))))
+    ∙ last 7 14 (lit< tt)
+    ∙ ap (pair (get_or xs 7 0)) (last 6 12 (lit< tt)
+    ∙ ap (pair (get_or xs 6 0)) (last 5 10 (lit< tt)
+    ∙ ap (pair (get_or xs 5 0)) (last 4 8 (lit< tt)
+    ∙ ap (pair (get_or xs 4 0)) (last 3 6 (lit< tt)
+    ∙ ap (pair (get_or xs 3 0)) (last 2 4 (lit< tt)
+    ∙ ap (pair (get_or xs 2 0)) (last 1 2 (lit< tt)
+    ∙ ap (pair (get_or xs 1 0)) (last 0 0 (lit< tt))))))))
+  where
+    last : (count bytes : ℕ) → count < 8 → octets (suc (suc bytes)) (number_of_segments (take (count + 1) xs)) ≡ pair (get_or xs count 0) (octets bytes (number_of_segments (take count xs)))
+    last count bytes within =
+        ap (octets (suc (suc bytes))) (number_more 65536 xs count (omega (arith, h.eight)))
+        ∙ one (number_of_segments (take count xs)) (get_or xs count 0) bytes (h.each count)
 
 pub segments_octets : (xs : List ℕ) → AreSegments xs
     → get_or xs 7 0 % 256 ∷ get_or xs 7 0 / 256 ∷ get_or xs 6 0 % 256 ∷ get_or xs 6 0 / 256 ∷ get_or xs 5 0 % 256 ∷ get_or xs 5 0 / 256 ∷ get_or xs 4 0 % 256 ∷ get_or xs 4 0 / 256
     ∷ get_or xs 3 0 % 256 ∷ get_or xs 3 0 / 256 ∷ get_or xs 2 0 % 256 ∷ get_or xs 2 0 / 256 ∷ get_or xs 1 0 % 256 ∷ get_or xs 1 0 / 256 ∷ get_or xs 0 0 % 256 ∷ get_or xs 0 0 / 256 ∷ []
     ≡ le_bytes 16 (number_of_segments xs)
 unfolding le_bytes
-segments_octets xs h =
-    let last : (count bytes : ℕ) → count < 8 → bytes_low_first 0 (suc (suc bytes)) (number_of_segments (take (count + 1) xs)) ≡ get_or xs count 0 % 256 ∷ get_or xs count 0 / 256 ∷ bytes_low_first 0 bytes (number_of_segments (take count xs)) =
-    λ count bytes within. last_octets xs count bytes (omega (arith, h.eight)) (h.each count) in
-    let pair : ℕ → List ℕ → List ℕ = λ i bs. get_or xs i 0 % 256 ∷ get_or xs i 0 / 256 ∷ bs in
-    sym (ap (λ l. bytes_low_first 0 16 (number_of_segments l)) (sym (take_all 8 xs (omega (arith, h.eight))))
-    ∙ last 7 14 (lit< tt)
-    ∙ ap (pair 7) (last 6 12 (lit< tt)
-    ∙ ap (pair 6) (last 5 10 (lit< tt)
-    ∙ ap (pair 5) (last 4 8 (lit< tt)
-    ∙ ap (pair 4) (last 3 6 (lit< tt)
-    ∙ ap (pair 3) (last 2 4 (lit< tt)
-    ∙ ap (pair 2) (last 1 2 (lit< tt)
-    ∙ ap (pair 1) (last 0 0 (lit< tt)))))))))
+segments_octets xs h = sym (by_segments (bytes_low_first 0) (λ d bs. d % 256 ∷ d / 256 ∷ bs) segment_octets xs h)
 
 -- ---- the highest first
 
@@ -72,18 +76,4 @@ pub segments_octets_high : (xs : List ℕ) → AreSegments xs
     → get_or xs 0 0 / 256 ∷ get_or xs 0 0 % 256 ∷ get_or xs 1 0 / 256 ∷ get_or xs 1 0 % 256 ∷ get_or xs 2 0 / 256 ∷ get_or xs 2 0 % 256 ∷ get_or xs 3 0 / 256 ∷ get_or xs 3 0 % 256
     ∷ get_or xs 4 0 / 256 ∷ get_or xs 4 0 % 256 ∷ get_or xs 5 0 / 256 ∷ get_or xs 5 0 % 256 ∷ get_or xs 6 0 / 256 ∷ get_or xs 6 0 % 256 ∷ get_or xs 7 0 / 256 ∷ get_or xs 7 0 % 256 ∷ []
     ≡ octets_of_v6 (number_of_segments xs)
-segments_octets_high xs h =
-    let pair : ℕ → List ℕ → List ℕ = λ i bs. (bs ++ get_or xs i 0 / 256 ∷ []) ++ get_or xs i 0 % 256 ∷ [] in
-    let last : (count bytes : ℕ) → count < 8 → digits_in 256 (suc (suc bytes)) (number_of_segments (take (count + 1) xs)) ≡ pair count (digits_in 256 bytes (number_of_segments (take count xs))) =
-    λ count bytes within.
-    ap (digits_in 256 (suc (suc bytes))) (number_more 65536 xs count (omega (arith, h.eight)))
-    ∙ digits_of_segment (number_of_segments (take count xs)) (get_or xs count 0) bytes (h.each count) in
-    sym (ap (λ l. digits_in 256 16 (number_of_segments l)) (sym (take_all 8 xs (omega (arith, h.eight))))
-    ∙ last 7 14 (lit< tt)
-    ∙ ap (pair 7) (last 6 12 (lit< tt)
-    ∙ ap (pair 6) (last 5 10 (lit< tt)
-    ∙ ap (pair 5) (last 4 8 (lit< tt)
-    ∙ ap (pair 4) (last 3 6 (lit< tt)
-    ∙ ap (pair 3) (last 2 4 (lit< tt)
-    ∙ ap (pair 2) (last 1 2 (lit< tt)
-    ∙ ap (pair 1) (last 0 0 (lit< tt)))))))))
+segments_octets_high xs h = sym (by_segments (digits_in 256) (λ d bs. (bs ++ d / 256 ∷ []) ++ d % 256 ∷ []) digits_of_segment xs h)

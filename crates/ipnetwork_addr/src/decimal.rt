@@ -13,6 +13,7 @@ use arrayvec::ArrayString;
 /// decimal::push_decimal(&mut text, 207);
 /// assert_eq!(rt; text.as_str(), "207");
 /// ```
+#[tactic(auto, using(crate::proofs::Decimals::pushing))]
 pub fn push_decimal<const N: usize>(text: &mut ArrayString<N>, number: u8)
     requires { array_string_len text.old + 3 ≤ N }
     ensures bytes { text.new.bytes ≡ text.old.bytes ++ decimal number }
@@ -95,6 +96,7 @@ fn digit_count(number: u64) -> u8
 }
 
 /// Writes the last digits of a number, this many, zeros among them.
+#[tactic(auto, using(crate::proofs::Decimals::pushing))]
 fn push_padded<const N: usize>(text: &mut ArrayString<N>, number: u64, count: u8)
     requires { array_string_len text.old + count ≤ N }
     ensures bytes { text.new.bytes ≡ text.old.bytes ++ padded_decimal count number }

@@ -1,18 +1,12 @@
-use Rattle.std.proofs.Common.{◌≡◌, ℕ, ◌<◌, ◌==◌, true, cond, get_or, refl, ap, ◌∙◌}
-use Rattle.std.proofs.lemmas.Bool.{agree_below_at, eqb-true}
+use Rattle.std.proofs.Common.{◌==◌, cond, refl}
 use Rattle.ipnetwork_addr.specs.Texts.{dot}
 use Rattle.ipnetwork_addr.specs.declared.decimal_value.TheConstants.{FACTORS}
 use Rattle.ipnetwork_addr.proofs.FirstDigits.{factor_bound}
+use Rattle.ipnetwork_addr.proofs.Tables.{entry}
 use Rattle.ipnetwork_addr.proofs.decimal_value.factor_before.Goals as goal
 
--- each entry of the table, by computing all of them
-entry : (byte at : ℕ) → byte < 256 → at ≡ byte → get_or FACTORS at 0 ≡ cond (byte == dot) 1 10
-entry byte at fits is =
-    ap (λ b. get_or FACTORS b 0) is
-    ∙ eqb-true _ _ (agree_below_at (λ b. get_or FACTORS b 0 == cond (b == dot) 1 10) (λ _. true) 256 byte refl fits)
-
 pub returns-clause-value : goal.returns-clause-value
-returns-clause-value c = entry c.args.byte _ c.ranges.byte.fits c.from.ensures
+returns-clause-value c = entry FACTORS (λ byte. cond (byte == dot) 1 10) 256 refl c.args.byte _ c.ranges.byte.fits c.from.ensures
 
 pub returns-clause-bound : goal.returns-clause-bound
-returns-clause-bound c = factor_bound c.args.byte _ (entry c.args.byte _ c.ranges.byte.fits c.from.ensures)
+returns-clause-bound c = factor_bound c.args.byte _ (entry FACTORS (λ byte. cond (byte == dot) 1 10) 256 refl c.args.byte _ c.ranges.byte.fits c.from.ensures)

@@ -1,0 +1,20 @@
+-- What tables have, by computing all of it.
+use Rattle.std.proofs.Common.{◌≡◌, ℕ, ◌<◌, ◌==◌, true, List, [], get_or, refl, ap, ◌∙◌}
+use Rattle.std.specs.Cmp.Lexicographic.{pointwise}
+use Rattle.std.proofs.lemmas.Bool.{agree_below, agree_below_at, eqb-true}
+use Rattle.std.proofs.lemmas.Bool.Decides.{Decides-eqb}
+use Rattle.std.proofs.lemmas.Slice.Eq.{slice_eq-Decides}
+
+-- an entry
+pub entry : (table : List ℕ) (value : ℕ → ℕ) (size : ℕ) → agree_below (λ k. get_or table k 0 == value k) (λ _. true) size ≡ true
+    → (k at : ℕ) → k < size → at ≡ k → get_or table at 0 ≡ value k
+entry table value size all k at below is =
+    ap (λ j. get_or table j 0) is ∙ eqb-true _ _ (agree_below_at (λ j. get_or table j 0 == value j) (λ _. true) size k all below)
+
+-- a row of a table of rows
+pub row : (table : List (List ℕ)) (value : ℕ → List ℕ) (size : ℕ) → agree_below (λ k. pointwise ◌==◌ (get_or table k []) (value k)) (λ _. true) size ≡ true
+    → (k at : ℕ) → k < size → at ≡ k → get_or table at [] ≡ value k
+row table value size all k at below is =
+    ap (λ j. get_or table j []) is
+    ∙ (slice_eq-Decides Decides-eqb (get_or table k []) (value k) _ refl).0
+    (agree_below_at (λ j. pointwise ◌==◌ (get_or table j []) (value j)) (λ _. true) size k all below)
