@@ -1,13 +1,14 @@
 -- How a run ends that looks lists over.
-use Rattle.std.proofs.Common.{◌≡◌, ◌+◌, ◌||◌, ◌≤◌, ◌∙◌, ℕ, Bool, true, false, not, List, [], ◌∷◌}
-use Rattle.std.proofs.Common.{◌++◌, refl, sym, ap, subst, arith, inl, inr, length, take, drop}
-use Rattle.std.proofs.Common.{length-take}
-use Rattle.std.specs.Prelude.{if◌then◌else◌, Option, None, Some, Result, Ok, Err, OnOk, IsFalse}
-use Rattle.std.specs.Prelude.{is_err, String}
+use Rattle.std.proofs.Common.{◌≡◌, ◌+◌, ◌-◌, ◌||◌, ◌≤◌, ◌∙◌, ℕ, Bool, true, false, not, List, []}
+use Rattle.std.proofs.Common.{◌∷◌, ◌++◌, refl, sym, ap, subst, arith, inl, inr, length, take, drop}
+use Rattle.std.proofs.Common.{length-take, map}
+use Rattle.std.specs.Prelude.{◌⊎◌, if◌then◌else◌, Option, None, Some, Result, Ok, Err, OnOk}
+use Rattle.std.specs.Prelude.{IsFalse, is_err, String}
 use Rattle.std.specs.List.{concat}
 use Rattle.std.specs.Io.KnownBytes.{Appends}
 use Rattle.std.proofs.KnownBytes.{Appends-trans}
 use Rattle.std.proofs.Math.Dec.{eqb-suc-zero}
+use Rattle.std.proofs.lemmas.List.{take_rest}
 use Rattle.lines.specs.Outputs.{Written, Puts}
 use Rattle.lines.specs.declared.fault.RunFault.{RunFault}
 use Rattle.lists.specs.KnownLists.{KnownLists}
@@ -19,10 +20,11 @@ use Rattle.program.specs.Usage.{usage_text}
 use Rattle.cidr_merge.specs.CommandLines.{options_len, options_of, lists_of}
 use Rattle.cidr_merge.specs.Findings.{ListsFindings, IsFound}
 use Rattle.cidr_merge.specs.InspectionRuns.{findings_status, EndsChecking, EndsFinding, EndsUnless}
-use Rattle.cidr_merge.specs.InspectionRuns.{EndsInspecting}
+use Rattle.cidr_merge.specs.InspectionRuns.{EndsInspecting, WritesFindings}
 use Rattle.cidr_merge.specs.Inspections.{inspection_fault}
 use Rattle.cidr_merge.specs.Texts.{AreTexts, TextsStop}
 use Rattle.cidr_merge.specs.Problems.{problem_text}
+use Rattle.cidr_merge.specs.Writing.{FailsToWrite}
 use Rattle.cidr_merge.specs.declared.inspections.Inspection.{Inspection}
 use Rattle.cidr_merge.specs.declared.usage.UsageFault.{UsageFault}
 
@@ -51,6 +53,26 @@ written_all held mid holds waited waits text p h =
     subst (λ (t : List ℕ). Appends held holds t) (sym p.2)
     (Appends-trans held mid holds p.0 waits p.1 h)
 
+pub findings_written : {W E T : Type 0} (findings : List (List ℕ)) (end : Ending W E)
+    (mid : Written W) (written : Result T RunFault) (found : Bool) (status : ℕ)
+    → Tells end.output mid (concat findings)
+    → IsFound findings found → status ≡ (if found then 1 else 0)
+    → OnOk written (Appends mid.holds end.output_after.holds mid.waits)
+    → OnOk written (IsFalse end.output_after.failed)
+    → end.output_after.failed ≡ (mid.failed || is_err written)
+    → end.status ≡ status_of written status → Tells end.errors end.errors_after (end_text written)
+    → FailsToWrite end ⊎ WritesFindings findings end
+findings_written findings end mid (Ok done) found status tells f s wrote works failed is told =
+    let prints = tells.told (works_before mid.failed end.output_after.failed failed works) in
+    inr (
+      written_all end.output.holds mid.holds end.output_after.holds end.output.waits mid.waits
+          (concat findings) prints wrote,
+      told,
+      is ∙ s ∙ status_is findings found f,
+    )
+findings_written findings end mid (Err fault) found status tells f s wrote works failed is told =
+    inl (fails_now mid.failed end.output_after.failed failed, told, is)
+
 pub checked : {Z W E T : Type 0} (names : List (String Z)) (texts : List (List ℕ))
     (end : Ending W E) (mid : Written W) (written : Result T RunFault) (found : Bool) (status : ℕ)
     → ((findings : List (List ℕ)) × ListsFindings false names texts findings
@@ -61,42 +83,44 @@ pub checked : {Z W E T : Type 0} (names : List (String Z)) (texts : List (List �
     → end.output_after.failed ≡ (mid.failed || is_err written)
     → end.status ≡ status_of written status → Tells end.errors end.errors_after (end_text written)
     → EndsChecking names texts end
-checked names texts end mid (Ok done) found status h s wrote works failed is told =
-    let prints = h.2.told (works_before mid.failed end.output_after.failed failed works) in
-    inr (
-      h.0,
-      h.1,
-      (
-        written_all end.output.holds mid.holds end.output_after.holds end.output.waits mid.waits
-            (concat h.0) prints wrote,
-        told,
-        is ∙ s ∙ status_is h.0 found h.3,
-      ),
-    )
-checked names texts end mid (Err fault) found status h s wrote works failed is told =
-    inl (fails_now mid.failed end.output_after.failed failed, told, is)
+checked names texts end mid written found status h s wrote works failed is told =
+    elim (findings_written h.0 end mid written found status h.2 h.3 s wrote works failed is told) [
+      | inl fails ↦ inl fails
+      | inr writes ↦ inr (h.0, h.1, writes)
+    ]
 
 -- ---- what the words say
 
-module _ {Z : Type 0} (words others options names : List (String Z)) (count : ℕ)
-    (o : others ≡ drop 1 words) (n : count ≡ options_len false others)
-    (p : options ≡ take count others) (q : names ≡ drop count others) where
-  options_are : options ≡ options_of words
-  options_are = p ∙ ap (λ k. take k others) n ∙ ap (λ l. take (options_len false l) l) o
+-- the words after the first, and those of them from a place on
+abbrev pub others_of : {Z : Type 0} → List (String Z) → List (String Z)
+others_of words = take (length words - 1) (drop 1 words)
 
-  names_are : names ≡ lists_of words
-  names_are = q ∙ ap (λ k. drop k others) n ∙ ap (λ l. drop (options_len false l) l) o
+abbrev pub names_from : {Z : Type 0} → ℕ → List (String Z) → List (String Z)
+names_from count words = take (length (others_of words) - count) (drop count (others_of words))
+
+module _ {Z : Type 0} (words : List (String Z)) (count : ℕ)
+    (n : count ≡ options_len false (others_of words)) where
+  options_are : take count (others_of words) ≡ options_of words
+  options_are =
+      ap (λ k. take k (others_of words)) n
+      ∙ ap (λ l. take (options_len false l) l) (take_rest words 1)
+
+  names_are : names_from count words ≡ lists_of words
+  names_are =
+      take_rest (others_of words) count ∙ ap (λ k. drop k (others_of words)) n
+      ∙ ap (λ l. drop (options_len false l) l) (take_rest words 1)
 
   fault_is : (inspection : Inspection)
-      → inspection_fault inspection (options_of words)
-      (lists_of words) ≡ inspection_fault inspection options names
+      → inspection_fault inspection (options_of words) (lists_of words)
+      ≡ inspection_fault inspection (take count (others_of words)) (names_from count words)
   fault_is inspection =
       sym (ap (λ os. inspection_fault inspection os (lists_of words)) options_are)
-      ∙ sym (ap (λ ns. inspection_fault inspection options ns) names_are)
+      ∙ sym (ap (λ ns. inspection_fault inspection (take count (others_of words)) ns) names_are)
 
   module _ {W E : Type 0} (program usage : List ℕ) (known : KnownLists) (inspection : Inspection)
       (end : Ending W E) (result : Option UsageFault)
-      (r : result ≡ inspection_fault inspection options names) where
+      (r : result ≡ inspection_fault inspection (take count (others_of words))
+      (names_from count words)) where
     -- something is wrong with them
     pub refused : (fault : UsageFault) → result ≡ Some fault
         → Refuses (usage_text program usage words fault.subject
@@ -106,12 +130,13 @@ module _ {Z : Type 0} (words others options names : List (String Z)) (count : �
         subst (λ f. EndsUnless program usage known words inspection f end)
         (sym e ∙ r ∙ sym (fault_is inspection)) h
 
-    number_is : count ≤ length others → 1 + count ≡ 1 + length (options_of words)
-    number_is l = omega (arith, l, length-take count others, ap length p, ap length options_are)
+    number_is : count ≤ length (others_of words) → 1 + count ≡ 1 + length (options_of words)
+    number_is l = omega (arith, l, length-take count (others_of words), ap length options_are)
 
     -- a list was not read
-    pub stopped : (fault : ReadFault) → result ≡ None → count ≤ length others
-        → TextsStop known (1 + count) names fault → Refuses (fault_text words fault) end
+    pub stopped : (fault : ReadFault) → result ≡ None → count ≤ length (others_of words)
+        → TextsStop known (1 + count) (names_from count words) fault
+        → Refuses (fault_text words fault) end
         → EndsInspecting program usage known words inspection end
     stopped fault e l stops h =
         subst (λ f. EndsUnless program usage known words inspection f end)
@@ -120,19 +145,23 @@ module _ {Z : Type 0} (words others options names : List (String Z)) (count : �
           fault,
           subst (λ ns. TextsStop known (1 + length
               (options_of words)) ns fault) names_are (subst
-              (λ (k : ℕ). TextsStop known k names fault) (number_is l) stops),
+              (λ (k : ℕ). TextsStop known k (names_from count words) fault) (number_is l) stops),
           h,
         ))
 
     -- all were
-    pub read : (texts : List (List ℕ)) → result ≡ None → AreTexts known names texts
-        → EndsFinding inspection names texts end
+    pub read : {X : Type 0} (texts held : List X) (items : X → List ℕ) (kind : Inspection)
+        → inspection ≡ kind → held ≡ texts → result ≡ None
+        → AreTexts known (names_from count words) (map items texts)
+        → EndsFinding kind (names_from count words) (map items held) end
         → EndsInspecting program usage known words inspection end
-    read texts e are h =
+    read texts held items kind k t e are h =
         subst (λ f. EndsUnless program usage known words inspection f end)
         (sym e ∙ r ∙ sym (fault_is inspection))
         (inr (
-          texts,
-          subst (λ ns. AreTexts known ns texts) names_are are,
-          subst (λ ns. EndsFinding inspection ns texts end) names_are h,
+          map items texts,
+          subst (λ ns. AreTexts known ns (map items texts)) names_are are,
+          subst (λ ns. EndsFinding inspection ns (map items texts) end) names_are
+              (subst (λ i. EndsFinding i (names_from count words) (map items texts) end) (sym k)
+              (subst (λ ts. EndsFinding kind (names_from count words) (map items ts) end) t h)),
         ))

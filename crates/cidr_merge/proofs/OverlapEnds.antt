@@ -1,6 +1,6 @@
 -- How a run ends that tells what is found in entries in order.
 use Rattle.std.proofs.Common.{◌≡◌, ◌||◌, ◌∙◌, ℕ, Bool, List, ◌++◌, ap, inl, inr, map}
-use Rattle.std.specs.Prelude.{◌⊎◌, if◌then◌else◌, Result, Ok, Err, OnOk, IsFalse, is_err, String}
+use Rattle.std.specs.Prelude.{◌⊎◌, if◌then◌else◌, Result, OnOk, IsFalse, is_err, String}
 use Rattle.std.specs.List.{concat}
 use Rattle.std.specs.Io.KnownBytes.{Appends}
 use Rattle.lines.specs.Outputs.{Written}
@@ -15,28 +15,7 @@ use Rattle.cidr_merge.specs.Repetitions.{found_among}
 use Rattle.cidr_merge.specs.Writing.{FailsToWrite}
 use Rattle.cidr_merge.specs.declared.placed.Placed.{Placed}
 use Rattle.cidr_merge.proofs.Checks.{tells_findings, found_more}
-use Rattle.cidr_merge.proofs.Inspected.{works_before, fails_now, written_all, status_is}
-
--- what was found is written
-pub findings_written : {W E T : Type 0} (findings : List (List ℕ)) (end : Ending W E)
-    (mid : Written W) (written : Result T RunFault) (found : Bool) (status : ℕ)
-    → Tells end.output mid (concat findings)
-    → IsFound findings found → status ≡ (if found then 1 else 0)
-    → OnOk written (Appends mid.holds end.output_after.holds mid.waits)
-    → OnOk written (IsFalse end.output_after.failed)
-    → end.output_after.failed ≡ (mid.failed || is_err written)
-    → end.status ≡ status_of written status → Tells end.errors end.errors_after (end_text written)
-    → FailsToWrite end ⊎ WritesFindings findings end
-findings_written findings end mid (Ok done) found status tells f s wrote works failed is told =
-    let prints = tells.told (works_before mid.failed end.output_after.failed failed works) in
-    inr (
-      written_all end.output.holds mid.holds end.output_after.holds end.output.waits mid.waits
-          (concat findings) prints wrote,
-      told,
-      is ∙ s ∙ status_is findings found f,
-    )
-findings_written findings end mid (Err fault) found status tells f s wrote works failed is told =
-    inl (fails_now mid.failed end.output_after.failed failed, told, is)
+use Rattle.cidr_merge.proofs.Inspected.{findings_written}
 
 module _ {Z W E T : Type 0} (strictly : Bool) (names : List (String Z)) (texts : List (List ℕ))
     (entries held : List Placed) (is_held : held ≡ entries) (end : Ending W E)

@@ -1,13 +1,19 @@
 -- How a run ends.
 use Rattle.lines.specs.Outputs.{Written}
-use Rattle.std.proofs.Common.{◌≡◌, ◌==◌, ◌∙◌, ℕ, List, Bool, not, sym, subst, inl, inr, length}
-use Rattle.std.specs.Prelude.{Option, None, Some, Result, Ok, Err, OnOk, IfErr, String, slice_range}
+use Rattle.std.proofs.Common.{◌≡◌, ◌==◌, ◌∙◌, ℕ, List, Bool, false, not, codes, sym, ap, subst, inl}
+use Rattle.std.proofs.Common.{inr, length}
+use Rattle.std.specs.Prelude.{if◌then◌else◌, Option, None, Some, Result, Ok, Err, OnOk, IfErr}
+use Rattle.std.specs.Prelude.{is_err, String, slice_range}
 use Rattle.lists.specs.Lists.{nothing_read}
 use Rattle.lists.specs.Refusals.{Refused, no_refusals}
 use Rattle.program.specs.Endings.{Ending, IsSilent}
 use Rattle.lists.specs.KnownLists.{KnownLists}
 use Rattle.program.specs.Messages.{Tells}
+use Rattle.program.specs.Runs.{text_asked}
 use Rattle.program.specs.Told.{fault_text, in_list, refusals_text}
+use Rattle.program.proofs.Runs.{not_asked}
+use Rattle.cidr_merge.specs.CommandLines.{stands}
+use Rattle.cidr_merge.specs.Endings.{EndsAs}
 use Rattle.cidr_merge.specs.Reading.{ReadsSide, ReadsSides}
 use Rattle.cidr_merge.specs.InspectionRuns.{EndsInspecting}
 use Rattle.cidr_merge.specs.Inspections.{inspection_of}
@@ -20,32 +26,7 @@ use Rattle.cidr_merge.specs.declared.inspections.Inspection.{Inspection}
 use Rattle.cidr_merge.specs.declared.reading.Sets.{Sets}
 use Rattle.cidr_merge.proofs.ReadInTurn.{slice_rest}
 
--- both sides were read
-pub sides_ok : {Z T F U G : Type 0} (result : Result T F) (read : Result U G) (done : U)
-    (known : KnownLists) (words : List (String Z)) (request : Request) (first second : Sets)
-    (start between refused : Refused) → start ≡ no_refusals → read ≡ Ok done
-    → OnOk read (ReadsSide (source known request.shape) request.first
-    (slice_range words request.first request.middle) start first between)
-    → OnOk result (ReadsSide (source known request.shape) request.second
-    (slice_range words request.second (length words)) between second refused)
-    → OnOk result (ReadsSides known words request first second refused)
-sides_ok {Z} {T} {F} {U} {G}
-    (Ok all) read done known words request first second start between refused s e firsts seconds =
-    record {
-      between = between;
-      firsts = subst (λ (r : Refused). ReadsSide (source known request.shape) request.first
-          (slice_range words request.first request.middle) r first between) s
-          (subst (λ (r : Result U G). OnOk r (ReadsSide (source known request.shape) request.first
-          (slice_range words request.first request.middle) start first between)) e firsts);
-      seconds = subst (λ names. ReadsSide
-          (source known request.shape) request.second names between second refused)
-          (slice_rest words request.second) seconds;
-    }
-sides_ok
-    (Err fault) read done known words request first second start between refused s e firsts
-    seconds = tt
-
--- the reading stopped at a list of the first side
+-- the reading stopped at a list of the first side,
 pub first_stopped : {Z T : Type 0} (read : Result T ReadFault) (fault : ReadFault)
     (known : KnownLists) (words : List (String Z)) (request : Request)
     (start between refused : Refused) → start ≡ no_refusals
@@ -64,29 +45,46 @@ first_stopped {Z} {T} read fault known words request start between refused s e s
     (subst (λ (l : Refused). Stops (source known request.shape) request.first names
     (nothing_read l) fault between) s said))
 
--- or of the second
-pub second_stopped : {Z T U G : Type 0} (result : Result T ReadFault) (read : Result U G) (done : U)
-    (known : KnownLists) (words : List (String Z)) (request : Request) (first : Sets)
-    (start between refused : Refused) → start ≡ no_refusals → read ≡ Ok done
-    → OnOk read (ReadsSide (source known request.shape) request.first
-    (slice_range words request.first request.middle) start first between)
+-- of the second side no list was read then,
+pub no_second : {U G : Type 0} (read : Result U G) (fault : G) (second count to : ℕ)
+    → read ≡ Err fault → to ≡ (if is_err read then second else count) → to ≡ second
+no_second {U} {G} read fault second count to e t =
+    t ∙ ap {B = ℕ} (λ (r : Result U G). if is_err r then second else count) e
+
+-- or both sides were read, or the reading stopped at a list of the second
+pub sides_read : {Z T : Type 0} (result : Result T ReadFault) (known : KnownLists)
+    (words : List (String Z)) (request : Request) (first second : Sets) (between refused : Refused)
+    (to : ℕ) → to ≡ length words
+    → ReadsSide (source known request.shape) request.first
+    (slice_range words request.first request.middle) no_refusals first between
+    → OnOk result (ReadsSide (source known request.shape) request.second
+    (slice_range words request.second to) between second refused)
     → IfErr result (λ f. Stops (source known request.shape) request.second
-    (slice_range words request.second (length words)) (nothing_read between) f refused)
-    → IfErr result (λ f. StopsInSides known words request f refused)
-second_stopped
-    (Ok all) read done known words request first start between refused s e firsts stops = tt
-second_stopped {Z} {T} {U} {G}
-    (Err fault) read done known words request first start between refused s e firsts stops =
-    let names = slice_range words request.first request.middle in
-    inr (
-      first,
-      between,
-      subst (λ (r : Refused). ReadsSide
-          (source known request.shape) request.first names r first between) s
-          (subst (λ (r : Result U G). OnOk r (ReadsSide
-          (source known request.shape) request.first names start first between)) e firsts),
-      subst (λ ws. Stops (source known request.shape) request.second ws
-          (nothing_read between) fault refused) (slice_rest words request.second) stops,
+    (slice_range words request.second to) (nothing_read between) f refused)
+    → OnOk result (ReadsSides known words request first second refused)
+    × IfErr result (λ f. StopsInSides known words request f refused)
+sides_read (Ok all) known words request first second between refused to t firsts seconds stops = (
+  record {
+    between = between;
+    firsts = firsts;
+    seconds = subst (λ names. ReadsSide
+        (source known request.shape) request.second names between second refused)
+        (ap (λ n. slice_range words request.second n) t ∙ slice_rest words request.second) seconds;
+  },
+  tt,
+)
+sides_read (Err fault) known words request first second between refused to t firsts seconds stops =
+    (
+      tt,
+      inr (
+        first,
+        between,
+        firsts,
+        subst (λ names. Stops (source known request.shape) request.second names
+            (nothing_read between) fault refused)
+            (ap (λ n. slice_range words request.second n) t
+            ∙ slice_rest words request.second) stops,
+      ),
     )
 
 -- the answer was given
@@ -133,15 +131,29 @@ stopped {Z} {W} {E} {T} read known words request refused fault end told e stops 
   ),
 )
 
-module _ {Z W E : Type 0} (program usage : List ℕ) (known : KnownLists) (words : List (String Z))
-    (end : Ending W E) (asked : Option Inspection) (is : asked ≡ inspection_of words) where
+module _ {Z W E : Type 0} (program help version usage : List ℕ) (known : KnownLists)
+    (words : List (String Z)) (end : Ending W E) (asked : Option Inspection)
+    (is : asked ≡ inspection_of words) (no_text : text_asked help version words ≡ None)
+    (no_split : stands (codes "split") words 0 ≡ false)
+    (no_find : stands (codes "find") words 0 ≡ false) where
+  commanded : EndsCommand program usage known words asked end
+      → EndsAs program help version usage known words end
+  commanded h =
+      not_asked help version words _ end no_text
+      (inr (inr (
+        no_split,
+        no_find,
+        subst (λ i. EndsCommand program usage known words i end) is h,
+      )))
+
   -- the lists were looked over
   pub inspected : (inspection : Inspection) → asked ≡ Some inspection
       → EndsInspecting program usage known words inspection end
-      → EndsCommand program usage known words (inspection_of words) end
-  inspected inspection e h = subst (λ i. EndsCommand program usage known words i end) (sym e ∙ is) h
+      → EndsAs program help version usage known words end
+  inspected inspection e h =
+      commanded (subst (λ i. EndsCommand program usage known words i end) (sym e) h)
 
   -- or something else was done
   pub requested : asked ≡ None → EndsRequest program usage known words end
-      → EndsCommand program usage known words (inspection_of words) end
-  requested e h = subst (λ i. EndsCommand program usage known words i end) (sym e ∙ is) h
+      → EndsAs program help version usage known words end
+  requested e h = commanded (subst (λ i. EndsCommand program usage known words i end) (sym e) h)

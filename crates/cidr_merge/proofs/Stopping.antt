@@ -79,14 +79,15 @@ reads_no_more known number (name ∷ names) start read e h = absurd (let q = e i
 
 -- where there are no lists, no line is refused
 pub none_refused : {Z T : Type 0} (result : Result T ReadFault) (known : Source)
-    (words : List (String Z)) (place : ℕ) (before : Refused) (sets : Sets) (refused : Refused)
-    → OnOk result (ReadsSide known place (slice_range words place place) before sets refused)
-    → IfErr result (λ fault. Stops known place (slice_range words place place)
+    (words : List (String Z)) (place to : ℕ) (before : Refused) (sets : Sets) (refused : Refused)
+    → to ≡ place
+    → OnOk result (ReadsSide known place (slice_range words place to) before sets refused)
+    → IfErr result (λ fault. Stops known place (slice_range words place to)
     (nothing_read before) fault refused) → refused ≡ before
-none_refused (Ok done) known words place before sets refused side stops =
+none_refused (Ok done) known words place to before sets refused e side stops =
     sym side.refused_lines ∙ ap (λ (l : ReadLists). l.refused)
-    (reads_no_more known place (slice_range words place place) (nothing_read before) side.read
-    (slice_none words place) side.lists)
-none_refused (Err fault) known words place before sets refused side stops =
-    absurd (no_names (slice_range words place place) stops.first stops.others stops.name
-    (slice_none words place) stops.cut)
+    (reads_no_more known place (slice_range words place to) (nothing_read before) side.read
+    (ap (λ n. slice_range words place n) e ∙ slice_none words place) side.lists)
+none_refused (Err fault) known words place to before sets refused e side stops =
+    absurd (no_names (slice_range words place to) stops.first stops.others stops.name
+    (ap (λ n. slice_range words place n) e ∙ slice_none words place) stops.cut)

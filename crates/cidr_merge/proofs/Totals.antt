@@ -1,6 +1,7 @@
 -- How many blocks and addresses there are.
-use Rattle.std.proofs.Common.{◌≡◌, ◌↔◌, ◌<◌, ◌≤◌, ◌+◌, ◌-◌, ◌^◌, ◌++◌, ◌∷◌, [], ℕ, List, sym, ap}
-use Rattle.std.proofs.Common.{◌∙◌, subst, arith, length, min, codes, decimal, append_assoc, ⊎_elim}
+use Rattle.std.proofs.Common.{◌≡◌, ◌≢◌, ◌↔◌, ◌<◌, ◌≤◌, ◌+◌, ◌-◌, ◌^◌, ◌++◌, ◌∷◌, [], ℕ, List}
+use Rattle.std.proofs.Common.{◌∙◌, refl, sym, ap, subst, arith, length, min, codes, decimal}
+use Rattle.std.proofs.Common.{append_assoc, ⊎_elim}
 use Rattle.std.proofs.Math.Nat.{min-eq_left, min-eq_right}
 use Rattle.std.proofs.Math.Pow.{pow_mono}
 use Rattle.std.proofs.lemmas.Bool.{cases_lt}
@@ -10,9 +11,11 @@ use Rattle.ipnetwork_blocks.specs.LeastList.{IsLeastList}
 use Rattle.ipnetwork_blocks.proofs.LeastLists.{least_of_same}
 use Rattle.ipnetwork_sets.specs.CountLaws.{SetHasFewerBlocks}
 use Rattle.ipnetwork_sets.specs.Counts.{HasCount, total}
+use Rattle.ipnetwork_sets.specs.Sets.{InFirstAlone}
 use Rattle.cidr_merge.specs.Answers.{IsLeft, IsCountLine}
 use Rattle.cidr_merge.specs.Private.Totals.{AddUp}
 use Rattle.cidr_merge.specs.declared.command_line.Operation.{Operation}
+use Rattle.cidr_merge.specs.declared.command_line.Operation.TheVariants as operations
 
 -- the least list of a set is that of its own union, of which the blocks are fewer than the
 -- addresses
@@ -41,6 +44,26 @@ left_by operation other e w first second left blocks is h same fewer count withi
     (subst (λ (l : List Network). IsLeastList w (IsLeft other w first second) l
     × AddUp w (IsLeft other w first second) l) (sym is)
     (h, adds_up w (IsLeft other w first second) blocks h same fewer count within))
+
+-- the other operations leave what the first side alone has
+pub alone_by : (operation : Operation) → operation ≢ operations.Union
+    → operation ≢ operations.Common
+    → (w : ℕ) (first second left blocks : List Network) → left ≡ blocks
+    → IsLeastList w (InFirstAlone w first second) blocks
+    → ((x : ℕ) → InUnion w blocks x ↔ InFirstAlone w first second x) → SetHasFewerBlocks
+    → HasCount (InFirstAlone w first second) (total w blocks) → total w blocks ≤ 2 ^ w
+    → IsLeastList w (IsLeft operation w first second) left
+    × AddUp w (IsLeft operation w first second) left
+alone_by operations.Union u c w first second left blocks is h same fewer count within =
+    absurd (u refl)
+alone_by operations.Common u c w first second left blocks is h same fewer count within =
+    absurd (c refl)
+alone_by operations.Minus u c w first second left blocks is h same fewer count within =
+    left_by operations.Minus operations.Minus refl w first second left blocks is h same fewer count
+    within
+alone_by operations.Differ u c w first second left blocks is h same fewer count within =
+    left_by operations.Differ operations.Differ refl w first second left blocks is h same fewer
+    count within
 
 -- ---- sums that are kept to a greatest number
 

@@ -1,41 +1,37 @@
 //! Tells the wrong entries of lists, and strictly those with host bits too.
-ghost use Rattle.std.specs.Prelude.{◌≡◌, ◌&&◌, ℕ, List as Texts, length, map};
+ghost use Rattle.std.specs.Prelude.{◌≡◌, ◌&&◌, ℕ, List as Texts, map};
 ghost use Rattle.std.specs.List.{concat};
 ghost use Rattle.std.specs.Str.Lines.{lines};
 ghost use Rattle.program.specs.Messages.{Tells};
 ghost use Rattle.cidr_merge.specs.Findings.{LineFindings, LinesFindings, ListsFindings};
 ghost use Rattle.cidr_merge.specs.Findings.{IsFound, has_host_bits, host_findings};
 
-use crate::findings::{either, tell_host_bits, tell_wrong};
+use crate::findings::{Line, either, tell_host_bits, tell_wrong};
 use crate::named::entry_of;
 use crate::overlapping::is_up_to;
 use crate::placed::key_of;
 use crate::text_lines::TextLines;
+use crate::texts::WholeLists;
 use lines::output::Output;
 use lists::Entry;
 use std::io::Write;
 
-/// Tells what is found in the lines of lists with these names and bytes, strictly or not, and
-/// returns whether anything is.
+/// Tells what is found in the lines of lists, strictly or not, and returns whether anything is.
 pub(crate) fn check_lists<W: Write>(
     strictly: bool,
-    names: &[String],
-    texts: &[Vec<u8>],
+    lists: &WholeLists<'_>,
     output: &mut Output<'_, W>,
 ) -> bool
-    requires { length texts.now ≡ length names.now }
     ensures { (findings : Texts (Texts ℕ))
-        × ListsFindings strictly names.now (map (λ text. text.items) texts.now) findings
+        × ListsFindings strictly lists.now.names.now
+        (map (λ text. text.items) lists.now.texts.now) findings
         × Tells output.old output.new (concat findings) × IsFound findings result }
 {
     let mut found = false;
-    for place in 0..names.len() {
-        let more = check_list(
-            strictly,
-            names[place].as_str(),
-            texts[place].as_slice(),
-            output,
-        );
+    for place in 0..lists.names.len() {
+        let name = lists.names[place].as_str();
+        let text = lists.texts[place].as_slice();
+        let more = check_list(strictly, name, text, output);
         found = either(found, more);
     }
     found
@@ -52,51 +48,39 @@ fn check_list<W: Write>(strictly: bool, name: &str, text: &[u8], output: &mut Ou
     let mut lines = TextLines::of(text);
     // A text has at most as many lines as bytes.
     'lines: while number < text.len() {
-        let Some(line) = lines.next() else {
+        let Some(text) = lines.next() else {
             return found;
         };
         number += 1;
-        let more = check_line(strictly, name, number, line, output);
+        let more = check_line(strictly, &Line { name, number, text }, output);
         found = either(found, more);
     }
     found
 }
 
 // Tells what is found in a line, strictly or not, and returns whether anything is.
-fn check_line<W: Write>(
-    strictly: bool,
-    name: &str,
-    number: usize,
-    line: &[u8],
-    output: &mut Output<'_, W>,
-) -> bool
+fn check_line<W: Write>(strictly: bool, line: &Line<'_>, output: &mut Output<'_, W>) -> bool
     ensures { (findings : Texts (Texts ℕ))
-        × LineFindings strictly name.now number line.now findings
+        × LineFindings strictly line.now.name.now line.now.number line.now.text.now findings
         × Tells output.old output.new (concat findings) × IsFound findings result }
 {
-    match entry_of(line) {
-        Ok(said) => tell_if_loose(is_loose(strictly, said), name, number, line, output),
+    match entry_of(line.text) {
+        Ok(said) => tell_if_loose(is_loose(strictly, said), line, output),
         Err(fault) => {
-            tell_wrong(name, number, fault, line, output);
+            tell_wrong(line, fault, output);
             true
         }
     }
 }
 
 // Tells a line if its entry has host bits that are to be told, and returns whether it has.
-fn tell_if_loose<W: Write>(
-    is_loose: bool,
-    name: &str,
-    number: usize,
-    line: &[u8],
-    output: &mut Output<'_, W>,
-) -> bool
+fn tell_if_loose<W: Write>(is_loose: bool, line: &Line<'_>, output: &mut Output<'_, W>) -> bool
     ensures { (findings : Texts (Texts ℕ))
-        × (findings ≡ host_findings is_loose name.now number line.now)
+        × (findings ≡ host_findings is_loose line.now.name.now line.now.number line.now.text.now)
         × Tells output.old output.new (concat findings) × IsFound findings result }
 {
     if is_loose {
-        tell_host_bits(name, number, line, output);
+        tell_host_bits(line, output);
         return true;
     }
     false

@@ -77,8 +77,7 @@ fn print_listed<A: Address, W: Write>(
     let Some(block) = blocks.next_block() else {
         return Ok(follows);
     };
-    output.put(opening(export, follows).as_bytes())?;
-    print_element(export, version, block, output)?;
+    print_after(opening(export, follows), export, version, block, output)?;
     print_following(export, version, blocks, output)?;
     output.put(closing(export).as_bytes())?;
     Ok(true)
@@ -97,37 +96,24 @@ fn print_following<A: Address, W: Write>(
     ensures failed { output.new.failed ≡ (output.old.failed || is_err result) }
 {
     while let Some(block) = blocks.next_block() {
-        put_following(export, version, block, output)?;
+        print_after(separator(export), export, version, block, output)?;
     }
     Ok(())
 }
 
-// Prints a block after another.
-fn put_following<A: Address, W: Write>(
+// Prints a text, and then a block.
+fn print_after<A: Address, W: Write>(
+    text: &str,
     export: Export,
     version: Version,
     block: Network<A>,
     output: &mut Output<'_, W>,
 ) -> Result<(), RunFault>
     ensures text { OnOk result (Prints output.old output.new
-        (following export version A.family block)) }
+        (text.now ++ element export version A.family block)) }
     ensures failed { output.new.failed ≡ (output.old.failed || is_err result) }
 {
-    output.put(separator(export).as_bytes())?;
-    print_element(export, version, block, output)
-}
-
-// Prints a block.
-fn print_element<A: Address, W: Write>(
-    export: Export,
-    version: Version,
-    block: Network<A>,
-    output: &mut Output<'_, W>,
-) -> Result<(), RunFault>
-    ensures text { OnOk result (Prints output.old output.new
-        (element export version A.family block)) }
-    ensures failed { output.new.failed ≡ (output.old.failed || is_err result) }
-{
+    output.put(text.as_bytes())?;
     match export {
         Export::Addresses => print_addresses(block.iter(), output),
         _ => output.put(

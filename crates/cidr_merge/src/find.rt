@@ -1,25 +1,25 @@
 //! The run of a `find`.
-ghost use Rattle.std.specs.Prelude.{◌≡◌, ◌<◌, None, drop, length, map, if◌then◌else◌};
+ghost use Rattle.std.specs.Prelude.{◌≡◌, ◌<◌, None, drop, length, if◌then◌else◌};
 ghost use Rattle.program.specs.Endings.{ending};
 ghost use Rattle.program.specs.Messages.{Tells};
 ghost use Rattle.cidr_merge.specs.CommandLines.{before_dashes};
-ghost use Rattle.cidr_merge.specs.FindRuns.{EndsFind, EndsReadingAll, EndsSearching};
+ghost use Rattle.cidr_merge.specs.FindRuns.{EndsFind, EndsReadingAll};
 ghost use Rattle.cidr_merge.specs.FindRuns.{sought_fault_text};
 ghost use Rattle.cidr_merge.specs.FindWords.{find_fault, AreAddresses};
 
 use crate::find_words::{before_dashes, behind_dashes, find_fault, sought_problem};
+use crate::given::Given;
 use crate::help::{PROGRAM, USAGE};
+use crate::reading::refuse_lists;
 use crate::searching::search_lists;
 use crate::sought::{Sought, SoughtFault, addresses_of};
-use crate::texts::texts_of;
+use crate::texts::{WholeLists, texts_of};
 use crate::usage::{fault_of_word, refuse};
 use ipnetwork::IpAddr;
 use lines::output::Output;
 use lists::{OpenLists, ReadFault};
 use program::ending::{FAILED, end};
-use program::telling::tell_fault;
 use program::words::text_at;
-use std::alloc::Global;
 use std::io::Write;
 
 /// The exit status if an entry was printed.
@@ -31,23 +31,21 @@ const NOTHING_FOUND: u8 = 1;
 /// Does what the words after the program's name ask for, of which the first is `find`, and returns
 /// the exit status.
 pub(crate) fn find<L: OpenLists, W: Write, E: Write>(
-    alloc: Global,
-    words: &[String],
-    lists: &L,
+    given: &Given<'_, L>,
     output: &mut Output<'_, W>,
     errors: &mut Output<'_, E>,
 ) -> u8
-    requires { 0 < length words.now }
-    ensures { EndsFind PROGRAM.now USAGE.now (L.known lists.now) words.now
+    requires { 0 < length given.now.words.now }
+    ensures { EndsFind PROGRAM.now USAGE.now (L.known given.now.lists.now) given.now.words.now
         (ending output.old output.new errors.old errors.new result) }
 {
-    let others = &words[1..];
+    let others = &given.words[1..];
     if let Some(fault) = find_fault(others) {
-        return refuse(words, fault, errors);
+        return refuse(given.words, fault, errors);
     }
-    match addresses_of(alloc, before_dashes(others), 1) {
-        Ok(addresses) => find_all(alloc, words, addresses.as_slice(), lists, output, errors),
-        Err(fault) => refuse_sought(fault, words, errors),
+    match addresses_of(given.alloc, before_dashes(others), 1) {
+        Ok(addresses) => find_all(addresses.as_slice(), given, output, errors),
+        Err(fault) => refuse_sought(fault, given.words, errors),
     }
 }
 
@@ -62,56 +60,37 @@ fn refuse_sought<E: Write>(fault: SoughtFault, words: &[String], errors: &mut Ou
             let problem = sought_problem(text_at(words, place));
             refuse(words, fault_of_word(place, problem), errors)
         }
-        SoughtFault::OutOfMemory => {
-            tell_fault(words, ReadFault::OutOfMemory, errors);
-            FAILED
-        }
+        SoughtFault::OutOfMemory => refuse_lists(words, ReadFault::OutOfMemory, errors),
     }
 }
 
 // Reads the lists, and prints their entries that have one of these addresses.
 fn find_all<L: OpenLists, W: Write, E: Write>(
-    alloc: Global,
-    words: &[String],
     addresses: &[IpAddr],
-    lists: &L,
+    given: &Given<'_, L>,
     output: &mut Output<'_, W>,
     errors: &mut Output<'_, E>,
 ) -> u8
-    requires words { 0 < length words.now }
-    requires addresses { AreAddresses (before_dashes (drop 1 words.now)) addresses.now }
-    ensures { EndsReadingAll (L.known lists.now) words.now
+    requires words { 0 < length given.now.words.now }
+    requires addresses { AreAddresses (before_dashes (drop 1 given.now.words.now)) addresses.now }
+    ensures { EndsReadingAll (L.known given.now.lists.now) given.now.words.now
         (ending output.old output.new errors.old errors.new result) }
 {
-    let others = &words[1..];
+    let others = &given.words[1..];
     let sought = Sought {
         words: before_dashes(others),
         addresses,
     };
     let names = behind_dashes(others);
-    match texts_of(alloc, lists, names, 2 + sought.words.len()) {
-        Ok(texts) => search(&sought, names, texts.as_slice(), output, errors),
-        Err(fault) => {
-            tell_fault(words, fault, errors);
-            FAILED
-        }
-    }
-}
-
-// Searches lists with these names and bytes, and returns the exit status.
-fn search<W: Write, E: Write>(
-    sought: &Sought<'_>,
-    names: &[String],
-    texts: &[Vec<u8>],
-    output: &mut Output<'_, W>,
-    errors: &mut Output<'_, E>,
-) -> u8
-    requires sought { AreAddresses sought.now.words.now sought.now.addresses.now }
-    requires texts { length texts.now ≡ length names.now }
-    ensures { EndsSearching sought.now.words.now names.now (map (λ text. text.items) texts.now)
-        (ending output.old output.new errors.old errors.new result) }
-{
-    let reported = search_lists(sought, names, texts, output, errors);
+    let texts = match texts_of(given, names, 2 + sought.words.len()) {
+        Ok(texts) => texts,
+        Err(fault) => return refuse_lists(given.words, fault, errors),
+    };
+    let lists = WholeLists {
+        names,
+        texts: texts.as_slice(),
+    };
+    let reported = search_lists(&sought, &lists, output, errors);
     let written = output.finish();
     let status = status(reported.printed, reported.told);
     end(written, status, errors)

@@ -9,59 +9,53 @@ use lists::LineFault;
 use program::messages::{tell, tell_number};
 use std::io::Write;
 
-/// Tells why a line of the list of this name is refused, and the line.
-pub(crate) fn tell_wrong<W: Write>(
-    name: &str,
-    number: usize,
-    fault: LineFault,
-    line: &[u8],
-    output: &mut Output<'_, W>,
-)
-    ensures { Tells output.old output.new (refusal_text name.now number fault line.now) }
-{
-    let line = shown(fault, line);
-    tell_line(
-        name,
-        number,
-        ": refused ",
-        fault.text(),
-        separator(line),
-        line,
-        output,
-    );
+/// A line of a list.
+#[derive(Clone, Copy, Debug)]
+pub(crate) struct Line<'a> {
+    /// The name of the list.
+    pub name: &'a str,
+    /// The number of the line, from 1 on.
+    pub number: usize,
+    /// The line, without its line end.
+    pub text: &'a [u8],
 }
 
-/// Tells that the entry of a line of the list of this name has host bits, and the line.
-pub(crate) fn tell_host_bits<W: Write>(
-    name: &str,
-    number: usize,
-    line: &[u8],
-    output: &mut Output<'_, W>,
-)
-    ensures { Tells output.old output.new (host_bits_text name.now number line.now) }
+/// Tells why a line is refused, and the line.
+pub(crate) fn tell_wrong<W: Write>(line: &Line<'_>, fault: LineFault, output: &mut Output<'_, W>)
+    ensures { Tells output.old output.new
+        (refusal_text line.now.name.now line.now.number fault line.now.text.now) }
 {
-    tell_line(name, number, ": host bits", "", ": ", line, output);
+    let text = shown(fault, line.text);
+    let (name, number) = (line.name, line.number);
+    let line = Line { name, number, text };
+    tell_line(&line, ": refused ", fault.text(), separator(text), output);
+}
+
+/// Tells that the entry of a line has host bits, and the line.
+pub(crate) fn tell_host_bits<W: Write>(line: &Line<'_>, output: &mut Output<'_, W>)
+    ensures { Tells output.old output.new
+        (host_bits_text line.now.name.now line.now.number line.now.text.now) }
+{
+    tell_line(line, ": host bits", "", ": ", output);
 }
 
 /// Tells where a line stands, what there is to say of it, in two parts, and behind a separator the
 /// line.
 pub(crate) fn tell_line<W: Write>(
-    name: &str,
-    number: usize,
+    line: &Line<'_>,
     what: &str,
     about: &str,
     separator: &str,
-    line: &[u8],
     output: &mut Output<'_, W>,
 )
-    ensures { Tells output.old output.new (place_text name.now number ++ what.now ++ about.now
-        ++ separator.now ++ line.now ++ codes "\n") }
+    ensures { Tells output.old output.new (place_text line.now.name.now line.now.number ++ what.now
+        ++ about.now ++ separator.now ++ line.now.text.now ++ codes "\n") }
 {
-    tell_place(name, number, output);
+    tell_place(line.name, line.number, output);
     tell(what, output);
     tell(about, output);
     tell(separator, output);
-    tell_bytes(line, output);
+    tell_bytes(line.text, output);
     tell("\n", output);
 }
 

@@ -12,6 +12,7 @@ mod exports;
 mod find;
 mod find_words;
 mod findings;
+mod given;
 mod help;
 mod inspecting;
 mod inspections;

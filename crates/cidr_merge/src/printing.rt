@@ -1,9 +1,9 @@
 //! Prints the answer.
 ghost use Rattle.std.specs.Prelude.{◌≡◌, ◌≤◌, ◌++◌, ◌∷◌, ◌||◌, [], ℕ, List, OnOk, is_err};
 ghost use Rattle.std.specs.List.{flat_map};
-ghost use Rattle.cidr_merge.specs.Answers.{sign_of, merged_by, AreBlockLines, AreRangeLines};
+ghost use Rattle.cidr_merge.specs.Answers.{sign_of, merged_by};
 ghost use Rattle.cidr_merge.specs.Answers.{IsCountLine, AreCountsLeft, AreCounts, IsAnswer, IsLeft};
-ghost use Rattle.cidr_merge.specs.Private.Sweeps.{left_of_second};
+ghost use Rattle.cidr_merge.specs.Private.Sweeps.{left_of_second, AreLines};
 ghost use Rattle.lines.specs.Outputs.{Prints};
 
 use crate::command_line::{Form, Operation};
@@ -33,50 +33,37 @@ pub(crate) fn print<W: Write>(
 {
     match form {
         Form::Blocks => {
-            print_blocks(operation, &first.v4, &second.v4, output)?;
-            print_blocks(operation, &first.v6, &second.v6, output)
+            print_lines(false, operation, &first.v4, &second.v4, output)?;
+            print_lines(false, operation, &first.v6, &second.v6, output)
         }
         Form::Ranges => {
-            print_ranges(operation, &first.v4, &second.v4, output)?;
-            print_ranges(operation, &first.v6, &second.v6, output)
+            print_lines(true, operation, &first.v4, &second.v4, output)?;
+            print_lines(true, operation, &first.v6, &second.v6, output)
         }
         Form::Counts => print_counts(operation, first, second, output),
         Form::Exported(export) => print_export(operation, export, first, second, output),
     }
 }
 
-// Prints the blocks that the operation leaves of two sets of one family.
-fn print_blocks<A: Address, W: Write>(
+// Prints the ranges or the blocks that the operation leaves of two sets of one family.
+fn print_lines<A: Address, W: Write>(
+    in_ranges: bool,
     operation: Operation,
     first: &AddressSet<Network<A>>,
     second: &AddressSet<Network<A>>,
     output: &mut Output<'_, W>,
 ) -> Result<(), RunFault>
     ensures text { OnOk result ((text : List ℕ)
-        × AreBlockLines operation A.family first.now second.now text
+        × AreLines in_ranges operation A.family first.now second.now text
         × Prints output.old output.new text) }
     ensures failed { output.new.failed ≡ (output.old.failed || is_err result) }
 {
     let firsts = Sweep::of(operation, first, second);
     let seconds = Sweep::of(Operation::Minus, second, first);
+    if in_ranges {
+        return print_parts(operation, Ranges::of(firsts), Ranges::of(seconds), output);
+    }
     print_parts(operation, firsts, seconds, output)
-}
-
-// Prints the ranges that the operation leaves of two sets of one family.
-fn print_ranges<A: Address, W: Write>(
-    operation: Operation,
-    first: &AddressSet<Network<A>>,
-    second: &AddressSet<Network<A>>,
-    output: &mut Output<'_, W>,
-) -> Result<(), RunFault>
-    ensures text { OnOk result ((text : List ℕ)
-        × AreRangeLines operation A.family first.now second.now text
-        × Prints output.old output.new text) }
-    ensures failed { output.new.failed ≡ (output.old.failed || is_err result) }
-{
-    let firsts = Sweep::of(operation, first, second);
-    let seconds = Sweep::of(Operation::Minus, second, first);
-    print_parts(operation, Ranges::of(firsts), Ranges::of(seconds), output)
 }
 
 // Prints the parts of the first side, and for `differ` among them those of the second.

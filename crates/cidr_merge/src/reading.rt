@@ -1,15 +1,21 @@
 //! Reads the lists of a side.
 ghost use Rattle.std.specs.Prelude.{◌≡◌, ◌≤◌, false, length, slice_range, OnOk, IfErr};
 ghost use Rattle.lists.specs.Lists.{nothing_read};
+ghost use Rattle.program.specs.Messages.{Tells};
+ghost use Rattle.program.specs.Told.{fault_text};
 ghost use Rattle.cidr_merge.specs.Reading.{ReadsLists, ReadsSide};
 ghost use Rattle.cidr_merge.specs.Shapes.{source};
 ghost use Rattle.cidr_merge.specs.Stopping.{Stops};
 
+use crate::given::Given;
 use crate::shapes::{Shape, read_one};
 use ipnetwork::{Ipv4Network, Ipv6Network};
 use ipnetwork_sets::AddressSet;
+use lines::output::Output;
 use lists::{ListReader, OpenLists, ReadFault, Refusals};
-use std::alloc::Global;
+use program::ending::FAILED;
+use program::telling::tell_fault;
+use std::io::Write;
 
 /// The addresses of a side, by family.
 #[derive(Debug, Drop)]
@@ -22,48 +28,57 @@ pub(crate) struct Sets {
 ///
 /// The refused lines are added to the earlier ones, even if the reading ends with a fault.
 pub(crate) fn read_side<L: OpenLists>(
-    alloc: Global,
-    lists: &L,
+    given: &Given<'_, L>,
     shape: Shape,
-    words: &[String],
     from: usize,
     to: usize,
     refusals: Refusals,
 ) -> (Sets, Refusals, Result<(), ReadFault>)
     requires order { from ≤ to }
-    requires within { to ≤ length words.now }
-    ensures read { OnOk result.2 (ReadsSide (source (L.known lists.now) shape) from
-        (slice_range words.now from to) refusals result.0 result.1) }
-    ensures stopped { IfErr result.2 (λ fault. Stops (source (L.known lists.now) shape) from
-        (slice_range words.now from to) (nothing_read refusals) fault result.1) }
+    requires within { to ≤ length given.now.words.now }
+    ensures read { OnOk result.2 (ReadsSide (source (L.known given.now.lists.now) shape) from
+        (slice_range given.now.words.now from to) refusals result.0 result.1) }
+    ensures stopped { IfErr result.2 (λ fault. Stops (source (L.known given.now.lists.now) shape)
+        from (slice_range given.now.words.now from to) (nothing_read refusals) fault result.1) }
 {
-    let mut reader = ListReader::new(alloc, refusals);
-    let end = read_all(alloc, lists, shape, words, from, to, &mut reader);
+    let mut reader = ListReader::new(given.alloc, refusals);
+    let end = read_all(given, shape, from, to, &mut reader);
     let (v4, v6, refusals) = reader.into_sets();
     (Sets { v4, v6 }, refusals, end)
 }
 
 // Reads the lists at these places.
 fn read_all<L: OpenLists>(
-    alloc: Global,
-    lists: &L,
+    given: &Given<'_, L>,
     shape: Shape,
-    words: &[String],
     from: usize,
     to: usize,
     reader: &mut ListReader,
 ) -> Result<(), ReadFault>
     requires order { from ≤ to }
-    requires within { to ≤ length words.now }
+    requires within { to ≤ length given.now.words.now }
     requires memory { reader.old.is_out_of_memory ≡ false }
-    ensures read { OnOk result (ReadsLists (source (L.known lists.now) shape) from
-        (slice_range words.now from to) reader.old reader.new) }
+    ensures read { OnOk result (ReadsLists (source (L.known given.now.lists.now) shape) from
+        (slice_range given.now.words.now from to) reader.old reader.new) }
     ensures memory { OnOk result (reader.new.is_out_of_memory ≡ false) }
-    ensures stopped { IfErr result (λ fault. Stops (source (L.known lists.now) shape) from
-        (slice_range words.now from to) reader.old fault reader.new.refused) }
+    ensures stopped { IfErr result (λ fault. Stops (source (L.known given.now.lists.now) shape)
+        from (slice_range given.now.words.now from to) reader.old fault reader.new.refused) }
 {
     for place in from..to {
-        read_one(alloc, lists, shape, words[place].as_str(), place, reader)?;
+        read_one(given, shape, given.words[place].as_str(), place, reader)?;
     }
     Ok(())
+}
+
+/// Reports why lists were not read to their ends, and returns the exit status for that.
+pub(crate) fn refuse_lists<E: Write>(
+    words: &[String],
+    fault: ReadFault,
+    errors: &mut Output<'_, E>,
+) -> u8
+    ensures status { result ≡ 2 }
+    ensures told { Tells errors.old errors.new (fault_text words.now fault) }
+{
+    tell_fault(words, fault, errors);
+    FAILED
 }

@@ -1,23 +1,22 @@
 //! The run that the program makes.
-ghost use Rattle.std.specs.Prelude.{◌≡◌, ◌++◌, ℕ, List, length, OnOk, IfErr, is_err};
-ghost use Rattle.std.specs.Io.KnownBytes.{Appends};
+ghost use Rattle.std.specs.Prelude.{◌≡◌, ◌≤◌, ℕ, List, length, if◌then◌else◌, OnOk, IfErr, is_err};
 ghost use Rattle.lines.specs.Outputs.{Writes};
 ghost use Rattle.cidr_merge.specs.Answers.{IsAnswer};
 ghost use Rattle.cidr_merge.specs.Private.Words.{IsWithin};
 ghost use Rattle.cidr_merge.specs.Endings.{EndsAs};
-ghost use Rattle.cidr_merge.specs.Inspections.{inspection_of};
 ghost use Rattle.cidr_merge.specs.Reading.{ReadsSides};
-ghost use Rattle.cidr_merge.specs.Runs.{answer_status, EndsAnswering, EndsMerging, EndsCommand};
+ghost use Rattle.cidr_merge.specs.Runs.{answer_status, EndsAnswering, EndsMerging};
 ghost use Rattle.cidr_merge.specs.Stopping.{StopsInSides};
 ghost use Rattle.program.specs.Endings.{ending};
 
 use crate::command_line::{Operation, Request, request_of};
 use crate::find::find;
+use crate::given::Given;
 use crate::help::{HELP, PROGRAM, USAGE, VERSION};
 use crate::inspecting::inspect;
 use crate::inspections::inspection_of;
 use crate::printing::print;
-use crate::reading::{Sets, read_side};
+use crate::reading::{Sets, read_side, refuse_lists};
 use crate::split::split;
 use crate::usage::refuse;
 use crate::words::stands;
@@ -26,7 +25,7 @@ use lines::output::Output;
 use lists::{OpenLists, ReadFault, Refusals};
 use program::ending::{FAILED, end, print_text};
 use program::start::text_asked;
-use program::telling::{InLists, tell_fault, tell_refusals};
+use program::telling::{InLists, tell_refusals};
 use std::alloc::Global;
 use std::io::Write;
 
@@ -53,50 +52,39 @@ pub(crate) fn run<L: OpenLists, W: Write, E: Write>(
     if let Some(text) = text_asked(HELP, VERSION, words) {
         return print_text(text, output, errors);
     }
+    let given = Given {
+        alloc,
+        words,
+        lists,
+    };
     if stands(words, 0, "split") {
-        return split(alloc, words, lists, output, errors);
+        return split(&given, output, errors);
     }
     if stands(words, 0, "find") {
-        return find(alloc, words, lists, output, errors);
+        return find(&given, output, errors);
     }
-    operate(alloc, words, lists, output, errors)
-}
-
-// Does the operation that the words ask for, and returns the exit status.
-fn operate<L: OpenLists, W: Write, E: Write>(
-    alloc: Global,
-    words: &[String],
-    lists: &L,
-    output: &mut Output<'_, W>,
-    errors: &mut Output<'_, E>,
-) -> u8
-    ensures { EndsCommand PROGRAM.now USAGE.now (L.known lists.now) words.now
-        (inspection_of words.now) (ending output.old output.new errors.old errors.new result) }
-{
     if let Some(inspection) = inspection_of(words) {
-        return inspect(alloc, inspection, words, lists, output, errors);
+        return inspect(inspection, &given, output, errors);
     }
     match request_of(words) {
-        Ok(request) => merge(alloc, request, words, lists, output, errors),
+        Ok(request) => merge(request, &given, output, errors),
         Err(fault) => refuse(words, fault, errors),
     }
 }
 
 // Reads the lists of both sides, and prints what the operation leaves of them.
 fn merge<L: OpenLists, W: Write, E: Write>(
-    alloc: Global,
     request: Request,
-    words: &[String],
-    lists: &L,
+    given: &Given<'_, L>,
     output: &mut Output<'_, W>,
     errors: &mut Output<'_, E>,
 ) -> u8
-    requires { IsWithin (length words.now) request }
-    ensures { EndsMerging (L.known lists.now) words.now request
+    requires { IsWithin (length given.now.words.now) request }
+    ensures { EndsMerging (L.known given.now.lists.now) given.now.words.now request
         (ending output.old output.new errors.old errors.new result) }
 {
-    let (first, second, refusals, read) = read_sides(alloc, request, words, lists);
-    tell_refusals(words, &InLists, &refusals, errors);
+    let (first, second, refusals, read) = read_sides(request, given);
+    tell_refusals(given.words, &InLists, &refusals, errors);
     match read {
         Ok(()) => answer(
             request,
@@ -106,61 +94,42 @@ fn merge<L: OpenLists, W: Write, E: Write>(
             output,
             errors,
         ),
-        Err(fault) => {
-            tell_fault(words, fault, errors);
-            FAILED
-        }
+        Err(fault) => refuse_lists(given.words, fault, errors),
     }
 }
 
-// Reads the lists of both sides. The second is only read if the first was read to the end.
+// Reads the lists of both sides. Those of the second are only read if those of the first were read
+// to the end.
 fn read_sides<L: OpenLists>(
-    alloc: Global,
     request: Request,
-    words: &[String],
-    lists: &L,
+    given: &Given<'_, L>,
 ) -> (Sets, Sets, Refusals, Result<(), ReadFault>)
-    requires { IsWithin (length words.now) request }
-    ensures read { OnOk result.3
-        (ReadsSides (L.known lists.now) words.now request result.0 result.1 result.2) }
-    ensures stopped { IfErr result.3
-        (λ fault. StopsInSides (L.known lists.now) words.now request fault result.2) }
+    requires { IsWithin (length given.now.words.now) request }
+    ensures read { OnOk result.3 (ReadsSides (L.known given.now.lists.now) given.now.words.now
+        request result.0 result.1 result.2) }
+    ensures stopped { IfErr result.3 (λ fault. StopsInSides (L.known given.now.lists.now)
+        given.now.words.now request fault result.2) }
 {
-    let (first, refusals, read) = read_side(
-        alloc,
-        lists,
-        request.shape,
-        words,
-        request.first,
-        request.middle,
-        Refusals::new(),
-    );
+    let none = Refusals::new();
+    let (first, refusals, read) =
+        read_side(given, request.shape, request.first, request.middle, none);
+    let to = end_of_second(&read, request.second, given.words.len());
+    let (second, refusals, end) = read_side(given, request.shape, request.second, to, refusals);
     match read {
-        Ok(()) => {
-            let (second, refusals, end) = read_side(
-                alloc,
-                lists,
-                request.shape,
-                words,
-                request.second,
-                words.len(),
-                refusals,
-            );
-            (first, second, refusals, end)
-        }
-        Err(fault) => {
-            let (second, refusals, _) = read_side(
-                alloc,
-                lists,
-                request.shape,
-                words,
-                request.second,
-                request.second,
-                refusals,
-            );
-            (first, second, refusals, Err(fault))
-        }
+        Ok(()) => (first, second, refusals, end),
+        Err(fault) => (first, second, refusals, Err(fault)),
     }
+}
+
+// Up to which word the lists of the second side are read, of which this is the first: none of them,
+// if those of the first side were not read to the end.
+fn end_of_second(read: &Result<(), ReadFault>, first: usize, count: usize) -> usize
+    requires { first ≤ count }
+    ensures end { result ≡ (if is_err read.now then first else count) }
+    ensures order { first ≤ result }
+    ensures within { result ≤ count }
+{
+    if read.is_err() { first } else { count }
 }
 
 // Prints what the operation leaves of the sides, unless lines were refused that are not to be

@@ -1,33 +1,23 @@
 //! Searches lists for addresses.
-ghost use Rattle.std.specs.Prelude.{◌≡◌, ℕ, List as Texts, length, map};
+ghost use Rattle.std.specs.Prelude.{ℕ, List as Texts, map};
 ghost use Rattle.std.specs.List.{concat};
 ghost use Rattle.std.specs.Str.Lines.{lines};
 ghost use Rattle.program.specs.Messages.{Tells};
 ghost use Rattle.cidr_merge.specs.FindWords.{AreAddresses};
 ghost use Rattle.cidr_merge.specs.Findings.{IsFound};
-ghost use Rattle.cidr_merge.specs.Finds.{has_text, AddressReport, AddressesReport};
-ghost use Rattle.cidr_merge.specs.Finds.{LineReport, LinesReport, ListsReport};
+ghost use Rattle.cidr_merge.specs.Finds.{has_text, AddressReport, AddressesReport, LineReport};
+ghost use Rattle.cidr_merge.specs.Finds.{LinesReport, ListsReport};
 ghost use Rattle.cidr_merge.specs.Private.Reported.{Reports};
 
-use crate::findings::{either, tell_line, tell_wrong};
+use crate::findings::{Line, either, tell_line, tell_wrong};
 use crate::named::{entry_of, has_address};
 use crate::sought::Sought;
 use crate::text_lines::TextLines;
+use crate::texts::WholeLists;
 use ipnetwork::IpAddr;
 use lines::output::Output;
 use lists::Entry;
 use std::io::Write;
-
-/// A line of a list.
-#[derive(Clone, Copy, Debug)]
-pub(crate) struct Line<'a> {
-    /// The name of the list.
-    pub name: &'a str,
-    /// The number of the line, from 1 on.
-    pub number: usize,
-    /// The line, without its line end.
-    pub text: &'a [u8],
-}
 
 /// What a search wrote.
 #[derive(Clone, Copy, Debug, PartialEq, Eq)]
@@ -38,31 +28,24 @@ pub(crate) struct Reported {
     pub told: bool,
 }
 
-/// Prints the entries with the addresses sought of lists with these names and bytes, and tells the
-/// refused lines.
+/// Prints the entries with the addresses sought of lists, and tells the refused lines.
 pub(crate) fn search_lists<W: Write, E: Write>(
     sought: &Sought<'_>,
-    names: &[String],
-    texts: &[Vec<u8>],
+    lists: &WholeLists<'_>,
     output: &mut Output<'_, W>,
     errors: &mut Output<'_, E>,
 ) -> Reported
-    requires sought { AreAddresses sought.now.words.now sought.now.addresses.now }
-    requires texts { length texts.now ≡ length names.now }
-    ensures { Reports (ListsReport sought.now.words.now names.now
-        (map (λ text. text.items) texts.now))
+    requires { AreAddresses sought.now.words.now sought.now.addresses.now }
+    ensures { Reports (ListsReport sought.now.words.now lists.now.names.now
+        (map (λ text. text.items) lists.now.texts.now))
         output.old output.new errors.old errors.new result.printed result.told }
 {
     let mut printed = false;
     let mut told = false;
-    for place in 0..names.len() {
-        let more = search_list(
-            sought,
-            names[place].as_str(),
-            texts[place].as_slice(),
-            output,
-            errors,
-        );
+    for place in 0..lists.names.len() {
+        let name = lists.names[place].as_str();
+        let text = lists.texts[place].as_slice();
+        let more = search_list(sought, name, text, output, errors);
         printed = either(printed, more.printed);
         told = either(told, more.told);
     }
@@ -87,16 +70,11 @@ fn search_list<W: Write, E: Write>(
     let mut lines = TextLines::of(text);
     // A text has at most as many lines as bytes.
     'lines: while number < text.len() {
-        let Some(text_line) = lines.next() else {
+        let Some(text) = lines.next() else {
             return Reported { printed, told };
         };
         number += 1;
-        let line = Line {
-            name,
-            number,
-            text: text_line,
-        };
-        let more = search_line(sought, &line, output, errors);
+        let more = search_line(sought, &Line { name, number, text }, output, errors);
         printed = either(printed, more.printed);
         told = either(told, more.told);
     }
@@ -125,7 +103,7 @@ fn search_line<W: Write, E: Write>(
             told: false,
         },
         Err(fault) => {
-            tell_wrong(line.name, line.number, fault, line.text, errors);
+            tell_wrong(line, fault, errors);
             Reported {
                 printed: false,
                 told: true,
@@ -187,13 +165,5 @@ fn print_line<W: Write>(word: &str, line: &Line<'_>, output: &mut Output<'_, W>)
     ensures { Tells output.old output.new
         (has_text line.now.name.now line.now.number word.now line.now.text.now) }
 {
-    tell_line(
-        line.name,
-        line.number,
-        ": has ",
-        word,
-        ": ",
-        line.text,
-        output,
-    );
+    tell_line(line, ": has ", word, ": ", output);
 }

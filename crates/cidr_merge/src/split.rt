@@ -1,13 +1,14 @@
 //! The run of a `split`.
-ghost use Rattle.std.specs.Prelude.{◌≡◌, ◌≤◌, length, min, ◌-◌, ◌^◌, OnOk, is_err};
+ghost use Rattle.std.specs.Prelude.{◌≡◌, min, ◌-◌, ◌^◌, OnOk, is_err};
 ghost use Rattle.lines.specs.Outputs.{Writes};
 ghost use Rattle.cidr_merge.specs.Pieces.{split_text, split_count};
-ghost use Rattle.cidr_merge.specs.Splits.{EndsSplit, EndsSplitting, EndsCutting};
+ghost use Rattle.cidr_merge.specs.Splits.{EndsSplit, EndsCutting};
 ghost use Rattle.program.specs.Endings.{ending};
 
 use crate::cutting::{count_pieces, print_pieces, too_many_text};
+use crate::given::Given;
 use crate::help::{PROGRAM, USAGE};
-use crate::reading::{Sets, read_side};
+use crate::reading::{Sets, read_side, refuse_lists};
 use crate::split_words::{SplitRequest, split_request};
 use crate::usage::refuse;
 use lines::fault::RunFault;
@@ -15,62 +16,35 @@ use lines::output::Output;
 use lists::{OpenLists, Refusals};
 use program::ending::{FAILED, end};
 use program::messages::tell;
-use program::telling::{InLists, tell_fault, tell_refusals};
-use std::alloc::Global;
+use program::telling::{InLists, tell_refusals};
 use std::io::Write;
-
-/// The most networks that are printed.
-const PIECES_MAX: u128 = 1_000_000;
 
 /// Does what the words after the program's name ask for, of which the first is `split`, and returns
 /// the exit status.
 pub(crate) fn split<L: OpenLists, W: Write, E: Write>(
-    alloc: Global,
-    words: &[String],
-    lists: &L,
+    given: &Given<'_, L>,
     output: &mut Output<'_, W>,
     errors: &mut Output<'_, E>,
 ) -> u8
-    ensures { EndsSplit PROGRAM.now USAGE.now (L.known lists.now) words.now
+    ensures { EndsSplit PROGRAM.now USAGE.now (L.known given.now.lists.now) given.now.words.now
         (ending output.old output.new errors.old errors.new result) }
 {
-    match split_request(words) {
-        Ok(request) => split_lists(alloc, request, words, lists, output, errors),
-        Err(fault) => refuse(words, fault, errors),
-    }
-}
-
-// Reads the lists, and prints the pieces of their networks.
-fn split_lists<L: OpenLists, W: Write, E: Write>(
-    alloc: Global,
-    request: SplitRequest,
-    words: &[String],
-    lists: &L,
-    output: &mut Output<'_, W>,
-    errors: &mut Output<'_, E>,
-) -> u8
-    requires { request.first ≤ length words.now }
-    ensures { EndsSplitting (L.known lists.now) words.now request
-        (ending output.old output.new errors.old errors.new result) }
-{
-    let (sets, refusals, read) = read_side(
-        alloc,
-        lists,
-        request.shape,
-        words,
-        request.first,
-        words.len(),
-        Refusals::new(),
-    );
+    let words = given.words;
+    let request = match split_request(words) {
+        Ok(request) => request,
+        Err(fault) => return refuse(words, fault, errors),
+    };
+    let none = Refusals::new();
+    let (sets, refusals, read) = read_side(given, request.shape, request.first, words.len(), none);
     tell_refusals(words, &InLists, &refusals, errors);
     match read {
         Ok(()) => print_split(request, !refusals.is_empty(), &sets, output, errors),
-        Err(fault) => {
-            tell_fault(words, fault, errors);
-            FAILED
-        }
+        Err(fault) => refuse_lists(words, fault, errors),
     }
 }
+
+// The most networks that are printed.
+const PIECES_MAX: u128 = 1_000_000;
 
 // Prints the pieces of the networks, unless lines were refused that are not to be skipped, or there
 // are too many.

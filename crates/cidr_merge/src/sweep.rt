@@ -42,13 +42,9 @@ impl<'a, N: AddressSpace> Sweep<'a, N> {
                 let common = first.intersection(second);
                 Sweep::Common(common)
             }
-            Operation::Minus => {
+            _ => {
                 let alone = first.difference(second);
                 Sweep::Alone(alone)
-            }
-            Operation::Differ => {
-                let differing = first.difference(second);
-                Sweep::Alone(differing)
             }
         }
     }

@@ -4,6 +4,7 @@ ghost use Rattle.lines.specs.Watched.{device_of, has_failed};
 ghost use Rattle.cidr_merge.specs.Texts.{IsTextOf, AreTexts, TextStops, TextsStop};
 ghost use Rattle.cidr_merge.specs.Private.Devices.{ReadsAll, StopsReading, ended_by_read};
 
+use crate::given::Given;
 use lines::watched::Watched;
 use lists::{OpenFault, OpenLists, ReadFault};
 use std::alloc::Global;
@@ -12,21 +13,31 @@ use std::io::Read;
 /// How many bytes are read at once.
 const CHUNK_LEN: usize = 65536;
 
+/// The names and the bytes of lists.
+#[derive(Drop)]
+pub(crate) struct WholeLists<'a> {
+    /// The names.
+    pub names: &'a [String],
+    /// The bytes of each, in the same order.
+    pub texts: &'a [Vec<u8>],
+
+    ghost as_many: { length texts.now ≡ length names.now },
+}
+
 /// The bytes of the lists of these names, of which the first is the word at the index `first`.
 pub(crate) fn texts_of<L: OpenLists>(
-    alloc: Global,
-    lists: &L,
+    given: &Given<'_, L>,
     names: &[String],
     first: usize,
 ) -> Result<Vec<Vec<u8>>, ReadFault>
     requires { first + length names.now < 2 ^ 64 }
-    ensures ok { IfOk result (λ texts. AreTexts (L.known lists.now) names.now
+    ensures ok { IfOk result (λ texts. AreTexts (L.known given.now.lists.now) names.now
         (map (λ text. text.items) texts.items)) }
-    ensures err { IfErr result (TextsStop (L.known lists.now) first names.now) }
+    ensures err { IfErr result (TextsStop (L.known given.now.lists.now) first names.now) }
 {
-    let mut texts = Vec::new(alloc);
+    let mut texts = Vec::new(given.alloc);
     for place in 0..names.len() {
-        let text = match text_of(alloc, lists, names[place].as_str(), first + place) {
+        let text = match text_of(given, names[place].as_str(), first + place) {
             Ok(text) => text,
             Err(fault) => return Err(fault),
         };
@@ -39,20 +50,20 @@ pub(crate) fn texts_of<L: OpenLists>(
 
 // The bytes of the list of this name, which is the word at the index `place`.
 fn text_of<L: OpenLists>(
-    alloc: Global,
-    lists: &L,
+    given: &Given<'_, L>,
     name: &str,
     place: usize,
 ) -> Result<Vec<u8>, ReadFault>
-    ensures ok { IfOk result (λ text. IsTextOf (L.known lists.now) name.now text.items) }
-    ensures err { IfErr result (TextStops (L.known lists.now) place name.now) }
+    ensures ok { IfOk result (λ text. IsTextOf (L.known given.now.lists.now) name.now text.items) }
+    ensures err { IfErr result (TextStops (L.known given.now.lists.now) place name.now) }
 {
+    let lists = given.lists;
     let list = match lists.open(name) {
         Ok(list) => list,
         Err(error) => return Err(ReadFault::Open(place, OpenFault::of(error.kind()))),
     };
     let mut list = Watched::new(list);
-    let text = read_all(alloc, &mut list, place);
+    let text = read_all(given.alloc, &mut list, place);
     lists.close(name, list);
     text
 }

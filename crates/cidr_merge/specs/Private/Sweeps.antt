@@ -1,6 +1,8 @@
 -- The blocks that are still to come.
-use Rattle.std.specs.Prelude.{ℕ, List, [], ◌∷◌, Option, None, Some}
+use Rattle.std.specs.Prelude.{ℕ, Bool, true, false, List, [], ◌∷◌, Option, None, Some}
+use Rattle.ipnetwork_family.specs.Family.{Family}
 use Rattle.ipnetwork_family.specs.Network.{Network}
+use Rattle.cidr_merge.specs.Answers.{AreBlockLines, AreRangeLines}
 use Rattle.cidr_merge.specs.declared.command_line.Operation.{Operation}
 use Rattle.cidr_merge.specs.declared.command_line.Operation.TheVariants as operations
 use Rattle.cidr_merge.specs.declared.sweep.Sweep.{Sweep}
@@ -26,3 +28,10 @@ left_of_second operations.Union parts = []
 left_of_second operations.Common parts = []
 left_of_second operations.Minus parts = []
 left_of_second operations.Differ parts = parts
+
+-- the lines of the ranges that an operation leaves of two sets, or else those of the blocks
+abbrev pub AreLines : {w : ℕ} → Bool → Operation → Family w → List Network → List Network → List ℕ
+    → Type 0
+AreLines true operation family first second text = AreRangeLines operation family first second text
+AreLines false operation family first second text =
+    AreBlockLines operation family first second text

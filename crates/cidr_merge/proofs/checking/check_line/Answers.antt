@@ -6,14 +6,15 @@ use Rattle.cidr_merge.proofs.checking.check_line.Goals as goal
 pub returns-in-Ok : goal.returns-in-Ok
 returns-in-Ok g c =
     let told = c.tell_if_loose.ensures in
-    let is = ap
-    (λ (b : Bool). host_findings b c.args.name.now c.args.number c.args.line.now)
+    let line = c.args.line.now in
+    let is = ap (λ (b : Bool). host_findings b line.name.now line.number line.text.now)
     c.is_loose.ensures in
     (told.0, inl (c.in-Ok.said, c.in-Ok.ensures, told.1 ∙ is), told.2, told.3)
 
 pub returns-in-Err : goal.returns-in-Err
 returns-in-Err g c =
-    let text = refusal_text c.args.name.now c.args.number c.in-Err.fault c.args.line.now in (
+    let line = c.args.line.now in
+    let text = refusal_text line.name.now line.number c.in-Err.fault line.text.now in (
       text ∷ [],
       inr (c.in-Err.fault, c.in-Err.ensures, refl),
       tells_same c.args.output.now c.tell_wrong.new.output _ _

@@ -13,7 +13,7 @@ pub lines-preserved : goal.lines-preserved
 lines-preserved g c = record {
   within = omega (arith, c.lines.invariant.within, c.in-Some.ensures.less);
   told = told_more c.args.strictly c.args.name.now c.args.text.now c.lines.lines.text.now
-      c.next.new.self.text.now c.in-Some.line.now c.args.output.now c.lines.output
+      c.next.new.self.text.now c.in-Some.text.now c.args.output.now c.lines.output
       c.check_line-more.new.output
       c.lines.number c.lines.found c.check_line-more.result c.either-found.result
       c.lines.invariant.told c.in-Some.ensures.line c.check_line-more.ensures

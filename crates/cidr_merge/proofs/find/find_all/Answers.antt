@@ -3,36 +3,46 @@ use Rattle.std.proofs.lemmas.List.{take_rest}
 use Rattle.program.specs.Endings.{ending}
 use Rattle.cidr_merge.specs.CommandLines.{before_dashes, behind_dashes}
 use Rattle.cidr_merge.specs.FindRuns.{EndsSearching}
-use Rattle.cidr_merge.proofs.SearchEnds.{searched, not_read}
+use Rattle.cidr_merge.proofs.SearchEnds.{search_ended, searched, not_read}
 use Rattle.cidr_merge.proofs.WholeLists.{as_many_held}
 use Rattle.cidr_merge.proofs.find.find_all.Goals as goal
 
-pub search-requires-clause-texts : goal.search-requires-clause-texts
-search-requires-clause-texts g c =
-    as_many_held (g.L.OpenLists.known c.args.lists.now) _ c.in-Ok.texts.items (λ text. text.items) _
-    c.as_slice.ensures.value c.in-Ok.ensures.ok
+pub invariant_of-lists : goal.invariant_of-lists
+invariant_of-lists g c = record {
+  as_many = as_many_held (g.L.OpenLists.known c.args.given.now.lists.now) _ c.in-Ok.texts.items
+      (λ text. text.items) _ c.as_slice.ensures.value c.in-Ok.ensures.ok;
+}
 
-pub returns-in-Ok : goal.returns-in-Ok
-returns-in-Ok g c =
-    let words = c.args.words.now in
+pub returns : goal.returns
+returns g c =
+    let words = c.args.given.now.words.now in
     let sought = c.before_dashes.result.now in
     let names = c.behind_dashes-names.result.now in
-    let end = ending c.args.output.now c.search.new.output c.args.errors.now c.search.new.errors
-    c.search.result in
-    searched (g.L.OpenLists.known c.args.lists.now) words sought names end
+    let end = ending c.args.output.now c.finish-written.new.self c.args.errors.now c.end.new.errors
+    c.end.result in
+    let reported = c.search_lists-reported in
+    searched (g.L.OpenLists.known c.args.given.now.lists.now) words sought names end
     (c.before_dashes.ensures ∙ ap before_dashes (take_rest words 1))
     (c.behind_dashes-names.ensures ∙ ap behind_dashes (take_rest words 1))
     (map (λ text. text.items) c.in-Ok.texts.items) c.in-Ok.ensures.ok
     (subst (λ ts. EndsSearching sought names (map
-    (λ text. text.items) ts) end) c.as_slice.ensures.value c.search.ensures)
+    (λ text. text.items) ts) end) c.as_slice.ensures.value
+    (search_ended sought names (map (λ text. text.items) c.as_slice.result.now) end
+    reported.new.output reported.new.errors c.finish-written.result
+    reported.result.printed reported.result.told c.status-status.result
+    reported.ensures c.status-status.ensures
+    c.finish-written.ensures.ok c.finish-written.ensures.works c.finish-written.ensures.failed
+    c.end.ensures.status c.end.ensures.told))
 
 pub returns-in-Err : goal.returns-in-Err
 returns-in-Err g c =
-    let words = c.args.words.now in
+    let words = c.args.given.now.words.now in
     not_read
-    (g.L.OpenLists.known c.args.lists.now) words c.before_dashes.result.now
+    (g.L.OpenLists.known c.args.given.now.lists.now) words c.before_dashes.result.now
     c.behind_dashes-names.result.now
-    (ending c.args.output.now c.args.output.now c.args.errors.now c.tell_fault.new.errors 2)
+    (ending c.args.output.now c.args.output.now c.args.errors.now c.refuse_lists.new.errors
+    c.refuse_lists.result)
     (c.before_dashes.ensures ∙ ap before_dashes (take_rest words 1))
     (c.behind_dashes-names.ensures ∙ ap behind_dashes (take_rest words 1))
-    c.in-Err.fault c.in-Err.ensures.err ((refl, refl), c.tell_fault.ensures)
+    c.in-Err.fault c.in-Err.ensures.err
+    ((refl, c.refuse_lists.ensures.status), c.refuse_lists.ensures.told)

@@ -5,7 +5,7 @@ use Rattle.cidr_merge.proofs.inspecting.check.Goals as goal
 
 pub returns : goal.returns
 returns g c =
-    checked c.args.names.now (map (λ text. text.items) c.args.texts.now)
+    checked c.args.lists.now.names.now (map (λ text. text.items) c.args.lists.now.texts.now)
     (ending c.args.output.now c.finish-written.new.self c.args.errors.now c.end.new.errors
     c.end.result)
     c.check_lists-found.new.output c.finish-written.result c.check_lists-found.result

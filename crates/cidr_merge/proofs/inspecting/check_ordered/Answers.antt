@@ -5,8 +5,8 @@ use Rattle.cidr_merge.proofs.inspecting.check_ordered.Goals as goal
 
 pub returns : goal.returns
 returns g c =
-    ordered_ended c.args.strictly c.args.names.now (map
-    (λ text. text.items) c.args.texts.now) c.in-Ok.entries.items c.as_mut_slice.result.now
+    ordered_ended c.args.strictly c.args.lists.now.names.now (map
+    (λ text. text.items) c.args.lists.now.texts.now) c.in-Ok.entries.items c.as_mut_slice.result.now
     c.as_mut_slice.ensures.value
     (ending c.args.output.now c.finish-written.new.self c.args.errors.now c.end.new.errors
     c.end.result) c.check_lists-wrong.new.output c.tell_ordered-more.new.output

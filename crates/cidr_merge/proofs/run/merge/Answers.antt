@@ -9,7 +9,7 @@ returns-in-Ok g c =
     let end = ending c.args.output.now c.answer.new.output
     c.args.errors.now c.answer.new.errors c.answer.result in
     merged r.3 c.in-Ok.field-0
-    (g.L.OpenLists.known c.args.lists.now) c.args.words.now c.args.request r.0 r.1 r.2
+    (g.L.OpenLists.known c.args.given.now.lists.now) c.args.given.now.words.now c.args.request r.0 r.1 r.2
     c.is_empty.result end
     c.tell_refusals.new.errors c.in-Ok.is c.read_sides-first.ensures.read c.tell_refusals.ensures
     c.is_empty.ensures c.answer.ensures
@@ -17,8 +17,9 @@ returns-in-Ok g c =
 pub returns : goal.returns
 returns g c =
     stopped c.read_sides-first.result.3
-    (g.L.OpenLists.known c.args.lists.now) c.args.words.now c.args.request
+    (g.L.OpenLists.known c.args.given.now.lists.now) c.args.given.now.words.now c.args.request
     c.read_sides-first.result.2 c.in-Err.fault
-    (ending c.args.output.now c.args.output.now c.args.errors.now c.tell_fault.new.errors 2)
+    (ending c.args.output.now c.args.output.now c.args.errors.now c.refuse_lists.new.errors
+    c.refuse_lists.result)
     c.tell_refusals.new.errors c.in-Err.is c.read_sides-first.ensures.stopped
-    c.tell_refusals.ensures (refl, refl) c.tell_fault.ensures
+    c.tell_refusals.ensures (refl, c.refuse_lists.ensures.status) c.refuse_lists.ensures.told

@@ -1,7 +1,8 @@
-use Rattle.std.proofs.Common.{◌∙◌, inl, inr, sym}
+use Rattle.std.proofs.Common.{◌∙◌, inl, inr, refl, sym}
 use Rattle.program.specs.Endings.{ending}
 use Rattle.program.proofs.Runs.{printed, not_asked}
-use Rattle.cidr_merge.specs.declared.help.TheConstants.{HELP, VERSION}
+use Rattle.cidr_merge.specs.declared.help.TheConstants.{HELP, PROGRAM, USAGE, VERSION}
+use Rattle.cidr_merge.proofs.Runs.{inspected, requested}
 use Rattle.cidr_merge.proofs.run.run.Goals as goal
 
 pub returns-in-Some : goal.returns-in-Some
@@ -25,14 +26,33 @@ returns-then-stands-2 g c =
     not_asked HELP.now VERSION.now c.args.words.now _ end c.in_default.ensures
     (inr (inl (sym c.stands-2.ensures ∙ c.if-stands-2.true, c.find.ensures)))
 
-pub returns : goal.returns
-returns g c =
-    let end = ending c.args.output.now c.operate.new.output
-    c.args.errors.now c.operate.new.errors c.operate.result in
-    not_asked HELP.now VERSION.now c.args.words.now _ end c.in_default.ensures
-    (inr (inr (
-      sym c.stands.ensures ∙ c.if-stands.false,
-      sym c.stands-2.ensures
-          ∙ c.if-stands-2.false,
-      c.operate.ensures,
-    )))
+pub returns-in-Some-inspection_of : goal.returns-in-Some-inspection_of
+returns-in-Some-inspection_of g c =
+    inspected PROGRAM.now HELP.now VERSION.now USAGE.now
+    (g.L.OpenLists.known c.args.lists.now) c.args.words.now
+    (ending c.args.output.now c.inspect.new.output c.args.errors.now c.inspect.new.errors
+    c.inspect.result) _ c.inspection_of.ensures.asked c.in_default.ensures
+    (sym c.stands.ensures ∙ c.if-stands.false) (sym c.stands-2.ensures ∙ c.if-stands-2.false)
+    _ c.in-Some-inspection_of.is c.inspect.ensures
+
+pub returns-in-Ok : goal.returns-in-Ok
+returns-in-Ok g c =
+    let asked = c.in-Ok.ensures.asked in
+    requested PROGRAM.now HELP.now VERSION.now USAGE.now _ _ _ _ c.inspection_of.ensures.asked
+    c.in_default.ensures (sym c.stands.ensures ∙ c.if-stands.false)
+    (sym c.stands-2.ensures ∙ c.if-stands-2.false) c.in_default-inspection_of.is
+    (inl (c.in-Ok.request, asked.0, asked.1, c.merge.ensures))
+
+pub returns-in-Err : goal.returns-in-Err
+returns-in-Err g c =
+    let wrong = c.in-Err.ensures.asked in
+    requested PROGRAM.now HELP.now VERSION.now USAGE.now _ _
+    (ending c.args.output.now c.args.output.now c.args.errors.now c.refuse.new.errors
+    c.refuse.result) _ c.inspection_of.ensures.asked c.in_default.ensures
+    (sym c.stands.ensures ∙ c.if-stands.false) (sym c.stands-2.ensures ∙ c.if-stands-2.false)
+    c.in_default-inspection_of.is (inr (
+      c.in-Err.fault,
+      wrong.0,
+      wrong.1,
+      ((refl, c.refuse.ensures.status), c.refuse.ensures.told),
+    ))

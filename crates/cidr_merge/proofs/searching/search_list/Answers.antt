@@ -16,7 +16,7 @@ lines-preserved g c = record {
   within = omega (arith, c.lines.invariant.within, c.in-Some.ensures.less);
   searched =
       searched_more c.args.sought.now.words.now c.args.name.now c.args.text.now
-      c.lines.lines.text.now c.next.new.self.text.now c.in-Some.text_line.now c.args.output.now
+      c.lines.lines.text.now c.next.new.self.text.now c.in-Some.text.now c.args.output.now
       c.lines.output
       c.search_line-more.new.output c.args.errors.now c.lines.errors c.search_line-more.new.errors
       c.lines.number c.lines.printed c.search_line-more.result.printed c.either-printed.result

@@ -1,7 +1,6 @@
 use Rattle.std.proofs.Common.{refl}
-use Rattle.cidr_merge.specs.declared.command_line.Operation.TheVariants.{Union, Common, Minus}
-use Rattle.cidr_merge.specs.declared.command_line.Operation.TheVariants.{Differ}
-use Rattle.cidr_merge.proofs.Totals.{left_by}
+use Rattle.cidr_merge.specs.declared.command_line.Operation.TheVariants.{Union, Common}
+use Rattle.cidr_merge.proofs.Totals.{left_by, alone_by}
 use Rattle.cidr_merge.proofs.sweep.Sweep.of.Goals as goal
 
 pub returns-in-Union : goal.returns-in-Union
@@ -24,24 +23,13 @@ returns-in-Common g c =
     c.fewer_blocks.ensures sum.0 sum.1 in
     record { left = left.0; counted = left.1 }
 
-pub returns-in-Minus : goal.returns-in-Minus
-returns-in-Minus g c =
+pub returns-in_default : goal.returns-in_default
+returns-in_default g c =
     let w = g.N.CidrNetwork.WIDTH in
     let least = c.difference-alone.ensures in
     let sum = c.sums.ensures.difference w c.args.first.now c.args.second.now _ least in
-    let left = left_by c.args.operation Minus c.in-Minus.is w c.args.first.now c.args.second.now _ _
-    refl least
-    (c.shortest.ensures.difference w c.args.first.now c.args.second.now _ least).addresses
-    c.fewer_blocks.ensures sum.0 sum.1 in
-    record { left = left.0; counted = left.1 }
-
-pub returns-in-Differ : goal.returns-in-Differ
-returns-in-Differ g c =
-    let w = g.N.CidrNetwork.WIDTH in
-    let least = c.difference-differing.ensures in
-    let sum = c.sums.ensures.difference w c.args.first.now c.args.second.now _ least in
-    let left = left_by c.args.operation Differ c.in-Differ.is w c.args.first.now c.args.second.now _
-    _ refl least
+    let left = alone_by c.args.operation c.in_default.not-Union c.in_default.not-Common w
+    c.args.first.now c.args.second.now _ _ refl least
     (c.shortest.ensures.difference w c.args.first.now c.args.second.now _ least).addresses
     c.fewer_blocks.ensures sum.0 sum.1 in
     record { left = left.0; counted = left.1 }
