@@ -12,7 +12,7 @@ use Rattle.cidr_filter.specs.declared.filter.Filter.{Filter}
 use Rattle.cidr_filter.specs.declared.filter.Verdict.{Verdict}
 use Rattle.cidr_filter.specs.declared.filter.Verdict.TheVariants as verdicts
 use Rattle.log_programs.proofs.Lacking.{positive}
-use Rattle.cidr_filter.proofs.Failing.{or_none, or_assoc}
+use Rattle.log_programs.proofs.Failing.{or_none, or_assoc}
 
 at_most : (a b : ℕ) → a ≤ b → nat_le a b ≡ true
 at_most a b le = grind (arith, nat_tests)

@@ -36,7 +36,9 @@ use Rattle.program.specs.declared.log_fault.LogFault.TheVariants as faults
 use Rattle.lists.specs.declared.opening.OpenFault.TheVariants as causes
 use Rattle.cidr_filter.specs.declared.options.Choice.TheVariants as choices
 use Rattle.cidr_filter.proofs.OptionExamples.{letters}
-use Rattle.cidr_filter.specs.CommandLines.{said_by}
+use Rattle.log_programs.specs.CommandLines.{said_by}
+use Rattle.log_programs.specs.declared.shared.Shared.TheVariants as common
+use Rattle.cidr_filter.specs.CommandLines.{filter_options}
 
 -- ---- fields, cut at each comma (44) or blank (32)
 
@@ -145,17 +147,17 @@ second_address_inside not listed = (omega arith, inr (not, inl (listed, refl)))
 pub place_without_options : place_of {Z = Unit {0}} [] no_options ≡ places.Field 1 32
 place_without_options = refl
 
-pub place_of_words : place_of {Z = Unit {0}} [] (said_by (choices.Letters (letters false false false true) ∷ choices.Field 3 ∷ [])) ≡ places.Word 3
+pub place_of_words : place_of {Z = Unit {0}} [] (said_by filter_options (choices.Letters (letters false false false true) ∷ choices.Shared (common.Field 3) ∷ [])) ≡ places.Word 3
 place_of_words = refl
 
-pub place_anywhere : place_of {Z = Unit {0}} [] (said_by (choices.Letters (letters false false true false) ∷ [])) ≡ places.Anywhere
+pub place_anywhere : place_of {Z = Unit {0}} [] (said_by filter_options (choices.Letters (letters false false true false) ∷ [])) ≡ places.Anywhere
 place_anywhere = refl
 
 pub place_after : {Z : Type 0} (name text log : String Z) → string_bytes name ≡ codes "--after" → string_bytes text ≡ codes "SRC="
-    → place_of (name ∷ text ∷ log ∷ []) (record (said_by (choices.After ∷ [])) { files = 2 }) ≡ places.After (codes "SRC=")
+    → place_of (name ∷ text ∷ log ∷ []) (record (said_by filter_options (choices.Shared common.After ∷ [])) { files = 2 }) ≡ places.After (codes "SRC=")
 place_after name text log n t = rw (n, t)
 
-pub place_of_both : place_of {Z = Unit {0}} [] (said_by (choices.Field 3 ∷ choices.Separator 44 ∷ [])) ≡ places.Field 3 44
+pub place_of_both : place_of {Z = Unit {0}} [] (said_by filter_options (choices.Shared (common.Field 3) ∷ choices.Shared (common.Separator 44) ∷ [])) ≡ places.Field 3 44
 place_of_both = refl
 
 -- 1,048,576 bytes are judged, and a byte more is too long
@@ -182,26 +184,13 @@ outside_is_not bad = refl
 pub outside_of_none : (bad : WithoutAddress) → is_selected (by true bad) verdicts.Outside ≡ true
 outside_of_none bad = refl
 
-pub bad_dropped_also_inverted : is_selected (by true without.Drop) verdicts.NoAddress ≡ false
-bad_dropped_also_inverted = refl
+-- lines without an address, and ones that are too long: they are dropped, inverted or not, or kept, or they end the run
+pub selected_without_an_address : (is_selected (by true without.Drop) verdicts.NoAddress ≡ false) × (is_selected (by false without.Keep) verdicts.NoAddress ≡ true) × (is_selected (by false without.Keep) verdicts.TooLong ≡ false)
+selected_without_an_address = (refl, refl, refl)
 
-pub bad_kept : is_selected (by false without.Keep) verdicts.NoAddress ≡ true
-bad_kept = refl
-
-pub bad_stops : is_refused (by true without.Stop) verdicts.NoAddress ≡ true
-bad_stops = refl
-
-pub kept_is_not_refused : is_refused (by true without.Keep) verdicts.NoAddress ≡ false
-kept_is_not_refused = refl
-
-pub too_long_is_not_kept : is_selected (by false without.Keep) verdicts.TooLong ≡ false
-too_long_is_not_kept = refl
-
-pub too_long_where_bad_is_kept : is_refused (by false without.Keep) verdicts.TooLong ≡ true
-too_long_where_bad_is_kept = refl
-
-pub too_long_dropped : is_refused (by false without.Drop) verdicts.TooLong ≡ false
-too_long_dropped = refl
+pub refused_without_an_address : (is_refused (by true without.Stop) verdicts.NoAddress ≡ true) × (is_refused (by true without.Keep) verdicts.NoAddress ≡ false)
+    × (is_refused (by false without.Keep) verdicts.TooLong ≡ true) × (is_refused (by false without.Drop) verdicts.TooLong ≡ false)
+refused_without_an_address = (refl, refl, refl, refl)
 
 -- the longest network and a tab, or a minus sign
 pub block_before_a_line : (tables : Tables) → mark_of (Blocks tables) (verdicts.Inside (Some (V4 (record { address = 167772160; prefix = 8 })))) ≡ codes "10.0.0.0/8\t"

@@ -1,70 +1,20 @@
--- Words that are no options, and what is wrong with a command line.
-use Rattle.std.proofs.Common.{◌≡◌, Bool, true, false, List, [], ◌∷◌, length, drop, refl, sym, ◌||◌, ◌&&◌, cond, true≢false, not, codes}
-use Rattle.std.specs.Prelude.{Option, None, String, nat_lt, bytes_eq}
+-- Words that are no options.
+use Rattle.std.proofs.Common.{◌≡◌, false, List, ℕ, length, drop, codes}
+use Rattle.std.specs.Prelude.{None, nat_lt, bytes_eq}
 use Rattle.std.specs.List.{list_all}
-use Rattle.std.specs.String.{string_bytes}
-use Rattle.log_programs.specs.Plain.{begins, is_plain}
-use Rattle.log_programs.proofs.Faults as faults
-use Rattle.log_programs.proofs.Requests.{no_files}
-use Rattle.cidr_filter.specs.CommandLines.{filter_options, option_of}
-use Rattle.cidr_filter.specs.Laws.{is_option_word, OthersAreNoOptions, OthersAskForNothing, WordsHaveOneFault}
-use Rattle.cidr_filter.specs.Options.{is_letter}
+use Rattle.log_programs.specs.Laws.{are_flags, begins_with}
+use Rattle.log_programs.specs.Plain.{begins}
+use Rattle.log_programs.proofs.OtherWords.{NoneIs, no_part, no_flags}
+use Rattle.cidr_filter.specs.Laws.{option_names, before_values, is_flag, is_option_word}
+use Rattle.cidr_filter.specs.Options.{is_before_value, in_one_word}
 
-none_of : (a b c d y e f j z g h q i dash some all : Bool) → ((a || (b || (c || (d || (y || (e || (f || (j || (z || false))))))))) || (g || (h || (q || (i || false)))) || (dash && (some && all))) ≡ false
-    → (a ≡ false) × (b ≡ false) × (c ≡ false) × (d ≡ false) × (y ≡ false) × (e ≡ false) × (f ≡ false) × (j ≡ false) × (z ≡ false) × (g ≡ false) × (h ≡ false) × (q ≡ false) × (i ≡ false) × ((dash && (some && all)) ≡ false)
-none_of true b c d y e f j z g h q i dash some all is = absurd (true≢false is)
-none_of false true c d y e f j z g h q i dash some all is = absurd (true≢false is)
-none_of false false true d y e f j z g h q i dash some all is = absurd (true≢false is)
-none_of false false false true y e f j z g h q i dash some all is = absurd (true≢false is)
-none_of false false false false true e f j z g h q i dash some all is = absurd (true≢false is)
-none_of false false false false false true f j z g h q i dash some all is = absurd (true≢false is)
-none_of false false false false false false true j z g h q i dash some all is = absurd (true≢false is)
-none_of false false false false false false false true z g h q i dash some all is = absurd (true≢false is)
-none_of false false false false false false false false true g h q i dash some all is = absurd (true≢false is)
-none_of false false false false false false false false false true h q i dash some all is = absurd (true≢false is)
-none_of false false false false false false false false false false true q i dash some all is = absurd (true≢false is)
-none_of false false false false false false false false false false false true i dash some all is = absurd (true≢false is)
-none_of false false false false false false false false false false false false true dash some all is = absurd (true≢false is)
-none_of false false false false false false false false false false false false false dash some all is = (refl, refl, refl, refl, refl, refl, refl, refl, refl, refl, refl, refl, refl, is)
+module _ (word : List ℕ) where
+  no_part_of_any : NoneIs (bytes_eq word) option_names × NoneIs (λ text. begins_with text word) before_values × (are_flags is_flag word ≡ false)
+      → (is_before_value word ≡ false) × (in_one_word word ≡ None)
+  no_part_of_any ((f, (e, (k, (d, (m, (bad, (longest, (mapped, (after, end))))))))), (k_value, (d_value, (m_value, (bad_value, nothing)))), no_letters) = (
+    rw (f, k, d, after, e, m, bad),
+    rw (m_value, bad_value, longest, k_value, d_value, mapped) (no_flags (begins (codes "-") word) (nat_lt 0 (length (drop 1 word))) (list_all is_flag (drop 1 word)) _ None no_letters),
+  )
 
-no_flags : {A : Type 0} (dash some all : Bool) (x none : A) → (dash && (some && all)) ≡ false → cond dash (cond (some && all) x none) none ≡ none
-no_flags false some all x none e = refl
-no_flags true true true x none e = absurd (true≢false e)
-no_flags true true false x none e = refl
-no_flags true false all x none e = refl
-
-none_chosen : {A : Type 0} (a b c d y e f j z g h q i dash some all : Bool) (next k l p m n o x none : A)
-    → ((a || (b || (c || (d || (y || (e || (f || (j || (z || false))))))))) || (g || (h || (q || (i || false)))) || (dash && (some && all))) ≡ false
-    → cond (a || b || c || d || y || e || z) next (cond g k (cond h l (cond q p (cond i m (cond f n (cond j o (cond dash (cond (some && all) x none) none))))))) ≡ none
-none_chosen a b c d y e f j z g h q i dash some all next k l p m n o x none is =
-    let others = none_of a b c d y e f j z g h q i dash some all is in
-    rw (others.0, others.1, others.2, others.3, others.4, others.5, others.8, others.9, others.10, others.11, others.12, others.6, others.7) (no_flags dash some all x none others.13)
-
-no_option : {Z : Type 0} (word : String Z) (others : List (String Z)) → is_option_word (string_bytes word) ≡ false → option_of (word ∷ others) ≡ None
-no_option word others is =
-    let w = string_bytes word in
-    none_chosen (bytes_eq w (codes "-f")) (bytes_eq w (codes "-e")) (bytes_eq w (codes "-k")) (bytes_eq w (codes "-d")) (bytes_eq w (codes "-m")) (bytes_eq w (codes "--bad")) (bytes_eq w (codes "--longest")) (bytes_eq w (codes "--mapped"))
-    (bytes_eq w (codes "--after"))
-    (begins (codes "-k") w) (begins (codes "-d") w) (begins (codes "-m") w) (begins (codes "--bad=") w) (begins (codes "-") w) (nat_lt 0 (length (drop 1 w))) (list_all is_letter (drop 1 w))
-    _ _ _ _ _ _ _ _ _ is
-
-pub others_are_none : {Z : Type 0} (words : List (String Z)) → OthersAreNoOptions words
-others_are_none [] = tt
-others_are_none (word ∷ others) = no_option word others
-
--- a word that begins with a dash, and is neither `-` nor `--`, is no FILE
-no_plain : {A : Type 0} (dash dashes begins rest : Bool) (names files : Option A) → begins ≡ true → (dash || (dashes || false)) ≡ false
-    → cond dashes names (cond ((dash || not begins) && rest) files None) ≡ None
-no_plain true dashes begins rest names files b e = absurd (true≢false e)
-no_plain false true begins rest names files b e = absurd (true≢false e)
-no_plain false false true rest names files b e = refl
-no_plain false false false rest names files b e = absurd (true≢false (sym b))
-
-pub others_ask_nothing : {Z : Type 0} (words : List (String Z)) → OthersAskForNothing words
-others_ask_nothing words options word others begin is dashed no_dashes =
-    let w = string_bytes word in
-    no_files filter_options words options (word ∷ others) begin (no_option word others is)
-    (no_plain (bytes_eq w (codes "-")) (bytes_eq w (codes "--")) (begins (codes "-") w) (list_all is_plain others) _ _ dashed no_dashes)
-
-pub one_fault : {Z : Type 0} (words : List (String Z)) → WordsHaveOneFault words
-one_fault words a b p q = faults.one_fault filter_options words a b p q
+  pub no_option : is_option_word word ≡ false → (is_before_value word ≡ false) × (in_one_word word ≡ None)
+  no_option is = no_part_of_any (no_part option_names before_values is_flag word is)

@@ -19,7 +19,7 @@ use Rattle.cidr_filter.specs.declared.filter.Filter.{Filter}
 use Rattle.cidr_filter.specs.declared.filter.Verdict.{Verdict}
 use Rattle.cidr_filter.specs.declared.filter.Verdict.TheVariants as verdicts
 use Rattle.cidr_filter.proofs.Addressed.{addressed_more}
-use Rattle.cidr_filter.proofs.Failing.{or_none}
+use Rattle.log_programs.proofs.Failing.{or_none}
 use Rattle.cidr_filter.proofs.Heads.{heads_same}
 use Rattle.cidr_filter.proofs.LogParts.{both}
 use Rattle.cidr_filter.proofs.Spent.{none_below, none_less, less_more, still_below}

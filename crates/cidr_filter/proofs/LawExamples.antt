@@ -5,11 +5,13 @@ use Rattle.std.specs.List.{list_all, list_any}
 use Rattle.std.specs.String.{string_bytes}
 use Rattle.ipnetwork.specs.declared.ip_network.IpNetwork.TheVariants.{V4, V6}
 use Rattle.program.specs.declared.usage.Subject.TheVariants as subjects
-use Rattle.cidr_filter.specs.CommandLines.{AsksNothing, option_of, HasFault}
+use Rattle.log_programs.specs.CommandLines.{AsksNothing, option_of}
+use Rattle.log_programs.specs.Laws.{is_one_of, begins_with, OthersAreNoOptions, OthersAskForNothing, WordsHaveOneFault}
+use Rattle.cidr_filter.specs.CommandLines.{filter_options}
 use Rattle.cidr_filter.specs.Filters.{IsVerdict, Filters}
-use Rattle.cidr_filter.specs.Laws.{LinesHaveOneVerdict, LogsHaveOneOutput, OutputsOfPartsFollow, NumbersAreNotShown, LinesThatEndRunsAreWhole, is_one_of, begins_with, is_option_word, OthersAreNoOptions, OthersAskForNothing, WordsHaveOneFault}
+use Rattle.cidr_filter.specs.Laws.{LinesHaveOneVerdict, LogsHaveOneOutput, OutputsOfPartsFollow, NumbersAreNotShown, LinesThatEndRunsAreWhole, is_option_word}
 use Rattle.program.specs.LogLines.{LogLine, log_lines, content}
-use Rattle.log_programs.specs.Usage.{about}
+use Rattle.log_programs.specs.Usage.{about, HasFault}
 use Rattle.cidr_filter.specs.declared.filter.Filter.{Filter}
 use Rattle.cidr_filter.specs.declared.filter.Verdict.{Verdict}
 use Rattle.cidr_filter.specs.declared.filter.Verdict.TheVariants as verdicts
@@ -107,21 +109,21 @@ long_line_is_not_lost law filter read rest line e long judges none =
 -- ---- words that are no options
 
 -- a letter beside an option, a letter more, one less, and a letter of none, whatever follows
-pub no_other_letter : {Z : Type 0} (word : String Z) (others : List (String Z)) → OthersAreNoOptions (word ∷ others) → string_bytes word ≡ codes "--longesu" → option_of (word ∷ others) ≡ None
+pub no_other_letter : {Z : Type 0} (word : String Z) (others : List (String Z)) → OthersAreNoOptions filter_options is_option_word (word ∷ others) → string_bytes word ≡ codes "--longesu" → option_of filter_options (word ∷ others) ≡ None
 no_other_letter word others law w = law (ap is_option_word w)
 
-pub no_more_letters : {Z : Type 0} (word : String Z) (others : List (String Z)) → OthersAreNoOptions (word ∷ others) → string_bytes word ≡ codes "-ff" → option_of (word ∷ others) ≡ None
+pub no_more_letters : {Z : Type 0} (word : String Z) (others : List (String Z)) → OthersAreNoOptions filter_options is_option_word (word ∷ others) → string_bytes word ≡ codes "-ff" → option_of filter_options (word ∷ others) ≡ None
 no_more_letters word others law w = law (ap is_option_word w)
 
-pub no_fewer_letters : {Z : Type 0} (word : String Z) (others : List (String Z)) → OthersAreNoOptions (word ∷ others) → string_bytes word ≡ codes "--ba" → option_of (word ∷ others) ≡ None
+pub no_fewer_letters : {Z : Type 0} (word : String Z) (others : List (String Z)) → OthersAreNoOptions filter_options is_option_word (word ∷ others) → string_bytes word ≡ codes "--ba" → option_of filter_options (word ∷ others) ≡ None
 no_fewer_letters word others law w = law (ap is_option_word w)
 
-pub no_third_flag : {Z : Type 0} (word : String Z) (others : List (String Z)) → OthersAreNoOptions (word ∷ others) → string_bytes word ≡ codes "-x" → option_of (word ∷ others) ≡ None
+pub no_third_flag : {Z : Type 0} (word : String Z) (others : List (String Z)) → OthersAreNoOptions filter_options is_option_word (word ∷ others) → string_bytes word ≡ codes "-x" → option_of filter_options (word ∷ others) ≡ None
 no_third_flag word others law w = law (ap is_option_word w)
 
 -- nor does such a word ask for something behind an option
-pub not_behind_an_option : {Z : Type 0} (flag word : String Z) (others : List (String Z)) → OthersAskForNothing (flag ∷ word ∷ others) → string_bytes flag ≡ codes "-v" → string_bytes word ≡ codes "--longesu"
-    → AsksNothing (flag ∷ word ∷ others)
+pub not_behind_an_option : {Z : Type 0} (flag word : String Z) (others : List (String Z)) → OthersAskForNothing filter_options is_option_word (flag ∷ word ∷ others) → string_bytes flag ≡ codes "-v" → string_bytes word ≡ codes "--longesu"
+    → AsksNothing filter_options (flag ∷ word ∷ others)
 not_behind_an_option flag word others law f w =
     law (choices.Letters (letters true false false false) ∷ []) word others (rw f, rw f) (ap is_option_word w) (ap (begins_with (codes "-")) w) (ap (is_one_of (codes "-" ∷ codes "--" ∷ [])) w)
 
@@ -136,9 +138,9 @@ words_of_none = refl
 -- ---- one fault
 
 -- two words are not both the first that is wrong
-pub not_two_words : {Z : Type 0} (words : List (String Z)) → WordsHaveOneFault words → HasFault words (about (subjects.Word 0) problems.NoOption) → HasFault words (about (subjects.Word 1) problems.NoOption) → ⊥
+pub not_two_words : {Z : Type 0} (words : List (String Z)) → WordsHaveOneFault filter_options words → HasFault filter_options words (about (subjects.Word 0) problems.NoOption) → HasFault filter_options words (about (subjects.Word 1) problems.NoOption) → ⊥
 not_two_words words law p q = cc (ap (λ (fault : UsageFault). fault.subject) (law (about (subjects.Word 0) problems.NoOption) (about (subjects.Word 1) problems.NoOption) p q))
 
 -- nor is one word wrong in two ways
-pub not_two_problems : {Z : Type 0} (words : List (String Z)) → WordsHaveOneFault words → HasFault words (about (subjects.Word 0) problems.NoOption) → HasFault words (about (subjects.Word 0) problems.AfterFile) → ⊥
+pub not_two_problems : {Z : Type 0} (words : List (String Z)) → WordsHaveOneFault filter_options words → HasFault filter_options words (about (subjects.Word 0) problems.NoOption) → HasFault filter_options words (about (subjects.Word 0) problems.AfterFile) → ⊥
 not_two_problems words law p q = cc (ap (λ (fault : UsageFault). fault.problem) (law (about (subjects.Word 0) problems.NoOption) (about (subjects.Word 0) problems.AfterFile) p q))

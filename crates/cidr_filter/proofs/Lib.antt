@@ -3,7 +3,6 @@ pub mod Among
 pub mod Enough
 pub mod EnoughExamples
 pub mod Examples
-pub mod Failing
 pub mod Faults
 pub mod Filtering
 pub mod Heads

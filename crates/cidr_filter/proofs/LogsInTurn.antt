@@ -25,7 +25,7 @@ use Rattle.program.specs.declared.log_fault.LogFault.TheVariants as faults
 use Rattle.lists.specs.declared.opening.OpenFault.{OpenFault}
 use Rattle.log_programs.proofs.Lacking.{lacking_same}
 use Rattle.cidr_filter.proofs.Enough.{few_first, few_second, enough_behind, not_enough, enough_same, goes_nowhere, went_on, goes_on, goes_so}
-use Rattle.cidr_filter.proofs.Failing.{or_assoc}
+use Rattle.log_programs.proofs.Failing.{or_assoc}
 
 -- ---- one log
 

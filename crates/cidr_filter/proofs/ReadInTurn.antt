@@ -1,8 +1,8 @@
 -- Lists that are read in turn.
 use Rattle.std.proofs.Common.{◌≡◌, ◌<◌, ◌≤◌, ◌+◌, ◌-◌, ◌^◌, ◌++◌, ◌∷◌, ◌∙◌, [], ℕ, Bool, List, true, false, not, cond, refl, sym, ap, subst, arith, length, get_or, min, drop, length-drop, true≢false}
 use Rattle.std.specs.Prelude.{Option, None, Some, Result, Ok, Err, OnOk, IfOk, IfErr, String, nat_lt, ◌&&◌, if◌then◌else◌, codes, bytes_eq}
+use Rattle.std.specs.Option.{option_or}
 use Rattle.std.specs.List.{list_all}
-use Rattle.std.specs.Char.{is_ascii_digit}
 use Rattle.std.specs.String.{string_bytes}
 use Rattle.std.specs.Str.Lines.{lines}
 use Rattle.std.proofs.lemmas.List.{get_or-drop}
@@ -16,9 +16,15 @@ use Rattle.lists.specs.Reading.{ReadsList, StopsAt, StopsAtText}
 use Rattle.lists.specs.declared.named.ReadFault.{ReadFault}
 use Rattle.program.proofs.Told.{name_within}
 use Rattle.log_programs.specs.Plain.{begins}
-use Rattle.cidr_filter.specs.CommandLines.{Begin, option_of, behind_option}
+use Rattle.log_programs.specs.CommandLines.{Begin, option_of, behind_option}
+use Rattle.log_programs.specs.Numbers.{is_number, number_of}
+use Rattle.log_programs.specs.Shared.{is_field, is_separator, field_option, separator_option}
+use Rattle.log_programs.specs.Shared as shared
+use Rattle.log_programs.specs.declared.shared.Shared.{Shared}
+use Rattle.log_programs.specs.declared.shared.Shared.TheVariants as common
+use Rattle.cidr_filter.specs.CommandLines.{filter_options}
 use Rattle.cidr_filter.specs.Listed.{HasBlocksOf}
-use Rattle.cidr_filter.specs.Options.{takes_next, in_one_word, field_option, separator_option, most_option, bad_option, letters_option, letters_in, is_field, is_separator, is_letter, number_of, is_list}
+use Rattle.cidr_filter.specs.Options.{takes_next, in_one_word, shared_option, most_option, bad_option, letters_option, letters_in, is_letter, is_list}
 use Rattle.cidr_filter.specs.Reading.{ReadsOption, next_place, ReadsOptions, ReadsLists, StopsAtOption, Stops, HoldsRead}
 use Rattle.program.specs.Told.{name_at}
 use Rattle.cidr_filter.specs.Private.Reading.{ReadsAll, HasSets, HasBlocks}
@@ -32,7 +38,7 @@ use Rattle.cidr_filter.specs.declared.options.Choice.TheVariants as choices
 
 -- an option more
 pub reads_more : {Z : Type 0} (known : KnownLists) (all words rest : List (String Z)) (options : List Choice) (choice : Choice) (before mid after : ReadLists)
-    → Begin words options rest → ReadsOptions known all words options before mid → ReadsOption known (next_place all rest) choice (name_at rest 1) mid after
+    → Begin filter_options words options rest → ReadsOptions known all words options before mid → ReadsOption known (next_place all rest) choice (name_at rest 1) mid after
     → ReadsOptions known all words (options ++ choice ∷ []) before after
 reads_more {Z} known all words rest [] choice before mid after e h r = (
   after,
@@ -41,7 +47,7 @@ reads_more {Z} known all words rest [] choice before mid after e h r = (
   refl,
 )
 reads_more known all words rest (option ∷ options) choice before mid after begin h r =
-    (h.0, h.1, reads_more known all (behind_option words) rest options choice h.0 mid after begin.1 h.2 r)
+    (h.0, h.1, reads_more known all (behind_option filter_options.syntax words) rest options choice h.0 mid after begin.1 h.2 r)
 
 pub place_behind : {Z : Type 0} (words : List (String Z)) (at : ℕ) → at ≤ length words → next_place words (drop at words) ≡ at + 1
 place_behind words at within = omega (arith, within, length-drop at words)
@@ -56,23 +62,13 @@ either : (b : Bool) (x y : Option Choice) → is_other x ≡ true → is_other y
 either true x y h k = h
 either false x y h k = k
 
-separator_other : (text : List ℕ) → is_other (separator_option text) ≡ true
-separator_other [] = refl
-separator_other (byte ∷ []) = either (is_separator byte) (Some (choices.Separator byte)) None refl refl
-separator_other (byte ∷ other ∷ bytes) = refl
-
-field_other : (text : List ℕ) → is_other (field_option text) ≡ true
-field_other text = either (is_field text) (Some (choices.Field (number_of text))) None refl refl
-
 letters_other : (letters : List ℕ) → is_other (letters_option letters) ≡ true
 letters_other letters =
     either (nat_lt 0 (length letters) && list_all is_letter letters)
     (Some (choices.Letters (letters_in letters))) None refl refl
 
 most_other : (text : List ℕ) → is_other (most_option text) ≡ true
-most_other text =
-    either (nat_lt 0 (length text) && list_all is_ascii_digit text)
-    (Some (choices.Most (min (number_of text) (2 ^ 64 - 1)))) None refl refl
+most_other text = either (is_number text) (Some (choices.Most (min (number_of text) (2 ^ 64 - 1)))) None refl refl
 
 bad_other : (text : List ℕ) → is_other (bad_option text) ≡ true
 bad_other text =
@@ -82,36 +78,56 @@ bad_other text =
     (either (bytes_eq text (codes "keep")) (Some (choices.WithoutAddress without.Keep)) stop refl
     (either (bytes_eq text (codes "stop")) (Some (choices.WithoutAddress without.Stop)) None refl refl))
 
+shared_either : (b : Bool) (x y : Option Shared) → is_other (shared_option x) ≡ true → is_other (shared_option y) ≡ true → is_other (shared_option (cond b x y)) ≡ true
+shared_either true x y h k = h
+shared_either false x y h k = k
+
+separator_other : (text : List ℕ) → is_other (shared_option (separator_option text)) ≡ true
+separator_other [] = refl
+separator_other (byte ∷ []) = shared_either (is_separator byte) (Some (common.Separator byte)) None refl refl
+separator_other (byte ∷ other ∷ bytes) = refl
+
+field_other : (text : List ℕ) → is_other (shared_option (field_option text)) ≡ true
+field_other text = shared_either (is_field text) (Some (common.Field (number_of text))) None refl refl
+
+shared_other : (word : List ℕ) → is_other (shared_option (shared.in_one_word word)) ≡ true
+shared_other word =
+    let mapped : Option Shared = if bytes_eq word (codes "--mapped") then Some common.Mapped else None in
+    let separator : Option Shared = if begins (codes "-d") word then separator_option (drop 2 word) else mapped in
+    shared_either (begins (codes "-k") word) (field_option (drop 2 word)) separator (field_other (drop 2 word))
+    (shared_either (begins (codes "-d") word) (separator_option (drop 2 word)) mapped (separator_other (drop 2 word))
+    (shared_either (bytes_eq word (codes "--mapped")) (Some common.Mapped) None refl refl))
+
+first_other : (x y : Option Choice) → is_other x ≡ true → is_other y ≡ true → is_other (option_or x y) ≡ true
+first_other None y h k = k
+first_other (Some choice) y h k = h
+
 one_word_other : (word : List ℕ) → is_other (in_one_word word) ≡ true
 one_word_other word =
-    let letters : Option Choice = if begins (codes "-") word then letters_option (drop 1 word) else None in
-    let mapped : Option Choice = if bytes_eq word (codes "--mapped") then Some choices.Mapped else letters in
-    let longest : Option Choice = if bytes_eq word (codes "--longest") then Some choices.Longest else mapped in
+    let rest : Option Choice = option_or (shared_option (shared.in_one_word word)) (letters_option (drop 1 word)) in
+    let others : Option Choice = if begins (codes "-") word then rest else None in
+    let longest : Option Choice = if bytes_eq word (codes "--longest") then Some choices.Longest else others in
     let bad : Option Choice = if begins (codes "--bad=") word then bad_option (drop 6 word) else longest in
-    let most : Option Choice = if begins (codes "-m") word then most_option (drop 2 word) else bad in
-    let separator : Option Choice = if begins (codes "-d") word then separator_option (drop 2 word) else most in
-    either (begins (codes "-k") word) (field_option (drop 2 word)) separator (field_other (drop 2 word))
-    (either (begins (codes "-d") word) (separator_option (drop 2 word)) most (separator_other (drop 2 word))
-    (either (begins (codes "-m") word) (most_option (drop 2 word)) bad (most_other (drop 2 word))
+    either (begins (codes "-m") word) (most_option (drop 2 word)) bad (most_other (drop 2 word))
     (either (begins (codes "--bad=") word) (bad_option (drop 6 word)) longest (bad_other (drop 6 word))
-    (either (bytes_eq word (codes "--longest")) (Some choices.Longest) mapped refl
-    (either (bytes_eq word (codes "--mapped")) (Some choices.Mapped) letters refl
-    (either (begins (codes "-") word) (letters_option (drop 1 word)) None (letters_other (drop 1 word)) refl))))))
+    (either (bytes_eq word (codes "--longest")) (Some choices.Longest) others refl
+    (either (begins (codes "-") word) rest None
+    (first_other (shared_option (shared.in_one_word word)) (letters_option (drop 1 word)) (shared_other word) (letters_other (drop 1 word))) refl)))
 
 other_not_list : (o : Option Choice) (choice : Choice) → o ≡ Some choice → is_other o ≡ true → is_list choice ≡ true → ⊥
 other_not_list o choice e other list = true≢false (sym other ∙ ap is_other e ∙ ap not list)
 
-one_alone : {Z : Type 0} (word : String Z) (takes : Bool) (choice : Choice) → takes_next word ≡ takes → option_of (word ∷ []) ≡ Some choice → is_list choice ≡ true → ⊥
+one_alone : {Z : Type 0} (word : String Z) (takes : Bool) (choice : Choice) → takes_next word ≡ takes → option_of filter_options (word ∷ []) ≡ Some choice → is_list choice ≡ true → ⊥
 one_alone word true choice t e list = none-some choice (sym (ap (λ b. cond b None (in_one_word (string_bytes word))) t) ∙ e)
 one_alone word false choice t e list =
     other_not_list (in_one_word (string_bytes word)) choice (sym (ap (λ b. cond b None (in_one_word (string_bytes word))) t) ∙ e) (one_word_other (string_bytes word)) list
 
-has_value : {Z : Type 0} (words : List (String Z)) (choice : Choice) → option_of words ≡ Some choice → is_list choice ≡ true → 1 < length words
+has_value : {Z : Type 0} (words : List (String Z)) (choice : Choice) → option_of filter_options words ≡ Some choice → is_list choice ≡ true → 1 < length words
 has_value [] choice e list = absurd (none-some choice e)
 has_value (word ∷ []) choice e list = absurd (one_alone word (takes_next word) choice refl e list)
 has_value (word ∷ value ∷ words) choice e list = omega arith
 
-pub value_within : {Z : Type 0} (words : List (String Z)) (at : ℕ) (choice : Choice) → at ≤ length words → option_of (drop at words) ≡ Some choice → is_list choice ≡ true → at + 1 < length words
+pub value_within : {Z : Type 0} (words : List (String Z)) (at : ℕ) (choice : Choice) → at ≤ length words → option_of filter_options (drop at words) ≡ Some choice → is_list choice ≡ true → at + 1 < length words
 value_within words at choice within e list = omega (arith, within, length-drop at words, has_value (drop at words) choice e list)
 
 pub value_is : {Z : Type 0} (words : List (String Z)) (at : ℕ) (value : String Z) → at + 1 < length words → value ≡ get_or words (at + 1) value → name_at (drop at words) 1 ≡ string_bytes value
@@ -122,15 +138,15 @@ value_is words at value within is =
 
 pub reads_nothing : (known : KnownLists) (number : ℕ) (choice : Choice) (value : List ℕ) (before : ReadLists) → is_list choice ≡ false → ReadsOption known number choice value before before
 reads_nothing known number (choices.Letters letters) value before e = refl
-reads_nothing known number (choices.Field field) value before e = refl
-reads_nothing known number (choices.Separator byte) value before e = refl
+reads_nothing known number (choices.Shared (common.Field field)) value before e = refl
+reads_nothing known number (choices.Shared (common.Separator byte)) value before e = refl
 reads_nothing known number (choices.Most most) value before e = refl
 reads_nothing known number (choices.WithoutAddress bad) value before e = refl
 reads_nothing known number choices.Longest value before e = refl
-reads_nothing known number choices.Mapped value before e = refl
-reads_nothing known number choices.After value before e = refl
-reads_nothing known number choices.File value before e = absurd (true≢false e)
-reads_nothing known number choices.Input value before e = absurd (true≢false e)
+reads_nothing known number (choices.Shared common.Mapped) value before e = refl
+reads_nothing known number (choices.Shared common.After) value before e = refl
+reads_nothing known number (choices.Shared common.File) value before e = absurd (true≢false e)
+reads_nothing known number (choices.Shared common.Input) value before e = absurd (true≢false e)
 reads_nothing known number choices.Text value before e = absurd (true≢false e)
 
 -- the value of an `-e`
@@ -143,15 +159,15 @@ reads_text result known number choice value text before after is same h =
 file_is : {T E : Type 0} (result : Result T E) (known : KnownLists) (number : ℕ) (choice : Choice) (value : List ℕ) (before after : ReadLists)
     → is_list choice ≡ true → ¬ (choice ≡ choices.Text) → OnOk result (ReadsList known number value before after) → OnOk result (ReadsOption known number choice value before after)
 file_is result known number (choices.Letters letters) value before after list not h = absurd (true≢false (sym list))
-file_is result known number (choices.Field field) value before after list not h = absurd (true≢false (sym list))
-file_is result known number (choices.Separator byte) value before after list not h = absurd (true≢false (sym list))
+file_is result known number (choices.Shared (common.Field field)) value before after list not h = absurd (true≢false (sym list))
+file_is result known number (choices.Shared (common.Separator byte)) value before after list not h = absurd (true≢false (sym list))
 file_is result known number (choices.Most most) value before after list not h = absurd (true≢false (sym list))
 file_is result known number (choices.WithoutAddress bad) value before after list not h = absurd (true≢false (sym list))
 file_is result known number choices.Longest value before after list not h = absurd (true≢false (sym list))
-file_is result known number choices.Mapped value before after list not h = absurd (true≢false (sym list))
-file_is result known number choices.After value before after list not h = absurd (true≢false (sym list))
-file_is result known number choices.File value before after list not h = h
-file_is result known number choices.Input value before after list not h = h
+file_is result known number (choices.Shared common.Mapped) value before after list not h = absurd (true≢false (sym list))
+file_is result known number (choices.Shared common.After) value before after list not h = absurd (true≢false (sym list))
+file_is result known number (choices.Shared common.File) value before after list not h = h
+file_is result known number (choices.Shared common.Input) value before after list not h = h
 file_is result known number choices.Text value before after list not h = absurd (not refl)
 
 -- the list that an `-f` names
@@ -203,15 +219,15 @@ file_stops_at : {T : Type 0} (result : Result T ReadFault) (known : KnownLists) 
     → is_list choice ≡ true → ¬ (choice ≡ choices.Text) → IfErr result (λ fault. StopsAt known number value before fault refused)
     → IfErr result (λ fault. StopsAtOption known number choice value before fault refused)
 file_stops_at result known number (choices.Letters letters) value before refused list not h = absurd (true≢false (sym list))
-file_stops_at result known number (choices.Field field) value before refused list not h = absurd (true≢false (sym list))
-file_stops_at result known number (choices.Separator byte) value before refused list not h = absurd (true≢false (sym list))
+file_stops_at result known number (choices.Shared (common.Field field)) value before refused list not h = absurd (true≢false (sym list))
+file_stops_at result known number (choices.Shared (common.Separator byte)) value before refused list not h = absurd (true≢false (sym list))
 file_stops_at result known number (choices.Most most) value before refused list not h = absurd (true≢false (sym list))
 file_stops_at result known number (choices.WithoutAddress bad) value before refused list not h = absurd (true≢false (sym list))
 file_stops_at result known number choices.Longest value before refused list not h = absurd (true≢false (sym list))
-file_stops_at result known number choices.Mapped value before refused list not h = absurd (true≢false (sym list))
-file_stops_at result known number choices.After value before refused list not h = absurd (true≢false (sym list))
-file_stops_at result known number choices.File value before refused list not h = h
-file_stops_at result known number choices.Input value before refused list not h = h
+file_stops_at result known number (choices.Shared common.Mapped) value before refused list not h = absurd (true≢false (sym list))
+file_stops_at result known number (choices.Shared common.After) value before refused list not h = absurd (true≢false (sym list))
+file_stops_at result known number (choices.Shared common.File) value before refused list not h = h
+file_stops_at result known number (choices.Shared common.Input) value before refused list not h = h
 file_stops_at result known number choices.Text value before refused list not h = absurd (not refl)
 
 pub file_stops : {T : Type 0} (result : Result T ReadFault) (known : KnownLists) (number : ℕ) (choice : Choice) (value name : List ℕ) (before : ReadLists) (refused : Refused)

@@ -10,9 +10,9 @@ use Rattle.lists.specs.Lists.{ReadLists, at_list, TakesLines}
 use Rattle.lists.specs.KnownLists.{KnownLists}
 use Rattle.program.specs.Told.{was_refused}
 use Rattle.cidr_filter.specs.Filters.{IsVerdict}
-use Rattle.program.specs.LogFaults.{log_fault_text}
-use Rattle.program.specs.Logs.{logs_of, IsAllOf, IsFirstOf}
-use Rattle.cidr_filter.specs.Logs.{FiltersLogs}
+use Rattle.program.specs.LogFaults.{log_fault_text, Wrote}
+use Rattle.program.specs.Logs.{logs_of, HaltsBy, IsAllOf, IsFirstOf}
+use Rattle.cidr_filter.specs.Logs.{EndsRunBy, FiltersLogs, is_short}
 use Rattle.cidr_filter.specs.Reading.{ReadsOptions, HoldsRead}
 use Rattle.program.specs.Endings.{Ending, Refuses, HasTold, HasWritten}
 use Rattle.cidr_filter.specs.Runs.{total_text, EndsLogs, EndsFiltering, filter_of}
@@ -20,8 +20,10 @@ use Rattle.cidr_filter.specs.declared.filter.WithoutAddress.TheVariants as witho
 use Rattle.cidr_filter.specs.declared.filter.Verdict.TheVariants as verdicts
 use Rattle.cidr_filter.specs.declared.command_line.Request.{Request}
 use Rattle.cidr_filter.specs.declared.listed.Listed.{Listed}
+use Rattle.program.specs.declared.log_fault.LogFault.{LogFault}
 use Rattle.program.specs.declared.log_fault.LogFault.TheVariants as faults
 use Rattle.lists.specs.declared.opening.OpenFault.TheVariants as causes
+use Rattle.log_programs.specs.declared.shared.Shared.TheVariants as common
 use Rattle.cidr_filter.specs.declared.options.Choice.TheVariants as choices
 use Rattle.cidr_filter.proofs.Examples.{ended, by, counting}
 
@@ -60,7 +62,7 @@ files_in_their_order one two = refl
 pub lists_in_their_order : {Z : Type 0} (known : KnownLists) (file list text value : String Z) (before mid after : ReadLists) → string_bytes list ≡ codes "a" → string_bytes value ≡ codes "x"
     → known.may_open (codes "a") true → ((input : List ℕ) → known.bytes_of (codes "a") ≡ Some input → TakesLines (at_list before 1) (lines input) mid)
     → TakesLines (at_list mid 3) (lines (codes "x")) after → string_bytes file ≡ codes "-f" → string_bytes text ≡ codes "-e"
-    → ReadsOptions known (file ∷ list ∷ text ∷ value ∷ []) (file ∷ list ∷ text ∷ value ∷ []) (choices.File ∷ choices.Text ∷ []) before after
+    → ReadsOptions known (file ∷ list ∷ text ∷ value ∷ []) (file ∷ list ∷ text ∷ value ∷ []) (choices.Shared common.File ∷ choices.Text ∷ []) before after
 lists_in_their_order known file list text value before mid after l v opened first second f t = rw (f, l, v) (mid, (opened, first), (after, second, refl))
 
 module _ (known : KnownLists) (inside : IsVerdict (by false without.Stop) (codes "10.0.0.1") (verdicts.Inside None)) (outside : IsVerdict (by false without.Stop) (codes "11.0.0.1") verdicts.Outside)
@@ -160,11 +162,10 @@ module _ (known : KnownLists) (inside : IsVerdict (by false without.Stop) (codes
     ends = inl (written, told, status);
   })
 
-  -- a line that ends the run: what comes before it is written
-  pub stopped_at_the_second_line : known.may_open (codes "a") true → IsFirstOf known (codes "a") (codes "10.0.0.1\nbad\n10.0.0.1\n") → {W E : Type 0} (end : Ending W E) → HasWritten end (codes "10.0.0.1\n") → HasTold end (codes "a:2: refused address\n")
-      → end.status ≡ 2 → EndsLogs (by false without.Stop) known (codes "a" ∷ codes "b" ∷ []) end
-  unfolding digits
-  stopped_at_the_second_line opened a end written told status = inr (record {
+  -- a log that stops behind its first line, of which another is left
+  stopped_behind_a_line : (fault : LogFault) → is_short fault None 1 ≡ true → HaltsBy (EndsRunBy (by false without.Stop)) known (codes "a") (ended (codes "10.0.0.1") ∷ []) fault → {W E : Type 0} (end : Ending W E)
+      → Wrote fault end (codes "10.0.0.1\n") → HasTold end (log_fault_text (codes "a") 1 fault) → end.status ≡ 2 → EndsLogs (by false without.Stop) known (codes "a" ∷ codes "b" ∷ []) end
+  stopped_behind_a_line fault short halts end wrote told status = inr (record {
     before = [];
     name = codes "a";
     behind = codes "b" ∷ [];
@@ -175,14 +176,25 @@ module _ (known : KnownLists) (inside : IsVerdict (by false without.Stop) (codes
     lines = ended (codes "10.0.0.1") ∷ [];
     added = codes "10.0.0.1\n";
     more = 1;
-    fault = faults.Address;
+    fault = fault;
     logs = refl;
     filters = (refl, refl, refl, refl);
     few = refl;
     first = (verdicts.Inside None, [], 0, inside, refl, (refl, refl), refl, refl);
-    short = refl;
-    halts = (
-      record {
+    short = short;
+    halts = halts;
+    wrote = wrote;
+    told = told;
+    status = status;
+  })
+
+  -- a line that ends the run: what comes before it is written
+  pub stopped_at_the_second_line : known.may_open (codes "a") true → IsFirstOf known (codes "a") (codes "10.0.0.1\nbad\n10.0.0.1\n") → {W E : Type 0} (end : Ending W E) → HasWritten end (codes "10.0.0.1\n") → HasTold end (codes "a:2: refused address\n")
+      → end.status ≡ 2 → EndsLogs (by false without.Stop) known (codes "a" ∷ codes "b" ∷ []) end
+  unfolding digits
+  stopped_at_the_second_line opened a end written told status =
+      stopped_behind_a_line faults.Address refl
+      (record {
         read = codes "10.0.0.1\nbad\n10.0.0.1\n";
         line = ended (codes "bad");
         others = ended (codes "10.0.0.1") ∷ [];
@@ -190,39 +202,13 @@ module _ (known : KnownLists) (inside : IsVerdict (by false without.Stop) (codes
         are = refl;
         is_line = inl refl;
         is_so = (bad, refl);
-      },
-      opened,
-    );
-    wrote = written;
-    told = told;
-    status = status;
-  })
+      }, opened) end written told status
 
   -- a read that fails: the lines before it whose line feed was read were filtered, and what follows them is no line
   pub stopped_by_a_failed_read : known.may_open (codes "a") true → known.may_fail (codes "a") → IsFirstOf known (codes "a") (codes "10.0.0.1\n10.0.0.1") → {W E : Type 0} (end : Ending W E) → HasWritten end (codes "10.0.0.1\n")
       → HasTold end (codes "a: cannot read\n") → end.status ≡ 2 → EndsLogs (by false without.Stop) known (codes "a" ∷ codes "b" ∷ []) end
-  stopped_by_a_failed_read opened fails a end written told status = inr (record {
-    before = [];
-    name = codes "a";
-    behind = codes "b" ∷ [];
-    output = [];
-    selected = 0;
-    texts = [];
-    missed = false;
-    lines = ended (codes "10.0.0.1") ∷ [];
-    added = codes "10.0.0.1\n";
-    more = 1;
-    fault = faults.Read;
-    logs = refl;
-    filters = (refl, refl, refl, refl);
-    few = refl;
-    first = (verdicts.Inside None, [], 0, inside, refl, (refl, refl), refl, refl);
-    short = refl;
-    halts = (codes "10.0.0.1\n10.0.0.1", a, refl, opened, fails);
-    wrote = written;
-    told = told;
-    status = status;
-  })
+  stopped_by_a_failed_read opened fails a end written told status =
+      stopped_behind_a_line faults.Read refl (codes "10.0.0.1\n10.0.0.1", a, refl, opened, fails) end written told status
 
   -- no line of a log is selected
   pub nothing_selected : IsAllOf known (codes "-") (codes "11.0.0.1\n") → {W E : Type 0} (end : Ending W E) → HasWritten end [] → HasTold end [] → end.status ≡ 1

@@ -19,7 +19,7 @@ use Rattle.program.specs.Counts.{Counts}
 use Rattle.program.specs.LogFaults.{log_fault_text, Wrote, HandsOn, StopsBy}
 use Rattle.program.specs.Logs.{logs_of, HaltsBy}
 use Rattle.cidr_filter.specs.Reading.{Stops, HoldsRead}
-use Rattle.cidr_filter.specs.Runs.{StopsAtLog, total_text, status_by, FiltersAll, EndsLogs, filter_of, EndsRequest, EndsAsked}
+use Rattle.cidr_filter.specs.Runs.{StopsAtLog, total_text, status_by, FiltersAll, EndsLogs, filter_of, EndsRequest}
 use Rattle.cidr_filter.specs.Stands.{Stand, stand}
 use Rattle.program.specs.Told.{was_refused, fault_text, refusals_text}
 use Rattle.cidr_filter.specs.Told.{in_option}
@@ -335,8 +335,3 @@ all_by filter known names missed output mid after errors between told_errors sta
     all_ended filter known names missed (ending output after errors told_errors status) mid between told written wanted old now none is f
     (subst (λ (b : Bool). OnOk written (Writes mid after (total_text b told))) e ok)
     (subst (λ (b : Bool). OnErr written (FailsIn mid after (total_text b told))) e err) failed st two text
-
--- ---- the words with the options in front
-
-pub asked_same : {Z W E : Type 0} (program usage : List ℕ) (known : KnownLists) (a b : List (String Z)) (end : Ending W E) → a ≡ b → EndsAsked program usage known a end → EndsAsked program usage known b end
-asked_same {Z} program usage known a b end e h = subst (λ (ws : List (String Z)). EndsAsked program usage known ws end) e h

@@ -1,60 +1,27 @@
 -- Command lines that are refused, at which a misreading of the definitions would show.
-use Rattle.std.proofs.Common.{◌≡◌, [], ◌∷◌, true, false, inl, inr, refl}
+use Rattle.std.proofs.Common.{◌≡◌, [], ◌∷◌, map, true, false, inl, inr, refl}
 use Rattle.std.specs.Prelude.{codes, String, Some, None}
 use Rattle.std.specs.String.{string_bytes}
 use Rattle.program.specs.declared.usage.Subject.TheVariants as subjects
 use Rattle.cidr_filter.specs.Usage.{value_problem, word_problem}
+use Rattle.log_programs.specs.declared.shared.Shared.TheVariants as common
 use Rattle.cidr_filter.specs.declared.options.Choice.TheVariants as choices
 use Rattle.log_programs.specs.declared.usage.Problem.TheVariants as problems
 use Rattle.cidr_filter.proofs.OptionExamples.{letters}
-use Rattle.log_programs.specs.Usage.{about, option_fault, rest_fault, together_by}
-use Rattle.cidr_filter.specs.CommandLines.{filter_options, HasFault}
+use Rattle.log_programs.specs.Usage.{HasFault, about, option_fault, rest_fault, together_by}
+use Rattle.cidr_filter.specs.CommandLines.{filter_options}
 
 -- ---- a word by itself
 
-pub no_field : word_problem (codes "-k0") ≡ problems.Field
-no_field = refl
-
-pub no_separator : word_problem (codes "-d--") ≡ problems.Separator
-no_separator = refl
-
-pub no_bad : word_problem (codes "--bad=") ≡ problems.WithoutAddress
-no_bad = refl
-
-pub no_bad_by_its_letter : word_problem (codes "--bae=drop") ≡ problems.NoOption
-no_bad_by_its_letter = refl
-
-pub help_beside_others : word_problem (codes "--help") ≡ problems.NotAlone
-help_beside_others = refl
-
-pub version_beside_others : word_problem (codes "--version") ≡ problems.NotAlone
-version_beside_others = refl
-
-pub help_and_more : word_problem (codes "--help=") ≡ problems.NoOption
-help_and_more = refl
-
-pub letter_and_another : word_problem (codes "-vx") ≡ problems.NoOption
-letter_and_another = refl
+pub words_by_themselves : map word_problem (codes "-k0" ∷ codes "-d--" ∷ codes "--bad=" ∷ codes "--bae=drop" ∷ codes "--help" ∷ codes "--version" ∷ codes "--help=" ∷ codes "-vx" ∷ [])
+    ≡ problems.Field ∷ problems.Separator ∷ problems.WithoutAddress ∷ problems.NoOption ∷ problems.NotAlone ∷ problems.NotAlone ∷ problems.NoOption ∷ problems.NoOption ∷ []
+words_by_themselves = refl
 
 -- ---- an option and its value
 
-pub value_of_a_list : {Z : Type 0} (name : String Z) → string_bytes name ≡ codes "-f" → value_problem (string_bytes name) ≡ problems.Name
-value_of_a_list name n = rw n
-
-pub value_of_a_text : {Z : Type 0} (name : String Z) → string_bytes name ≡ codes "-e" → value_problem (string_bytes name) ≡ problems.Text
-value_of_a_text name n = rw n
-
-pub value_of_a_field : {Z : Type 0} (name : String Z) → string_bytes name ≡ codes "-k" → value_problem (string_bytes name) ≡ problems.Field
-value_of_a_field name n = rw n
-
-pub value_of_a_separator : {Z : Type 0} (name : String Z) → string_bytes name ≡ codes "-d" → value_problem (string_bytes name) ≡ problems.Separator
-value_of_a_separator name n = rw n
-
-pub value_of_bad : {Z : Type 0} (name : String Z) → string_bytes name ≡ codes "--bad" → value_problem (string_bytes name) ≡ problems.WithoutAddress
-value_of_bad name n = rw n
-
-pub value_of_after : {Z : Type 0} (name : String Z) → string_bytes name ≡ codes "--after" → value_problem (string_bytes name) ≡ problems.Empty
-value_of_after name n = rw n
+pub values_of_options : map value_problem (codes "-f" ∷ codes "-e" ∷ codes "-k" ∷ codes "-d" ∷ codes "--bad" ∷ codes "--after" ∷ [])
+    ≡ problems.Name ∷ problems.Text ∷ problems.Field ∷ problems.Separator ∷ problems.WithoutAddress ∷ problems.Empty ∷ []
+values_of_options = refl
 
 pub option_and_value : {Z : Type 0} (name value : String Z) → string_bytes name ≡ codes "-d" → option_fault filter_options 7 (name ∷ value ∷ []) ≡ about (subjects.Value 7 8) problems.Separator
 option_and_value name value n = rw n
@@ -104,7 +71,7 @@ nothing_wrong = refl
 -- ---- whole command lines
 
 pub a_zero : {Z : Type 0} (flag name value : String Z) → string_bytes flag ≡ codes "-v" → string_bytes name ≡ codes "-k" → string_bytes value ≡ codes "0"
-    → HasFault (flag ∷ name ∷ value ∷ []) (about (subjects.Value 1 2) problems.Field)
+    → HasFault filter_options (flag ∷ name ∷ value ∷ []) (about (subjects.Value 1 2) problems.Field)
 a_zero flag name value f n v = record {
   choices = choices.Letters (letters true false false false) ∷ [];
   rest = name ∷ value ∷ [];
@@ -114,7 +81,7 @@ a_zero flag name value f n v = record {
 }
 
 -- nothing is asked for
-pub no_words : (Z : Type 0) → HasFault {Z = Z} [] (about subjects.CommandLine problems.NoList)
+pub no_words : (Z : Type 0) → HasFault {Z = Z} filter_options [] (about subjects.CommandLine problems.NoList)
 no_words Z = record {
   choices = [];
   rest = [];
@@ -124,16 +91,16 @@ no_words Z = record {
 }
 
 -- the list and the log are standard input
-pub list_and_log : {Z : Type 0} (name dash : String Z) → string_bytes name ≡ codes "-f" → string_bytes dash ≡ codes "-" → HasFault (name ∷ dash ∷ []) (about subjects.CommandLine problems.InputTwice)
+pub list_and_log : {Z : Type 0} (name dash : String Z) → string_bytes name ≡ codes "-f" → string_bytes dash ≡ codes "-" → HasFault filter_options (name ∷ dash ∷ []) (about subjects.CommandLine problems.InputTwice)
 list_and_log name dash n d = record {
-  choices = choices.Input ∷ [];
+  choices = choices.Shared common.Input ∷ [];
   rest = [];
   begin = (rw (n, d), rw n);
   no_more = refl;
   is_fault = inr ([], problems.InputTwice, refl, refl, refl);
 }
 
-pub longest_and_v : {Z : Type 0} (one two : String Z) → string_bytes one ≡ codes "--longest" → string_bytes two ≡ codes "-v" → HasFault (one ∷ two ∷ []) (about subjects.CommandLine problems.Crossed)
+pub longest_and_v : {Z : Type 0} (one two : String Z) → string_bytes one ≡ codes "--longest" → string_bytes two ≡ codes "-v" → HasFault filter_options (one ∷ two ∷ []) (about subjects.CommandLine problems.Crossed)
 longest_and_v one two o t = record {
   choices = choices.Longest ∷ choices.Letters (letters true false false false) ∷ [];
   rest = [];
@@ -142,25 +109,25 @@ longest_and_v one two o t = record {
   is_fault = inr ([], problems.Crossed, refl, refl, refl);
 }
 
-pub anywhere_and_a_field : {Z : Type 0} (one two : String Z) → string_bytes one ≡ codes "-a" → string_bytes two ≡ codes "-k1" → HasFault (one ∷ two ∷ []) (about subjects.CommandLine problems.Anywhere)
+pub anywhere_and_a_field : {Z : Type 0} (one two : String Z) → string_bytes one ≡ codes "-a" → string_bytes two ≡ codes "-k1" → HasFault filter_options (one ∷ two ∷ []) (about subjects.CommandLine problems.Anywhere)
 anywhere_and_a_field one two o t = record {
-  choices = choices.Letters (letters false false true false) ∷ choices.Field 1 ∷ [];
+  choices = choices.Letters (letters false false true false) ∷ choices.Shared (common.Field 1) ∷ [];
   rest = [];
   begin = (rw o, (rw (o, t), rw (o, t)));
   no_more = refl;
   is_fault = inr ([], problems.Anywhere, refl, refl, refl);
 }
 
-pub words_and_a_separator : {Z : Type 0} (one two : String Z) → string_bytes one ≡ codes "-w" → string_bytes two ≡ codes "-d," → HasFault (one ∷ two ∷ []) (about subjects.CommandLine problems.Words)
+pub words_and_a_separator : {Z : Type 0} (one two : String Z) → string_bytes one ≡ codes "-w" → string_bytes two ≡ codes "-d," → HasFault filter_options (one ∷ two ∷ []) (about subjects.CommandLine problems.Words)
 words_and_a_separator one two o t = record {
-  choices = choices.Letters (letters false false false true) ∷ choices.Separator 44 ∷ [];
+  choices = choices.Letters (letters false false false true) ∷ choices.Shared (common.Separator 44) ∷ [];
   rest = [];
   begin = (rw o, (rw (o, t), rw (o, t)));
   no_more = refl;
   is_fault = inr ([], problems.Words, refl, refl, refl);
 }
 
-pub addresses_and_v : {Z : Type 0} (one : String Z) → string_bytes one ≡ codes "-ov" → HasFault (one ∷ []) (about subjects.CommandLine problems.Only)
+pub addresses_and_v : {Z : Type 0} (one : String Z) → string_bytes one ≡ codes "-ov" → HasFault filter_options (one ∷ []) (about subjects.CommandLine problems.Only)
 addresses_and_v one o = record {
   choices = choices.Letters (record (letters true false false false) { only = true }) ∷ [];
   rest = [];
@@ -170,9 +137,9 @@ addresses_and_v one o = record {
 }
 
 pub after_and_anywhere : {Z : Type 0} (name value flag : String Z) → string_bytes name ≡ codes "--after" → string_bytes value ≡ codes "x" → string_bytes flag ≡ codes "-a"
-    → HasFault (name ∷ value ∷ flag ∷ []) (about subjects.CommandLine problems.After)
+    → HasFault filter_options (name ∷ value ∷ flag ∷ []) (about subjects.CommandLine problems.After)
 after_and_anywhere name value flag n v f = record {
-  choices = choices.After ∷ choices.Letters (letters false false true false) ∷ [];
+  choices = choices.Shared common.After ∷ choices.Letters (letters false false true false) ∷ [];
   rest = [];
   begin = (rw (n, v), (rw (n, f), rw (n, f)));
   no_more = refl;

@@ -1,40 +1,29 @@
 -- What an option of the command line says.
-use Rattle.std.specs.Prelude.{ℕ, ◌+◌, ◌-◌, ◌*◌, ◌^◌, min, ◌==◌, ◌||◌, ◌&&◌, Bool, true, false, not, List, [], ◌∷◌, Option, None, Some, drop, length, nat_lt, nat_le, if◌then◌else◌, codes, bytes_eq, fold, String}
+use Rattle.std.specs.Prelude.{ℕ, ◌-◌, ◌^◌, min, ◌==◌, ◌||◌, ◌&&◌, Bool, true, false, List, Option, None, Some, drop, length, nat_lt, if◌then◌else◌, codes, bytes_eq, String}
+use Rattle.std.specs.Option.{option_or}
 use Rattle.std.specs.List.{list_all, list_any}
 use Rattle.std.specs.String.{string_bytes}
-use Rattle.std.specs.Char.{is_ascii_digit}
+use Rattle.log_programs.specs.Numbers.{is_number, number_of}
 use Rattle.log_programs.specs.Plain.{begins}
+use Rattle.log_programs.specs.Shared as shared
 use Rattle.log_programs.specs.Syntax.{Syntax}
 use Rattle.log_programs.specs.Values.{value_of}
+use Rattle.log_programs.specs.declared.shared.Shared.{Shared}
+use Rattle.log_programs.specs.declared.shared.Shared.TheVariants as common
 use Rattle.cidr_filter.specs.declared.command_line.Request.{Request}
 use Rattle.cidr_filter.specs.declared.filter.WithoutAddress.TheVariants as without
 use Rattle.cidr_filter.specs.declared.options.Choice.{Choice}
 use Rattle.cidr_filter.specs.declared.options.Choice.TheVariants as choices
 use Rattle.cidr_filter.specs.declared.options.Letters.{Letters}
 
--- the number that digits name, in decimal
-abbrev pub number_of : List ℕ → ℕ
-number_of digits = fold (λ number digit. number * 10 + (digit - 48)) 0 digits
-
--- `-k`: digits, of a number from 1 to 4,294,967,295
-abbrev pub is_field : List ℕ → Bool
-is_field text = nat_lt 0 (length text) && list_all is_ascii_digit text && nat_lt 0 (number_of text) && nat_le (number_of text) 4294967295
-
-abbrev pub field_option : List ℕ → Option Choice
-field_option text = if is_field text then Some (choices.Field (number_of text)) else None
-
--- `-d`: a byte of ASCII other than LF, CR and NUL
-abbrev pub is_separator : ℕ → Bool
-is_separator byte = nat_lt byte 128 && not (byte == 10) && not (byte == 13) && not (byte == 0)
-
-abbrev pub separator_option : List ℕ → Option Choice
-separator_option [] = None
-separator_option (byte ∷ []) = if is_separator byte then Some (choices.Separator byte) else None
-separator_option (byte ∷ other ∷ bytes) = None
+-- an option that every program for logs has, if there is one
+abbrev pub shared_option : Option Shared → Option Choice
+shared_option None = None
+shared_option (Some option) = Some (choices.Shared option)
 
 -- `-m`: digits, of a number. One above the greatest of 64 bits counts as that
 abbrev pub most_option : List ℕ → Option Choice
-most_option text = if nat_lt 0 (length text) && list_all is_ascii_digit text then Some (choices.Most (min (number_of text) (2 ^ 64 - 1))) else None
+most_option text = if is_number text then Some (choices.Most (min (number_of text) (2 ^ 64 - 1))) else None
 
 -- `--bad`: one of three words
 abbrev pub bad_option : List ℕ → Option Choice
@@ -44,17 +33,9 @@ bad_option text =
     else if bytes_eq text (codes "stop") then Some (choices.WithoutAddress without.Stop)
     else None
 
--- `-f`: the name of a list, of which `-` is standard input, and which is not empty
-abbrev pub file_option : List ℕ → Option Choice
-file_option name = if length name == 0 then None else if bytes_eq name (codes "-") then Some choices.Input else Some choices.File
-
 -- `-e`: a text that is not empty
 abbrev pub text_option : List ℕ → Option Choice
 text_option text = if length text == 0 then None else Some choices.Text
-
--- `--after`: a text that is not empty
-abbrev pub after_option : List ℕ → Option Choice
-after_option text = if length text == 0 then None else Some choices.After
 
 -- `-v`, `-c`, `-a`, `-w`, `-o`, `-H`, `-h`, `-n`, `-l` and `-q`: their letters after one `-`, in any order
 abbrev pub is_letter : ℕ → Bool
@@ -80,9 +61,9 @@ letters_in text = record {
 abbrev pub letters_option : List ℕ → Option Choice
 letters_option text = if nat_lt 0 (length text) && list_all is_letter text then Some (choices.Letters (letters_in text)) else None
 
--- the options of these letters take a value: `f`, `e`, `k`, `d` and `m`
+-- the options of these letters take a value: `f`, `k`, `d`, `e` and `m`
 abbrev pub takes_value : ℕ → Bool
-takes_value letter = letter == 102 || letter == 101 || letter == 107 || letter == 100 || letter == 109
+takes_value letter = shared.takes_value letter || letter == 101 || letter == 109
 
 -- any text behind `f` and `e` is their value, also where they are the first letter
 abbrev pub takes_rest : ℕ → Bool
@@ -90,8 +71,7 @@ takes_rest letter = letter == 102 || letter == 101
 
 -- the value of an option of these names is the next word
 abbrev pub is_before_value : List ℕ → Bool
-is_before_value name = bytes_eq name (codes "-f") || bytes_eq name (codes "-e") || bytes_eq name (codes "-k") || bytes_eq name (codes "-d") || bytes_eq name (codes "-m") || bytes_eq name (codes "--bad")
-    || bytes_eq name (codes "--after")
+is_before_value name = shared.is_before_value name || bytes_eq name (codes "-e") || bytes_eq name (codes "-m") || bytes_eq name (codes "--bad")
 
 abbrev pub takes_next : {Z : Type 0} → String Z → Bool
 takes_next word = is_before_value (string_bytes word)
@@ -102,25 +82,19 @@ syntax_of_options = record { is_letter = is_letter; takes_value = takes_value; t
 
 abbrev pub in_two_words : List ℕ → List ℕ → Option Choice
 in_two_words name value =
-    if bytes_eq name (codes "-f") then file_option value
-    else if bytes_eq name (codes "-e") then text_option value
-    else if bytes_eq name (codes "-k") then field_option value
-    else if bytes_eq name (codes "-d") then separator_option value
+    if bytes_eq name (codes "-e") then text_option value
     else if bytes_eq name (codes "-m") then most_option value
     else if bytes_eq name (codes "--bad") then bad_option value
-    else after_option value
+    else shared_option (shared.in_two_words name value)
 
--- others are one word, in which the value of `-k`, of `-d` and of `-m` may stand after the letter, and that of `--bad` after a
--- `=`
+-- others are one word, in which the value of `-m`, as of `-k` and of `-d`, may stand after the letter, and that of `--bad`
+-- after a `=`
 abbrev pub in_one_word : List ℕ → Option Choice
 in_one_word word =
-    if begins (codes "-k") word then field_option (drop 2 word)
-    else if begins (codes "-d") word then separator_option (drop 2 word)
-    else if begins (codes "-m") word then most_option (drop 2 word)
+    if begins (codes "-m") word then most_option (drop 2 word)
     else if begins (codes "--bad=") word then bad_option (drop 6 word)
     else if bytes_eq word (codes "--longest") then Some choices.Longest
-    else if bytes_eq word (codes "--mapped") then Some choices.Mapped
-    else if begins (codes "-") word then letters_option (drop 1 word)
+    else if begins (codes "-") word then option_or (shared_option (shared.in_one_word word)) (letters_option (drop 1 word))
     else None
 
 -- the letters that are among the first or the second
@@ -141,18 +115,13 @@ either first second = record {
 -- the request with an option added: of each option the last is said, and letters stay
 abbrev pub with_option : Request → Choice → Request
 with_option request (choices.Letters letters) = record request { letters = either request.letters letters }
-with_option request (choices.Field number) = record request { field = Some number }
-with_option request (choices.Separator byte) = record request { separator = Some byte }
+with_option request (choices.Shared option) = record request { shared = shared.with_option request.shared option }
 with_option request (choices.Most most) = record request { most = Some most }
 with_option request (choices.WithoutAddress bad) = record request { bad = bad }
 with_option request choices.Longest = record request { longest = true }
-with_option request choices.Mapped = record request { mapped = true }
-with_option request choices.After = record request { after = true }
-with_option request choices.File = record request { has_list = true }
-with_option request choices.Input = record request { has_list = true; inputs = request.inputs + 1 }
-with_option request choices.Text = record request { has_list = true }
+with_option request choices.Text = record request { shared = record (request.shared) { has_list = true } }
 
--- without options no place of the address is said, bad lines are dropped, and all lines may be selected
+-- without options bad lines are dropped, and all lines may be selected
 abbrev pub no_options : Request
 no_options = record {
   letters = record {
@@ -167,15 +136,10 @@ no_options = record {
     names = false;
     quiet = false;
   };
-  field = None;
-  separator = None;
+  shared = shared.no_options;
   most = None;
-  after = false;
-  mapped = false;
   longest = false;
   bad = without.Drop;
-  has_list = false;
-  inputs = 0;
   files = 0;
 }
 
@@ -186,13 +150,13 @@ text_after words = value_of syntax_of_options (codes "--after") words
 -- whether an option is a list
 abbrev pub is_list : Choice → Bool
 is_list (choices.Letters letters) = false
-is_list (choices.Field number) = false
-is_list (choices.Separator byte) = false
+is_list (choices.Shared (common.Field number)) = false
+is_list (choices.Shared (common.Separator byte)) = false
+is_list (choices.Shared common.Mapped) = false
+is_list (choices.Shared common.After) = false
+is_list (choices.Shared common.File) = true
+is_list (choices.Shared common.Input) = true
 is_list (choices.Most most) = false
 is_list (choices.WithoutAddress bad) = false
 is_list choices.Longest = false
-is_list choices.Mapped = false
-is_list choices.After = false
-is_list choices.File = true
-is_list choices.Input = true
 is_list choices.Text = true

@@ -8,7 +8,9 @@ use Rattle.lists.specs.KnownLists.{KnownLists}
 use Rattle.lists.specs.Reading.{ReadsList, StopsAt, StopsAtText}
 use Rattle.program.specs.Told.{name_at}
 use Rattle.lists.specs.declared.named.ReadFault.{ReadFault}
-use Rattle.cidr_filter.specs.CommandLines.{Begin, option_of, behind_option}
+use Rattle.log_programs.specs.CommandLines.{Begin, option_of, behind_option}
+use Rattle.log_programs.specs.declared.shared.Shared.TheVariants as common
+use Rattle.cidr_filter.specs.CommandLines.{filter_options}
 use Rattle.cidr_filter.specs.Listed.{HasBlocksOf}
 use Rattle.cidr_filter.specs.declared.listed.Listed.{Listed}
 use Rattle.cidr_filter.specs.declared.listed.Listed.TheVariants.{Addresses, Blocks}
@@ -17,17 +19,17 @@ use Rattle.cidr_filter.specs.declared.options.Choice.TheVariants as choices
 
 -- what an option of this value reads: `-f` the list of that name, `-e` the value itself, and the others nothing
 abbrev pub ReadsOption : KnownLists → ℕ → Choice → List ℕ → ReadLists → ReadLists → Type 0
-ReadsOption known number choices.File value before after = ReadsList known number value before after
-ReadsOption known number choices.Input value before after = ReadsList known number value before after
+ReadsOption known number (choices.Shared common.File) value before after = ReadsList known number value before after
+ReadsOption known number (choices.Shared common.Input) value before after = ReadsList known number value before after
 ReadsOption known number choices.Text value before after = TakesLines (at_list before number) (lines value) after
 ReadsOption known number (choices.Letters letters) value before after = after ≡ before
-ReadsOption known number (choices.Field field) value before after = after ≡ before
-ReadsOption known number (choices.Separator byte) value before after = after ≡ before
+ReadsOption known number (choices.Shared (common.Field field)) value before after = after ≡ before
+ReadsOption known number (choices.Shared (common.Separator byte)) value before after = after ≡ before
 ReadsOption known number (choices.Most most) value before after = after ≡ before
 ReadsOption known number (choices.WithoutAddress bad) value before after = after ≡ before
 ReadsOption known number choices.Longest value before after = after ≡ before
-ReadsOption known number choices.Mapped value before after = after ≡ before
-ReadsOption known number choices.After value before after = after ≡ before
+ReadsOption known number (choices.Shared common.Mapped) value before after = after ≡ before
+ReadsOption known number (choices.Shared common.After) value before after = after ≡ before
 
 -- the place among all words of the word after the first of the last ones
 abbrev pub next_place : {Z : Type 0} → List (String Z) → List (String Z) → ℕ
@@ -39,29 +41,29 @@ abbrev pub ReadsOptions : {Z : Type 0} → KnownLists → List (String Z) → Li
 ReadsOptions known all words [] before after = after ≡ before
 ReadsOptions known all words (choice ∷ choices) before after = (between : ReadLists)
     × ReadsOption known (next_place all words) choice (name_at words 1) before between
-    × ReadsOptions known all (behind_option words) choices between after
+    × ReadsOptions known all (behind_option filter_options.syntax words) choices between after
 
 -- the lists of all options are read, in their order
 pub record ReadsLists {Z : Type 0} (known : KnownLists) (words : List (String Z)) (before after : ReadLists) : Type 0 where
   pub options : List Choice
   pub rest : List (String Z)
-  pub begin : Begin words options rest
-  pub no_more : option_of rest ≡ None
+  pub begin : Begin filter_options words options rest
+  pub no_more : option_of filter_options rest ≡ None
   pub in_turn : ReadsOptions known words words options before after
 
 -- the reading stops at what an option of this value reads, and these are the refused lines then
 abbrev pub StopsAtOption : KnownLists → ℕ → Choice → List ℕ → ReadLists → ReadFault → Refused → Type 0
-StopsAtOption known number choices.File value before fault refused = StopsAt known number value before fault refused
-StopsAtOption known number choices.Input value before fault refused = StopsAt known number value before fault refused
+StopsAtOption known number (choices.Shared common.File) value before fault refused = StopsAt known number value before fault refused
+StopsAtOption known number (choices.Shared common.Input) value before fault refused = StopsAt known number value before fault refused
 StopsAtOption known number choices.Text value before fault refused = StopsAtText number value before fault refused
 StopsAtOption known number (choices.Letters letters) value before fault refused = ⊥
-StopsAtOption known number (choices.Field field) value before fault refused = ⊥
-StopsAtOption known number (choices.Separator byte) value before fault refused = ⊥
+StopsAtOption known number (choices.Shared (common.Field field)) value before fault refused = ⊥
+StopsAtOption known number (choices.Shared (common.Separator byte)) value before fault refused = ⊥
 StopsAtOption known number (choices.Most most) value before fault refused = ⊥
 StopsAtOption known number (choices.WithoutAddress bad) value before fault refused = ⊥
 StopsAtOption known number choices.Longest value before fault refused = ⊥
-StopsAtOption known number choices.Mapped value before fault refused = ⊥
-StopsAtOption known number choices.After value before fault refused = ⊥
+StopsAtOption known number (choices.Shared common.Mapped) value before fault refused = ⊥
+StopsAtOption known number (choices.Shared common.After) value before fault refused = ⊥
 
 -- of the options with which the words begin those before one are read in turn, and the reading stops at that one
 pub record Stops {Z : Type 0} (known : KnownLists) (words : List (String Z)) (before : ReadLists) (fault : ReadFault) (refused : Refused) : Type 0 where
@@ -69,8 +71,8 @@ pub record Stops {Z : Type 0} (known : KnownLists) (words : List (String Z)) (be
   pub choice : Choice
   pub rest : List (String Z)
   pub between : ReadLists
-  pub begin : Begin words options rest
-  pub next : option_of rest ≡ Some choice
+  pub begin : Begin filter_options words options rest
+  pub next : option_of filter_options rest ≡ Some choice
   pub in_turn : ReadsOptions known words words options before between
   pub memory : between.is_out_of_memory ≡ false
   pub stops : StopsAtOption known (next_place words rest) choice (name_at rest 1) between fault refused

@@ -1,38 +1,32 @@
 -- How a run ends: its exit status, what was written, and what was reported.
-use Rattle.std.specs.Prelude.{◌≡◌, ℕ, ◌-◌, ◌^◌, min, List, [], ◌∷◌, ◌++◌, Bool, true, false, ◌||◌, ◌⊎◌, Option, None, Some, if◌then◌else◌, length, map, nat_lt, take, drop, codes, decimal, String}
-use Rattle.std.specs.String.{string_bytes}
-use Rattle.std.specs.Option.{unwrap_or}
+use Rattle.std.specs.Prelude.{◌≡◌, ℕ, ◌-◌, ◌^◌, min, List, [], ◌∷◌, ◌++◌, Bool, true, false, ◌||◌, ◌⊎◌, Option, None, Some, if◌then◌else◌, length, nat_lt, take, drop, codes, decimal, String}
 use Rattle.lists.specs.Lists.{ReadLists, nothing_read}
 use Rattle.lists.specs.Refusals.{Refused, no_refusals}
 use Rattle.lines.specs.Outputs.{Written}
 use Rattle.program.specs.Endings.{Ending, Refuses, HasTold, HasWritten}
 use Rattle.program.specs.Messages.{Tells}
-use Rattle.program.specs.Runs.{EndsRun}
 use Rattle.program.specs.Told.{was_refused, fault_text, refusals_text}
 use Rattle.lists.specs.declared.named.ReadFault.{ReadFault}
 use Rattle.lists.specs.KnownLists.{KnownLists}
-use Rattle.program.specs.Usage.{usage_text}
-use Rattle.log_programs.specs.Arranged.{arranged}
-use Rattle.cidr_filter.specs.CommandLines.{Says, AsksNothing, HasFault}
+use Rattle.log_programs.specs.Runs as runs
+use Rattle.log_programs.specs.Shared as shared
+use Rattle.cidr_filter.specs.CommandLines.{filter_options}
 use Rattle.cidr_filter.specs.Filters.{Filters, is_count}
 use Rattle.program.specs.LogFaults.{log_fault_text, FailsWriting, Wrote}
 use Rattle.program.specs.Logs.{logs_of, HaltsBy}
 use Rattle.cidr_filter.specs.Logs.{FiltersLogs, is_enough, EndsRunBy, is_short, filter_for}
 use Rattle.cidr_filter.specs.Reading.{IsReadOf, Stops, HoldsRead}
 use Rattle.program.specs.LogLines.{LogLine}
-use Rattle.cidr_filter.specs.Options.{syntax_of_options, text_after}
+use Rattle.cidr_filter.specs.Options.{text_after}
 use Rattle.cidr_filter.specs.Told.{in_option}
-use Rattle.log_programs.specs.Usage.{problem_text}
 use Rattle.cidr_filter.specs.declared.command_line.Request.{Request}
 use Rattle.cidr_filter.specs.declared.filter.Filter.{Filter}
 use Rattle.cidr_filter.specs.declared.filter.Shown.{Shown}
 use Rattle.cidr_filter.specs.declared.filter.Shown.TheVariants as shows
 use Rattle.cidr_filter.specs.declared.options.Letters.{Letters}
 use Rattle.line_addresses.specs.declared.place.Place.{Place}
-use Rattle.line_addresses.specs.declared.place.Place.TheVariants as places
 use Rattle.cidr_filter.specs.declared.listed.Listed.{Listed}
 use Rattle.program.specs.declared.log_fault.LogFault.{LogFault}
-use Rattle.log_programs.specs.declared.usage.UsageFault.{UsageFault}
 
 -- a log that was opened was not filtered to its end, and ended the run: those before it were filtered, and its first
 -- lines; their outputs were written, the cause was reported after what there is to report of them, and the status is 2
@@ -84,14 +78,10 @@ pub record FiltersAll {W E : Type 0} (filter : Filter) (known : KnownLists) (nam
 abbrev pub EndsLogs : {W E : Type 0} → Filter → KnownLists → List (List ℕ) → Ending W E → Type 0
 EndsLogs filter known names end = FiltersAll filter known names end ⊎ StopsAtLog filter known names end
 
--- where a request looks for the addresses of a line: anywhere, after a text, in a word, or in a field. Without `-k` that is the first,
--- and without `-d` fields are cut at spaces (byte 32)
+-- where a request looks for the addresses of a line
 abbrev pub place_of : {Z : Type 0} → List (String Z) → Request → Place
 place_of words request =
-    if request.letters.anywhere then places.Anywhere
-    else if request.after then places.After (text_after (take request.files words))
-    else if request.letters.words then places.Word (unwrap_or request.field 1)
-    else places.Field (unwrap_or request.field 1) (unwrap_or request.separator 32)
+    shared.place_of request.letters.anywhere request.letters.words (text_after (take request.files words)) request.shared
 
 -- how many lines of a log are selected at the most: with `-q` and with `-l` one is enough
 abbrev pub up_to_one : Option ℕ → Option ℕ
@@ -119,7 +109,7 @@ abbrev pub filter_of : {Z : Type 0} → List (String Z) → Request → Listed �
 filter_of words request listed = record {
   listed = listed;
   place = place_of words request;
-  mapped = request.mapped;
+  mapped = request.shared.mapped;
   inverts = request.letters.inverts;
   bad = request.bad;
   most = most_of request.letters request.most;
@@ -150,17 +140,12 @@ EndsRequest {Z} {W} {E} known words request end = (refused : Refused) × (told :
     × (StopsReading known words refused (record end { errors = told })
     ⊎ ((read : ReadLists) × IsReadOf known words read × (read.refused ≡ refused) × EndsFiltering known words request read (record end { errors = told })))
 
--- the words say a request, which is done, or something is wrong with them, and that and the usage are reported
-abbrev pub EndsAsked : {Z W E : Type 0} → List ℕ → List ℕ → KnownLists → List (String Z) → Ending W E → Type 0
-EndsAsked program usage known words end =
-    ((request : Request) × Says words request × EndsRequest known words request end)
-    ⊎ ((fault : UsageFault) × AsksNothing words × HasFault words fault
-    × Refuses (usage_text program usage words fault.subject (problem_text fault.problem)) end)
+-- so is a request of these words done, whose FILEs begin at this place
+abbrev pub DoesRequest : {Z W E : Type 0} → KnownLists → Ending W E → List (String Z) → Request → ℕ → Type 0
+DoesRequest known end words request files = EndsRequest known words (record request { files = files }) end
 
--- how a run ends of a program of this name, help, version and usage: with the help or the version, if the words ask for
--- it. Else they are read with the options in front, unless there is no memory for that
+-- how a run ends of a program of this name, help, version and usage
 abbrev pub EndsAs : {Z W E : Type 0} → List ℕ → List ℕ → List ℕ → List ℕ → KnownLists
     → List (String Z) → Ending W E → Type 0
-EndsAs {Z} program help version usage known words end = EndsRun help version words
-    (Refuses (codes "out of memory\n") end
-    ⊎ ((asked : List (String Z)) × (map string_bytes asked ≡ arranged syntax_of_options words) × EndsAsked program usage known asked end)) end
+EndsAs program help version usage known words end =
+    runs.EndsAs filter_options program help version usage words (DoesRequest known end) end

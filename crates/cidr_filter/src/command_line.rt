@@ -1,195 +1,205 @@
-//! What the arguments ask for.
-ghost use Rattle.std.specs.Prelude.{◌≡◌, ◌||◌, ◌+◌, ◌^◌, ◌<◌, ◌≤◌, length, IfOk, IfErr};
-ghost use Rattle.cidr_filter.specs.CommandLines.{crossed_problem, is_placed, lacking_problem, Says, AsksNothing, HasFault};
-ghost use Rattle.cidr_filter.specs.Options.{with_option, no_options, either};
+//! What the options of a command line say.
+ghost use Rattle.std.specs.Prelude.{◌≡◌};
+ghost use Rattle.cidr_filter.specs.CommandLines.{other_problem};
+ghost use Rattle.cidr_filter.specs.Usage.{own_problem};
 
 use crate::filter::WithoutAddress;
-use crate::grammar::FilterOptions;
-use crate::options::{Choice, Letters};
-use log_programs::command_line;
-use log_programs::usage::{Problem, UsageFault};
+use crate::options::{
+    Choice, Letters, bad_choice, either, is_letter, letters_choice, most_choice, shared_choice,
+    text_choice,
+};
+use log_programs::grammar::Grammar;
+use log_programs::shared;
+use log_programs::shared::{Said, place_problem};
+use log_programs::usage::Problem;
+use program::words::is;
 
 /// What a run is asked for. Its options are the words before `files`, and the FILEs those from there on.
 #[derive(Clone, Copy, Debug, PartialEq, Eq)]
 pub struct Request {
     /// The options of one letter.
     pub letters: Letters,
-    /// The number of the field, if an option says it.
-    pub field: Option<u32>,
-    /// The byte between fields, if an option says it.
-    pub separator: Option<u8>,
+    /// Those that every program for logs has.
+    pub shared: Said,
     /// How many lines of a log are selected at the most, if an option says it.
     pub most: Option<u64>,
-    /// Whether an option says the text that a line's address follows.
-    pub after: bool,
-    /// Whether an IPv4-mapped address of a line counts as its IPv4 one.
-    pub mapped: bool,
     /// Whether the longest block that holds the address stands before a line.
     pub longest: bool,
     /// What becomes of a line without an address.
     pub bad: WithoutAddress,
-    /// Whether a list is among the options.
-    pub has_list: bool,
-    /// How often the options name standard input.
-    pub inputs: usize,
     /// The index of the first FILE among the words.
     pub files: usize,
 }
 
-/// What the words after the program's name ask for, if they are right. Does not allocate.
-pub(crate) fn request_of(words: &[String]) -> Result<Request, UsageFault>
-    ensures within { IfOk result (λ request. request.files ≤ length words.now) }
-    ensures asked { IfOk result (Says words.now) }
-    ensures nothing { IfErr result (λ _. AsksNothing words.now) }
-    ensures wrong { IfErr result (HasFault words.now) }
-{
-    match command_line::request_of::<FilterOptions>(words) {
-        Ok(asked) => Ok(Request {
-            files: asked.1,
-            ..asked.0
-        }),
-        Err(fault) => Err(fault),
+/// The options of this program.
+pub struct FilterOptions;
+
+impl Grammar for FilterOptions {
+    ghost use Rattle.cidr_filter.specs.CommandLines.{filter_options};
+
+    type Choice = Choice;
+
+    type Request = Request;
+
+    ghost options = { filter_options };
+
+    fn is_letter(letter: u8) -> bool {
+        is_letter(letter)
     }
+
+    fn takes_value(letter: u8) -> bool {
+        shared::takes_value(letter) || letter == b'e' || letter == b'm'
+    }
+
+    fn takes_rest(letter: u8) -> bool {
+        letter == b'f' || letter == b'e'
+    }
+
+    fn takes_next(word: &String) -> bool {
+        shared::takes_next(word) || is(word, "-e") || is(word, "-m") || is(word, "--bad")
+    }
+
+    fn choice_in(word: &[u8]) -> Option<Choice> {
+        if let Some(value) = word.strip_prefix(b"-m".as_slice()) {
+            return most_choice(value);
+        }
+        if let Some(value) = word.strip_prefix(b"--bad=".as_slice()) {
+            return bad_choice(value);
+        }
+        if word == b"--longest".as_slice() {
+            return Some(Choice::Longest);
+        }
+        match word.strip_prefix(b"-".as_slice()) {
+            Some(letters) => shared_choice(shared::choice_in(word)).or(letters_choice(letters)),
+            None => None,
+        }
+    }
+
+    fn choice_with(name: &String, value: &[u8]) -> Option<Choice> {
+        if is(name, "-e") {
+            text_choice(value)
+        } else if is(name, "-m") {
+            most_choice(value)
+        } else if is(name, "--bad") {
+            bad_choice(value)
+        } else {
+            shared_choice(shared::choice_with(name, value))
+        }
+    }
+
+    fn word_problem(word: &[u8]) -> Problem {
+        own_problem(word).unwrap_or(shared::word_problem(word))
+    }
+
+    fn value_problem(name: &String) -> Problem {
+        if is(name, "-e") {
+            Problem::Text
+        } else if is(name, "-m") {
+            Problem::Most
+        } else if is(name, "--bad") {
+            Problem::WithoutAddress
+        } else {
+            shared::value_problem(name)
+        }
+    }
+
+    fn no_options() -> Request {
+        Request {
+            letters: Letters {
+                inverts: false,
+                counts: false,
+                anywhere: false,
+                words: false,
+                only: false,
+                named: false,
+                unnamed: false,
+                numbered: false,
+                names: false,
+                quiet: false,
+            },
+            shared: shared::no_options(),
+            most: None,
+            longest: false,
+            bad: WithoutAddress::Drop,
+            files: 0,
+        }
+    }
+
+    fn with_choice(request: Request, choice: Choice) -> Request {
+        match choice {
+            Choice::Letters(letters) => Request {
+                letters: either(request.letters, letters),
+                ..request
+            },
+            Choice::Shared(choice) => Request {
+                shared: shared::with_choice(request.shared, choice),
+                ..request
+            },
+            Choice::Most(most) => Request {
+                most: Some(most),
+                ..request
+            },
+            Choice::WithoutAddress(bad) => Request { bad, ..request },
+            Choice::Longest => Request {
+                longest: true,
+                ..request
+            },
+            Choice::Text => Request {
+                shared: Said {
+                    has_list: true,
+                    ..request.shared
+                },
+                ..request
+            },
+        }
+    }
+
+    fn inputs(request: Request) -> usize {
+        request.shared.inputs
+    }
+
+    fn crossed_problem(request: Request) -> Option<Problem> {
+        if request.longest && (request.letters.inverts || request.letters.counts) {
+            return Some(Problem::Crossed);
+        }
+        let letters = request.letters;
+        place_problem(letters.anywhere, letters.words, request.shared).or(other_problem(request))
+    }
+
+    fn lacking_problem(request: Request) -> Option<Problem> {
+        if request.shared.has_list {
+            None
+        } else {
+            Some(Problem::NoList)
+        }
+    }
+
+    fn law_letters() {}
 }
 
-/// What no options say.
-pub(crate) fn no_options() -> Request
-    ensures { result ≡ no_options }
+// What is wrong with a word that is no option by itself, if it begins as options do that this program
+// alone has.
+fn own_problem(word: &[u8]) -> Option<Problem>
+    ensures { result ≡ own_problem word.now }
 {
-    Request {
-        letters: Letters {
-            inverts: false,
-            counts: false,
-            anywhere: false,
-            words: false,
-            only: false,
-            named: false,
-            unnamed: false,
-            numbered: false,
-            names: false,
-            quiet: false,
-        },
-        field: None,
-        separator: None,
-        most: None,
-        after: false,
-        mapped: false,
-        longest: false,
-        bad: WithoutAddress::Drop,
-        has_list: false,
-        inputs: 0,
-        files: 0,
-    }
-}
-
-/// What is wrong if no list is among the options.
-pub(crate) fn lacking_problem(request: Request) -> Option<Problem>
-    ensures { result ≡ lacking_problem request }
-{
-    if request.has_list {
-        None
+    if word.starts_with(b"-m".as_slice()) {
+        Some(Problem::Most)
+    } else if word.starts_with(b"--bad=".as_slice()) {
+        Some(Problem::WithoutAddress)
     } else {
-        Some(Problem::NoList)
+        None
     }
 }
 
-/// Which options are given that do not go together.
-pub(crate) fn crossed_problem(request: Request) -> Option<Problem>
-    ensures { result ≡ crossed_problem request }
+// Which options are given that do not go together and say nothing of places.
+fn other_problem(request: Request) -> Option<Problem>
+    ensures { result ≡ other_problem request }
 {
-    if request.longest && (request.letters.inverts || request.letters.counts) {
-        Some(Problem::Crossed)
-    } else if request.letters.anywhere && is_placed(request) {
-        Some(Problem::Anywhere)
-    } else if request.after && (request.letters.anywhere || is_placed(request)) {
-        Some(Problem::After)
-    } else if request.letters.words && request.separator.is_some() {
-        Some(Problem::Words)
-    } else if request.letters.only && (request.letters.inverts || request.longest) {
+    if request.letters.only && (request.letters.inverts || request.longest) {
         Some(Problem::Only)
     } else if request.letters.named && (request.letters.counts || request.letters.unnamed) {
         Some(Problem::Named)
     } else {
         None
     }
-}
-
-// Whether an option says which field a line's address is, or how fields are separated.
-fn is_placed(request: Request) -> bool
-    ensures { result ≡ is_placed request }
-{
-    request.letters.words || request.field.is_some() || request.separator.is_some()
-}
-
-/// The request with an option added.
-pub(crate) fn with_choice(request: Request, choice: Choice) -> Request
-    requires { request.inputs + 1 < 2 ^ 64 }
-    ensures request { result ≡ with_option request choice }
-    ensures inputs { result.inputs ≤ request.inputs + 1 }
-{
-    match choice {
-        Choice::Letters(letters) => Request {
-            letters: either(request.letters, letters),
-            ..request
-        },
-        Choice::Field(field) => Request {
-            field: Some(field),
-            ..request
-        },
-        Choice::Separator(separator) => Request {
-            separator: Some(separator),
-            ..request
-        },
-        Choice::Most(most) => Request {
-            most: Some(most),
-            ..request
-        },
-        Choice::WithoutAddress(bad) => Request { bad, ..request },
-        Choice::Longest => Request {
-            longest: true,
-            ..request
-        },
-        Choice::After => Request {
-            after: true,
-            ..request
-        },
-        Choice::Mapped => Request {
-            mapped: true,
-            ..request
-        },
-        Choice::File | Choice::Text => Request {
-            has_list: true,
-            ..request
-        },
-        Choice::Input => Request {
-            has_list: true,
-            inputs: request.inputs + 1,
-            ..request
-        },
-    }
-}
-
-// The letters that are among the first or the second.
-fn either(first: Letters, second: Letters) -> Letters
-    ensures { result ≡ either first second }
-{
-    Letters {
-        inverts: one_of(first.inverts, second.inverts),
-        counts: one_of(first.counts, second.counts),
-        anywhere: one_of(first.anywhere, second.anywhere),
-        words: one_of(first.words, second.words),
-        only: one_of(first.only, second.only),
-        named: one_of(first.named, second.named),
-        unnamed: one_of(first.unnamed, second.unnamed),
-        numbered: one_of(first.numbered, second.numbered),
-        names: one_of(first.names, second.names),
-        quiet: one_of(first.quiet, second.quiet),
-    }
-}
-
-// Whether one of two is so.
-fn one_of(first: bool, second: bool) -> bool
-    ensures { result ≡ (first || second) }
-{
-    first || second
 }

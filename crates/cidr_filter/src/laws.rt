@@ -1,6 +1,8 @@
 //! What follows from the clauses of a command line and of a log. Each function's contract is a law:
 //! it does nothing, and a proof that calls it may use the law.
-ghost use Rattle.cidr_filter.specs.Laws.{OthersAreNoOptions, OthersAskForNothing, WordsHaveOneFault, LinesHaveOneVerdict, LogsHaveOneOutput, OutputsOfPartsFollow, NumbersAreNotShown, LinesThatEndRunsAreWhole};
+ghost use Rattle.log_programs.specs.Laws.{OthersAreNoOptions, OthersAskForNothing, WordsHaveOneFault};
+ghost use Rattle.cidr_filter.specs.CommandLines.{filter_options};
+ghost use Rattle.cidr_filter.specs.Laws.{is_option_word, LinesHaveOneVerdict, LogsHaveOneOutput, OutputsOfPartsFollow, NumbersAreNotShown, LinesThatEndRunsAreWhole};
 
 use ipnetwork_table::laws::blocks_of_any_width_that_meet;
 
@@ -30,15 +32,15 @@ pub fn lines_that_end_runs_are_whole()
 /// A word other than those of the options is none of them, whatever follows it. If it begins with a
 /// `-`, and is neither `-` nor `--`, then the words ask for nothing where it stands behind options.
 pub fn other_words_are_no_options(words: &[String])
-    ensures option { OthersAreNoOptions words.now }
-    ensures command { OthersAskForNothing words.now }
+    ensures option { OthersAreNoOptions filter_options is_option_word words.now }
+    ensures command { OthersAskForNothing filter_options is_option_word words.now }
 {
     let _words = words;
 }
 
 /// Of the words of a command line at most one fault is reported.
 pub fn words_have_one_fault(words: &[String])
-    ensures { WordsHaveOneFault words.now }
+    ensures { WordsHaveOneFault filter_options words.now }
 {
     let _words = words;
 }

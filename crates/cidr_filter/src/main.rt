@@ -3,7 +3,6 @@
 
 mod command_line;
 mod filter;
-mod grammar;
 mod help;
 mod laws;
 mod leaving;
@@ -17,7 +16,6 @@ mod printing_addresses;
 mod reading;
 mod run;
 mod telling;
-mod usage;
 
 use crate::help::{PROGRAM, USAGE};
 use crate::run::run;

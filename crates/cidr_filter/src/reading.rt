@@ -3,11 +3,12 @@ ghost use Rattle.std.specs.Prelude.{◌≡◌, ◌+◌, ◌≤◌, false, true, 
 ghost use Rattle.lists.specs.Lists.{nothing_read};
 ghost use Rattle.lists.specs.Refusals.{no_refusals};
 ghost use Rattle.program.specs.Told.{name_at};
-ghost use Rattle.cidr_filter.specs.CommandLines.{option_of};
+ghost use Rattle.log_programs.specs.CommandLines.{option_of};
+ghost use Rattle.cidr_filter.specs.CommandLines.{filter_options};
 ghost use Rattle.cidr_filter.specs.Reading.{ReadsOption, ReadsLists, StopsAtOption, Stops, HoldsRead};
 ghost use Rattle.cidr_filter.specs.Private.Reading.{ReadsAll, HasSets, HasBlocks};
 
-use crate::grammar::FilterOptions;
+use crate::command_line::FilterOptions;
 use crate::listed::{Listed, Sets, Tables};
 use crate::options::{Choice, is_list};
 use ipnetwork::{Ipv4Network, Ipv6Network};
@@ -82,7 +83,7 @@ fn read_option<L: OpenLists>(
     reader: &mut ListReader,
 ) -> Result<(), ReadFault>
     requires within { at ≤ length words.now }
-    requires option { option_of (drop at words.now) ≡ Some choice }
+    requires option { option_of filter_options (drop at words.now) ≡ Some choice }
     requires memory { reader.old.is_out_of_memory ≡ false }
     ensures read { OnOk result (ReadsOption (L.known lists.now) (at + 1) choice
         (name_at (drop at words.now) 1) reader.old reader.new) }

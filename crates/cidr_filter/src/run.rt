@@ -1,12 +1,10 @@
 //! The run that the program makes.
-ghost use Rattle.std.specs.Prelude.{◌≡◌, ◌≤◌, [], length, codes};
+ghost use Rattle.std.specs.Prelude.{◌≡◌, ◌≤◌, [], length};
 ghost use Rattle.program.specs.Endings.{ending};
-ghost use Rattle.program.specs.Messages.{Tells};
-ghost use Rattle.cidr_filter.specs.Runs.{EndsRequest, EndsAsked, EndsAs, place_of, most_of, up_to_one, shows_of, is_named};
+ghost use Rattle.cidr_filter.specs.Runs.{EndsRequest, EndsAs, place_of, most_of, up_to_one, shows_of, is_named};
 
-use crate::command_line::{Request, request_of};
+use crate::command_line::{FilterOptions, Request};
 use crate::filter::{Filter, Shown};
-use crate::grammar::FilterOptions;
 use crate::help::{HELP, PROGRAM, USAGE, VERSION};
 use crate::logs::filter_logs;
 use crate::options::Letters;
@@ -15,14 +13,13 @@ use crate::telling::InOptions;
 use line_addresses::{Place, Text};
 use lines::output::Output;
 use lists::OpenLists;
-use log_programs::arranging::arranged;
+use log_programs::asking::{About, asked};
 use log_programs::options::value_of;
-use program::ending::{FAILED, print_text};
+use log_programs::shared;
+use program::ending::FAILED;
 use program::log_reader::BUFFER_LEN;
-use program::messages::tell;
-use program::start::text_asked;
+use program::memory::refuse_memory;
 use program::telling::{tell_fault, tell_refusals};
-use program::usage::refuse_usage;
 use std::alloc::Global;
 use std::io::Write;
 
@@ -37,32 +34,21 @@ pub(crate) fn run<L: OpenLists, W: Write, E: Write>(
     ensures { EndsAs PROGRAM.now HELP.now VERSION.now USAGE.now (L.known lists.now) words.now
         (ending output.old output.new errors.old errors.new result) }
 {
-    if let Some(text) = text_asked(HELP, VERSION, words) {
-        return print_text(text, output, errors);
-    }
-    let Ok(asked) = arranged::<FilterOptions>(alloc, words) else {
-        return refuse_memory(errors);
+    let about = About {
+        program: PROGRAM,
+        help: HELP,
+        version: VERSION,
+        usage: USAGE,
     };
-    obey(alloc, asked.as_slice(), lists, output, errors)
-}
-
-// Does what the words ask for, of which the options come first, and returns the exit status.
-fn obey<L: OpenLists, W: Write, E: Write>(
-    alloc: Global,
-    words: &[String],
-    lists: &L,
-    output: &mut Output<'_, W>,
-    errors: &mut Output<'_, E>,
-) -> u8
-    ensures { EndsAsked PROGRAM.now USAGE.now (L.known lists.now) words.now
-        (ending output.old output.new errors.old errors.new result) }
-{
-    match request_of(words) {
-        Ok(request) => filter(alloc, request, words, lists, output, errors),
-        Err(fault) => {
-            let problem = fault.problem.text();
-            refuse_usage(PROGRAM, USAGE, words, fault.subject, problem, errors)
+    match asked::<FilterOptions, W, E>(alloc, &about, words, output, errors) {
+        Ok(asked) => {
+            let request = Request {
+                files: asked.2,
+                ..asked.1
+            };
+            filter(alloc, request, asked.0.as_slice(), lists, output, errors)
         }
+        Err(status) => status,
     }
 }
 
@@ -99,7 +85,7 @@ fn filter<L: OpenLists, W: Write, E: Write>(
     let mut filter = Filter {
         listed,
         place: place_of(words, request),
-        mapped: request.mapped,
+        mapped: request.shared.mapped,
         inverts: request.letters.inverts,
         bad: request.bad,
         most: most_of(request.letters, request.most),
@@ -169,26 +155,11 @@ fn place_of(words: &[String], request: Request) -> Place<'_>
     requires { request.files ≤ length words.now }
     ensures { result ≡ place_of words.now request }
 {
-    if request.letters.anywhere {
-        return Place::Anywhere;
-    }
-    if request.after {
-        let text = value_of::<FilterOptions>(&words[..request.files], "--after");
-        return Place::After(Text::new(text.as_bytes()));
-    }
-    let number = request.field.unwrap_or(1);
-    if request.letters.words {
-        return Place::Word(number);
-    }
-    let separator = request.separator.unwrap_or(b' ');
-    Place::Field { number, separator }
-}
-
-// Reports that memory ran out, and returns the exit status for that.
-fn refuse_memory<E: Write>(errors: &mut Output<'_, E>) -> u8
-    ensures status { result ≡ 2 }
-    ensures told { Tells errors.old errors.new (codes "out of memory\n") }
-{
-    tell("out of memory\n", errors);
-    FAILED
+    let text = value_of::<FilterOptions>(&words[..request.files], "--after");
+    shared::place_of(
+        request.letters.anywhere,
+        request.letters.words,
+        text,
+        request.shared,
+    )
 }

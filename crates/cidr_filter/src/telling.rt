@@ -6,7 +6,7 @@ ghost use Rattle.cidr_filter.specs.Addressed.{closed_text};
 ghost use Rattle.cidr_filter.specs.Filters.{one_if};
 ghost use Rattle.cidr_filter.specs.Told.{is_text, texts_in};
 
-use crate::grammar::FilterOptions;
+use crate::command_line::FilterOptions;
 use lines::output::Output;
 use lists::{OpenFault, Refusal};
 use log_programs::options::behind;

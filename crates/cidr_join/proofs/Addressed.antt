@@ -7,7 +7,7 @@ use Rattle.cidr_join.specs.Addressed.{is_addressed, any_addressed}
 use Rattle.cidr_join.specs.Stands.{Sees}
 use Rattle.cidr_join.specs.declared.join.Join.{Join}
 use Rattle.cidr_join.specs.declared.seen.Seen.{Seen}
-use Rattle.cidr_join.proofs.Failing.{or_none, or_assoc}
+use Rattle.log_programs.proofs.Failing.{or_none, or_assoc}
 
 -- ---- what was seen
 

@@ -1,5 +1,5 @@
 -- Definitions at values at which a misreading of them would show.
-use Rattle.std.proofs.Common.{◌≡◌, ◌^◌, ◌+◌, ◌∷◌, [], true, false, refl}
+use Rattle.std.proofs.Common.{◌≡◌, ◌^◌, ◌+◌, ◌∷◌, [], map, true, false, refl}
 use Rattle.std.specs.Prelude.{◌++◌, decimal, codes, None, Some}
 use Rattle.ipnetwork_addr.specs.declared.ip.IpAddr.TheVariants as addresses
 use Rattle.ipnetwork.specs.declared.ip_network.IpNetwork.TheVariants as families
@@ -33,56 +33,23 @@ one_address = refl
 
 -- ---- joined words
 
-pub letter_and_value : words_in syntax_of_options (codes "-wk1") ≡ codes "-w" ∷ codes "-k" ∷ codes "1" ∷ []
-letter_and_value = refl
-
-pub list_and_name : words_in syntax_of_options (codes "-flist") ≡ codes "-f" ∷ codes "list" ∷ []
-list_and_name = refl
-
-pub value_in_the_next_word : words_in syntax_of_options (codes "-awd") ≡ codes "-a" ∷ codes "-w" ∷ codes "-d" ∷ []
-value_in_the_next_word = refl
+pub letters_and_values : map (words_in syntax_of_options) (codes "-wk1" ∷ codes "-flist" ∷ codes "-awd" ∷ [])
+    ≡ (codes "-w" ∷ codes "-k" ∷ codes "1" ∷ []) ∷ (codes "-f" ∷ codes "list" ∷ []) ∷ (codes "-a" ∷ codes "-w" ∷ codes "-d" ∷ []) ∷ []
+letters_and_values = refl
 
 -- what was an option before, and what is none, stays as it is
-pub one_option : words_in syntax_of_options (codes "-k1") ≡ codes "-k1" ∷ []
-one_option = refl
+pub words_alone : map (words_in syntax_of_options) (codes "-k1" ∷ codes "-aw" ∷ codes "-wxk1" ∷ codes "--tally" ∷ [])
+    ≡ (codes "-k1" ∷ []) ∷ (codes "-aw" ∷ []) ∷ (codes "-wxk1" ∷ []) ∷ (codes "--tally" ∷ []) ∷ []
+words_alone = refl
 
-pub two_letters : words_in syntax_of_options (codes "-aw") ≡ codes "-aw" ∷ []
-two_letters = refl
-
-pub other_letter : words_in syntax_of_options (codes "-wxk1") ≡ codes "-wxk1" ∷ []
-other_letter = refl
-
-pub long_name : words_in syntax_of_options (codes "--tally") ≡ codes "--tally" ∷ []
-long_name = refl
-
-pub waits_for_its_value : awaits_value syntax_of_options (codes "-wf") ≡ true
+pub waits_for_its_value : map (awaits_value syntax_of_options) (codes "-wf" ∷ codes "-wf1" ∷ []) ≡ true ∷ false ∷ []
 waits_for_its_value = refl
-
-pub has_its_value : awaits_value syntax_of_options (codes "-wf1") ≡ false
-has_its_value = refl
 
 -- ---- blocks of two lengths
 
-pub two_lengths : group_option (codes "24,064") ≡ Some (choices.Group (record { v4 = 24; v6 = 64 }))
-two_lengths = refl
-
-pub greatest_lengths : group_option (codes "32,128") ≡ Some (choices.Group (record { v4 = 32; v6 = 128 }))
-greatest_lengths = refl
-
-pub length_past_the_width : group_option (codes "33,0") ≡ None
-length_past_the_width = refl
-
-pub length_past_the_other_width : group_option (codes "0,129") ≡ None
-length_past_the_other_width = refl
-
-pub one_length : group_option (codes "24") ≡ None
-one_length = refl
-
-pub three_lengths : group_option (codes "24,64,1") ≡ None
-three_lengths = refl
-
-pub no_length : group_option (codes ",64") ≡ None
-no_length = refl
+pub lengths : map group_option (codes "24,064" ∷ codes "32,128" ∷ codes "33,0" ∷ codes "0,129" ∷ codes "24" ∷ codes "24,64,1" ∷ codes ",64" ∷ [])
+    ≡ Some (choices.Group (record { v4 = 24; v6 = 64 })) ∷ Some (choices.Group (record { v4 = 32; v6 = 128 })) ∷ None ∷ None ∷ None ∷ None ∷ None ∷ []
+lengths = refl
 
 -- 10.1.2.3 is in 10.1.2.0/24
 pub block_of_v4 : block_in (record { v4 = 24; v6 = 64 }) (addresses.V4 167838211) ≡ families.V4 (record { address = 167838208; prefix = 24 })

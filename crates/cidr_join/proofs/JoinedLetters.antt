@@ -1,6 +1,7 @@
 -- The letters of options are characters of ASCII.
 use Rattle.std.proofs.Common.{◌≡◌, ℕ, ◌<◌, true, arith}
-use Rattle.cidr_join.specs.Options.{is_letter, takes_value}
+use Rattle.log_programs.specs.Shared.{takes_value}
+use Rattle.cidr_join.specs.Options.{is_letter}
 
 pub small_letters : (letter : ℕ) → is_letter letter ≡ true → letter < 128
 small_letters letter is = grind (arith, is)

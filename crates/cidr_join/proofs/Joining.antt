@@ -26,7 +26,7 @@ use Rattle.cidr_join.specs.declared.join.Join.{Join}
 use Rattle.cidr_join.specs.declared.seen.Seen.{Seen}
 use Rattle.program.proofs.HandedLines.{printed_is, IsFirstOf, handed_first}
 use Rattle.cidr_join.proofs.Addressed.{sees_nothing, sees_more, any_more}
-use Rattle.cidr_join.proofs.Failing.{none_or}
+use Rattle.log_programs.proofs.Failing.{none_or}
 use Rattle.cidr_join.proofs.LogParts.{both}
 
 -- ---- stands

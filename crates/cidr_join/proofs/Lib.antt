@@ -1,6 +1,5 @@
 pub mod Addressed
 pub mod Examples
-pub mod Failing
 pub mod Faults
 pub mod JoinedLetters
 pub mod Joining

@@ -17,7 +17,7 @@ use Rattle.program.specs.LogLines.{LogLine}
 use Rattle.cidr_join.specs.Logs.{HaltsBy}
 use Rattle.program.specs.Logs.{logs_of, IsAllOf}
 use Rattle.cidr_join.specs.Routes.{Values, no_networks}
-use Rattle.cidr_join.specs.Runs.{FailsWriting, Wrote, StopsAtLog, JoinsAll, EndsLogs, EndsAsked, EndsWords, EndsFinding, EndsGrouping, EndsJoining, EndsRequest, answers_of, join_of, list_name}
+use Rattle.cidr_join.specs.Runs.{FailsWriting, Wrote, StopsAtLog, JoinsAll, EndsLogs, EndsAsked, EndsFinding, EndsGrouping, EndsJoining, EndsRequest, answers_of, join_of, list_name}
 use Rattle.cidr_join.specs.TallyRuns.{EndsTally}
 use Rattle.cidr_join.specs.Stands.{stand}
 use Rattle.cidr_join.specs.Takes.{TakesLines}
@@ -337,8 +337,3 @@ module _ {W E : Type 0} (join : Join) (known : KnownLists) (names : List (List �
   pub asked_lines : (tally : Bool) → tally ≡ false → EndsLogs join known names end → EndsAsked tally join known names end
   asked_lines true is h = absurd (true≢false is)
   asked_lines false is h = h
-
--- ---- the words with the options in front
-
-pub asked_same : {Z W E : Type 0} (program usage : List ℕ) (known : KnownLists) (a b : List (String Z)) (end : Ending W E) → a ≡ b → EndsWords program usage known a end → EndsWords program usage known b end
-asked_same {Z} program usage known a b end e h = subst (λ (ws : List (String Z)). EndsWords program usage known ws end) e h

@@ -1,15 +1,12 @@
 -- How a run ends: its exit status, what was written, and what was reported.
-use Rattle.std.specs.Prelude.{◌≡◌, ℕ, Bool, List, ◌∷◌, ◌++◌, true, false, ◌⊎◌, if◌then◌else◌, Option, None, Some, length, map, take, drop, codes, String, ◌==◌}
+use Rattle.std.specs.Prelude.{◌≡◌, ℕ, Bool, List, ◌∷◌, ◌++◌, true, false, ◌⊎◌, if◌then◌else◌, Option, None, Some, length, take, drop, codes, String, ◌==◌}
 use Rattle.std.specs.List.{slice_split}
-use Rattle.std.specs.Option.{unwrap_or}
-use Rattle.std.specs.String.{string_bytes}
 use Rattle.lines.specs.Outputs.{FailsIn}
 use Rattle.lists.specs.KnownLists.{KnownLists}
 use Rattle.program.specs.Endings.{Ending, Refuses, HasTold, HasWritten}
-use Rattle.program.specs.Runs.{EndsRun}
-use Rattle.program.specs.Usage.{usage_text}
-use Rattle.log_programs.specs.Arranged.{arranged}
-use Rattle.cidr_join.specs.CommandLines.{Says, AsksNothing, HasFault}
+use Rattle.log_programs.specs.Runs as runs
+use Rattle.log_programs.specs.Shared as shared
+use Rattle.cidr_join.specs.CommandLines.{join_options}
 use Rattle.cidr_join.specs.Joins.{Joins}
 use Rattle.program.specs.LogLines.{LogLine}
 use Rattle.cidr_join.specs.Logs.{JoinsLogs, HaltsBy}
@@ -21,13 +18,11 @@ use Rattle.cidr_join.specs.Takes.{TakesLines, StopsTaking}
 use Rattle.cidr_join.specs.Texts.{TextStops}
 use Rattle.cidr_join.specs.Told.{text_fault_text, take_fault_text, log_fault_text}
 use Rattle.log_programs.specs.Values.{value_of}
-use Rattle.log_programs.specs.Usage.{problem_text}
 use Rattle.cidr_join.specs.declared.answers.Answers.{Answers}
 use Rattle.cidr_join.specs.declared.answers.Answers.TheVariants as answers
 use Rattle.cidr_join.specs.declared.command_line.Request.{Request}
 use Rattle.cidr_join.specs.declared.join.Join.{Join}
 use Rattle.line_addresses.specs.declared.place.Place.{Place}
-use Rattle.line_addresses.specs.declared.place.Place.TheVariants as places
 use Rattle.cidr_join.specs.declared.lengths.Lengths.{Lengths}
 use Rattle.cidr_join.specs.declared.list.TakeFault.{TakeFault}
 use Rattle.cidr_join.specs.declared.log.LogFault.{LogFault}
@@ -35,7 +30,6 @@ use Rattle.cidr_join.specs.declared.log.LogFault.TheVariants as faults
 use Rattle.cidr_join.specs.declared.routes.Networks.{Networks}
 use Rattle.cidr_join.specs.declared.routes.Routes.{Routes}
 use Rattle.cidr_join.specs.declared.text.TextFault.{TextFault}
-use Rattle.log_programs.specs.declared.usage.UsageFault.{UsageFault}
 
 -- the writer failed, and took a beginning of what waited and the text
 abbrev pub FailsWriting : {W E : Type 0} → Ending W E → List ℕ → Type 0
@@ -83,14 +77,10 @@ pub record JoinsAll {W E : Type 0} (join : Join) (known : KnownLists) (names : L
 abbrev pub EndsLogs : {W E : Type 0} → Join → KnownLists → List (List ℕ) → Ending W E → Type 0
 EndsLogs join known names end = JoinsAll join known names end ⊎ StopsAtLog join known names end
 
--- where a request looks for the address of a line: anywhere, after a text, in a word, or in a field. Without `-k` that
--- is the first, and without `-d` fields are cut at spaces (byte 32)
+-- where a request looks for the address of a line
 abbrev pub place_of : {Z : Type 0} → List (String Z) → Request → Place
 place_of words request =
-    if request.letters.anywhere then places.Anywhere
-    else if request.after then places.After (value_of syntax_of_options (codes "--after") (take request.files words))
-    else if request.letters.words then places.Word (unwrap_or request.field 1)
-    else places.Field (unwrap_or request.field 1) (unwrap_or request.separator 32)
+    shared.place_of request.letters.anywhere request.letters.words (value_of syntax_of_options (codes "--after") (take request.files words)) request.shared
 
 -- the name of its list
 abbrev pub list_name : {Z : Type 0} → List (String Z) → Request → List ℕ
@@ -109,7 +99,7 @@ abbrev pub join_of : {Z : Type 0} → List (String Z) → Request → Answers �
 join_of words request by = record {
   answers = by;
   place = place_of words request;
-  mapped = request.mapped;
+  mapped = request.shared.mapped;
   last = request.last;
 }
 
@@ -144,17 +134,12 @@ EndsGrouping None known words request end =
 abbrev pub EndsRequest : {Z W E : Type 0} → KnownLists → List (String Z) → Request → Ending W E → Type 0
 EndsRequest known words request end = EndsGrouping request.group known words request end
 
--- the words say a request, which is done, or something is wrong with them, and that and the usage are reported
-abbrev pub EndsWords : {Z W E : Type 0} → List ℕ → List ℕ → KnownLists → List (String Z) → Ending W E → Type 0
-EndsWords program usage known words end =
-    ((request : Request) × Says words request × EndsRequest known words request end)
-    ⊎ ((fault : UsageFault) × AsksNothing words × HasFault words fault
-    × Refuses (usage_text program usage words fault.subject (problem_text fault.problem)) end)
+-- so is a request of these words done, whose FILEs begin at this place
+abbrev pub DoesRequest : {Z W E : Type 0} → KnownLists → Ending W E → List (String Z) → Request → ℕ → Type 0
+DoesRequest known end words request files = EndsRequest known words (record request { files = files }) end
 
--- how a run ends of a program of this name, help, version and usage: with the help or the version, if the words ask for
--- it. Else they are read with the options in front, unless there is no memory for that
+-- how a run ends of a program of this name, help, version and usage
 abbrev pub EndsAs : {Z W E : Type 0} → List ℕ → List ℕ → List ℕ → List ℕ → KnownLists
     → List (String Z) → Ending W E → Type 0
-EndsAs {Z} program help version usage known words end = EndsRun help version words
-    (Refuses (codes "out of memory\n") end
-    ⊎ ((asked : List (String Z)) × (map string_bytes asked ≡ arranged syntax_of_options words) × EndsWords program usage known asked end)) end
+EndsAs program help version usage known words end =
+    runs.EndsAs join_options program help version usage words (DoesRequest known end) end

@@ -1,27 +1,24 @@
-//! What the arguments ask for.
-ghost use Rattle.std.specs.Prelude.{◌≡◌, ◌+◌, ◌^◌, ◌<◌, ◌≤◌, length, IfOk, IfErr};
-ghost use Rattle.cidr_join.specs.CommandLines.{crossed_problem, is_placed, asks_of_list, has_source, lacking_problem, Says, AsksNothing, HasFault};
-ghost use Rattle.cidr_join.specs.Options.{with_option, no_options, either};
+//! What the options of a command line say.
+ghost use Rattle.std.specs.Prelude.{◌≡◌};
+ghost use Rattle.cidr_join.specs.CommandLines.{other_problem, asks_of_list, has_source};
 
-use crate::grammar::JoinOptions;
 use crate::lengths::Lengths;
-use crate::options::{Choice, Letters};
-use log_programs::command_line;
-use log_programs::usage::{Problem, UsageFault};
+use crate::options::{
+    Choice, Letters, either, group_choice, is_letter, letters_choice, shared_choice,
+};
+use log_programs::grammar::Grammar;
+use log_programs::shared;
+use log_programs::shared::{Said, place_problem};
+use log_programs::usage::Problem;
+use program::words::is;
 
 /// What a run is asked for. Its options are the words before `files`, and the FILEs those from there on.
 #[derive(Clone, Copy, Debug, PartialEq, Eq)]
 pub struct Request {
     /// The options of one letter.
     pub letters: Letters,
-    /// The number of the field, if an option says it.
-    pub field: Option<u32>,
-    /// The byte between fields, if an option says it.
-    pub separator: Option<u8>,
-    /// Whether an option says the text that a line's address follows.
-    pub after: bool,
-    /// Whether an IPv4-mapped address of a line counts as its IPv4 one.
-    pub mapped: bool,
+    /// Those that every program for logs has.
+    pub shared: Said,
     /// Whether the value stands behind a line, and not before it.
     pub last: bool,
     /// Whether a network that stands twice has its last value.
@@ -32,81 +29,153 @@ pub struct Request {
     pub tally: bool,
     /// The lengths of the blocks in which lines are grouped, if an option says them.
     pub group: Option<Lengths>,
-    /// Whether a list is among the options.
-    pub has_list: bool,
-    /// Whether more than one is.
-    pub has_lists: bool,
-    /// How often the options name standard input.
-    pub inputs: usize,
     /// The index of the first FILE among the words.
     pub files: usize,
 }
 
-/// What the words after the program's name ask for, if they are right. Does not allocate.
-pub(crate) fn request_of(words: &[String]) -> Result<Request, UsageFault>
-    ensures within { IfOk result (λ request. request.files ≤ length words.now) }
-    ensures asked { IfOk result (Says words.now) }
-    ensures nothing { IfErr result (λ _. AsksNothing words.now) }
-    ensures wrong { IfErr result (HasFault words.now) }
-{
-    match command_line::request_of::<JoinOptions>(words) {
-        Ok(asked) => Ok(Request {
-            files: asked.1,
-            ..asked.0
-        }),
-        Err(fault) => Err(fault),
+/// The options of this program.
+pub struct JoinOptions;
+
+impl Grammar for JoinOptions {
+    ghost use Rattle.cidr_join.specs.CommandLines.{join_options};
+
+    type Choice = Choice;
+
+    type Request = Request;
+
+    ghost options = { join_options };
+
+    fn is_letter(letter: u8) -> bool {
+        is_letter(letter)
     }
+
+    fn takes_value(letter: u8) -> bool {
+        shared::takes_value(letter)
+    }
+
+    fn takes_rest(letter: u8) -> bool {
+        letter == b'f'
+    }
+
+    fn takes_next(word: &String) -> bool {
+        shared::takes_next(word) || is(word, "--group")
+    }
+
+    fn choice_in(word: &[u8]) -> Option<Choice> {
+        if word == b"--last".as_slice() {
+            return Some(Choice::Last);
+        }
+        if word == b"--last-wins".as_slice() {
+            return Some(Choice::LastWins);
+        }
+        if word == b"--network".as_slice() {
+            return Some(Choice::Network);
+        }
+        if word == b"--tally".as_slice() {
+            return Some(Choice::Tally);
+        }
+        match word.strip_prefix(b"-".as_slice()) {
+            Some(letters) => shared_choice(shared::choice_in(word)).or(letters_choice(letters)),
+            None => None,
+        }
+    }
+
+    fn choice_with(name: &String, value: &[u8]) -> Option<Choice> {
+        if is(name, "--group") {
+            group_choice(value)
+        } else {
+            shared_choice(shared::choice_with(name, value))
+        }
+    }
+
+    fn word_problem(word: &[u8]) -> Problem {
+        shared::word_problem(word)
+    }
+
+    fn value_problem(name: &String) -> Problem {
+        if is(name, "--group") {
+            Problem::Lengths
+        } else {
+            shared::value_problem(name)
+        }
+    }
+
+    fn no_options() -> Request {
+        Request {
+            letters: Letters {
+                anywhere: false,
+                words: false,
+            },
+            shared: shared::no_options(),
+            last: false,
+            last_wins: false,
+            network: false,
+            tally: false,
+            group: None,
+            files: 0,
+        }
+    }
+
+    fn with_choice(request: Request, choice: Choice) -> Request {
+        match choice {
+            Choice::Letters(letters) => Request {
+                letters: either(request.letters, letters),
+                ..request
+            },
+            Choice::Shared(choice) => Request {
+                shared: shared::with_choice(request.shared, choice),
+                ..request
+            },
+            Choice::Last => Request {
+                last: true,
+                ..request
+            },
+            Choice::LastWins => Request {
+                last_wins: true,
+                ..request
+            },
+            Choice::Network => Request {
+                network: true,
+                ..request
+            },
+            Choice::Tally => Request {
+                tally: true,
+                ..request
+            },
+            Choice::Group(lengths) => Request {
+                group: Some(lengths),
+                ..request
+            },
+        }
+    }
+
+    fn inputs(request: Request) -> usize {
+        request.shared.inputs
+    }
+
+    fn crossed_problem(request: Request) -> Option<Problem> {
+        let letters = request.letters;
+        place_problem(letters.anywhere, letters.words, request.shared).or(other_problem(request))
+    }
+
+    fn lacking_problem(request: Request) -> Option<Problem> {
+        if has_source(request) {
+            None
+        } else {
+            Some(Problem::NoSource)
+        }
+    }
+
+    fn law_letters() {}
 }
 
-/// What no options say.
-pub(crate) fn no_options() -> Request
-    ensures { result ≡ no_options }
+// Which options are given that do not go together and say nothing of places.
+fn other_problem(request: Request) -> Option<Problem>
+    ensures { result ≡ other_problem request }
 {
-    Request {
-        letters: Letters {
-            anywhere: false,
-            words: false,
-        },
-        field: None,
-        separator: None,
-        after: false,
-        mapped: false,
-        last: false,
-        last_wins: false,
-        network: false,
-        tally: false,
-        group: None,
-        has_list: false,
-        has_lists: false,
-        inputs: 0,
-        files: 0,
-    }
-}
-
-/// What is wrong if no list and no lengths are among the options.
-pub(crate) fn lacking_problem(request: Request) -> Option<Problem>
-    ensures { result ≡ lacking_problem request }
-{
-    if has_source(request) {
-        None
-    } else {
-        Some(Problem::NoSource)
-    }
-}
-
-/// Which options are given that do not go together.
-pub(crate) fn crossed_problem(request: Request) -> Option<Problem>
-    ensures { result ≡ crossed_problem request }
-{
-    if request.letters.anywhere && is_placed(request) {
-        Some(Problem::Anywhere)
-    } else if request.after && (request.letters.anywhere || is_placed(request)) {
-        Some(Problem::After)
-    } else if request.letters.words && request.separator.is_some() {
-        Some(Problem::Words)
-    } else if request.tally && request.last {
+    if request.tally && request.last {
         Some(Problem::Tally)
-    } else if request.has_lists {
+    } else if request.shared.has_lists {
         Some(Problem::Lists)
     } else if request.group.is_some() && asks_of_list(request) {
         Some(Problem::Group)
@@ -119,90 +188,12 @@ pub(crate) fn crossed_problem(request: Request) -> Option<Problem>
 fn asks_of_list(request: Request) -> bool
     ensures { result ≡ asks_of_list request }
 {
-    request.has_list || request.network || request.last_wins
+    request.shared.has_list || request.network || request.last_wins
 }
 
 // Whether an option says what is printed of addresses: a list, or lengths of blocks.
 fn has_source(request: Request) -> bool
     ensures { result ≡ has_source request }
 {
-    request.has_list || request.group.is_some()
-}
-
-// Whether an option says which field a line's address is, or how fields are separated.
-fn is_placed(request: Request) -> bool
-    ensures { result ≡ is_placed request }
-{
-    request.letters.words || request.field.is_some() || request.separator.is_some()
-}
-
-/// The request with an option added.
-pub(crate) fn with_choice(request: Request, choice: Choice) -> Request
-    requires { request.inputs + 1 < 2 ^ 64 }
-    ensures request { result ≡ with_option request choice }
-    ensures inputs { result.inputs ≤ request.inputs + 1 }
-{
-    match choice {
-        Choice::Letters(letters) => Request {
-            letters: either(request.letters, letters),
-            ..request
-        },
-        Choice::Field(field) => Request {
-            field: Some(field),
-            ..request
-        },
-        Choice::Separator(separator) => Request {
-            separator: Some(separator),
-            ..request
-        },
-        Choice::Last => Request {
-            last: true,
-            ..request
-        },
-        Choice::LastWins => Request {
-            last_wins: true,
-            ..request
-        },
-        Choice::Network => Request {
-            network: true,
-            ..request
-        },
-        Choice::After => Request {
-            after: true,
-            ..request
-        },
-        Choice::Mapped => Request {
-            mapped: true,
-            ..request
-        },
-        Choice::Tally => Request {
-            tally: true,
-            ..request
-        },
-        Choice::Group(lengths) => Request {
-            group: Some(lengths),
-            ..request
-        },
-        Choice::File => Request {
-            has_list: true,
-            has_lists: request.has_list,
-            ..request
-        },
-        Choice::Input => Request {
-            has_list: true,
-            has_lists: request.has_list,
-            inputs: request.inputs + 1,
-            ..request
-        },
-    }
-}
-
-// The letters that are among the first or the second.
-fn either(first: Letters, second: Letters) -> Letters
-    ensures { result ≡ either first second }
-{
-    Letters {
-        anywhere: first.anywhere || second.anywhere,
-        words: first.words || second.words,
-    }
+    request.shared.has_list || request.group.is_some()
 }

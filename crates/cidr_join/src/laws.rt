@@ -1,6 +1,8 @@
 //! What follows from the clauses of a command line and of a log. Each function's contract is a law: it does nothing, and a proof that calls it
 //! may use the law.
-ghost use Rattle.cidr_join.specs.Laws.{OthersAreNoOptions, OthersAskForNothing, WordsHaveOneFault, LogsHaveOneOutput, OutputsOfPartsFollow, TalliesOfPartsAddUp};
+ghost use Rattle.log_programs.specs.Laws.{OthersAreNoOptions, OthersAskForNothing, WordsHaveOneFault};
+ghost use Rattle.cidr_join.specs.CommandLines.{join_options};
+ghost use Rattle.cidr_join.specs.Laws.{is_option_word, LogsHaveOneOutput, OutputsOfPartsFollow, TalliesOfPartsAddUp};
 
 use ipnetwork_table::laws::blocks_of_any_width_that_meet;
 
@@ -26,15 +28,15 @@ pub fn tallies_of_parts_add_up()
 /// A word other than those of the options is none of them, whatever follows it. If it begins with a `-`, and is neither
 /// `-` nor `--`, then the words ask for nothing where it stands behind options.
 pub fn other_words_are_no_options(words: &[String])
-    ensures option { OthersAreNoOptions words.now }
-    ensures command { OthersAskForNothing words.now }
+    ensures option { OthersAreNoOptions join_options is_option_word words.now }
+    ensures command { OthersAskForNothing join_options is_option_word words.now }
 {
     let _words = words;
 }
 
 /// Of the words of a command line at most one fault is reported.
 pub fn words_have_one_fault(words: &[String])
-    ensures { WordsHaveOneFault words.now }
+    ensures { WordsHaveOneFault join_options words.now }
 {
     let _words = words;
 }

@@ -5,7 +5,6 @@ mod answers;
 mod command_line;
 mod counts;
 mod found;
-mod grammar;
 mod help;
 mod join;
 mod laws;
@@ -25,7 +24,6 @@ mod tally_log;
 mod tally_logs;
 mod telling;
 mod text;
-mod usage;
 mod value;
 
 use crate::help::{PROGRAM, USAGE};

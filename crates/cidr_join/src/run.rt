@@ -1,35 +1,30 @@
 //! The run that the program makes.
-ghost use Rattle.std.specs.Prelude.{◌≡◌, ◌≤◌, length, codes, take};
+ghost use Rattle.std.specs.Prelude.{◌≡◌, ◌≤◌, length, take};
 ghost use Rattle.program.specs.Endings.{ending};
-ghost use Rattle.program.specs.Messages.{Tells};
 ghost use Rattle.program.specs.Logs.{logs_of};
-ghost use Rattle.cidr_join.specs.Runs.{EndsRequest, EndsAs, EndsAsked, EndsWords, EndsFinding, EndsJoining, answers_by, place_of, list_name};
+ghost use Rattle.cidr_join.specs.Runs.{EndsRequest, EndsAs, EndsAsked, EndsFinding, EndsJoining, answers_by, place_of, list_name};
 
 use crate::answers::Answers;
-use crate::command_line::{Request, request_of};
-use crate::grammar::JoinOptions;
+use crate::command_line::{JoinOptions, Request};
 use crate::help::{HELP, PROGRAM, USAGE, VERSION};
-use crate::join::{Join, LINE_MAX};
+use crate::join::Join;
 use crate::list::networks_of;
 use crate::logs::join_logs;
 use crate::routes::Routes;
 use crate::tally_logs::tally_logs;
 use crate::telling::{tell_take_fault, tell_text_fault};
 use crate::text::text_of;
-use line_addresses::{Place, Text};
+use line_addresses::Place;
 use lines::output::Output;
 use lists::OpenLists;
-use log_programs::arranging::arranged;
+use log_programs::asking::{About, asked};
 use log_programs::options::value_of;
-use program::ending::{FAILED, print_text};
-use program::messages::tell;
-use program::start::text_asked;
-use program::usage::refuse_usage;
+use log_programs::shared;
+use program::ending::FAILED;
+use program::log_reader::BUFFER_LEN;
+use program::memory::refuse_memory;
 use std::alloc::Global;
 use std::io::Write;
-
-/// The bytes of the longest line, and those that are read beside it.
-const BUFFER_LEN: usize = LINE_MAX + 2 + 262_144;
 
 /// Does what the words after the program's name ask for, and returns the exit status.
 pub(crate) fn run<L: OpenLists, W: Write, E: Write>(
@@ -42,32 +37,21 @@ pub(crate) fn run<L: OpenLists, W: Write, E: Write>(
     ensures { EndsAs PROGRAM.now HELP.now VERSION.now USAGE.now (L.known lists.now) words.now
         (ending output.old output.new errors.old errors.new result) }
 {
-    if let Some(text) = text_asked(HELP, VERSION, words) {
-        return print_text(text, output, errors);
-    }
-    let Ok(asked) = arranged::<JoinOptions>(alloc, words) else {
-        return refuse_memory(errors);
+    let about = About {
+        program: PROGRAM,
+        help: HELP,
+        version: VERSION,
+        usage: USAGE,
     };
-    obey(alloc, asked.as_slice(), lists, output, errors)
-}
-
-// Does what the words ask for, of which the options come first, and returns the exit status.
-fn obey<L: OpenLists, W: Write, E: Write>(
-    alloc: Global,
-    words: &[String],
-    lists: &L,
-    output: &mut Output<'_, W>,
-    errors: &mut Output<'_, E>,
-) -> u8
-    ensures { EndsWords PROGRAM.now USAGE.now (L.known lists.now) words.now
-        (ending output.old output.new errors.old errors.new result) }
-{
-    match request_of(words) {
-        Ok(request) => join(alloc, request, words, lists, output, errors),
-        Err(fault) => {
-            let problem = fault.problem.text();
-            refuse_usage(PROGRAM, USAGE, words, fault.subject, problem, errors)
+    match asked::<JoinOptions, W, E>(alloc, &about, words, output, errors) {
+        Ok(asked) => {
+            let request = Request {
+                files: asked.2,
+                ..asked.1
+            };
+            join(alloc, request, asked.0.as_slice(), lists, output, errors)
         }
+        Err(status) => status,
     }
 }
 
@@ -167,7 +151,7 @@ fn join_by<'a, L: OpenLists, W: Write, E: Write>(
     let join = Join {
         answers,
         place: place_of(words, request),
-        mapped: request.mapped,
+        mapped: request.shared.mapped,
         last: request.last,
     };
     let files = &words[request.files..];
@@ -210,26 +194,11 @@ fn place_of(words: &[String], request: Request) -> Place<'_>
     requires { request.files ≤ length words.now }
     ensures { result ≡ place_of words.now request }
 {
-    if request.letters.anywhere {
-        return Place::Anywhere;
-    }
-    if request.after {
-        let text = value_of::<JoinOptions>(&words[..request.files], "--after");
-        return Place::After(Text::new(text.as_bytes()));
-    }
-    let number = request.field.unwrap_or(1);
-    if request.letters.words {
-        return Place::Word(number);
-    }
-    let separator = request.separator.unwrap_or(b' ');
-    Place::Field { number, separator }
-}
-
-// Reports that memory ran out, and returns the exit status for that.
-fn refuse_memory<E: Write>(errors: &mut Output<'_, E>) -> u8
-    ensures status { result ≡ 2 }
-    ensures told { Tells errors.old errors.new (codes "out of memory\n") }
-{
-    tell("out of memory\n", errors);
-    FAILED
+    let text = value_of::<JoinOptions>(&words[..request.files], "--after");
+    shared::place_of(
+        request.letters.anywhere,
+        request.letters.words,
+        text,
+        request.shared,
+    )
 }

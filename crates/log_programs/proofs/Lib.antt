@@ -1,6 +1,10 @@
+pub mod Examples
+pub mod Failing
 pub mod Faults
 pub mod JoinedWords
 pub mod Lacking
 pub mod OptionValues
+pub mod OtherWords
 pub mod Requests
+pub mod Runs
 pub mod WordOrder

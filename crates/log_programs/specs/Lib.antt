@@ -3,9 +3,13 @@ pub mod Arranged
 pub mod CommandLines
 pub mod Joined
 pub mod Lacking
+pub mod Laws
+pub mod Numbers
 pub mod Options
 pub mod Plain
 pub mod Private
+pub mod Runs
+pub mod Shared
 pub mod Syntax
 pub mod Usage
 pub mod Values

@@ -3,10 +3,13 @@
 #![tactic(auto)]
 
 pub mod arranging;
+pub mod asking;
 pub mod command_line;
 pub mod grammar;
 mod joined;
+pub mod numbers;
 pub mod options;
 pub mod plain;
+pub mod shared;
 pub mod telling;
 pub mod usage;

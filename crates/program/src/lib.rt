@@ -6,6 +6,7 @@ pub mod arguments;
 pub mod ending;
 pub mod log_fault;
 pub mod log_reader;
+pub mod memory;
 pub mod messages;
 pub mod progress;
 pub mod standard_error;

@@ -7,7 +7,7 @@ use Rattle.program.specs.LogReaders.{GivesNext}
 use Rattle.program.specs.declared.log_reader.NextLogLine.{NextLogLine}
 use Rattle.cidr_filter.specs.Filters.{one_if}
 use Rattle.cidr_filter.specs.Stands.{stand}
-use Rattle.cidr_filter.proofs.Failing.{or_on}
+use Rattle.log_programs.proofs.Failing.{or_on}
 use Rattle.cidr_filter.proofs.Filtering.{goes_idle, begins_with, after_line_with, after_long_with}
 use Rattle.cidr_filter.proofs.Spent.{none_may, less_more, all_selected, last_selected}
 use Rattle.cidr_filter.proofs.Left.{no_read, reads_still, line_left, line_left_unwritten, all_left, all_left_unwritten}

@@ -1,6 +1,6 @@
 use Rattle.std.proofs.Common.{◌++◌, List, ℕ, subst, arith}
 use Rattle.lines.specs.Outputs.{AppendsBeginning}
-use Rattle.cidr_filter.proofs.Failing.{none_or, or_on}
+use Rattle.log_programs.proofs.Failing.{none_or, or_on}
 use Rattle.cidr_filter.proofs.Runs.{number_then_ok, number_then_err, none_then_ok, none_then_err, number_told, nothing_told}
 use Rattle.program.proofs.Puts.{on_err}
 use Rattle.cidr_filter.proofs.logs.write_end.Goals as goal

@@ -1,6 +1,7 @@
 use Rattle.std.proofs.Common.{◌++◌, ◌∷◌, ◌∙◌, [], ℕ, refl, sym, subst, arith, drop}
 use Rattle.std.proofs.lemmas.Result.{err_from_is_err_and}
-use Rattle.cidr_filter.specs.CommandLines.{filter_options, Begin}
+use Rattle.log_programs.specs.CommandLines.{Begin}
+use Rattle.cidr_filter.specs.CommandLines.{filter_options}
 use Rattle.cidr_filter.specs.Reading.{ReadsOption, StopsAtOption}
 use Rattle.program.specs.Told.{name_at}
 use Rattle.cidr_filter.proofs.ReadInTurn.{reads_more, place_behind}
@@ -27,7 +28,7 @@ options-preserved g c =
       memory = c.in_ok-read_option.ensures.memory;
       said = (
         said.0 ++ choice ∷ [],
-        subst (λ r. Begin words (said.0 ++ choice ∷ []) r) (sym c.behind-at.ensures.rest) (begin_more filter_options words said.0 rest choice said.1 (sym c.choice_at.ensures ∙ c.in-Some.is)),
+        subst (λ r. Begin filter_options words (said.0 ++ choice ∷ []) r) (sym c.behind-at.ensures.rest) (begin_more filter_options words said.0 rest choice said.1 (sym c.choice_at.ensures ∙ c.in-Some.is)),
         reads_more known words words rest said.0 choice _ _ _ said.1 said.2
             (subst (λ n. ReadsOption known n choice (name_at rest 1) c.options.reader c.read_option.new.reader) (sym (place_behind words at c.options.invariant.within)) c.in_ok-read_option.ensures.read),
       );

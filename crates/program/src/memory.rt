@@ -1,0 +1,23 @@
+//! What is reported if memory runs out.
+ghost use Rattle.std.specs.Prelude.{◌≡◌, codes};
+ghost use Rattle.program.specs.Messages.{Tells};
+
+use crate::ending::FAILED;
+use crate::messages::tell;
+use lines::output::Output;
+use std::io::Write;
+
+/// Reports that memory ran out, and returns the exit status for that, 2.
+///
+/// ```
+/// let mut slice = [0; 64];
+/// let mut errors = lines::output::Output::new(Vec::new(rt.alloc()), &mut slice);
+/// assert_eq!(rt; program::memory::refuse_memory(&mut errors), 2);
+/// ```
+pub fn refuse_memory<E: Write>(errors: &mut Output<'_, E>) -> u8
+    ensures status { result ≡ 2 }
+    ensures told { Tells errors.old errors.new (codes "out of memory\n") }
+{
+    tell("out of memory\n", errors);
+    FAILED
+}
