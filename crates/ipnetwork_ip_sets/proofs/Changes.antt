@@ -1,5 +1,5 @@
 -- A network that is added to the set of its family, or taken from it.
-use Rattle.std.proofs.Common.{◌≡◌, ◌↔◌, ℕ, ◌<◌, ◌⊎◌, inl, ⊎_elim, sym, refl, ap, subst, ◌∙◌, arith, Bool, IsTrue, List, [], ◌∷◌, length, Result, OnErr, OnOk, IfOk}
+use Rattle.std.proofs.Common.{◌≡◌, ◌↔◌, ℕ, ◌<◌, inl, ⊎_elim, sym, refl, ap, subst, ◌∙◌, arith, Bool, IsTrue, List, [], ◌∷◌, length, Result, OnErr, OnOk, IfOk}
 use Rattle.std.proofs.lemmas.Result.{on_ok_weaker, on_err_weaker, IfOk-weaker}
 use Rattle.std.specs.List.{filter_map}
 use Rattle.ipnetwork_addr.specs.declared.ip.IpAddr.{IpAddr}
