@@ -1,5 +1,5 @@
 -- Lists of networks of either family, and those of each family in them.
-use Rattle.std.proofs.Common.{◌≡◌, ◌↔◌, ℕ, suc, ◌<◌, Bool, IsTrue, sym, refl, ap, subst, ◌∙◌, List, [], ◌∷◌, ◌++◌, map, length, get_or, take, Option, Some}
+use Rattle.std.proofs.Common.{◌≡◌, ◌↔◌, ℕ, suc, ◌<◌, sym, refl, ap, subst, ◌∙◌, List, [], ◌∷◌, ◌++◌, map, length, get_or, take, Option, Some}
 use Rattle.std.proofs.lemmas.List.{map-id}
 use Rattle.std.proofs.lemmas.List.Elements.{filter_map-append}
 use Rattle.std.proofs.Math.Seq.{take-suc}
@@ -34,14 +34,22 @@ v6_of_both [] [] = refl
 v6_of_both [] (n ∷ v6) = ap (λ ns. n ∷ ns) (v6_of_both [] v6)
 v6_of_both (n ∷ v4) v6 = v6_of_both v4 v6
 
+-- so those of each family in a list that is put together are the lists that it is made of
+pub v4_own : (r : List IpNetwork) (v4 v6 : List Network) → r ≡ v4_then_v6 v4 v6 → v4 ≡ filter_map as_v4 r
+v4_own r v4 v6 e = sym (ap (filter_map as_v4) e ∙ v4_of_both v4 v6)
+
+pub v6_own : (r : List IpNetwork) (v4 v6 : List Network) → r ≡ v4_then_v6 v4 v6 → v6 ≡ filter_map as_v6 r
+v6_own r v4 v6 e = sym (ap (filter_map as_v6) e ∙ v6_of_both v4 v6)
+
 -- ---- the addresses of each family
 
 -- of a family of addresses of w bits, which stand among those of either as `address` says: its networks are those that
 -- `own` gives
-record IsFamily (w : ℕ) (own : IpNetwork → Option Network) (put : Network → IpNetwork) (address : ℕ → IpAddr) : Type 0 where
+pub record IsFamily (w : ℕ) (own : IpNetwork → Option Network) (put : Network → IpNetwork) (address : ℕ → IpAddr) : Type 0 where
   kept : (y : IpNetwork) (n : Network) → own y ≡ Some n → y ≡ put n
   one : (y : IpNetwork) (x : ℕ) → IpMember y (address x) → (n : Network) × (own y ≡ Some n) × Member w n x
   member : (n : Network) (x : ℕ) → Member w n x → IpMember (put n) (address x)
+  only : (n : Network) (x : IpAddr) → IpMember (put n) x → (y : ℕ) × (x ≡ address y) × Member w n y
 
 v4_kept : (y : IpNetwork) (n : Network) → as_v4 y ≡ Some n → y ≡ V4 n
 v4_kept (V4 m) n e = cc
@@ -51,11 +59,16 @@ v4_one : (y : IpNetwork) (x : ℕ) → IpMember y (addresses.V4 x) → (n : Netw
 v4_one (V4 n) x m = (n, refl, m)
 v4_one (V6 n) x m = absurd m
 
-v4_family : IsFamily 32 as_v4 V4 addresses.V4
+v4_only : (n : Network) (x : IpAddr) → IpMember (V4 n) x → (y : ℕ) × (x ≡ addresses.V4 y) × Member 32 n y
+v4_only n (addresses.V4 x) m = (x, refl, m)
+v4_only n (addresses.V6 x) m = absurd m
+
+pub v4_family : IsFamily 32 as_v4 V4 addresses.V4
 v4_family = record {
   kept = v4_kept;
   one = v4_one;
   member = λ n x m. m;
+  only = v4_only;
 }
 
 v6_kept : (y : IpNetwork) (n : Network) → as_v6 y ≡ Some n → y ≡ V6 n
@@ -66,56 +79,44 @@ v6_one : (y : IpNetwork) (x : ℕ) → IpMember y (addresses.V6 x) → (n : Netw
 v6_one (V4 n) x m = absurd m
 v6_one (V6 n) x m = (n, refl, m)
 
-v6_family : IsFamily 128 as_v6 V6 addresses.V6
+v6_only : (n : Network) (x : IpAddr) → IpMember (V6 n) x → (y : ℕ) × (x ≡ addresses.V6 y) × Member 128 n y
+v6_only n (addresses.V4 x) m = absurd m
+v6_only n (addresses.V6 x) m = (x, refl, m)
+
+pub v6_family : IsFamily 128 as_v6 V6 addresses.V6
 v6_family = record {
   kept = v6_kept;
   one = v6_one;
   member = λ n x m. m;
+  only = v6_only;
 }
 
--- an address lies in the union exactly if it lies in that of its family's networks
-in_family : (w : ℕ) (own : IpNetwork → Option Network) (put : Network → IpNetwork) (address : ℕ → IpAddr) → IsFamily w own put address
-    → (ns : List IpNetwork) (x : ℕ) → InUnion w (filter_map own ns) x ↔ InIpUnion ns (address x)
-in_family w own put address family ns x = (
-  (λ c. let g = given own ns c.0 c.1 in (put c.0, subst (λ (y : IpNetwork). Contains ns y) (family.kept g.0 c.0 g.2) g.1, family.member c.0 x c.2)),
-  (λ c. let o = family.one c.0 x c.2 in (o.0, gives own ns c.0 o.0 c.1 o.1, o.2)),
-)
+module _ {w : ℕ} {own : IpNetwork → Option Network} {put : Network → IpNetwork} {address : ℕ → IpAddr} (family : IsFamily w own put address) (ns : List IpNetwork) where
+  -- an address lies in the union exactly if it lies in that of its family's networks
+  in_family : (x : ℕ) → InUnion w (filter_map own ns) x ↔ InIpUnion ns (address x)
+  in_family x = (
+    (λ c. let g = given own ns c.0 c.1 in (put c.0, subst (λ (y : IpNetwork). Contains ns y) (family.kept g.0 c.0 g.2) g.1, family.member c.0 x c.2)),
+    (λ c. let o = family.one c.0 x c.2 in (o.0, gives own ns c.0 o.0 c.1 o.1, o.2)),
+  )
+
+  -- so it is with all addresses of a network of the family, and with one of them
+  pub lies_in_family : (n : Network) → LiesInUnion w n (filter_map own ns) ↔ LiesInIpUnion (put n) ns
+  lies_in_family n = (
+    (λ h x m. let o = family.only n x m in subst (λ (y : IpAddr). InIpUnion ns y) (sym o.1) ((in_family o.0).0 (h o.0 o.2))),
+    (λ h x m. (in_family x).1 (h (address x) (family.member n x m))),
+  )
+
+  pub meets_in_family : (n : Network) → MeetsUnion w n (filter_map own ns) ↔ MeetsIpUnion (put n) ns
+  meets_in_family n = (
+    (λ h. (address h.0, family.member n h.0 h.1, (in_family h.0).0 h.2)),
+    (λ h. let o = family.only n h.0 h.1 in (o.0, o.2, (in_family o.0).1 (subst (λ (y : IpAddr). InIpUnion ns y) o.1 h.2))),
+  )
 
 pub in_v4 : (ns : List IpNetwork) (x : ℕ) → InUnion 32 (filter_map as_v4 ns) x ↔ InIpUnion ns (addresses.V4 x)
-in_v4 = in_family 32 as_v4 V4 addresses.V4 v4_family
+in_v4 = in_family v4_family
 
 pub in_v6 : (ns : List IpNetwork) (x : ℕ) → InUnion 128 (filter_map as_v6 ns) x ↔ InIpUnion ns (addresses.V6 x)
-in_v6 = in_family 128 as_v6 V6 addresses.V6 v6_family
-
--- ---- the questions of a set
-
-pub v4_lies : (ns : List IpNetwork) (n : Network) → LiesInUnion 32 n (filter_map as_v4 ns) ↔ LiesInIpUnion (V4 n) ns
-v4_lies ns n = (go, (λ h x m. (in_v4 ns x).1 (h (addresses.V4 x) m)))
-  where
-    go : LiesInUnion 32 n (filter_map as_v4 ns) → LiesInIpUnion (V4 n) ns
-    go h (addresses.V4 x) m = (in_v4 ns x).0 (h x m)
-    go h (addresses.V6 x) m = absurd m
-
-pub v6_lies : (ns : List IpNetwork) (n : Network) → LiesInUnion 128 n (filter_map as_v6 ns) ↔ LiesInIpUnion (V6 n) ns
-v6_lies ns n = (go, (λ h x m. (in_v6 ns x).1 (h (addresses.V6 x) m)))
-  where
-    go : LiesInUnion 128 n (filter_map as_v6 ns) → LiesInIpUnion (V6 n) ns
-    go h (addresses.V4 x) m = absurd m
-    go h (addresses.V6 x) m = (in_v6 ns x).0 (h x m)
-
-pub v4_meets : (ns : List IpNetwork) (n : Network) → MeetsUnion 32 n (filter_map as_v4 ns) ↔ MeetsIpUnion (V4 n) ns
-v4_meets ns n = ((λ h. (addresses.V4 h.0, h.1, (in_v4 ns h.0).0 h.2)), (λ h. go h.0 h.1 h.2))
-  where
-    go : (x : IpAddr) → IpMember (V4 n) x → InIpUnion ns x → MeetsUnion 32 n (filter_map as_v4 ns)
-    go (addresses.V4 x) m u = (x, m, (in_v4 ns x).1 u)
-    go (addresses.V6 x) m u = absurd m
-
-pub v6_meets : (ns : List IpNetwork) (n : Network) → MeetsUnion 128 n (filter_map as_v6 ns) ↔ MeetsIpUnion (V6 n) ns
-v6_meets ns n = ((λ h. (addresses.V6 h.0, h.1, (in_v6 ns h.0).0 h.2)), (λ h. go h.0 h.1 h.2))
-  where
-    go : (x : IpAddr) → IpMember (V6 n) x → InIpUnion ns x → MeetsUnion 128 n (filter_map as_v6 ns)
-    go (addresses.V4 x) m u = absurd m
-    go (addresses.V6 x) m u = (x, m, (in_v6 ns x).1 u)
+in_v6 = in_family v6_family
 
 -- ---- least lists
 
@@ -128,50 +129,23 @@ put_together S S4 S6 v4 v6 same4 same6 h k =
 -- and the blocks of each family in it are the least list of the family
 pub v4_part : (S : IpAddr → Type 0) (S4 : ℕ → Type 0) (r : List IpNetwork) → ((x : ℕ) → S4 x ↔ S (addresses.V4 x)) → IsIpLeastList S r → IsLeastList 32 S4 (filter_map as_v4 r)
 v4_part S S4 r same h =
-    subst (IsLeastList 32 S4) (sym (ap (filter_map as_v4) h.2 ∙ v4_of_both h.0 h.1))
+    subst (IsLeastList 32 S4) (v4_own r h.0 h.1 h.2)
     (least_of_same 32 (λ x. S (addresses.V4 x)) S4 h.0 (λ x. ((same x).1, (same x).0)) h.3)
 
 pub v6_part : (S : IpAddr → Type 0) (S6 : ℕ → Type 0) (r : List IpNetwork) → ((x : ℕ) → S6 x ↔ S (addresses.V6 x)) → IsIpLeastList S r → IsLeastList 128 S6 (filter_map as_v6 r)
 v6_part S S6 r same h =
-    subst (IsLeastList 128 S6) (sym (ap (filter_map as_v6) h.2 ∙ v6_of_both h.0 h.1))
+    subst (IsLeastList 128 S6) (v6_own r h.0 h.1 h.2)
     (least_of_same 128 (λ x. S (addresses.V6 x)) S6 h.1 (λ x. ((same x).1, (same x).0)) h.4)
 
 -- a list that is put together so is that of its blocks of each family
 pub own_parts : (r : List IpNetwork) (v4 v6 : List Network) → r ≡ v4_then_v6 v4 v6 → r ≡ v4_then_v6 (filter_map as_v4 r) (filter_map as_v6 r)
-own_parts r v4 v6 e =
-    e ∙ ap (λ l. v4_then_v6 l v6) (sym (ap (filter_map as_v4) e ∙ v4_of_both v4 v6)) ∙ ap (λ l. v4_then_v6 (filter_map as_v4 r) l) (sym (ap (filter_map as_v6) e ∙ v6_of_both v4 v6))
+own_parts r v4 v6 e = e ∙ ap (λ l. v4_then_v6 l v6) (v4_own r v4 v6 e) ∙ ap (λ l. v4_then_v6 (filter_map as_v4 r) l) (v6_own r v4 v6 e)
 
 -- so two of them are equal if their blocks of each family are
 pub both_equal : (r s : List IpNetwork) (a b c d : List Network) → r ≡ v4_then_v6 a b → s ≡ v4_then_v6 c d
     → filter_map as_v4 r ≡ filter_map as_v4 s → filter_map as_v6 r ≡ filter_map as_v6 s → r ≡ s
 both_equal r s a b c d er es e4 e6 =
     own_parts r a b er ∙ ap (λ l. v4_then_v6 l (filter_map as_v6 r)) e4 ∙ ap (λ l. v4_then_v6 (filter_map as_v4 s) l) e6 ∙ sym (own_parts s c d es)
-
--- ---- what the questions of a set return
-
-pub contains_v4 : (ns : List IpNetwork) (a : IpAddr) (x : ℕ) (b : Bool) (v : List Network) → a ≡ addresses.V4 x → v ≡ filter_map as_v4 ns → IsTrue b ↔ InUnion 32 v x → IsTrue b ↔ InIpUnion ns a
-contains_v4 ns a x b v is e told =
-    subst (λ (y : IpAddr). IsTrue b ↔ InIpUnion ns y) (sym is) (through (subst (λ (l : List Network). IsTrue b ↔ InUnion 32 l x) e told) (in_v4 ns x))
-
-pub contains_v6 : (ns : List IpNetwork) (a : IpAddr) (x : ℕ) (b : Bool) (v : List Network) → a ≡ addresses.V6 x → v ≡ filter_map as_v6 ns → IsTrue b ↔ InUnion 128 v x → IsTrue b ↔ InIpUnion ns a
-contains_v6 ns a x b v is e told =
-    subst (λ (y : IpAddr). IsTrue b ↔ InIpUnion ns y) (sym is) (through (subst (λ (l : List Network). IsTrue b ↔ InUnion 128 l x) e told) (in_v6 ns x))
-
-pub covers_v4 : (ns : List IpNetwork) (a : IpNetwork) (n : Network) (b : Bool) (v : List Network) → a ≡ V4 n → v ≡ filter_map as_v4 ns → IsTrue b ↔ LiesInUnion 32 n v → IsTrue b ↔ LiesInIpUnion a ns
-covers_v4 ns a n b v is e told =
-    subst (λ (y : IpNetwork). IsTrue b ↔ LiesInIpUnion y ns) (sym is) (through (subst (λ (l : List Network). IsTrue b ↔ LiesInUnion 32 n l) e told) (v4_lies ns n))
-
-pub covers_v6 : (ns : List IpNetwork) (a : IpNetwork) (n : Network) (b : Bool) (v : List Network) → a ≡ V6 n → v ≡ filter_map as_v6 ns → IsTrue b ↔ LiesInUnion 128 n v → IsTrue b ↔ LiesInIpUnion a ns
-covers_v6 ns a n b v is e told =
-    subst (λ (y : IpNetwork). IsTrue b ↔ LiesInIpUnion y ns) (sym is) (through (subst (λ (l : List Network). IsTrue b ↔ LiesInUnion 128 n l) e told) (v6_lies ns n))
-
-pub overlaps_v4 : (ns : List IpNetwork) (a : IpNetwork) (n : Network) (b : Bool) (v : List Network) → a ≡ V4 n → v ≡ filter_map as_v4 ns → IsTrue b ↔ MeetsUnion 32 n v → IsTrue b ↔ MeetsIpUnion a ns
-overlaps_v4 ns a n b v is e told =
-    subst (λ (y : IpNetwork). IsTrue b ↔ MeetsIpUnion y ns) (sym is) (through (subst (λ (l : List Network). IsTrue b ↔ MeetsUnion 32 n l) e told) (v4_meets ns n))
-
-pub overlaps_v6 : (ns : List IpNetwork) (a : IpNetwork) (n : Network) (b : Bool) (v : List Network) → a ≡ V6 n → v ≡ filter_map as_v6 ns → IsTrue b ↔ MeetsUnion 128 n v → IsTrue b ↔ MeetsIpUnion a ns
-overlaps_v6 ns a n b v is e told =
-    subst (λ (y : IpNetwork). IsTrue b ↔ MeetsIpUnion y ns) (sym is) (through (subst (λ (l : List Network). IsTrue b ↔ MeetsUnion 128 n l) e told) (v6_meets ns n))
 
 -- a list of networks of neither family has none
 pub none_of_either : (ns : List IpNetwork) → filter_map as_v4 ns ≡ [] → filter_map as_v6 ns ≡ [] → ns ≡ []

@@ -10,7 +10,7 @@ use Rattle.ipnetwork_blocks.specs.LeastList.{IsLeastList}
 use Rattle.ipnetwork_sets.specs.Counts.{HasCount}
 use Rattle.ipnetwork_sets.specs.Sets.{InBoth, InFirstAlone, InComplement, InEither, IsWithin, AreDisjoint}
 use Rattle.ipnetwork_ip_sets.specs.IpSets.{v4_then_v6, IsIpLeastList, InIpBoth, InIpFirstAlone, InIpComplement, InIpEither, IsIpWithin, AreIpDisjoint}
-use Rattle.ipnetwork_ip_sets.proofs.Families.{through, in_v4, in_v6, put_together}
+use Rattle.ipnetwork_ip_sets.proofs.Families.{through, in_v4, in_v6, put_together, v4_part, v6_part}
 
 -- ---- facts that hold together
 
@@ -29,42 +29,42 @@ or_iff {P} {Q} {R} {S} p r = (
 pub not_iff : {P Q : Type 0} → P ↔ Q → (¬ P) ↔ (¬ Q)
 not_iff p = ((λ n q. n (p.1 q)), (λ n q. n (p.0 q)))
 
--- ---- the sets of the operations
+-- ---- the operations
 
-pub both_v4 : (a b : List IpNetwork) (x : ℕ) → InBoth 32 (filter_map as_v4 a) (filter_map as_v4 b) x ↔ InIpBoth a b (addresses.V4 x)
-both_v4 a b x = and_iff (in_v4 a x) (in_v4 b x)
+-- an operation on two sets of one family, and the same on sets of either
+pub record IsOperation (F : ℕ → List Network → List Network → ℕ → Type 0) (G : List IpNetwork → List IpNetwork → IpAddr → Type 0) : Type 0 where
+  pub v4 : (a b : List IpNetwork) (x : ℕ) → F 32 (filter_map as_v4 a) (filter_map as_v4 b) x ↔ G a b (addresses.V4 x)
+  pub v6 : (a b : List IpNetwork) (x : ℕ) → F 128 (filter_map as_v6 a) (filter_map as_v6 b) x ↔ G a b (addresses.V6 x)
 
-pub both_v6 : (a b : List IpNetwork) (x : ℕ) → InBoth 128 (filter_map as_v6 a) (filter_map as_v6 b) x ↔ InIpBoth a b (addresses.V6 x)
-both_v6 a b x = and_iff (in_v6 a x) (in_v6 b x)
+pub both : IsOperation InBoth InIpBoth
+both = record { v4 = λ a b x. and_iff (in_v4 a x) (in_v4 b x); v6 = λ a b x. and_iff (in_v6 a x) (in_v6 b x) }
 
-pub alone_v4 : (a b : List IpNetwork) (x : ℕ) → InFirstAlone 32 (filter_map as_v4 a) (filter_map as_v4 b) x ↔ InIpFirstAlone a b (addresses.V4 x)
-alone_v4 a b x = and_iff (in_v4 a x) (not_iff (in_v4 b x))
+pub alone : IsOperation InFirstAlone InIpFirstAlone
+alone = record { v4 = λ a b x. and_iff (in_v4 a x) (not_iff (in_v4 b x)); v6 = λ a b x. and_iff (in_v6 a x) (not_iff (in_v6 b x)) }
 
-pub alone_v6 : (a b : List IpNetwork) (x : ℕ) → InFirstAlone 128 (filter_map as_v6 a) (filter_map as_v6 b) x ↔ InIpFirstAlone a b (addresses.V6 x)
-alone_v6 a b x = and_iff (in_v6 a x) (not_iff (in_v6 b x))
+pub rest : IsOperation (λ w a _. InComplement w a) (λ a _. InIpComplement a)
+rest = record { v4 = λ a b x. and_iff same (not_iff (in_v4 a x)); v6 = λ a b x. and_iff same (not_iff (in_v6 a x)) }
 
-pub rest_v4 : (a : List IpNetwork) (x : ℕ) → InComplement 32 (filter_map as_v4 a) x ↔ InIpComplement a (addresses.V4 x)
-rest_v4 a x = and_iff same (not_iff (in_v4 a x))
+pub either : IsOperation InEither InIpEither
+either = record { v4 = λ a b x. or_iff (in_v4 a x) (in_v4 b x); v6 = λ a b x. or_iff (in_v6 a x) (in_v6 b x) }
 
-pub rest_v6 : (a : List IpNetwork) (x : ℕ) → InComplement 128 (filter_map as_v6 a) x ↔ InIpComplement a (addresses.V6 x)
-rest_v6 a x = and_iff same (not_iff (in_v6 a x))
+module _ {F : ℕ → List Network → List Network → ℕ → Type 0} {G : List IpNetwork → List IpNetwork → IpAddr → Type 0} (op : IsOperation F G) where
+  -- the blocks that an operation leaves of each family, put together
+  pub least_of_families : (a b : List IpNetwork) (a4 b4 a6 b6 r4 r6 : List Network) (r : List IpNetwork)
+      → a4 ≡ filter_map as_v4 a → b4 ≡ filter_map as_v4 b → a6 ≡ filter_map as_v6 a → b6 ≡ filter_map as_v6 b
+      → IsLeastList 32 (F 32 a4 b4) r4 → IsLeastList 128 (F 128 a6 b6) r6 → r ≡ v4_then_v6 r4 r6 → IsIpLeastList (G a b) r
+  least_of_families a b a4 b4 a6 b6 r4 r6 r ea4 eb4 ea6 eb6 h k e =
+      subst (IsIpLeastList (G a b)) (sym e)
+      (put_together (G a b) (F 32 (filter_map as_v4 a) (filter_map as_v4 b)) (F 128 (filter_map as_v6 a) (filter_map as_v6 b)) r4 r6 (op.v4 a b) (op.v6 a b)
+      (rw (ea4, eb4) at h) (rw (ea6, eb6) at k))
 
-pub either_v4 : (a b : List IpNetwork) (x : ℕ) → InEither 32 (filter_map as_v4 a) (filter_map as_v4 b) x ↔ InIpEither a b (addresses.V4 x)
-either_v4 a b x = or_iff (in_v4 a x) (in_v4 b x)
-
-pub either_v6 : (a b : List IpNetwork) (x : ℕ) → InEither 128 (filter_map as_v6 a) (filter_map as_v6 b) x ↔ InIpEither a b (addresses.V6 x)
-either_v6 a b x = or_iff (in_v6 a x) (in_v6 b x)
-
--- the blocks that an operation leaves of each family, put together
-pub least_of_families : (F : ℕ → List Network → List Network → ℕ → Type 0) (S : IpAddr → Type 0) (a b : List IpNetwork) (a4 b4 a6 b6 r4 r6 : List Network) (r : List IpNetwork)
-    → ((x : ℕ) → F 32 (filter_map as_v4 a) (filter_map as_v4 b) x ↔ S (addresses.V4 x)) → ((x : ℕ) → F 128 (filter_map as_v6 a) (filter_map as_v6 b) x ↔ S (addresses.V6 x))
-    → a4 ≡ filter_map as_v4 a → b4 ≡ filter_map as_v4 b → a6 ≡ filter_map as_v6 a → b6 ≡ filter_map as_v6 b
-    → IsLeastList 32 (F 32 a4 b4) r4 → IsLeastList 128 (F 128 a6 b6) r6 → r ≡ v4_then_v6 r4 r6 → IsIpLeastList S r
-least_of_families F S a b a4 b4 a6 b6 r4 r6 r same4 same6 ea4 eb4 ea6 eb6 h k e =
-    subst (IsIpLeastList S) (sym e)
-    (put_together S (F 32 (filter_map as_v4 a) (filter_map as_v4 b)) (F 128 (filter_map as_v6 a) (filter_map as_v6 b)) r4 r6 same4 same6
-    (subst (λ (l : List Network). IsLeastList 32 (F 32 (filter_map as_v4 a) l) r4) eb4 (subst (λ (l : List Network). IsLeastList 32 (F 32 l b4) r4) ea4 h))
-    (subst (λ (l : List Network). IsLeastList 128 (F 128 (filter_map as_v6 a) l) r6) eb6 (subst (λ (l : List Network). IsLeastList 128 (F 128 l b6) r6) ea6 k)))
+  -- and those of each family among them
+  pub parts : (a b r : List IpNetwork) → IsIpLeastList (G a b) r
+      → IsLeastList 32 (F 32 (filter_map as_v4 a) (filter_map as_v4 b)) (filter_map as_v4 r) × IsLeastList 128 (F 128 (filter_map as_v6 a) (filter_map as_v6 b)) (filter_map as_v6 r)
+  parts a b r h = (
+    v4_part (G a b) (F 32 (filter_map as_v4 a) (filter_map as_v4 b)) r (op.v4 a b) h,
+    v6_part (G a b) (F 128 (filter_map as_v6 a) (filter_map as_v6 b)) r (op.v6 a b) h,
+  )
 
 -- ---- questions of two sets
 
@@ -82,12 +82,12 @@ pub disjoint_by_family : (a b : List IpNetwork)
     → (AreDisjoint 32 (filter_map as_v4 a) (filter_map as_v4 b) × AreDisjoint 128 (filter_map as_v6 a) (filter_map as_v6 b)) ↔ AreIpDisjoint a b
 disjoint_by_family a b = (
   (λ h. go h.0 h.1),
-  (λ h. ((λ x c. h (addresses.V4 x) ((both_v4 a b x).0 c)), (λ x c. h (addresses.V6 x) ((both_v6 a b x).0 c)))),
+  (λ h. ((λ x c. h (addresses.V4 x) ((both.v4 a b x).0 c)), (λ x c. h (addresses.V6 x) ((both.v6 a b x).0 c)))),
 )
   where
     go : AreDisjoint 32 (filter_map as_v4 a) (filter_map as_v4 b) → AreDisjoint 128 (filter_map as_v6 a) (filter_map as_v6 b) → AreIpDisjoint a b
-    go h k (addresses.V4 x) c = h x ((both_v4 a b x).1 c)
-    go h k (addresses.V6 x) c = k x ((both_v6 a b x).1 c)
+    go h k (addresses.V4 x) c = h x ((both.v4 a b x).1 c)
+    go h k (addresses.V6 x) c = k x ((both.v6 a b x).1 c)
 
 -- ---- counts
 

@@ -1,5 +1,5 @@
 -- What is asked of IPv4 first, and then of IPv6; and how many blocks the families have together.
-use Rattle.std.proofs.Common.{◌≡◌, ◌↔◌, ℕ, ◌+◌, Bool, true, false, true≢false, IsTrue, sym, subst, refl, ap, ◌∙◌, List, [], ◌∷◌, map, length, arith}
+use Rattle.std.proofs.Common.{◌≡◌, ◌↔◌, ℕ, ◌+◌, Bool, true, false, true≢false, IsTrue, sym, refl, ap, ◌∙◌, List, [], ◌∷◌, map, length, arith}
 use Rattle.std.proofs.lemmas.List.{map-id}
 use Rattle.std.specs.List.{filter_map}
 use Rattle.ipnetwork_family.specs.Network.{Network}
@@ -8,43 +8,30 @@ use Rattle.ipnetwork.specs.declared.ip_network.IpNetwork.TheVariants.{V4, V6}
 use Rattle.ipnetwork_blocks.specs.AggregateIp.{as_v4, as_v6}
 use Rattle.ipnetwork_ip_sets.proofs.Families.{none_of_either}
 
--- a question of both families is that of IPv6 if the answer is yes for IPv4,
-pub asked_of_both : (F : ℕ → List Network → List Network → Type 0) (S : Type 0) (a b : List IpNetwork) (a4 b4 a6 b6 : List Network) (p q : Bool)
-    → (F 32 (filter_map as_v4 a) (filter_map as_v4 b) × F 128 (filter_map as_v6 a) (filter_map as_v6 b)) ↔ S
-    → a4 ≡ filter_map as_v4 a → b4 ≡ filter_map as_v4 b → a6 ≡ filter_map as_v6 a → b6 ≡ filter_map as_v6 b
-    → IsTrue p ↔ F 32 a4 b4 → p ≡ true → IsTrue q ↔ F 128 a6 b6 → IsTrue q ↔ S
-asked_of_both F S a b a4 b4 a6 b6 p q whole ea4 eb4 ea6 eb6 first true_of_v4 second = (
-  (λ t. whole.0 (of_v4 (first.0 true_of_v4), of_v6 (second.0 t))),
-  (λ h. second.1 (to_v6 (whole.1 h).1)),
-)
-  where
-    of_v4 : F 32 a4 b4 → F 32 (filter_map as_v4 a) (filter_map as_v4 b)
-    of_v4 f = subst (λ (l : List Network). F 32 (filter_map as_v4 a) l) eb4 (subst (λ (l : List Network). F 32 l b4) ea4 f)
+module _ (F : ℕ → List Network → List Network → Type 0) (Q : List IpNetwork → List IpNetwork → Type 0)
+    (by_family : (a b : List IpNetwork) → (F 32 (filter_map as_v4 a) (filter_map as_v4 b) × F 128 (filter_map as_v6 a) (filter_map as_v6 b)) ↔ Q a b) where
+  -- a question of both families is that of IPv6 if the answer is yes for IPv4,
+  pub asked_of_both : (a b : List IpNetwork) (a4 b4 a6 b6 : List Network) (p q : Bool)
+      → a4 ≡ filter_map as_v4 a → b4 ≡ filter_map as_v4 b → a6 ≡ filter_map as_v6 a → b6 ≡ filter_map as_v6 b
+      → IsTrue p ↔ F 32 a4 b4 → p ≡ true → IsTrue q ↔ F 128 a6 b6 → IsTrue q ↔ Q a b
+  asked_of_both a b a4 b4 a6 b6 p q ea4 eb4 ea6 eb6 first true_of_v4 second =
+      let front = rw (ea4, eb4) at first in
+      let back = rw (ea6, eb6) at second in
+      ((λ t. (by_family a b).0 (front.0 true_of_v4, back.0 t)), (λ h. back.1 ((by_family a b).1 h).1))
 
-    of_v6 : F 128 a6 b6 → F 128 (filter_map as_v6 a) (filter_map as_v6 b)
-    of_v6 f = subst (λ (l : List Network). F 128 (filter_map as_v6 a) l) eb6 (subst (λ (l : List Network). F 128 l b6) ea6 f)
-
-    to_v6 : F 128 (filter_map as_v6 a) (filter_map as_v6 b) → F 128 a6 b6
-    to_v6 f = subst (λ (l : List Network). F 128 l b6) (sym ea6) (subst (λ (l : List Network). F 128 (filter_map as_v6 a) l) (sym eb6) f)
-
--- and is answered no if it is for IPv4
-pub refused_by_v4 : (F : ℕ → List Network → List Network → Type 0) (S : Type 0) (a b : List IpNetwork) (a4 b4 : List Network) (p : Bool)
-    → (F 32 (filter_map as_v4 a) (filter_map as_v4 b) × F 128 (filter_map as_v6 a) (filter_map as_v6 b)) ↔ S
-    → a4 ≡ filter_map as_v4 a → b4 ≡ filter_map as_v4 b → IsTrue p ↔ F 32 a4 b4 → p ≡ false → IsTrue p ↔ S
-refused_by_v4 F S a b a4 b4 p whole ea4 eb4 first false_of_v4 = (
-  (λ t. absurd (true≢false (sym t ∙ false_of_v4))),
-  (λ h. first.1 (to_v4 (whole.1 h).0)),
-)
-  where
-    to_v4 : F 32 (filter_map as_v4 a) (filter_map as_v4 b) → F 32 a4 b4
-    to_v4 f = subst (λ (l : List Network). F 32 l b4) (sym ea4) (subst (λ (l : List Network). F 32 (filter_map as_v4 a) l) (sym eb4) f)
+  -- and is answered no if it is for IPv4
+  pub refused_by_v4 : (a b : List IpNetwork) (a4 b4 : List Network) (p : Bool) → a4 ≡ filter_map as_v4 a → b4 ≡ filter_map as_v4 b
+      → IsTrue p ↔ F 32 a4 b4 → p ≡ false → IsTrue p ↔ Q a b
+  refused_by_v4 a b a4 b4 p ea4 eb4 first false_of_v4 =
+      let front = rw (ea4, eb4) at first in
+      ((λ t. absurd (true≢false (sym t ∙ false_of_v4))), (λ h. front.1 ((by_family a b).1 h).0))
 
 pub none_by_family : (a : List IpNetwork) → ((filter_map as_v4 a ≡ []) × (filter_map as_v6 a ≡ [])) ↔ (a ≡ [])
 none_by_family a = ((λ h. none_of_either a h.0 h.1), (λ e. (ap (filter_map as_v4) e, ap (filter_map as_v6) e)))
 
 -- ---- how many blocks
 
-length_by_family : (ns : List IpNetwork) → length (filter_map as_v4 ns) + length (filter_map as_v6 ns) ≡ length ns
+pub length_by_family : (ns : List IpNetwork) → length (filter_map as_v4 ns) + length (filter_map as_v6 ns) ≡ length ns
 length_by_family [] = refl
 length_by_family (V4 n ∷ ns) = let told = length_by_family ns in omega (arith, told)
 length_by_family (V6 n ∷ ns) = let told = length_by_family ns in omega (arith, told)

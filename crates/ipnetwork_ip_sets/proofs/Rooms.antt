@@ -8,14 +8,14 @@ use Rattle.ipnetwork_family.specs.Network.{Network}
 use Rattle.ipnetwork.specs.declared.ip_network.IpNetwork.{IpNetwork}
 use Rattle.ipnetwork_blocks.specs.AggregateIp.{as_v4, as_v6}
 use Rattle.ipnetwork_ip_sets.specs.IpSets.{v4_then_v6, HasTooLittleRoom}
-use Rattle.ipnetwork_ip_sets.proofs.Families.{v4_of_both, v6_of_both}
+use Rattle.ipnetwork_ip_sets.proofs.Families.{v4_own, v6_own}
 
 -- for the blocks of two sets, the list of the one family
 pub too_little_v4 : (v4 v6 : List Network) (a b : ℕ) (blocks : List IpNetwork) → blocks ≡ v4_then_v6 v4 v6 → a < length v4 → HasTooLittleRoom a b blocks
-too_little_v4 v4 v6 a b blocks e l = inl (subst (λ (ns : List Network). a < length ns) (sym (ap (filter_map as_v4) e ∙ v4_of_both v4 v6)) l)
+too_little_v4 v4 v6 a b blocks e l = inl (subst (λ (ns : List Network). a < length ns) (v4_own blocks v4 v6 e) l)
 
 pub too_little_v6 : (v4 v6 : List Network) (a b : ℕ) (blocks : List IpNetwork) → blocks ≡ v4_then_v6 v4 v6 → b < length v6 → HasTooLittleRoom a b blocks
-too_little_v6 v4 v6 a b blocks e l = inr (subst (λ (ns : List Network). b < length ns) (sym (ap (filter_map as_v6) e ∙ v6_of_both v4 v6)) l)
+too_little_v6 v4 v6 a b blocks e l = inr (subst (λ (ns : List Network). b < length ns) (v6_own blocks v4 v6 e) l)
 
 -- those of a family among the first networks, and one more, are no more than those among all
 so_far : (own : IpNetwork → Option Network) (ns : List IpNetwork) (i : ℕ) (n : IpNetwork) → i < length ns → get_or ns i n ≡ n

@@ -8,17 +8,18 @@ use Rattle.ipnetwork.specs.declared.ip_network.IpNetwork.{IpNetwork}
 use Rattle.ipnetwork_blocks.specs.Aggregate.{InUnion, SameUnion}
 use Rattle.ipnetwork_blocks.specs.AggregateIp.{as_v4, as_v6, IsIpAggregate}
 use Rattle.ipnetwork_blocks.specs.AggregateIpLaws.{InIpUnion, SameIpUnion, IpAggregateIsApart, IpAggregateIsLeast}
+use Rattle.ipnetwork_blocks.specs.LeastList.{IsLeastList}
+use Rattle.ipnetwork_blocks.specs.LeastListLaws.{IsShortest}
 use Rattle.ipnetwork_blocks.proofs.LeastLists.{least_of_same, least_unique}
 use Rattle.ipnetwork_sets.specs.Equality.{same_blocks, SameBlocksAreEqual}
 use Rattle.ipnetwork_sets.specs.Laws as sets
-use Rattle.ipnetwork_sets.specs.Sets.{IsAddressSet, InBoth, InFirstAlone, InNetworkAlone, InComplement, InEither}
-use Rattle.ipnetwork_sets.proofs.WholeSpace.{whole, whole_has_all}
-use Rattle.ipnetwork_ip_sets.specs.IpSets.{v4_then_v6, IsIpLeastList, IsIpAddressSet, InIpBoth, InIpFirstAlone, InIpComplement, InIpEither}
+use Rattle.ipnetwork_sets.specs.Sets.{IsAddressSet}
+use Rattle.ipnetwork_ip_sets.specs.IpSets.{v4_then_v6, IsIpLeastList, IsIpAddressSet}
 use Rattle.ipnetwork_ip_sets.specs.Laws.{EachFamilyKeepsItsAddresses, IpAggregateIsLeastList, IsIpShortest, IpCommonPartIsShortest, IpDifferenceIsShortest}
 use Rattle.ipnetwork_ip_sets.specs.Laws.{IpComplementIsShortest, IpUnionIsShortest, SameIpAddressesAreOneSet, SameIpBlocksAreEqual, IpCommonPartCommutes}
 use Rattle.ipnetwork_ip_sets.specs.Laws.{IpUnionCommutes, IpCommonPartOfOne, IpUnionOfOne, IpDifferenceIsDisjoint, IpPartsMakeTheWhole}
 use Rattle.ipnetwork_ip_sets.proofs.Families.{through, v4_of_both, v6_of_both, in_v4, in_v6, v4_part, v6_part, both_equal}
-use Rattle.ipnetwork_ip_sets.proofs.FamilySets.{both_v4, both_v6, alone_v4, alone_v6, rest_v4, rest_v6, either_v4, either_v6, disjoint_by_family}
+use Rattle.ipnetwork_ip_sets.proofs.FamilySets.{IsOperation, both, alone, rest, either, parts, disjoint_by_family}
 
 -- ---- each family
 
@@ -58,77 +59,53 @@ v4_set a h = v4_part (InIpUnion a) (InUnion 32 (filter_map as_v4 a)) a (in_v4 a)
 v6_set : (a : List IpNetwork) → IsIpAddressSet a → IsAddressSet 128 (filter_map as_v6 a)
 v6_set a h = v6_part (InIpUnion a) (InUnion 128 (filter_map as_v6 a)) a (in_v6 a) (to_least a a h)
 
--- ---- the least list of a set, where that of each family has the addresses of the family
+-- ---- the least list of a set; that of an operation has its addresses, since that of each family has those of the family
 
 pub one_ip_list : (S : IpAddr → Type 0) (r s : List IpNetwork) → IsIpLeastList S r → IsIpLeastList S s → r ≡ s
 one_ip_list S r s h k =
     h.2 ∙ ap (λ l. v4_then_v6 l h.1) (least_unique 32 (λ x. S (addresses.V4 x)) h.0 k.0 h.3 k.3)
     ∙ ap (λ l. v4_then_v6 k.0 l) (least_unique 128 (λ x. S (addresses.V6 x)) h.1 k.1 h.4 k.4) ∙ sym k.2
 
-is_ip_shortest : IpAggregateIsApart → IpAggregateIsLeast → (S : IpAddr → Type 0) (S4 S6 : ℕ → Type 0) (r : List IpNetwork)
-    → ((x : ℕ) → S4 x ↔ S (addresses.V4 x)) → ((x : ℕ) → S6 x ↔ S (addresses.V6 x)) → IsIpLeastList S r
-    → ((x : ℕ) → InUnion 32 (filter_map as_v4 r) x ↔ S4 x) → ((x : ℕ) → InUnion 128 (filter_map as_v6 r) x ↔ S6 x) → IsIpShortest S r
-is_ip_shortest is_apart is_least S S4 S6 r same4 same6 h has4 has6 = record {
-  addresses = has;
-  apart = is_apart r r set;
-  shortest = λ ns fit same. is_least r r ns set fit (λ x. through (same x) ((has x).1, (has x).0));
-  one = λ s k. one_ip_list S s r k h;
-}
-  where
-    has : (x : IpAddr) → InIpUnion r x ↔ S x
-    has (addresses.V4 x) = through ((in_v4 r x).1, (in_v4 r x).0) (through (has4 x) (same4 x))
-    has (addresses.V6 x) = through ((in_v6 r x).1, (in_v6 r x).0) (through (has6 x) (same6 x))
+module _ (is_apart : IpAggregateIsApart) (is_least : IpAggregateIsLeast) where
+  operation_is_shortest : {F : ℕ → List Network → List Network → ℕ → Type 0} {G : List IpNetwork → List IpNetwork → IpAddr → Type 0} → IsOperation F G
+      → ((w : ℕ) (a b r : List Network) → IsLeastList w (F w a b) r → IsShortest w (F w a b) r) → (a b r : List IpNetwork) → IsIpLeastList (G a b) r → IsIpShortest (G a b) r
+  operation_is_shortest {F} {G} op law a b r h = record {
+    addresses = has;
+    apart = is_apart r r set;
+    shortest = λ ns fit same. is_least r r ns set fit (λ x. through (same x) ((has x).1, (has x).0));
+    one = λ s k. one_ip_list (G a b) s r k h;
+  }
+    where
+      has4 : (x : ℕ) → InUnion 32 (filter_map as_v4 r) x ↔ F 32 (filter_map as_v4 a) (filter_map as_v4 b) x
+      has4 = (law 32 (filter_map as_v4 a) (filter_map as_v4 b) (filter_map as_v4 r) (parts op a b r h).0).addresses
 
-    set : IsIpAddressSet r
-    set = from_least r r (
-      h.0,
-      h.1,
-      h.2,
-      least_of_same 32 (λ x. S (addresses.V4 x)) (λ x. InIpUnion r (addresses.V4 x)) h.0 (λ x. ((has (addresses.V4 x)).1, (has (addresses.V4 x)).0)) h.3,
-      least_of_same 128 (λ x. S (addresses.V6 x)) (λ x. InIpUnion r (addresses.V6 x)) h.1 (λ x. ((has (addresses.V6 x)).1, (has (addresses.V6 x)).0)) h.4,
-    )
+      has6 : (x : ℕ) → InUnion 128 (filter_map as_v6 r) x ↔ F 128 (filter_map as_v6 a) (filter_map as_v6 b) x
+      has6 = (law 128 (filter_map as_v6 a) (filter_map as_v6 b) (filter_map as_v6 r) (parts op a b r h).1).addresses
 
-module _ (apart : IpAggregateIsApart) (least : IpAggregateIsLeast) where
+      has : (x : IpAddr) → InIpUnion r x ↔ G a b x
+      has (addresses.V4 x) = through ((in_v4 r x).1, (in_v4 r x).0) (through (has4 x) (op.v4 a b x))
+      has (addresses.V6 x) = through ((in_v6 r x).1, (in_v6 r x).0) (through (has6 x) (op.v6 a b x))
+
+      set : IsIpAddressSet r
+      set = from_least r r (
+        h.0,
+        h.1,
+        h.2,
+        least_of_same 32 (λ x. G a b (addresses.V4 x)) (λ x. InIpUnion r (addresses.V4 x)) h.0 (λ x. ((has (addresses.V4 x)).1, (has (addresses.V4 x)).0)) h.3,
+        least_of_same 128 (λ x. G a b (addresses.V6 x)) (λ x. InIpUnion r (addresses.V6 x)) h.1 (λ x. ((has (addresses.V6 x)).1, (has (addresses.V6 x)).0)) h.4,
+      )
+
   pub ip_common_is_shortest : sets.CommonPartIsShortest → IpCommonPartIsShortest
-  ip_common_is_shortest law a b r h =
-      let front = v4_part (InIpBoth a b) (InBoth 32 (filter_map as_v4 a) (filter_map as_v4 b)) r (both_v4 a b) h in
-      let back = v6_part (InIpBoth a b) (InBoth 128 (filter_map as_v6 a) (filter_map as_v6 b)) r (both_v6 a b) h in
-      is_ip_shortest apart least (InIpBoth a b) (InBoth 32 (filter_map as_v4 a) (filter_map as_v4 b)) (InBoth 128 (filter_map as_v6 a) (filter_map as_v6 b)) r (both_v4 a b) (both_v6 a b) h
-      (law 32 (filter_map as_v4 a) (filter_map as_v4 b) (filter_map as_v4 r) front).addresses
-      (law 128 (filter_map as_v6 a) (filter_map as_v6 b) (filter_map as_v6 r) back).addresses
+  ip_common_is_shortest law = operation_is_shortest both law
 
   pub ip_difference_is_shortest : sets.DifferenceIsShortest → IpDifferenceIsShortest
-  ip_difference_is_shortest law a b r h =
-      let front = v4_part (InIpFirstAlone a b) (InFirstAlone 32 (filter_map as_v4 a) (filter_map as_v4 b)) r (alone_v4 a b) h in
-      let back = v6_part (InIpFirstAlone a b) (InFirstAlone 128 (filter_map as_v6 a) (filter_map as_v6 b)) r (alone_v6 a b) h in
-      is_ip_shortest apart least (InIpFirstAlone a b) (InFirstAlone 32 (filter_map as_v4 a) (filter_map as_v4 b)) (InFirstAlone 128 (filter_map as_v6 a) (filter_map as_v6 b)) r
-      (alone_v4 a b) (alone_v6 a b) h
-      (law 32 (filter_map as_v4 a) (filter_map as_v4 b) (filter_map as_v4 r) front).addresses
-      (law 128 (filter_map as_v6 a) (filter_map as_v6 b) (filter_map as_v6 r) back).addresses
+  ip_difference_is_shortest law = operation_is_shortest alone law
 
   pub ip_union_is_shortest : sets.UnionIsShortest → IpUnionIsShortest
-  ip_union_is_shortest law a b r h =
-      let front = v4_part (InIpEither a b) (InEither 32 (filter_map as_v4 a) (filter_map as_v4 b)) r (either_v4 a b) h in
-      let back = v6_part (InIpEither a b) (InEither 128 (filter_map as_v6 a) (filter_map as_v6 b)) r (either_v6 a b) h in
-      is_ip_shortest apart least (InIpEither a b) (InEither 32 (filter_map as_v4 a) (filter_map as_v4 b)) (InEither 128 (filter_map as_v6 a) (filter_map as_v6 b)) r
-      (either_v4 a b) (either_v6 a b) h
-      (law 32 (filter_map as_v4 a) (filter_map as_v4 b) (filter_map as_v4 r) front).addresses
-      (law 128 (filter_map as_v6 a) (filter_map as_v6 b) (filter_map as_v6 r) back).addresses
+  ip_union_is_shortest law = operation_is_shortest either law
 
-  -- all addresses are those of the network of prefix length 0
-  free_is_rest : (w : ℕ) (a : List Network) (x : ℕ) → InNetworkAlone w whole a x ↔ InComplement w a x
-  free_is_rest w a x = ((λ p. (p.0.0, p.1)), (λ p. (whole_has_all w x p.0, p.1)))
-
-  pub ip_complement_is_shortest : sets.FreePartIsShortest → IpComplementIsShortest
-  ip_complement_is_shortest law a r h =
-      let free4 : (x : ℕ) → InNetworkAlone 32 whole (filter_map as_v4 a) x ↔ InIpComplement a (addresses.V4 x) =
-      λ x. through (free_is_rest 32 (filter_map as_v4 a) x) (rest_v4 a x) in
-      let free6 : (x : ℕ) → InNetworkAlone 128 whole (filter_map as_v6 a) x ↔ InIpComplement a (addresses.V6 x) =
-      λ x. through (free_is_rest 128 (filter_map as_v6 a) x) (rest_v6 a x) in
-      let front = v4_part (InIpComplement a) (InNetworkAlone 32 whole (filter_map as_v4 a)) r free4 h in
-      let back = v6_part (InIpComplement a) (InNetworkAlone 128 whole (filter_map as_v6 a)) r free6 h in
-      is_ip_shortest apart least (InIpComplement a) (InNetworkAlone 32 whole (filter_map as_v4 a)) (InNetworkAlone 128 whole (filter_map as_v6 a)) r free4 free6 h
-      (law 32 whole (filter_map as_v4 a) (filter_map as_v4 r) front).addresses (law 128 whole (filter_map as_v6 a) (filter_map as_v6 r) back).addresses
+  pub ip_complement_is_shortest : sets.ComplementIsShortest → IpComplementIsShortest
+  ip_complement_is_shortest law a r h = operation_is_shortest rest (λ w m _ l. law w m l) a a r h
 
 -- ---- equal sets
 
@@ -168,61 +145,46 @@ same_ip_blocks_are_equal law a b h k =
 
 -- ---- order and repetition
 
+module _ {F : ℕ → List Network → List Network → ℕ → Type 0} {G : List IpNetwork → List IpNetwork → IpAddr → Type 0} (op : IsOperation F G) where
+  operation_commutes : ((w : ℕ) (a b r s : List Network) → IsLeastList w (F w a b) r → IsLeastList w (F w b a) s → r ≡ s)
+      → (a b r s : List IpNetwork) → IsIpLeastList (G a b) r → IsIpLeastList (G b a) s → r ≡ s
+  operation_commutes law a b r s h k =
+      let first = parts op a b r h in
+      let second = parts op b a s k in
+      both_equal r s h.0 h.1 k.0 k.1 h.2 k.2
+      (law 32 (filter_map as_v4 a) (filter_map as_v4 b) (filter_map as_v4 r) (filter_map as_v4 s) first.0 second.0)
+      (law 128 (filter_map as_v6 a) (filter_map as_v6 b) (filter_map as_v6 r) (filter_map as_v6 s) first.1 second.1)
+
+  operation_of_one : ((w : ℕ) (a r : List Network) → IsAddressSet w a → IsLeastList w (F w a a) r → r ≡ a)
+      → (a r : List IpNetwork) → IsIpAddressSet a → IsIpLeastList (G a a) r → r ≡ a
+  operation_of_one law a r h k =
+      let own = parts op a a r k in
+      both_equal r a k.0 k.1 h.0 h.1 k.2 h.2 (law 32 (filter_map as_v4 a) (filter_map as_v4 r) (v4_set a h) own.0) (law 128 (filter_map as_v6 a) (filter_map as_v6 r) (v6_set a h) own.1)
+
 pub ip_common_commutes : sets.CommonPartCommutes → IpCommonPartCommutes
-ip_common_commutes law a b r s h k =
-    both_equal r s h.0 h.1 k.0 k.1 h.2 k.2
-    (law 32 (filter_map as_v4 a) (filter_map as_v4 b) (filter_map as_v4 r) (filter_map as_v4 s)
-    (v4_part (InIpBoth a b) (InBoth 32 (filter_map as_v4 a) (filter_map as_v4 b)) r (both_v4 a b) h)
-    (v4_part (InIpBoth b a) (InBoth 32 (filter_map as_v4 b) (filter_map as_v4 a)) s (both_v4 b a) k))
-    (law 128 (filter_map as_v6 a) (filter_map as_v6 b) (filter_map as_v6 r) (filter_map as_v6 s)
-    (v6_part (InIpBoth a b) (InBoth 128 (filter_map as_v6 a) (filter_map as_v6 b)) r (both_v6 a b) h)
-    (v6_part (InIpBoth b a) (InBoth 128 (filter_map as_v6 b) (filter_map as_v6 a)) s (both_v6 b a) k))
+ip_common_commutes law = operation_commutes both law
 
 pub ip_union_commutes : sets.UnionCommutes → IpUnionCommutes
-ip_union_commutes law a b r s h k =
-    both_equal r s h.0 h.1 k.0 k.1 h.2 k.2
-    (law 32 (filter_map as_v4 a) (filter_map as_v4 b) (filter_map as_v4 r) (filter_map as_v4 s)
-    (v4_part (InIpEither a b) (InEither 32 (filter_map as_v4 a) (filter_map as_v4 b)) r (either_v4 a b) h)
-    (v4_part (InIpEither b a) (InEither 32 (filter_map as_v4 b) (filter_map as_v4 a)) s (either_v4 b a) k))
-    (law 128 (filter_map as_v6 a) (filter_map as_v6 b) (filter_map as_v6 r) (filter_map as_v6 s)
-    (v6_part (InIpEither a b) (InEither 128 (filter_map as_v6 a) (filter_map as_v6 b)) r (either_v6 a b) h)
-    (v6_part (InIpEither b a) (InEither 128 (filter_map as_v6 b) (filter_map as_v6 a)) s (either_v6 b a) k))
+ip_union_commutes law = operation_commutes either law
 
 pub ip_common_of_one : sets.CommonPartOfOne → IpCommonPartOfOne
-ip_common_of_one law a r h k =
-    both_equal r a k.0 k.1 h.0 h.1 k.2 h.2
-    (law 32 (filter_map as_v4 a) (filter_map as_v4 r)
-    (v4_set a h) (v4_part (InIpBoth a a) (InBoth 32 (filter_map as_v4 a) (filter_map as_v4 a)) r (both_v4 a a) k))
-    (law 128 (filter_map as_v6 a) (filter_map as_v6 r)
-    (v6_set a h) (v6_part (InIpBoth a a) (InBoth 128 (filter_map as_v6 a) (filter_map as_v6 a)) r (both_v6 a a) k))
+ip_common_of_one law = operation_of_one both law
 
 pub ip_union_of_one : sets.UnionOfOne → IpUnionOfOne
-ip_union_of_one law a r h k =
-    both_equal r a k.0 k.1 h.0 h.1 k.2 h.2
-    (law 32 (filter_map as_v4 a) (filter_map as_v4 r)
-    (v4_set a h) (v4_part (InIpEither a a) (InEither 32 (filter_map as_v4 a) (filter_map as_v4 a)) r (either_v4 a a) k))
-    (law 128 (filter_map as_v6 a) (filter_map as_v6 r)
-    (v6_set a h) (v6_part (InIpEither a a) (InEither 128 (filter_map as_v6 a) (filter_map as_v6 a)) r (either_v6 a a) k))
+ip_union_of_one law = operation_of_one either law
 
 -- ---- a difference, and the common part
 
 pub ip_difference_is_disjoint : sets.DifferenceIsDisjoint → IpDifferenceIsDisjoint
 ip_difference_is_disjoint law a b r h =
-    (disjoint_by_family r b).0 (
-      law 32 (filter_map as_v4 a) (filter_map as_v4 b) (filter_map as_v4 r)
-          (v4_part (InIpFirstAlone a b) (InFirstAlone 32 (filter_map as_v4 a) (filter_map as_v4 b)) r (alone_v4 a b) h),
-      law 128 (filter_map as_v6 a) (filter_map as_v6 b) (filter_map as_v6 r)
-          (v6_part (InIpFirstAlone a b) (InFirstAlone 128 (filter_map as_v6 a) (filter_map as_v6 b)) r (alone_v6 a b) h),
-    )
+    let own = parts alone a b r h in
+    (disjoint_by_family r b).0 (law 32 (filter_map as_v4 a) (filter_map as_v4 b) (filter_map as_v4 r) own.0, law 128 (filter_map as_v6 a) (filter_map as_v6 b) (filter_map as_v6 r) own.1)
 
 pub ip_parts_make_the_whole : sets.PartsMakeTheWhole → IpPartsMakeTheWhole
 ip_parts_make_the_whole law a b c d r h hc hd k =
+    let common = parts both a b c hc in
+    let left = parts alone a b d hd in
+    let all = parts either c d r k in
     both_equal r a k.0 k.1 h.0 h.1 k.2 h.2
-    (law 32 (filter_map as_v4 a) (filter_map as_v4 b) (filter_map as_v4 c) (filter_map as_v4 d) (filter_map as_v4 r)
-    (v4_set a h) (v4_part (InIpBoth a b) (InBoth 32 (filter_map as_v4 a) (filter_map as_v4 b)) c (both_v4 a b) hc)
-    (v4_part (InIpFirstAlone a b) (InFirstAlone 32 (filter_map as_v4 a) (filter_map as_v4 b)) d (alone_v4 a b) hd)
-    (v4_part (InIpEither c d) (InEither 32 (filter_map as_v4 c) (filter_map as_v4 d)) r (either_v4 c d) k))
-    (law 128 (filter_map as_v6 a) (filter_map as_v6 b) (filter_map as_v6 c) (filter_map as_v6 d) (filter_map as_v6 r)
-    (v6_set a h) (v6_part (InIpBoth a b) (InBoth 128 (filter_map as_v6 a) (filter_map as_v6 b)) c (both_v6 a b) hc)
-    (v6_part (InIpFirstAlone a b) (InFirstAlone 128 (filter_map as_v6 a) (filter_map as_v6 b)) d (alone_v6 a b) hd)
-    (v6_part (InIpEither c d) (InEither 128 (filter_map as_v6 c) (filter_map as_v6 d)) r (either_v6 c d) k))
+    (law 32 (filter_map as_v4 a) (filter_map as_v4 b) (filter_map as_v4 c) (filter_map as_v4 d) (filter_map as_v4 r) (v4_set a h) common.0 left.0 all.0)
+    (law 128 (filter_map as_v6 a) (filter_map as_v6 b) (filter_map as_v6 c) (filter_map as_v6 d) (filter_map as_v6 r) (v6_set a h) common.1 left.1 all.1)

@@ -5,7 +5,7 @@ ghost use Rattle.ipnetwork_ip_sets.specs.IpSets.{HasTooLittleRoom};
 use crate::blocks::IpBlocks;
 use crate::ip_address_set::IpAddressSet;
 use ipnetwork::{Ipv4Network, Ipv6Network};
-use ipnetwork_sets::{Blocks, Difference, Intersection, Union};
+use ipnetwork_sets::{SetBlocks, collected};
 use std::alloc::AllocError;
 
 impl IpAddressSet {
@@ -30,7 +30,7 @@ impl IpAddressSet {
     }
 }
 
-impl<'a> IpBlocks<Blocks<'a, Ipv4Network>, Blocks<'a, Ipv6Network>> {
+impl<V4: SetBlocks<Ipv4Network>, V6: SetBlocks<Ipv6Network>> IpBlocks<V4, V6> {
     /// The set of the remaining blocks. The lists of the families are put into `v4_memory` and `v6_memory`, whose
     /// content is dropped first. `AllocError` means that one of them had to grow and memory ran out.
     ///
@@ -39,79 +39,10 @@ impl<'a> IpBlocks<Blocks<'a, Ipv4Network>, Blocks<'a, Ipv6Network>> {
     /// let set = IpAddressSet::from_lists(v4, Vec::new(rt.alloc()));
     /// let blocks = set.iter();
     /// assert!(rt; blocks.into_set(Vec::new(rt.alloc()), Vec::new(rt.alloc()))? == set);
-    /// ```
-    pub fn into_set(
-        self,
-        v4_memory: Vec<Ipv4Network>,
-        v6_memory: Vec<Ipv6Network>,
-    ) -> Result<IpAddressSet, AllocError>
-        ensures set { IfOk result (λ set. set ≡ self.entry) }
-        ensures room { OnErr result
-            (HasTooLittleRoom (vec_capacity v4_memory) (vec_capacity v6_memory) self.entry) }
-    {
-        let v4 = self.v4.into_set(v4_memory)?;
-        let v6 = self.v6.into_set(v6_memory)?;
-        Ok(IpAddressSet::from_parts(v4, v6))
-    }
-}
-
-impl<'a> IpBlocks<Intersection<'a, Ipv4Network>, Intersection<'a, Ipv6Network>> {
-    /// The set of the remaining blocks. The lists of the families are put into `v4_memory` and `v6_memory`, whose
-    /// content is dropped first. `AllocError` means that one of them had to grow and memory ran out.
-    ///
-    /// ```
-    /// let v4 = vec![in rt.alloc(); "192.0.2.0/25".parse::<Ipv4Network>()?]?;
-    /// let set = IpAddressSet::from_lists(v4, Vec::new(rt.alloc()));
     /// let common = set.intersection(&set).into_set(Vec::new(rt.alloc()), Vec::new(rt.alloc()))?;
     /// assert!(rt; common == set);
-    /// ```
-    pub fn into_set(
-        self,
-        v4_memory: Vec<Ipv4Network>,
-        v6_memory: Vec<Ipv6Network>,
-    ) -> Result<IpAddressSet, AllocError>
-        ensures set { IfOk result (λ set. set ≡ self.entry) }
-        ensures room { OnErr result
-            (HasTooLittleRoom (vec_capacity v4_memory) (vec_capacity v6_memory) self.entry) }
-    {
-        let v4 = self.v4.into_set(v4_memory)?;
-        let v6 = self.v6.into_set(v6_memory)?;
-        Ok(IpAddressSet::from_parts(v4, v6))
-    }
-}
-
-impl<'a> IpBlocks<Difference<'a, Ipv4Network>, Difference<'a, Ipv6Network>> {
-    /// The set of the remaining blocks. The lists of the families are put into `v4_memory` and `v6_memory`, whose
-    /// content is dropped first. `AllocError` means that one of them had to grow and memory ran out.
-    ///
-    /// ```
-    /// let v4 = vec![in rt.alloc(); "192.0.2.0/25".parse::<Ipv4Network>()?]?;
-    /// let set = IpAddressSet::from_lists(v4, Vec::new(rt.alloc()));
     /// let rest = set.difference(&set).into_set(Vec::new(rt.alloc()), Vec::new(rt.alloc()))?;
     /// assert!(rt; rest.is_empty());
-    /// ```
-    pub fn into_set(
-        self,
-        v4_memory: Vec<Ipv4Network>,
-        v6_memory: Vec<Ipv6Network>,
-    ) -> Result<IpAddressSet, AllocError>
-        ensures set { IfOk result (λ set. set ≡ self.entry) }
-        ensures room { OnErr result
-            (HasTooLittleRoom (vec_capacity v4_memory) (vec_capacity v6_memory) self.entry) }
-    {
-        let v4 = self.v4.into_set(v4_memory)?;
-        let v6 = self.v6.into_set(v6_memory)?;
-        Ok(IpAddressSet::from_parts(v4, v6))
-    }
-}
-
-impl<'a> IpBlocks<Union<'a, Ipv4Network>, Union<'a, Ipv6Network>> {
-    /// The set of the remaining blocks. The lists of the families are put into `v4_memory` and `v6_memory`, whose
-    /// content is dropped first. `AllocError` means that one of them had to grow and memory ran out.
-    ///
-    /// ```
-    /// let v4 = vec![in rt.alloc(); "192.0.2.0/25".parse::<Ipv4Network>()?]?;
-    /// let set = IpAddressSet::from_lists(v4, Vec::new(rt.alloc()));
     /// let both = set.union_blocks(&set).into_set(Vec::new(rt.alloc()), Vec::new(rt.alloc()))?;
     /// assert!(rt; both == set);
     /// ```
@@ -120,12 +51,12 @@ impl<'a> IpBlocks<Union<'a, Ipv4Network>, Union<'a, Ipv6Network>> {
         v4_memory: Vec<Ipv4Network>,
         v6_memory: Vec<Ipv6Network>,
     ) -> Result<IpAddressSet, AllocError>
-        ensures set { IfOk result (λ set. set ≡ self.entry) }
+        ensures set { IfOk result (λ set. set ≡ self) }
         ensures room { OnErr result
-            (HasTooLittleRoom (vec_capacity v4_memory) (vec_capacity v6_memory) self.entry) }
+            (HasTooLittleRoom (vec_capacity v4_memory) (vec_capacity v6_memory) self) }
     {
-        let v4 = self.v4.into_set(v4_memory)?;
-        let v6 = self.v6.into_set(v6_memory)?;
+        let v4 = collected(self.v4, v4_memory)?;
+        let v6 = collected(self.v6, v6_memory)?;
         Ok(IpAddressSet::from_parts(v4, v6))
     }
 }

@@ -1,5 +1,5 @@
 -- The laws of networks that are added to a set and taken from it.
-use Rattle.std.proofs.Common.{inl, inr, ⊎_elim, ◌⊎◌, [], ◌∷◌, ◌++◌}
+use Rattle.std.proofs.Common.{inl, inr, ⊎_elim, [], ◌∷◌, ◌++◌}
 use Rattle.ipnetwork_family.specs.Network.{Member}
 use Rattle.ipnetwork_blocks.specs.Aggregate.{InUnion, SameUnion}
 use Rattle.ipnetwork_blocks.specs.AggregateLaws.{AggregateHasUnion}

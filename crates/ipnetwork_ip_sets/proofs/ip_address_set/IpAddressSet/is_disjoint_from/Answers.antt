@@ -6,11 +6,8 @@ use Rattle.ipnetwork_ip_sets.proofs.ip_address_set.IpAddressSet.is_disjoint_from
 
 pub returns-then-is_disjoint_from : goal.returns-then-is_disjoint_from
 returns-then-is_disjoint_from c =
-    asked_of_both AreDisjoint (AreIpDisjoint c.args.self.now c.args.other.now) c.args.self.now c.args.other.now _ _ _ _ c.is_disjoint_from.result c.is_disjoint_from-then-is_disjoint_from.result
-    (disjoint_by_family c.args.self.now c.args.other.now) c.v4.ensures.blocks c.v4-2.ensures.blocks c.v6.ensures.blocks c.v6-then-is_disjoint_from.ensures.blocks
-    c.is_disjoint_from.ensures c.if-is_disjoint_from.true c.is_disjoint_from-then-is_disjoint_from.ensures
+    asked_of_both AreDisjoint AreIpDisjoint disjoint_by_family c.args.self.now c.args.other.now _ _ _ _ _ _ c.v4.ensures.blocks c.v4-2.ensures.blocks c.v6.ensures.blocks
+    c.v6-then-is_disjoint_from.ensures.blocks c.is_disjoint_from.ensures c.if-is_disjoint_from.true c.is_disjoint_from-then-is_disjoint_from.ensures
 
 pub returns-else-is_disjoint_from : goal.returns-else-is_disjoint_from
-returns-else-is_disjoint_from c =
-    refused_by_v4 AreDisjoint (AreIpDisjoint c.args.self.now c.args.other.now) c.args.self.now c.args.other.now _ _ c.is_disjoint_from.result
-    (disjoint_by_family c.args.self.now c.args.other.now) c.v4.ensures.blocks c.v4-2.ensures.blocks c.is_disjoint_from.ensures c.if-is_disjoint_from.false
+returns-else-is_disjoint_from c = refused_by_v4 AreDisjoint AreIpDisjoint disjoint_by_family c.args.self.now c.args.other.now _ _ _ c.v4.ensures.blocks c.v4-2.ensures.blocks c.is_disjoint_from.ensures c.if-is_disjoint_from.false

@@ -6,11 +6,8 @@ use Rattle.ipnetwork_ip_sets.proofs.ip_address_set.IpAddressSet.is_subset_of.Goa
 
 pub returns-then-is_subset_of : goal.returns-then-is_subset_of
 returns-then-is_subset_of c =
-    asked_of_both IsWithin (IsIpWithin c.args.self.now c.args.other.now) c.args.self.now c.args.other.now _ _ _ _ c.is_subset_of.result c.is_subset_of-then-is_subset_of.result
-    (within_by_family c.args.self.now c.args.other.now) c.v4.ensures.blocks c.v4-2.ensures.blocks c.v6.ensures.blocks c.v6-then-is_subset_of.ensures.blocks
-    c.is_subset_of.ensures c.if-is_subset_of.true c.is_subset_of-then-is_subset_of.ensures
+    asked_of_both IsWithin IsIpWithin within_by_family c.args.self.now c.args.other.now _ _ _ _ _ _ c.v4.ensures.blocks c.v4-2.ensures.blocks c.v6.ensures.blocks
+    c.v6-then-is_subset_of.ensures.blocks c.is_subset_of.ensures c.if-is_subset_of.true c.is_subset_of-then-is_subset_of.ensures
 
 pub returns-else-is_subset_of : goal.returns-else-is_subset_of
-returns-else-is_subset_of c =
-    refused_by_v4 IsWithin (IsIpWithin c.args.self.now c.args.other.now) c.args.self.now c.args.other.now _ _ c.is_subset_of.result
-    (within_by_family c.args.self.now c.args.other.now) c.v4.ensures.blocks c.v4-2.ensures.blocks c.is_subset_of.ensures c.if-is_subset_of.false
+returns-else-is_subset_of c = refused_by_v4 IsWithin IsIpWithin within_by_family c.args.self.now c.args.other.now _ _ _ c.v4.ensures.blocks c.v4-2.ensures.blocks c.is_subset_of.ensures c.if-is_subset_of.false

@@ -1,8 +1,6 @@
-use Rattle.std.proofs.Common.{sym, ap, ◌∙◌}
-use Rattle.std.specs.List.{filter_map}
-use Rattle.ipnetwork_blocks.specs.AggregateIp.{as_v6}
-use Rattle.ipnetwork_ip_sets.proofs.Families.{v6_of_both}
+use Rattle.std.proofs.Common.{sym}
+use Rattle.ipnetwork_ip_sets.proofs.Families.{v6_own}
 use Rattle.ipnetwork_ip_sets.proofs.ip_address_set.IpAddressSet.v6.Goals as goal
 
 pub returns-clause-blocks : goal.returns-clause-blocks
-returns-clause-blocks c = sym (v6_of_both c.self.inside.v4 c.self.inside.v6) ∙ ap (filter_map as_v6) c.self.view_is
+returns-clause-blocks c = v6_own c.args.self.now c.self.inside.v4 c.self.inside.v6 (sym c.self.view_is)
