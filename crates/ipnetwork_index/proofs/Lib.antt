@@ -1,5 +1,6 @@
 pub mod Answering
 pub mod Chains
+pub mod Counting
 pub mod Cutting
 pub mod Edging
 pub mod Eights

@@ -1,7 +1,7 @@
 -- Numbers known by the part that they lie in and by their last 16 bits.
 use Rattle.std.proofs.Common.{◌≡◌, ℕ, ◌+◌, ◌-◌, ◌/◌, ◌%◌, ◌^◌, ◌<◌, ◌≤◌, ◌∙◌, List, [], ◌∷◌, ◌++◌, length, get_or, map, take, arith, sym, ap, subst, ⊎_elim}
 use Rattle.std.proofs.lemmas.Bool.{cases_lt}
-use Rattle.std.proofs.lemmas.List.{map-append, take_more}
+use Rattle.std.proofs.lemmas.List.{get_or_read, map-append, take_more}
 use Rattle.std.proofs.lemmas.Nat.{pow-add}
 use Rattle.std.proofs.Math.Nat.{div-div-eq-div-mul, mod-eq_of_lt}
 use Rattle.std.proofs.Math.Pow.{pow_mono, shr_mono}
@@ -55,8 +55,14 @@ module _ (w : ℕ) (lows starts : List ℕ) (shift : ℕ) (numbers : List ℕ)
   next_start : IsFirstOf numbers shift (x / 2 ^ shift + 1) (get_or starts (x / 2 ^ shift + 1) 0)
   next_start = h.known.firsts (x / 2 ^ shift + 1) next_part
 
-  pub starts_within : x / 2 ^ shift + 1 < length starts
-  starts_within = next_part
+  -- what is read as the start of the part and as that of the next one
+  pub starts_read : (start end : ℕ) → start ≡ get_or starts (x / 2 ^ shift) start
+      → end ≡ get_or starts (x / 2 ^ shift + 1) end
+      → (start ≡ get_or starts (x / 2 ^ shift) 0) × (end ≡ get_or starts (x / 2 ^ shift + 1) 0)
+  starts_read start end is_start is_end = (
+    get_or_read starts (x / 2 ^ shift) start (omega (arith, next_part)) is_start 0,
+    get_or_read starts (x / 2 ^ shift + 1) end next_part is_end 0,
+  )
 
   pub room : get_or starts (x / 2 ^ shift) 0 + 8 ≤ length lows
   room =

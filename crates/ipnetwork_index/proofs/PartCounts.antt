@@ -40,6 +40,12 @@ many_bits n bits k h l = ⊎_elim
     absurd (omega (arith, p, h.to)))
     (cases_lt k bits)
 
+one_bit_less : (n bits : ℕ) → HasBits n bits → 2 ^ bits ≡ 2 ^ (bits - 1) + 2 ^ (bits - 1)
+one_bit_less n bits h =
+    let j : ℕ = bits - 1 in
+    let is : suc j ≡ bits = omega (arith, h.some) in
+    subst (λ (k : ℕ). 2 ^ k ≡ 2 ^ j + 2 ^ j) is (two-pow-succ j)
+
 -- ---- the parts
 
 pub two_to_four : (n bits : ℕ) → HasBits n bits → HasParts (2 * n) (4 * n) (bits + 1)
@@ -52,44 +58,29 @@ two_to_four n bits h =
       within = omega (arith, twice, h.from);
     }
 
-pub one_to_two : (n bits : ℕ) → HasBits n bits → HasParts n (2 * n) (min bits 20)
-one_to_two n bits h = ⊎_elim
+-- between these two, up to 2 ^ 20
+capped : (least most bits : ℕ) → least < 2 ^ bits → 2 ^ bits ≤ most
+    → HasParts least most (min bits 20)
+capped least most bits more within = ⊎_elim
     (λ (less : bits < 20).
     let is : bits ≡ min bits 20 = omega arith in
-    subst (λ (k : ℕ). HasParts n (2 * n) k) is (record {
-      more = λ l. h.to;
-      within = h.from;
-    }))
-    (λ (most : 20 ≤ bits).
-    let p : 2 ^ 20 ≤ 2 ^ bits = pow-le-pow_right (omega arith) most in
+    subst (λ (k : ℕ). HasParts least most k) is (record { more = λ l. more; within = within }))
+    (λ (all : 20 ≤ bits).
+    let p : 2 ^ 20 ≤ 2 ^ bits = pow-le-pow_right (omega arith) all in
     let is : 20 ≡ min bits 20 = omega arith in
-    subst (λ (k : ℕ). HasParts n (2 * n) k) is (record {
+    subst (λ (k : ℕ). HasParts least most k) is (record {
       more = λ (l : 20 < 20). absurd (omega arith);
-      within = omega (arith, p, h.from);
+      within = omega (arith, p, within);
     }))
     (cases_lt bits 20)
 
+pub one_to_two : (n bits : ℕ) → HasBits n bits → HasParts n (2 * n) (min bits 20)
+one_to_two n bits h = capped n (2 * n) bits h.to h.from
+
 pub half_to_one : (n bits : ℕ) → HasBits n bits → HasParts (n / 2) n (min (bits - 1) 20)
 half_to_one n bits h =
-    let j : ℕ = bits - 1 in
-    let is : suc j ≡ bits = omega (arith, h.some) in
-    let twice : 2 ^ bits ≡ 2 ^ j + 2 ^ j
-    = subst (λ (k : ℕ). 2 ^ k ≡ 2 ^ j + 2 ^ j) is (two-pow-succ j) in
-    ⊎_elim
-    (λ (less : j < 20).
-    let same : j ≡ min (bits - 1) 20 = omega arith in
-    subst (λ (k : ℕ). HasParts (n / 2) n k) same (record {
-      more = λ l. omega (arith, twice, h.to);
-      within = omega (arith, twice, h.from);
-    }))
-    (λ (most : 20 ≤ j).
-    let p : 2 ^ 20 ≤ 2 ^ j = pow-le-pow_right (omega arith) most in
-    let same : 20 ≡ min (bits - 1) 20 = omega arith in
-    subst (λ (k : ℕ). HasParts (n / 2) n k) same (record {
-      more = λ (l : 20 < 20). absurd (omega arith);
-      within = omega (arith, p, twice, h.from);
-    }))
-    (cases_lt j 20)
+    let twice = one_bit_less n bits h in
+    capped (n / 2) n (bits - 1) (omega (arith, twice, h.to)) (omega (arith, twice, h.from))
 
 -- ---- the numbers of 32 bits in one of them
 
@@ -97,10 +88,8 @@ pub two_in_each : (n bits shift : ℕ) → HasBits n bits → 34 ≤ shift + bit
     → 2 * 2 ^ 32 ≤ 2 ^ shift * n
 two_in_each n bits shift h l =
     let j : ℕ = bits - 1 in
-    let is : suc j ≡ bits = omega (arith, h.some) in
-    let twice : 2 ^ bits ≡ 2 ^ j + 2 ^ j
-    = subst (λ (k : ℕ). 2 ^ k ≡ 2 ^ j + 2 ^ j) is (two-pow-succ j) in
-    let wide : 33 ≤ shift + j = omega (arith, is, l) in
+    let twice : 2 ^ bits ≡ 2 ^ j + 2 ^ j = one_bit_less n bits h in
+    let wide : 33 ≤ shift + j = omega (arith, h.some, l) in
     let low : 2 ^ 33 ≤ 2 ^ (shift + j) = pow-le-pow_right (omega arith) wide in
     let all : 2 ^ shift * 2 ^ j ≤ 2 ^ shift * n
     = mul-le (2 ^ shift) (2 ^ j) (2 ^ shift) n (omega arith) (omega (arith, twice, h.from)) in

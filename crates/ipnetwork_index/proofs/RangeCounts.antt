@@ -1,18 +1,18 @@
 -- How many ranges the blocks of a table cut the numbers of w bits into.
-use Rattle.std.proofs.Common.{◌≡◌, ◌≢◌, ℕ, zero, suc, ◌+◌, ◌-◌, ◌*◌, ◌^◌, ◌<◌, ◌≤◌, List, [], ◌∷◌, ◌++◌, length, get_or, slice_index_or, take, arith, sym, subst, ◌∙◌, ⊎_elim, length-append}
+use Rattle.std.proofs.Common.{◌≡◌, ◌≢◌, ℕ, ◌+◌, ◌-◌, ◌*◌, ◌^◌, ◌<◌, ◌≤◌, List, length, get_or, slice_index_or, arith, sym, subst, ◌∙◌, ⊎_elim}
 use Rattle.std.specs.List.{Contains, AllPairs}
 use Rattle.std.specs.FinMap.{FinMap, get, entries, len, len-entries}
 use Rattle.std.proofs.lemmas.Bool.{cases_eq}
 use Rattle.std.proofs.lemmas.Bool.Decides.{Decides-eqb}
 use Rattle.std.proofs.lemmas.Cmp.{nat_eq_equiv}
 use Rattle.std.proofs.lemmas.Map.Made.{is_member-Decides, IsDistinct-from_AllPairs, length-le_from_is_member}
-use Rattle.std.proofs.lemmas.List.{length-take, get_or-take, get_or_default}
+use Rattle.std.proofs.lemmas.List.{get_or_default}
 use Rattle.ipnetwork_family.specs.Network.{Network, low, high, network_cmp}
 use Rattle.ipnetwork_sets.specs.Counts.{HasCount}
 use Rattle.ipnetwork_table.specs.Laws.{StoredIsListed}
 use Rattle.ipnetwork_index.specs.Turns.{IsEdge, CutByBlocks, TableHasFewRanges}
-use Rattle.ipnetwork_index.specs.Private.Cuts.{before}
 use Rattle.ipnetwork_index.specs.Private.Edges.{edges_of, CutsOut}
+use Rattle.ipnetwork_index.proofs.Counting.{cuts_length, has_all_but_last}
 use Rattle.ipnetwork_index.proofs.Edging.{some_value, edge_in, edge_into}
 
 module _ {V : Type 0} (w : ℕ) (t : FinMap network_cmp V) (lasts : List ℕ) (c : CutsOut w t lasts)
@@ -40,43 +40,22 @@ module _ {V : Type 0} (w : ℕ) (t : FinMap network_cmp V) (lasts : List ℕ) (c
         (λ (l : low w n.0 ≡ x + 1). cut.start x (sym l))
         n.2
 
+    edge_last : (x : ℕ) → IsEdge w t x → (k : ℕ) × (k + 1 < length lasts) × (get_or lasts k 0 ≡ x)
+    edge_last x e =
+        let k = place_of_edge x e in
+        let l = k.1 in
+        let small : x + 1 < 2 ^ w = e.0 in
+        let is : get_or lasts k.0 0 ≡ x = get_or_default lasts k.0 0 x l ∙ k.2 in
+        let inner : k.0 + 1 < length lasts = ⊎_elim
+        (λ (here : k.0 + 1 ≡ length lasts).
+        let q : get_or lasts k.0 0 + 1 ≡ 2 ^ w = c.partition.last k.0 here in
+        absurd (omega arith))
+        (λ (other : k.0 + 1 ≢ length lasts). omega arith)
+        (cases_eq (k.0 + 1) (length lasts)) in
+        (k.0, inner, is)
+
     pub edges_are : HasCount (IsEdge w t) (length lasts - 1)
-    edges_are =
-        let p = c.partition in
-        let some = p.some in
-        let n : ℕ = length lasts - 1 in
-        let size : length (take n lasts) ≡ n = omega (arith, length-take {A = ℕ}) in
-        record {
-          addresses = take n lasts;
-          ascending = λ i j d l m.
-              let a : get_or lasts i 0 < get_or lasts j 0 = p.ascending i j l (omega arith) in
-              rw (
-                get_or-take n lasts i d (omega arith),
-                get_or-take n lasts j d (omega arith),
-                get_or_default lasts i d 0 (omega arith),
-                get_or_default lasts j d 0 (omega arith),
-              ) a;
-          exactly = λ x. (
-            (λ k.
-                let l = k.1 in
-                let is : get_or lasts k.0 0 ≡ x = get_or_default lasts k.0 0 x (omega arith)
-                ∙ sym (get_or-take n lasts k.0 x (omega arith)) ∙ k.2 in
-                subst (λ (y : ℕ). IsEdge w t y) is (edge_at k.0 (omega arith))),
-            (λ e.
-                let k = place_of_edge x e in
-                let l = k.1 in
-                let small : x + 1 < 2 ^ w = e.0 in
-                let is : get_or lasts k.0 0 ≡ x = get_or_default lasts k.0 0 x l ∙ k.2 in
-                let before : k.0 < n = ⊎_elim
-                (λ (here : k.0 + 1 ≡ length lasts).
-                let q : get_or lasts k.0 0 + 1 ≡ 2 ^ w = p.last k.0 here in
-                absurd (omega arith))
-                (λ (other : k.0 + 1 ≢ length lasts). omega arith)
-                (cases_eq (k.0 + 1) (length lasts)) in
-                (k.0, omega arith, get_or-take n lasts k.0 x before ∙ k.2)),
-          );
-          count = size;
-        }
+    edges_are = has_all_but_last (IsEdge w t) w lasts c.partition edge_at edge_last
 
     pub cut_by_blocks : CutByBlocks w t (length lasts)
     cut_by_blocks =
@@ -94,23 +73,6 @@ ascending_fit xs ys up h =
     let a : slice_index_or xs i d < slice_index_or xs j d = up i j d l m in λ e. omega arith))
     (λ q k. (is_member-Decides Decides-eqb ys q).1 (h q ((is_member-Decides Decides-eqb xs q).0 k)))
 
-before_length : (n : ℕ) → length (before n) ≤ 1
-before_length zero = omega arith
-before_length (suc n) = omega arith
-
-edges_length : {V : Type 0} (w : ℕ) (es : List (Network × V))
-    → length (edges_of w es) ≤ 2 * length es
-edges_length {V} w [] = omega arith
-edges_length {V} w (e ∷ es) =
-    let rest = edges_length w es in
-    let one = before_length (low w e.0) in
-    let own : length (before (low w e.0) ++ high w e.0 ∷ []) ≡ length (before (low w e.0)) + 1
-    = length-append (before (low w e.0)) (high w e.0 ∷ []) in
-    let all : length ((before (low w e.0) ++ high w e.0 ∷ []) ++ edges_of w es) ≡ length
-    (before (low w e.0) ++ high w e.0 ∷ []) + length (edges_of w es)
-    = length-append (before (low w e.0) ++ high w e.0 ∷ []) (edges_of w es) in
-    omega arith
-
 pub few_ranges : {V : Type 0} → StoredIsListed V → TableHasFewRanges V
 few_ranges {V} listed w t n c =
     let edges = c.1 in
@@ -122,7 +84,8 @@ few_ranges {V} listed w t n c =
     edge_in w (entries t) at.0 (m.0, v.0) x at.1 (edge_into (low w m.0) (high w m.0) x m.2) in
     let a : length edges.addresses ≤ length (edges_of w (entries t))
     = ascending_fit edges.addresses (edges_of w (entries t)) edges.ascending within in
-    let b = edges_length w (entries t) in
+    let b : length (edges_of w (entries t)) ≤ 2 * length (entries t)
+    = cuts_length (λ (e : Network × V). (low w e.0, high w e.0)) (entries t) in
     let d = edges.count in
     let e : len t ≡ length (entries t) = len-entries t in
     let is = c.2 in

@@ -19,6 +19,13 @@ at_most b a x h e = ⊎_elim
     (λ (g : x ≤ a). g)
     (cases_lt a x)
 
+-- numbers that are compared by others
+pub not_before : (u v a b : ℕ) → v ≤ u → u ≡ a → v ≡ b → b ≤ a
+not_before u v a b l p r = omega arith
+
+pub is_before : (u v a b c : ℕ) → u < v → u ≡ a → v ≡ b → b ≤ c → a < c
+is_before u v a b c l p r m = omega arith
+
 -- ---- where a search begins, and how it goes on
 
 -- where the keys before `at` are less than x, three more follow that of `at`

@@ -1,5 +1,5 @@
 -- What is open tells what a look-up finds.
-use Rattle.std.proofs.Common.{◌≡◌, ◌≢◌, ◌↔◌, Bool, false, IsTrue, true≢false, ℕ, ◌+◌, ◌-◌, ◌<◌, ◌≤◌, List, [], ◌∷◌, ◌++◌, length, get_or, arith, sym, refl, ap, subst, ◌∙◌, ⊎_elim, Option, None, Some, is_some, slice_get, length-append}
+use Rattle.std.proofs.Common.{◌≡◌, ◌≢◌, ◌↔◌, Bool, false, IsTrue, ℕ, ◌+◌, ◌-◌, ◌<◌, ◌≤◌, List, [], ◌∷◌, ◌++◌, length, get_or, arith, sym, refl, ap, subst, ◌∙◌, ⊎_elim, Option, None, Some, is_some, slice_get, length-append}
 use Rattle.std.specs.List.{Contains}
 use Rattle.std.specs.Option.{option_map, option_to_list}
 use Rattle.std.specs.FinMap.{FinMap, get, entries}
@@ -16,6 +16,7 @@ use Rattle.ipnetwork_index.specs.Private.Answers.{Tells}
 use Rattle.ipnetwork_index.specs.Private.Sweeps.{AreListed, AreOpen, ArePlaces, KeepsOpen, NextIsAfter, LastEndsFrom, IsInnermost}
 use Rattle.ipnetwork_index.proofs.Chains.{nested_more, same_item}
 use Rattle.ipnetwork_index.proofs.Edging.{some_value}
+use Rattle.ipnetwork_index.proofs.Searching.{at_most}
 use Rattle.ipnetwork_index.proofs.Answering.{told, none_told}
 
 -- what is read of a list of entries
@@ -30,24 +31,12 @@ pub entries_length : {N V : Type 0} (pair : N → Network) (xs : List (N × V))
 entries_length {N} {V} pair xs = length-map {B = Network × V} xs (λ d. (pair d.0, d.1))
 
 -- the last of some places, as a call tells it
-pub top_read : (items seen : List ℕ) (copied last : Option ℕ) (j : ℕ) → seen ≡ items
+pub top_read : (opened seen : List ℕ) (copied last : Option ℕ) (j : ℕ) → seen ≡ opened
     → last ≡ slice_get seen (length seen - 1) → copied ≡ last → copied ≡ Some j
-    → slice_get items (length items - 1) ≡ Some j
-top_read items seen copied last j same read is some =
+    → slice_get opened (length opened - 1) ≡ Some j
+top_read opened seen copied last j same read is some =
     subst (λ (xs : List ℕ). slice_get xs (length xs - 1) ≡ Some j) same
     (sym read ∙ sym is ∙ some)
-
--- a test that says no
-pub not_less : (b : Bool) (x y : ℕ) → b ≡ false → IsTrue b ↔ (x < y) → y ≤ x
-not_less b x y e h =
-    ⊎_elim (λ (l : x < y). absurd (true≢false (sym (h.1 l) ∙ e))) (λ (g : y ≤ x). g) (cases_lt x y)
-
--- numbers that are compared by others
-pub not_before : (u v a b c : ℕ) → v ≤ u → u ≡ a → a ≡ c → v ≡ b → b ≤ c
-not_before u v a b c l p q r = omega arith
-
-pub is_before : (u v a b c y : ℕ) → u < v → u ≡ a → a ≡ c → v ≡ b → b ≤ y → c < y
-is_before u v a b c y l p q r m = omega arith
 
 module _ {V : Type 0} (w : ℕ) (es : List (Network × V)) where
   -- ---- the steps of the sweep
@@ -123,18 +112,6 @@ module _ {V : Type 0} (w : ℕ) (es : List (Network × V)) where
         nested = nested_more w es listed count x opened e h g ends;
       }
 
-  -- the next block begins at `first`, and those that end before that have been closed
-  pub opens_next : (count x first u v : ℕ) (before opened : List ℕ) (e : Network × V)
-      → AreListed w es → AreOpen w es count x before → KeepsOpen w es first before opened
-      → LastEndsFrom w es first opened → slice_get es count ≡ Some e → first ≡ low w e.0 → v ≤ u
-      → u ≡ x → v ≡ first
-      → AreOpen w es (count + 1) x (opened ++ count ∷ [])
-  opens_next count x first u v before opened e listed h keeps ends g begins le p q =
-      let from : first ≤ x = omega arith in
-      opens count x opened e listed (keeps count x from h)
-      (subst (λ (n : ℕ). LastEndsFrom w es n opened) begins ends) g
-      (subst (λ (n : ℕ). n ≤ x) begins from)
-
   pub closes : (count x j : ℕ) (opened rest : List ℕ) (e : Network × V)
       → AreOpen w es count x opened → opened ≡ rest ++ j ∷ [] → slice_get es j ≡ Some e
       → high w e.0 < x
@@ -171,6 +148,24 @@ module _ {V : Type 0} (w : ℕ) (es : List (Network × V)) where
             (ap (slice_get es) (left m n) ∙ r);
       }
 
+-- the next block begins at `first`, and those that end before that have been closed
+pub opens_next : {N V : Type 0} (pair : N → Network) (w : ℕ) (xs : List (N × V))
+    (count x first u v : ℕ) (b : Bool) (before opened : List ℕ) (e : N × V)
+    → AreListed w (by_pair pair xs) → AreOpen w (by_pair pair xs) count x before
+    → KeepsOpen w (by_pair pair xs) first before opened
+    → LastEndsFrom w (by_pair pair xs) first opened
+    → count < length xs → e ≡ get_or xs count e → first ≡ low w (pair (get_or xs count e).0)
+    → (IsTrue b ↔ (u < v)) → b ≡ false → u ≡ x → v ≡ first
+    → AreOpen w (by_pair pair xs) (count + 1) x (opened ++ count ∷ [])
+opens_next pair w xs count x first u v b before opened e listed h keeps ends own is at t f p q =
+    let le : v ≤ u = at_most b u v t f in
+    let from : first ≤ x = omega arith in
+    let begun : first ≡ low w (pair e.0)
+    = subst (λ d. first ≡ low w (pair d.0)) (sym is) at in
+    opens w (by_pair pair xs) count x opened (pair e.0, e.1) listed (keeps count x from h)
+    (subst (λ (n : ℕ). LastEndsFrom w (by_pair pair xs) n opened) begun ends)
+    (entry_read pair xs count e own is) (subst (λ (n : ℕ). n ≤ x) begun from)
+
 -- ---- the last of the places
 
 pub last_within : {V : Type 0} (es : List (Network × V)) (opened : List ℕ) (j : ℕ)
@@ -182,6 +177,32 @@ last_within es opened j h g =
     = get_or_from_slice_get opened (length opened - 1) j 0 g in
     subst (λ (i : ℕ). i < length es) is (h (length opened - 1) own)
 
+pub top_within : {N V : Type 0} (pair : N → Network) (xs : List (N × V)) (opened : List ℕ) (j : ℕ)
+    → ArePlaces (by_pair pair xs) opened → slice_get opened (length opened - 1) ≡ Some j
+    → j < length xs
+top_within pair xs opened j h top =
+    omega (arith, last_within (by_pair pair xs) opened j h top, entries_length pair xs)
+
+-- the block that was opened last stands at this place, and it ends with `end`
+pub record IsTop {V : Type 0} (es : List (Network × V)) (w : ℕ) (opened : List ℕ) (j end : ℕ)
+    : Type 0 where
+  pub entry : Network × V
+  pub last : slice_get opened (length opened - 1) ≡ Some j
+  pub read : slice_get es j ≡ Some entry
+  pub ends : end ≡ high w entry.0
+
+pub top_is : {N V : Type 0} (pair : N → Network) (w : ℕ) (xs : List (N × V)) (opened : List ℕ)
+    (j end : ℕ) (e : N × V)
+    → ArePlaces (by_pair pair xs) opened → slice_get opened (length opened - 1) ≡ Some j
+    → e ≡ get_or xs j e → end ≡ high w (pair (get_or xs j e).0)
+    → IsTop (by_pair pair xs) w opened j end
+top_is {N} {V} pair w xs opened j end e places last at ends = record {
+  entry = (pair e.0, e.1);
+  last = last;
+  read = entry_read pair xs j e (top_within pair xs opened j places last) at;
+  ends = subst (λ (d : N × V). end ≡ high w (pair d.0)) (sym at) ends;
+}
+
 pub places_popped : {V : Type 0} (es : List (Network × V)) (opened rest : List ℕ) (r : Option ℕ)
     → opened ≡ rest ++ option_to_list r → ArePlaces es opened → ArePlaces es rest
 places_popped es opened rest r is h k l =
@@ -192,33 +213,33 @@ places_popped es opened rest r is h k l =
     subst (λ (i : ℕ). i < length es) same (h k (omega arith))
 
 pub closes_popped : {V : Type 0} (w : ℕ) (es : List (Network × V)) (count x : ℕ)
-    (opened rest : List ℕ) (r : Option ℕ) (j : ℕ) (e : Network × V)
+    (opened rest : List ℕ) (r : Option ℕ) (j end : ℕ)
     → AreOpen w es count x opened → opened ≡ rest ++ option_to_list r
-    → slice_get opened (length opened - 1) ≡ Some j → slice_get es j ≡ Some e → high w e.0 < x
+    → IsTop es w opened j end → end < x
     → AreOpen w es count x rest
-closes_popped w es count x opened rest None j e h is top g before =
+closes_popped w es count x opened rest None j end h is top before =
     subst (λ (xs : List ℕ). AreOpen w es count x xs) (is ∙ append-nil rest) h
-closes_popped w es count x opened rest (Some y) j e h is top g before =
+closes_popped w es count x opened rest (Some y) j end h is top before =
     let size : length opened ≡ length rest + 1 = ap length is ∙ length-append rest (y ∷ []) in
     let here : length rest ≡ length opened - 1 = omega arith in
     let last : get_or opened (length opened - 1) 0 ≡ y
     = ap (λ xs. get_or xs (length opened - 1) 0) is
     ∙ get_or_push rest y 0 (length opened - 1) here in
     let same : j ≡ y
-    = sym (get_or_from_slice_get opened (length opened - 1) j 0 top) ∙ last in
-    closes w es count x y opened rest e h is (ap (slice_get es) (sym same) ∙ g) before
+    = sym (get_or_from_slice_get opened (length opened - 1) j 0 top.last) ∙ last in
+    closes w es count x y opened rest top.entry h is (ap (slice_get es) (sym same) ∙ top.read)
+    (omega (arith, top.ends))
 
-pub last_ends : {V : Type 0} (w : ℕ) (es : List (Network × V)) (x : ℕ) (opened : List ℕ) (j : ℕ)
-    (d : Network × V)
-    → slice_get opened (length opened - 1) ≡ Some j → slice_get es j ≡ Some d → x ≤ high w d.0
-    → LastEndsFrom w es x opened
-last_ends {V} w es x opened j d top g to = λ k e last f.
+pub last_ends : {V : Type 0} (w : ℕ) (es : List (Network × V)) (x : ℕ) (opened : List ℕ)
+    (j end : ℕ)
+    → IsTop es w opened j end → x ≤ end → LastEndsFrom w es x opened
+last_ends {V} w es x opened j end top to = λ k e last f.
     let here : length opened - 1 ≡ k = omega arith in
     let is : j ≡ get_or opened k 0
-    = sym (get_or_from_slice_get opened (length opened - 1) j 0 top)
+    = sym (get_or_from_slice_get opened (length opened - 1) j 0 top.last)
     ∙ ap (λ i. get_or opened i 0) here in
-    let one : d ≡ e = same_item es j (get_or opened k 0) d e is g f in
-    subst (λ (b : Network × V). x ≤ high w b.0) one to
+    let one : top.entry ≡ e = same_item es j (get_or opened k 0) top.entry e is top.read f in
+    subst (λ (b : Network × V). x ≤ high w b.0) one (omega (arith, top.ends))
 
 pub open_places : {V : Type 0} (w : ℕ) (es : List (Network × V)) (count x : ℕ) (opened : List ℕ)
     → AreOpen w es count x opened → ArePlaces es opened

@@ -1,11 +1,12 @@
 -- A column of answers.
-use Rattle.std.proofs.Common.{◌≡◌, ◌≢◌, ℕ, ◌+◌, ◌<◌, ◌≤◌, List, length, get_or, set, arith, subst, ◌∙◌, ⊎_elim}
+use Rattle.std.proofs.Common.{◌≡◌, ◌≢◌, ℕ, ◌+◌, ◌<◌, ◌≤◌, List, length, map, get_or, set, arith, sym, subst, ◌∙◌, ⊎_elim}
 use Rattle.std.proofs.lemmas.Bool.{cases_lt}
-use Rattle.std.proofs.lemmas.List.{length-set, get_or-set_same, get_or-set_other}
+use Rattle.std.proofs.lemmas.List.{length-map, length-set, get_or-set_same, get_or-set_other}
 use Rattle.ipnetwork_index.specs.Columns.{AreAnsweredUpTo}
+use Rattle.ipnetwork_index.proofs.Searching.{read_number}
 
 -- one answer more
-pub answered_more : {A : Type 0} (IsAnswer : ℕ → A → Type 0) (other : A) (addresses : List ℕ)
+answered_more : {A : Type 0} (IsAnswer : ℕ → A → Type 0) (other : A) (addresses : List ℕ)
     (answers : List A) (at : ℕ) (answer : A)
     → AreAnsweredUpTo IsAnswer other addresses answers at → at < length addresses
     → IsAnswer (get_or addresses at 0) answer
@@ -25,3 +26,26 @@ answered_more IsAnswer other addresses answers at answer h l own =
           (rw (get_or-set_same answers at answer other (omega arith)) own))
           (cases_lt k at);
     }
+
+-- so it is with the answers to a column of addresses
+module _ {A X : Type 0} (IsAnswer : ℕ → A → Type 0) (other : A) (f : X → ℕ) (addrs : List X) where
+  pub none_answered : (answers : List A) → length answers ≡ length addrs
+      → AreAnsweredUpTo IsAnswer other (map f addrs) answers 0
+  none_answered answers size =
+      record { size = size ∙ sym (length-map addrs f); all = λ k l. absurd (omega arith) }
+
+  pub next_answered : (answers : List A) (at : ℕ) (addr : X) (answer : A)
+      → AreAnsweredUpTo IsAnswer other (map f addrs) answers at → at < length addrs
+      → addr ≡ get_or addrs at addr → IsAnswer (f addr) answer
+      → AreAnsweredUpTo IsAnswer other (map f addrs) (set answers at answer) (at + 1)
+  next_answered answers at addr answer h l is own =
+      answered_more IsAnswer other (map f addrs) answers at answer h
+      (subst (λ (n : ℕ). at < n) (sym (length-map addrs f)) l)
+      (subst (λ (x : ℕ). IsAnswer x answer) (sym (read_number f addrs at addr l is)) own)
+
+  pub all_answered : (answers : List A) (at : ℕ)
+      → AreAnsweredUpTo IsAnswer other (map f addrs) answers at → at ≡ length addrs
+      → AreAnsweredUpTo IsAnswer other (map f addrs) answers (length (map f addrs))
+  all_answered answers at h end =
+      subst (λ (n : ℕ). AreAnsweredUpTo IsAnswer other (map f addrs) answers n)
+      (end ∙ sym (length-map addrs f)) h

@@ -1,9 +1,8 @@
 -- The turns of a set are the last numbers of its ranges.
-use Rattle.std.proofs.Common.{◌≡◌, ◌==◌, ◌↔◌, ℕ, zero, suc, ◌+◌, ◌-◌, ◌*◌, ◌^◌, ◌<◌, ◌≤◌, ◌⊎◌, Bool, true, false, not, List, [], ◌∷◌, ◌++◌, length, get_or, take, arith, inl, inr, sym, refl, subst, ◌∙◌, ⊎_elim, true≢false, length-append}
+use Rattle.std.proofs.Common.{◌≡◌, ◌==◌, ◌↔◌, ℕ, zero, suc, ◌+◌, ◌-◌, ◌*◌, ◌^◌, ◌<◌, ◌≤◌, ◌⊎◌, Bool, true, false, not, List, [], ◌∷◌, ◌++◌, length, get_or, arith, inl, inr, sym, refl, subst, ◌∙◌, ⊎_elim, true≢false, length-append}
 use Rattle.std.specs.List.{Contains, flat_map}
 use Rattle.std.proofs.lemmas.Bool.{cases_eq, cases_lt}
 use Rattle.std.proofs.lemmas.Nat.{pow_pos}
-use Rattle.std.proofs.lemmas.List.{length-take, get_or-take, get_or_default}
 use Rattle.std.proofs.lemmas.List.Elements.{Contains-append_cases, Contains-get_or}
 use Rattle.ipnetwork_family.specs.Network.{Network, low, high}
 use Rattle.ipnetwork_blocks.specs.Aggregate.{InUnion}
@@ -19,7 +18,8 @@ use Rattle.ipnetwork_sets.proofs.RunLists.{runs_are_ranges}
 use Rattle.ipnetwork_sets.proofs.CountLaws.{one_count}
 use Rattle.ipnetwork_index.specs.Turns.{IsTurn, CutInto, SetHasFewRanges}
 use Rattle.ipnetwork_index.specs.Private.Partitions.{IsPartition, LiesAt, is_inside}
-use Rattle.ipnetwork_index.specs.Private.Cuts.{before, cuts_of, AreCutsOf, Rises, Closes, EndsBefore}
+use Rattle.ipnetwork_index.specs.Private.Cuts.{cuts_of, AreCutsOf, Rises, Closes, EndsBefore}
+use Rattle.ipnetwork_index.proofs.Counting.{cuts_length, has_all_but_last}
 use Rattle.ipnetwork_index.proofs.Inside.{is_in, inside_at}
 use Rattle.ipnetwork_index.proofs.Cutting.{Range, set_cuts_rise, closes_same, closes_pushed, closed_tell}
 use Rattle.ipnetwork_index.proofs.Answering.{end_fits}
@@ -160,37 +160,7 @@ module _ (w : ℕ) (lasts : List ℕ) (first : Bool) (set : ℕ → Type 0) (p :
       (cases_lt x (get_or lasts at.0 0))
 
   pub turns_are : HasCount (IsTurn w set) (length lasts - 1)
-  turns_are =
-      let some = p.some in
-      let n : ℕ = length lasts - 1 in
-      let size : length (take n lasts) ≡ n = omega (arith, length-take {A = ℕ}) in
-      record {
-        addresses = take n lasts;
-        ascending = λ i j d l m.
-            let a : get_or lasts i 0 < get_or lasts j 0 = p.ascending i j l (omega arith) in
-            rw (
-              get_or-take n lasts i d (omega arith),
-              get_or-take n lasts j d (omega arith),
-              get_or_default lasts i d 0 (omega arith),
-              get_or_default lasts j d 0 (omega arith),
-            ) a;
-        exactly = λ x. (
-          (λ c.
-              let l = c.1 in
-              let is : get_or lasts c.0 0 ≡ x = get_or_default lasts c.0 0 x (omega arith)
-              ∙ sym (get_or-take n lasts c.0 x (omega arith)) ∙ c.2 in
-              subst (λ (y : ℕ). IsTurn w set y) is (turn_at c.0 (omega arith))),
-          (λ t.
-              let k = last_of_turn x t in
-              let l = k.1 in (
-                k.0,
-                omega arith,
-                get_or-take n lasts k.0 x (omega arith)
-                    ∙ get_or_default lasts k.0 x 0 (omega arith) ∙ k.2,
-              )),
-        );
-        count = size;
-      }
+  turns_are = has_all_but_last (IsTurn w set) w lasts p turn_at last_of_turn
 
   pub cut_into : CutInto w set (length lasts)
   cut_into = let some = p.some in (length lasts - 1, turns_are, omega arith)
@@ -209,22 +179,6 @@ runs_length w [] = omega arith
 runs_length w (b ∷ bs) =
     let r = runs_length w bs in
     let f = front_length (low w b, high w b) (runs w bs) in
-    omega arith
-
-before_length : (n : ℕ) → length (before n) ≤ 1
-before_length zero = omega arith
-before_length (suc n) = omega arith
-
-cuts_length : (rs : List Range) → length (flat_map cuts_of rs) ≤ 2 * length rs
-cuts_length [] = omega arith
-cuts_length (r ∷ rs) =
-    let rest = cuts_length rs in
-    let one = before_length r.0 in
-    let own : length (before r.0 ++ r.1 ∷ []) ≡ length (before r.0) + 1
-    = length-append (before r.0) (r.1 ∷ []) in
-    let all : length ((before r.0 ++ r.1 ∷ []) ++ flat_map cuts_of rs) ≡ length
-    (before r.0 ++ r.1 ∷ []) + length (flat_map cuts_of rs)
-    = length-append (before r.0 ++ r.1 ∷ []) (flat_map cuts_of rs) in
     omega arith
 
 -- all cuts are numbers of w bits
@@ -314,7 +268,7 @@ few_ranges apart w blocks n h c =
     let e : c.0 ≡ length close.0 - 1 = one_count (IsTurn w set) (IsTurn w set) c.0
     (length close.0 - 1) (λ x. ((λ t. t), (λ t. t))) c.1 turns in
     let a = runs_length w blocks in
-    let b = cuts_length rs in
+    let b : length (flat_map cuts_of rs) ≤ 2 * length rs = cuts_length (λ (r : Range). r) rs in
     let d = close.2 in
     let is = c.2 in
     omega arith

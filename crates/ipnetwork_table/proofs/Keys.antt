@@ -9,27 +9,37 @@ use Rattle.ipnetwork_family.specs.Network.{Network, HostBitsAreZero, block_of, n
 use Rattle.ipnetwork_table.specs.Table.{HasNoHostBits}
 use Rattle.ipnetwork_table.proofs.Pairs.{total, one_network, tie_of}
 
-nothing : false ≡ true → ⊥
+pub nothing : false ≡ true → ⊥
 nothing e = cc
 
+-- what is so of each key
+pub none_fit : (V : Type 0) (Fits : Network → Type 0) (n : Network) → IsSome (get (empty {X = V} {R = network_cmp}) n) → Fits n
+none_fit V Fits n stored = absurd (nothing (subst IsSome (get-empty network_cmp n) stored))
+
+module _ {V : Type 0} (Fits : Network → Type 0) where
+  pub fit_with : (t : FinMap network_cmp V) (n : Network) (v : V) → Fits n → ((m : Network) → IsSome (get t m) → Fits m) → (m : Network) → IsSome (get (insert t n v) m) → Fits m
+  fit_with t n v own fit m =
+      elim (eq_by_cmp network_cmp m n) as (λ b. eq_by_cmp network_cmp m n ≡ b → get (insert t n v) m ≡ cond b (Some v) (get t m) → IsSome (get (insert t n v) m) → Fits m) [
+        | true ↦ λ at is stored. subst Fits (sym (one_network m n (tie_of _ at))) own
+        | false ↦ λ apart is stored. fit m (subst IsSome is stored)
+      ] refl (get-insert total t n v m)
+
+  pub fit_without : (t : FinMap network_cmp V) (n : Network) → ((m : Network) → IsSome (get t m) → Fits m) → (m : Network) → IsSome (get (remove t n) m) → Fits m
+  fit_without t n fit m =
+      elim (eq_by_cmp network_cmp m n) as (λ b. get (remove t n) m ≡ cond b None (get t m) → IsSome (get (remove t n) m) → Fits m) [
+        | true ↦ λ is stored. absurd (nothing (subst IsSome is stored))
+        | false ↦ λ is stored. fit m (subst IsSome is stored)
+      ] (get-remove total t n m)
+
 pub none_at_first : (V : Type 0) (w : ℕ) → HasNoHostBits w (empty {X = V} {R = network_cmp})
-none_at_first V w n stored = absurd (nothing (subst IsSome (get-empty network_cmp n) stored))
+none_at_first V w = none_fit V (HostBitsAreZero w)
 
 module _ {V : Type 0} (w : ℕ) where
   pub one_more : (t : FinMap network_cmp V) (n : Network) (v : V) → HostBitsAreZero w (block_of w n) → HasNoHostBits w t → HasNoHostBits w (insert t (block_of w n) v)
-  one_more t n v clear blocks m =
-      let key = block_of w n in
-      elim (eq_by_cmp network_cmp m key) as (λ b. eq_by_cmp network_cmp m key ≡ b → get (insert t key v) m ≡ cond b (Some v) (get t m) → IsSome (get (insert t key v) m) → HostBitsAreZero w m) [
-        | true ↦ λ at is stored. subst (HostBitsAreZero w) (sym (one_network m key (tie_of _ at))) clear
-        | false ↦ λ apart is stored. blocks m (subst IsSome is stored)
-      ] refl (get-insert total t key v m)
+  one_more t n v = fit_with (HostBitsAreZero w) t (block_of w n) v
 
   pub one_less : (t : FinMap network_cmp V) (n : Network) → HasNoHostBits w t → HasNoHostBits w (remove t n)
-  one_less t n blocks m =
-      elim (eq_by_cmp network_cmp m n) as (λ b. get (remove t n) m ≡ cond b None (get t m) → IsSome (get (remove t n) m) → HostBitsAreZero w m) [
-        | true ↦ λ is stored. absurd (nothing (subst IsSome is stored))
-        | false ↦ λ is stored. blocks m (subst IsSome is stored)
-      ] (get-remove total t n m)
+  one_less t n = fit_without (HostBitsAreZero w) t n
 
 -- a network ties with itself alone
 tied : (n : Network) → eq_by_cmp network_cmp n n ≡ true

@@ -7,11 +7,9 @@ use Rattle.std.proofs.lemmas.Bool.Decides.{Decides-eqb, Decides-ltb}
 use Rattle.std.proofs.lemmas.List.{get_or-set_same, get_or-set_other}
 use Rattle.ipnetwork_family.specs.Network.{Network, network_cmp}
 use Rattle.ipnetwork_table.specs.Private.Lengths.{count_of_length, CountsLengths, SomeHasLength, NoneHasLength}
+use Rattle.ipnetwork_table.proofs.Keys.{nothing}
 use Rattle.ipnetwork_table.proofs.Listing.{listed_is_stored}
 use Rattle.ipnetwork_table.proofs.Pairs.{total, one_network, tie_of}
-
-nothing : false ≡ true → ⊥
-nothing e = cc
 
 one_more_at_most : (b : Bool) (n : ℕ) → cond b n (n + 1) ≤ n + 1
 one_more_at_most true n = omega arith

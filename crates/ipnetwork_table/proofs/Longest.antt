@@ -1,40 +1,28 @@
 -- Tables of blocks, and the search for the longest block that holds an address.
-use Rattle.std.proofs.Common.{◌≡◌, ℕ, ◌-◌, ◌^◌, ◌<◌, ◌≤◌, true, false, cond, Some, None, sym, refl, ap, subst, ◌∙◌, arith, ⊎_elim}
+use Rattle.std.proofs.Common.{◌≡◌, ℕ, ◌-◌, ◌^◌, ◌<◌, ◌≤◌, Some, None, sym, ap, subst, ◌∙◌, arith, ⊎_elim}
 use Rattle.std.specs.Prelude.{IsSome}
-use Rattle.std.specs.Ordering.{eq_by_cmp}
-use Rattle.std.specs.FinMap.{FinMap, get, insert, remove, empty, get-empty, get-insert, get-remove}
+use Rattle.std.specs.FinMap.{FinMap, get, insert, remove, empty}
 use Rattle.std.proofs.lemmas.Bool.{cases_lt}
 use Rattle.ipnetwork_family.specs.Network.{Network, Member, network_cmp, block_at, IsCidrBlock}
 use Rattle.ipnetwork_family.proofs.BlocksAt.{block_at_holds, block_at_is}
 use Rattle.ipnetwork_table.specs.Table.{HasOnlyBlocks, IsLongest, NoneHolds}
 use Rattle.ipnetwork_table.specs.Private.Nearest.{NoneAbove}
-use Rattle.ipnetwork_table.proofs.Pairs.{total, one_network, tie_of}
+use Rattle.ipnetwork_table.proofs.Keys.{nothing, none_fit, fit_with, fit_without}
 
 abbrev Table : Type 0 → Type 0
 Table V = FinMap network_cmp V
 
-nothing : false ≡ true → ⊥
-nothing e = cc
-
 -- ---- the tables that calls make
 
 pub new_table : (w : ℕ) (V : Type 0) → HasOnlyBlocks w (empty {X = V} {R = network_cmp})
-new_table w V n stored = absurd (nothing (subst IsSome (get-empty network_cmp n) stored))
+new_table w V = none_fit V (IsCidrBlock w)
 
 module _ {V : Type 0} (w : ℕ) where
   pub with_block : (t : Table V) (n : Network) (v : V) → IsCidrBlock w n → HasOnlyBlocks w t → HasOnlyBlocks w (insert t n v)
-  with_block t n v key blocks m =
-      elim (eq_by_cmp network_cmp m n) as (λ b. eq_by_cmp network_cmp m n ≡ b → get (insert t n v) m ≡ cond b (Some v) (get t m) → IsSome (get (insert t n v) m) → IsCidrBlock w m) [
-        | true ↦ λ at is stored. subst (IsCidrBlock w) (sym (one_network m n (tie_of _ at))) key
-        | false ↦ λ apart is stored. blocks m (subst IsSome is stored)
-      ] refl (get-insert total t n v m)
+  with_block = fit_with (IsCidrBlock w)
 
   pub without : (t : Table V) (n : Network) → HasOnlyBlocks w t → HasOnlyBlocks w (remove t n)
-  without t n blocks m =
-      elim (eq_by_cmp network_cmp m n) as (λ b. get (remove t n) m ≡ cond b None (get t m) → IsSome (get (remove t n) m) → IsCidrBlock w m) [
-        | true ↦ λ is stored. absurd (nothing (subst IsSome is stored))
-        | false ↦ λ is stored. blocks m (subst IsSome is stored)
-      ] (get-remove total t n m)
+  without = fit_without (IsCidrBlock w)
 
 -- ---- the search
 

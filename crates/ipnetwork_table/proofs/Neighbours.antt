@@ -14,10 +14,8 @@ use Rattle.ipnetwork_family.specs.Network.{Network, IsNetworkAtMost, network_cmp
 use Rattle.ipnetwork_family.proofs.Generic.{at_most_from_cmp}
 use Rattle.ipnetwork_table.specs.Table.{by_pair}
 use Rattle.ipnetwork_table.specs.Private.Nearest.{NoneUpTo, IsLastUpTo}
+use Rattle.ipnetwork_table.proofs.Keys.{nothing}
 use Rattle.ipnetwork_table.proofs.Pairs.{total, one_network, tie_of, value_at}
-
-nothing : false ≡ true → ⊥
-nothing e = cc
 
 -- what comes before another or is it does not come after it
 not_after : (a b : Network) → IsNetworkAtMost a b → is_gt (network_cmp a b) ≡ false

@@ -1,46 +1,26 @@
 -- A group in shortest lower-case hex, and groups in it joined by colons: the same text in both libraries.
-use Rattle.std.proofs.Common.{◌≡◌, ◌≢◌, false, ℕ, ◌/◌, ◌%◌, ◌^◌, ◌<◌, ◌≤◌, List, [], ◌∷◌, ◌++◌, map, flat_map, refl, ap, ap₂, ◌∙◌, arith, inl, inr, le-leb, ne_eqb, eq-eqb}
+use Rattle.std.proofs.Common.{◌≡◌, false, ℕ, ◌/◌, ◌%◌, ◌^◌, ◌<◌, List, [], ◌∷◌, ◌++◌, map, flat_map, refl, ap, ap₂, ◌∙◌, arith, inl, inr, le-leb}
 use Rattle.std.proofs.lemmas.Bool.{cases_lt, lt-leb}
 use Rattle.std.proofs.lemmas.Fmt.{hex_one_digit, hex_two_digits}
 use Rattle.std.proofs.lemmas.List.Folds.{flat_map-map}
 use Rattle.std.specs.Char.{digit_char}
-use Rattle.std.specs.Fmt.{digits}
 use Rattle.std.specs.Int.Digits.{AllBelowBase}
 use Rattle.std.specs.Net.Text as std
 use Rattle.ipnetwork_addr.specs.Texts.{colon}
 use Rattle.ipnetwork_addr.specs.Ipv6Canonical.{hex, hex_groups}
+use Rattle.ipnetwork_addr.proofs.Hexes.{hex_three, hex_four}
 use Rattle.ipnetwork_witness.proofs.Colons.{joined-cons}
-
--- ---- three and four digits of this library's
-
-three : (n : ℕ) → 0x100 ≤ n → n < 0x1000 → hex n ≡ digit_char (n / 0x100 % 16) ∷ digit_char (n / 0x10 % 16) ∷ digit_char (n % 16) ∷ []
-unfolding digits
-three n low high =
-    let one : n / 16 ≢ 0 = omega arith in
-    let two : n / 16 / 16 ≢ 0 = omega arith in
-    let end : n / 16 / 16 / 16 ≡ 0 = omega arith in
-    let top : n / 16 / 16 % 16 ≡ n / 0x100 % 16 = omega arith in
-    rw (ne_eqb (n / 16) 0 one, ne_eqb (n / 16 / 16) 0 two, eq-eqb (n / 16 / 16 / 16) 0 end, top)
-
-four : (n : ℕ) → 0x1000 ≤ n → n < 0x10000 → hex n ≡ digit_char (n / 0x1000) ∷ digit_char (n / 0x100 % 16) ∷ digit_char (n / 0x10 % 16) ∷ digit_char (n % 16) ∷ []
-unfolding digits
-four n low high =
-    let one : n / 16 ≢ 0 = omega arith in
-    let two : n / 16 / 16 ≢ 0 = omega arith in
-    let three : n / 16 / 16 / 16 ≢ 0 = omega arith in
-    let end : n / 16 / 16 / 16 / 16 ≡ 0 = omega arith in
-    let top : n / 16 / 16 / 16 % 16 ≡ n / 0x1000 = omega arith in
-    let next : n / 16 / 16 ≡ n / 0x100 = omega arith in
-    rw (ne_eqb (n / 16) 0 one, ne_eqb (n / 16 / 16) 0 two, ne_eqb (n / 16 / 16 / 16) 0 three, eq-eqb (n / 16 / 16 / 16 / 16) 0 end, top, next)
 
 -- ---- a group
 
 pub same_hex : (n : ℕ) → n < 2 ^ 16 → hex n ≡ std.hex n
 unfolding std.hex
 same_hex n fits = elim (cases_lt n 0x1000) [
-  | inr h₄ ↦ four n h₄ fits ∙ rw (le-leb 0x1000 n h₄)
+  | inr h₄ ↦ hex_four n h₄ fits ∙ rw (le-leb 0x1000 n h₄)
   | inl h₃ ↦ elim (cases_lt n 0x100) [
-    | inr low ↦ three n low h₃ ∙ rw (lt-leb 0x1000 n h₃, le-leb 0x100 n low)
+    | inr low ↦
+        let top : n / 0x100 ≡ n / 0x100 % 16 = omega arith in
+        hex_three n low h₃ ∙ ap (λ d. digit_char d ∷ digit_char (n / 0x10 % 16) ∷ digit_char (n % 16) ∷ []) top ∙ rw (lt-leb 0x1000 n h₃, le-leb 0x100 n low)
     | inl h₂ ↦ elim (cases_lt n 0x10) [
       | inr low ↦
           let top : n / 16 ≡ n / 16 % 16 = omega arith in

@@ -1,5 +1,4 @@
 use Rattle.std.proofs.Common.{ℕ, List, map}
-use Rattle.ipnetwork_index.specs.Searches.{IsPlaceOf}
 use Rattle.ipnetwork_index.proofs.Starting.{is_within}
 use Rattle.ipnetwork_index.proofs.Halving.{high_within, come_by_high, place_by_high}
 use Rattle.ipnetwork_index.proofs.halves.place_by_halves.Goals as goal
@@ -15,23 +14,19 @@ place_of-at-requires-clause-within g c =
 
 pub returns-then-tell : goal.returns-then-tell
 returns-then-tell g c =
-    let high = g.N.IndexedNetwork.high in
     let padded : List ℕ = map g.N.Number.Key.value c.args.lasts.now in
     let x : ℕ = g.N.Number.Key.value c.args.number in
-    let at : ℕ = c.place_of-at.result in
-    let place : IsPlaceOf (map high padded) (high x) at
-    = rw (c.requires.halved.highs_are, c.high_of-high.ensures) at c.place_of-at.ensures in
-    place_by_high high g.met.N.IndexedNetwork.high_ascends padded x at
+    place_by_high g.N.IndexedNetwork.high g.met.N.IndexedNetwork.high_ascends padded x
+    c.place_of-at.result
     (is_within g.N.CidrNetwork.WIDTH padded x c.requires.padded c.requires.small)
-    (c.requires.halved.all_last c.if-tell.true) place
+    (c.requires.halved.all_last c.if-tell.true)
+    (rw (c.requires.halved.highs_are, c.high_of-high.ensures) at c.place_of-at.ensures)
 
 pub place_from-requires-clause-come : goal.place_from-requires-clause-come
 place_from-requires-clause-come g c =
-    let high = g.N.IndexedNetwork.high in
     let padded : List ℕ = map g.N.Number.Key.value c.args.lasts.now in
     let x : ℕ = g.N.Number.Key.value c.args.number in
-    let at : ℕ = c.place_of-at.result in
-    let place : IsPlaceOf (map high padded) (high x) at
-    = rw (c.requires.halved.highs_are, c.high_of-high.ensures) at c.place_of-at.ensures in
-    come_by_high high g.met.N.IndexedNetwork.high_ascends padded x at
-    (is_within g.N.CidrNetwork.WIDTH padded x c.requires.padded c.requires.small) place
+    come_by_high g.N.IndexedNetwork.high g.met.N.IndexedNetwork.high_ascends padded x
+    c.place_of-at.result
+    (is_within g.N.CidrNetwork.WIDTH padded x c.requires.padded c.requires.small)
+    (rw (c.requires.halved.highs_are, c.high_of-high.ensures) at c.place_of-at.ensures)

@@ -1,19 +1,17 @@
-use Rattle.std.proofs.Common.{◌≡◌, ℕ, ◌-◌, ◌<◌, Some, length, arith, sym, ◌∙◌, slice_get}
+use Rattle.std.proofs.Common.{◌≡◌, ℕ, ◌-◌, Some, length, sym, ◌∙◌, slice_get}
 use Rattle.ipnetwork_table.specs.Table.{by_pair}
-use Rattle.ipnetwork_index.proofs.Sweeping.{entry_read, entries_length, last_within, innermost_is}
+use Rattle.ipnetwork_index.proofs.Sweeping.{entry_read, innermost_is, top_within}
 use Rattle.ipnetwork_index.proofs.sweep.innermost.Goals as goal
 
 pub returns-in-Some : goal.returns-in-Some
 returns-in-Some g c =
     let pair = g.N.CidrNetwork.pair in
-    let es = by_pair pair c.args.entries.now in
     let opened = c.args.opened.now in
     let place : ℕ = c.in-Some.place in
     let e = c.index-entries-place.result in
     let top : slice_get opened (length opened - 1) ≡ Some place
     = sym c.last.ensures.value ∙ sym c.copied.ensures ∙ c.in-Some.is in
-    let inside : place < length es = last_within es opened place c.requires.places top in
-    let own : place < length c.args.entries.now
-    = omega (arith, inside, entries_length pair c.args.entries.now) in
+    let own = top_within pair c.args.entries.now opened place c.requires.places top in
     let read = entry_read pair c.args.entries.now place e own c.index-entries-place.is in
-    innermost_is es opened place c.prefix.result (pair e.0) e.1 top read c.prefix.ensures.made
+    innermost_is (by_pair pair c.args.entries.now) opened place c.prefix.result (pair e.0) e.1 top
+    read c.prefix.ensures.made

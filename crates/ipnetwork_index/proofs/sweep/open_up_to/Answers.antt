@@ -1,59 +1,40 @@
-use Rattle.std.proofs.Common.{◌≡◌, ℕ, ◌<◌, Some, length, arith, subst, sym, slice_get}
+use Rattle.std.proofs.Common.{ℕ, ◌<◌, length, arith}
 use Rattle.std.proofs.lemmas.Option.{slice_get_within}
-use Rattle.ipnetwork_family.specs.Network.{low}
 use Rattle.ipnetwork_table.specs.Table.{by_pair}
 use Rattle.ipnetwork_index.proofs.Chains.{few_open, room_for_next}
-use Rattle.ipnetwork_index.proofs.Sweeping.{entry_read, entries_length, not_less, opens_next}
+use Rattle.ipnetwork_index.proofs.Sweeping.{entries_length, opens_next}
 use Rattle.ipnetwork_index.proofs.sweep.open_up_to.Goals as goal
 
 pub push-requires : goal.push-requires
 push-requires g c =
-    let pair = g.N.CidrNetwork.pair in
     let w : ℕ = g.N.CidrNetwork.WIDTH in
-    let es = by_pair pair c.args.entries.now in
     let x : ℕ = g.N.CidrNetwork.number c.args.addr in
-    let at : ℕ = c.opening.at in
-    let e = c.index-entries-at.result in
     let opened = c.close_before.new.opened.items in
-    let read : slice_get es at ≡ Some (pair e.0, e.1)
-    = entry_read pair c.args.entries.now at e c.opening-test.true c.index-entries-at.is in
-    let le = not_less c.is_less.result (g.N.Number.Key.value c.number_of.result)
-    (g.N.Number.Key.value c.number_of-in-opening.result) c.if-is_less.false c.is_less.ensures in
-    let begins : g.N.CidrNetwork.number c.network-first.result ≡ low w (pair e.0)
-    = subst (λ d. g.N.CidrNetwork.number c.network-first.result ≡ low w (pair d.0))
-    (sym c.index-entries-at.is) c.network-first.ensures in
     let room : length opened < 129
-    = room_for_next w es at x opened c.requires.listed
-    (opens_next w es at x (g.N.CidrNetwork.number c.network-first.result)
-    (g.N.Number.Key.value c.number_of.result)
-    (g.N.Number.Key.value c.number_of-in-opening.result) c.opening.opened.items opened
-    (pair e.0, e.1) c.requires.listed c.opening.invariant c.close_before.ensures.kept
-    c.close_before.ensures.last read begins le c.number_of.ensures.number
-    c.number_of-in-opening.ensures.number)
+    = room_for_next w (by_pair g.N.CidrNetwork.pair c.args.entries.now) c.opening.at x opened
+    c.requires.listed
+    (opens_next g.N.CidrNetwork.pair w c.args.entries.now c.opening.at x
+    (g.N.CidrNetwork.number c.network-first.result) (g.N.Number.Key.value c.number_of.result)
+    (g.N.Number.Key.value c.number_of-in-opening.result) c.is_less.result
+    c.opening.opened.items opened c.index-entries-at.result c.requires.listed
+    c.opening.invariant c.close_before.ensures.kept c.close_before.ensures.last
+    c.opening-test.true c.index-entries-at.is c.network-first.ensures c.is_less.ensures
+    c.if-is_less.false c.number_of.ensures.number c.number_of-in-opening.ensures.number)
     g.met.N.AddressSpace.few_bits in
     (omega arith, room)
 
 pub opening-preserved : goal.opening-preserved
 opening-preserved g c =
-    let pair = g.N.CidrNetwork.pair in
-    let w : ℕ = g.N.CidrNetwork.WIDTH in
-    let es = by_pair pair c.args.entries.now in
-    let at : ℕ = c.opening.at in
-    let e = c.index-entries-at.result in
-    let read : slice_get es at ≡ Some (pair e.0, e.1)
-    = entry_read pair c.args.entries.now at e c.opening-test.true c.index-entries-at.is in
-    let le = not_less c.is_less.result (g.N.Number.Key.value c.number_of.result)
-    (g.N.Number.Key.value c.number_of-in-opening.result) c.if-is_less.false c.is_less.ensures in
-    let begins : g.N.CidrNetwork.number c.network-first.result ≡ low w (pair e.0)
-    = subst (λ d. g.N.CidrNetwork.number c.network-first.result ≡ low w (pair d.0))
-    (sym c.index-entries-at.is) c.network-first.ensures in
     rw c.push.ensures.items
-    (opens_next w es at (g.N.CidrNetwork.number c.args.addr)
-    (g.N.CidrNetwork.number c.network-first.result) (g.N.Number.Key.value c.number_of.result)
-    (g.N.Number.Key.value c.number_of-in-opening.result) c.opening.opened.items
-    c.close_before.new.opened.items (pair e.0, e.1) c.requires.listed c.opening.invariant
-    c.close_before.ensures.kept c.close_before.ensures.last read begins le
-    c.number_of.ensures.number c.number_of-in-opening.ensures.number)
+    (opens_next g.N.CidrNetwork.pair g.N.CidrNetwork.WIDTH c.args.entries.now c.opening.at
+    (g.N.CidrNetwork.number c.args.addr) (g.N.CidrNetwork.number c.network-first.result)
+    (g.N.Number.Key.value c.number_of.result)
+    (g.N.Number.Key.value c.number_of-in-opening.result) c.is_less.result
+    c.opening.opened.items c.close_before.new.opened.items c.index-entries-at.result
+    c.requires.listed c.opening.invariant c.close_before.ensures.kept
+    c.close_before.ensures.last c.opening-test.true c.index-entries-at.is
+    c.network-first.ensures c.is_less.ensures c.if-is_less.false c.number_of.ensures.number
+    c.number_of-in-opening.ensures.number)
 
 pub returns-then-is_less-clause-few : goal.returns-then-is_less-clause-few
 returns-then-is_less-clause-few g c =

@@ -1,42 +1,22 @@
-use Rattle.std.proofs.Common.{◌≡◌, ℕ, None, List, length, map, get_or, arith, sym, subst}
-use Rattle.std.proofs.lemmas.List.{length-map}
+use Rattle.std.proofs.Common.{None, arith}
 use Rattle.ipnetwork_table.specs.Table.{Finds}
-use Rattle.ipnetwork_index.specs.Columns.{AreAnsweredUpTo}
-use Rattle.ipnetwork_index.proofs.Searching.{read_number}
-use Rattle.ipnetwork_index.proofs.Telling.{answered_more}
+use Rattle.ipnetwork_index.proofs.Telling.{none_answered, next_answered, all_answered}
 use Rattle.ipnetwork_index.proofs.route_index.RouteIndex.lookup_each.Goals as goal
 
 pub loop-place-init : goal.loop-place-init
 loop-place-init g c =
-    let f = g.N.CidrNetwork.number in
-    let size : length (map f c.args.addrs.now) ≡ length c.args.addrs.now
-    = length-map c.args.addrs.now f in
-    record { size = omega (arith, c.requires, size); all = λ k l. absurd (omega arith) }
+    none_answered (Finds g.N.CidrNetwork.pair g.N.CidrNetwork.WIDTH c.args.self.now) None
+    g.N.CidrNetwork.number c.args.addrs.now _ c.requires
 
 pub loop-place-preserved : goal.loop-place-preserved
 loop-place-preserved g c =
-    let f = g.N.CidrNetwork.number in
-    let pair = g.N.CidrNetwork.pair in
-    let w : ℕ = g.N.CidrNetwork.WIDTH in
-    let xs : List ℕ = map f c.args.addrs.now in
-    let at : ℕ = c.loop-place.place in
-    let size : length xs ≡ length c.args.addrs.now = length-map c.args.addrs.now f in
-    let here : get_or xs at 0 ≡ f c.index-addrs-place.result
-    = read_number f c.args.addrs.now at c.index-addrs-place.result
-    (omega (arith, c.loop-place-test.true)) c.index-addrs-place.is in
-    answered_more (Finds pair w c.args.self.now) None xs c.loop-place.answers at c.lookup.result
-    c.loop-place.invariant (omega (arith, c.loop-place-test.true, size))
-    (subst (λ (x : ℕ). Finds pair w c.args.self.now x c.lookup.result) (sym here)
-    c.lookup.ensures.answer)
+    next_answered (Finds g.N.CidrNetwork.pair g.N.CidrNetwork.WIDTH c.args.self.now) None
+    g.N.CidrNetwork.number c.args.addrs.now c.loop-place.answers c.loop-place.place
+    c.index-addrs-place.result c.lookup.result c.loop-place.invariant
+    (omega (arith, c.loop-place-test.true)) c.index-addrs-place.is c.lookup.ensures.answer
 
 pub returns : goal.returns
 returns g c =
-    let f = g.N.CidrNetwork.number in
-    let xs : List ℕ = map f c.args.addrs.now in
-    let size : length xs ≡ length c.args.addrs.now = length-map c.args.addrs.now f in
-    let all : c.loop-place.place ≡ length xs
-    = omega (arith, c.loop-place-test.false, c.loop-place.auto.place-end, size) in
-    subst (λ (n : ℕ).
-    AreAnsweredUpTo (Finds g.N.CidrNetwork.pair g.N.CidrNetwork.WIDTH c.args.self.now) None xs
-    c.loop-place.answers n) all
-    c.loop-place.invariant
+    all_answered (Finds g.N.CidrNetwork.pair g.N.CidrNetwork.WIDTH c.args.self.now) None
+    g.N.CidrNetwork.number c.args.addrs.now c.loop-place.answers c.loop-place.place
+    c.loop-place.invariant (omega (arith, c.loop-place-test.false, c.loop-place.auto.place-end))
