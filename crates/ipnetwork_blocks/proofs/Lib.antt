@@ -14,6 +14,7 @@ pub mod BlockExamples
 pub mod BlocksFrom
 pub mod ExcludedCounts
 pub mod ExcludedParts
+pub mod Families
 pub mod FollowingBlock
 pub mod HalfBlocks
 pub mod HalfParts

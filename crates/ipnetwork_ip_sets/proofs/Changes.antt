@@ -13,7 +13,8 @@ use Rattle.ipnetwork_blocks.specs.LeastList.{IsLeastList}
 use Rattle.ipnetwork_blocks.proofs.LeastLists.{contains_nil, least_of_same, least_unique}
 use Rattle.ipnetwork_sets.specs.Sets.{IsAddressSet, MeetsUnion, InEither, InFirstAlone}
 use Rattle.ipnetwork_ip_sets.specs.IpSets.{v4_then_v6, IsIpLeastList, MeetsIpUnion, InIpEither, InIpFirstAlone}
-use Rattle.ipnetwork_ip_sets.proofs.Families.{through, v4_own, v6_own, v4_family, v6_family, lies_in_family, meets_in_family}
+use Rattle.ipnetwork_blocks.proofs.Families.{through, v4_own, v6_own, v4_family, v6_family, lies_in_family}
+use Rattle.ipnetwork_ip_sets.proofs.Families.{meets_in_family}
 use Rattle.ipnetwork_ip_sets.proofs.FamilySets.{not_iff, IsOperation, either, alone, least_of_families, parts}
 use Rattle.ipnetwork_ip_sets.proofs.Questions.{length_by_family}
 

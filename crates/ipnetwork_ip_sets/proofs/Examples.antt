@@ -4,7 +4,7 @@ use Rattle.std.specs.List.{filter_map}
 use Rattle.ipnetwork_family.specs.Network.{Network}
 use Rattle.ipnetwork_blocks.specs.AggregateIp.{as_v4, as_v6}
 use Rattle.ipnetwork_ip_sets.specs.IpSets.{v4_then_v6, HasTooLittleRoom}
-use Rattle.ipnetwork_ip_sets.proofs.Families.{v4_of_both, v6_of_both}
+use Rattle.ipnetwork_blocks.proofs.Families.{v4_of_both, v6_of_both}
 
 -- room for one IPv6 network is enough for one, and no room for IPv4 networks is enough for none
 pub enough_for_one : (n : Network) → ¬ (HasTooLittleRoom 0 1 (v4_then_v6 [] (n ∷ [])))

@@ -1,116 +1,32 @@
 -- Lists of networks of either family, and those of each family in them.
-use Rattle.std.proofs.Common.{◌≡◌, ◌↔◌, ℕ, suc, ◌<◌, sym, refl, ap, subst, ◌∙◌, List, [], ◌∷◌, ◌++◌, map, length, get_or, take, Option, Some}
+use Rattle.std.proofs.Common.{◌≡◌, ◌↔◌, ℕ, suc, ◌<◌, sym, refl, ap, subst, ◌∙◌, List, [], ◌∷◌, ◌++◌, map, length, get_or, take, Option}
 use Rattle.std.proofs.lemmas.List.{map-id}
 use Rattle.std.proofs.lemmas.List.Elements.{filter_map-append}
 use Rattle.std.proofs.Math.Seq.{take-suc}
-use Rattle.std.specs.List.{Contains, filter_map}
+use Rattle.std.specs.List.{filter_map}
 use Rattle.ipnetwork_addr.specs.declared.ip.IpAddr.{IpAddr}
 use Rattle.ipnetwork_addr.specs.declared.ip.IpAddr.TheVariants as addresses
-use Rattle.ipnetwork_family.specs.Network.{Network, Member}
-use Rattle.ipnetwork.specs.IpNetworks.{IpMember}
+use Rattle.ipnetwork_family.specs.Network.{Network}
 use Rattle.ipnetwork.specs.declared.ip_network.IpNetwork.{IpNetwork}
 use Rattle.ipnetwork.specs.declared.ip_network.IpNetwork.TheVariants.{V4, V6}
-use Rattle.ipnetwork_blocks.specs.Aggregate.{InUnion, LiesInUnion, IsAggregate}
+use Rattle.ipnetwork_blocks.specs.Aggregate.{InUnion, IsAggregate}
 use Rattle.ipnetwork_blocks.specs.AggregateIp.{as_v4, as_v6, IsIpAggregate}
-use Rattle.ipnetwork_blocks.specs.AggregateIpLaws.{InIpUnion, LiesInIpUnion}
+use Rattle.ipnetwork_blocks.specs.AggregateIpLaws.{InIpUnion}
 use Rattle.ipnetwork_blocks.specs.LeastList.{IsLeastList}
-use Rattle.ipnetwork_blocks.proofs.AggregateIp.{given, gives}
+use Rattle.ipnetwork_blocks.proofs.Families.{IsFamily, v4_family, v6_family, v4_of_both, v6_of_both, v4_own, v6_own, own_parts, in_family}
 use Rattle.ipnetwork_blocks.proofs.LeastLists.{least_of_same}
 use Rattle.ipnetwork_sets.specs.Sets.{IsAddressSet, MeetsUnion}
 use Rattle.ipnetwork_ip_sets.specs.IpSets.{v4_then_v6, IsIpLeastList, IsIpAddressSet, MeetsIpUnion}
 
-pub through : {P Q R : Type 0} → P ↔ Q → Q ↔ R → P ↔ R
-through p q = ((λ m. q.0 (p.0 m)), (λ m. p.1 (q.1 m)))
-
--- ---- the networks of each family in a list of both
-
-pub v4_of_both : (v4 v6 : List Network) → filter_map as_v4 (v4_then_v6 v4 v6) ≡ v4
-v4_of_both [] [] = refl
-v4_of_both [] (n ∷ v6) = v4_of_both [] v6
-v4_of_both (n ∷ v4) v6 = ap (λ ns. n ∷ ns) (v4_of_both v4 v6)
-
-pub v6_of_both : (v4 v6 : List Network) → filter_map as_v6 (v4_then_v6 v4 v6) ≡ v6
-v6_of_both [] [] = refl
-v6_of_both [] (n ∷ v6) = ap (λ ns. n ∷ ns) (v6_of_both [] v6)
-v6_of_both (n ∷ v4) v6 = v6_of_both v4 v6
-
--- so those of each family in a list that is put together are the lists that it is made of
-pub v4_own : (r : List IpNetwork) (v4 v6 : List Network) → r ≡ v4_then_v6 v4 v6 → v4 ≡ filter_map as_v4 r
-v4_own r v4 v6 e = sym (ap (filter_map as_v4) e ∙ v4_of_both v4 v6)
-
-pub v6_own : (r : List IpNetwork) (v4 v6 : List Network) → r ≡ v4_then_v6 v4 v6 → v6 ≡ filter_map as_v6 r
-v6_own r v4 v6 e = sym (ap (filter_map as_v6) e ∙ v6_of_both v4 v6)
-
 -- ---- the addresses of each family
 
--- of a family of addresses of w bits, which stand among those of either as `address` says: its networks are those that
--- `own` gives
-pub record IsFamily (w : ℕ) (own : IpNetwork → Option Network) (put : Network → IpNetwork) (address : ℕ → IpAddr) : Type 0 where
-  kept : (y : IpNetwork) (n : Network) → own y ≡ Some n → y ≡ put n
-  one : (y : IpNetwork) (x : ℕ) → IpMember y (address x) → (n : Network) × (own y ≡ Some n) × Member w n x
-  member : (n : Network) (x : ℕ) → Member w n x → IpMember (put n) (address x)
-  only : (n : Network) (x : IpAddr) → IpMember (put n) x → (y : ℕ) × (x ≡ address y) × Member w n y
-
-v4_kept : (y : IpNetwork) (n : Network) → as_v4 y ≡ Some n → y ≡ V4 n
-v4_kept (V4 m) n e = cc
-v4_kept (V6 m) n e = cc
-
-v4_one : (y : IpNetwork) (x : ℕ) → IpMember y (addresses.V4 x) → (n : Network) × (as_v4 y ≡ Some n) × Member 32 n x
-v4_one (V4 n) x m = (n, refl, m)
-v4_one (V6 n) x m = absurd m
-
-v4_only : (n : Network) (x : IpAddr) → IpMember (V4 n) x → (y : ℕ) × (x ≡ addresses.V4 y) × Member 32 n y
-v4_only n (addresses.V4 x) m = (x, refl, m)
-v4_only n (addresses.V6 x) m = absurd m
-
-pub v4_family : IsFamily 32 as_v4 V4 addresses.V4
-v4_family = record {
-  kept = v4_kept;
-  one = v4_one;
-  member = λ n x m. m;
-  only = v4_only;
-}
-
-v6_kept : (y : IpNetwork) (n : Network) → as_v6 y ≡ Some n → y ≡ V6 n
-v6_kept (V4 m) n e = cc
-v6_kept (V6 m) n e = cc
-
-v6_one : (y : IpNetwork) (x : ℕ) → IpMember y (addresses.V6 x) → (n : Network) × (as_v6 y ≡ Some n) × Member 128 n x
-v6_one (V4 n) x m = absurd m
-v6_one (V6 n) x m = (n, refl, m)
-
-v6_only : (n : Network) (x : IpAddr) → IpMember (V6 n) x → (y : ℕ) × (x ≡ addresses.V6 y) × Member 128 n y
-v6_only n (addresses.V4 x) m = absurd m
-v6_only n (addresses.V6 x) m = (x, refl, m)
-
-pub v6_family : IsFamily 128 as_v6 V6 addresses.V6
-v6_family = record {
-  kept = v6_kept;
-  one = v6_one;
-  member = λ n x m. m;
-  only = v6_only;
-}
-
-module _ {w : ℕ} {own : IpNetwork → Option Network} {put : Network → IpNetwork} {address : ℕ → IpAddr} (family : IsFamily w own put address) (ns : List IpNetwork) where
-  -- an address lies in the union exactly if it lies in that of its family's networks
-  in_family : (x : ℕ) → InUnion w (filter_map own ns) x ↔ InIpUnion ns (address x)
-  in_family x = (
-    (λ c. let g = given own ns c.0 c.1 in (put c.0, subst (λ (y : IpNetwork). Contains ns y) (family.kept g.0 c.0 g.2) g.1, family.member c.0 x c.2)),
-    (λ c. let o = family.one c.0 x c.2 in (o.0, gives own ns c.0 o.0 c.1 o.1, o.2)),
-  )
-
-  -- so it is with all addresses of a network of the family, and with one of them
-  pub lies_in_family : (n : Network) → LiesInUnion w n (filter_map own ns) ↔ LiesInIpUnion (put n) ns
-  lies_in_family n = (
-    (λ h x m. let o = family.only n x m in subst (λ (y : IpAddr). InIpUnion ns y) (sym o.1) ((in_family o.0).0 (h o.0 o.2))),
-    (λ h x m. (in_family x).1 (h (address x) (family.member n x m))),
-  )
-
-  pub meets_in_family : (n : Network) → MeetsUnion w n (filter_map own ns) ↔ MeetsIpUnion (put n) ns
-  meets_in_family n = (
-    (λ h. (address h.0, family.member n h.0 h.1, (in_family h.0).0 h.2)),
-    (λ h. let o = family.only n h.0 h.1 in (o.0, o.2, (in_family o.0).1 (subst (λ (y : IpAddr). InIpUnion ns y) o.1 h.2))),
-  )
+-- some address of a network of a family lies in the union exactly if one lies in that of its family's networks
+pub meets_in_family : {w : ℕ} {own : IpNetwork → Option Network} {put : Network → IpNetwork} {address : ℕ → IpAddr} → IsFamily w own put address → (ns : List IpNetwork) (n : Network)
+    → MeetsUnion w n (filter_map own ns) ↔ MeetsIpUnion (put n) ns
+meets_in_family {w} {own} {put} {address} family ns n = (
+  (λ h. (address h.0, family.member n h.0 h.1, (in_family family ns h.0).0 h.2)),
+  (λ h. let o = family.only n h.0 h.1 in (o.0, o.2, (in_family family ns o.0).1 (subst (λ (y : IpAddr). InIpUnion ns y) o.1 h.2))),
+)
 
 pub in_v4 : (ns : List IpNetwork) (x : ℕ) → InUnion 32 (filter_map as_v4 ns) x ↔ InIpUnion ns (addresses.V4 x)
 in_v4 = in_family v4_family
@@ -137,11 +53,7 @@ v6_part S S6 r same h =
     subst (IsLeastList 128 S6) (v6_own r h.0 h.1 h.2)
     (least_of_same 128 (λ x. S (addresses.V6 x)) S6 h.1 (λ x. ((same x).1, (same x).0)) h.4)
 
--- a list that is put together so is that of its blocks of each family
-pub own_parts : (r : List IpNetwork) (v4 v6 : List Network) → r ≡ v4_then_v6 v4 v6 → r ≡ v4_then_v6 (filter_map as_v4 r) (filter_map as_v6 r)
-own_parts r v4 v6 e = e ∙ ap (λ l. v4_then_v6 l v6) (v4_own r v4 v6 e) ∙ ap (λ l. v4_then_v6 (filter_map as_v4 r) l) (v6_own r v4 v6 e)
-
--- so two of them are equal if their blocks of each family are
+-- so two lists that are put together so are equal if their blocks of each family are
 pub both_equal : (r s : List IpNetwork) (a b c d : List Network) → r ≡ v4_then_v6 a b → s ≡ v4_then_v6 c d
     → filter_map as_v4 r ≡ filter_map as_v4 s → filter_map as_v6 r ≡ filter_map as_v6 s → r ≡ s
 both_equal r s a b c d er es e4 e6 =

@@ -10,7 +10,8 @@ use Rattle.ipnetwork_blocks.specs.LeastList.{IsLeastList}
 use Rattle.ipnetwork_sets.specs.Counts.{HasCount}
 use Rattle.ipnetwork_sets.specs.Sets.{InBoth, InFirstAlone, InComplement, InEither, IsWithin, AreDisjoint}
 use Rattle.ipnetwork_ip_sets.specs.IpSets.{v4_then_v6, IsIpLeastList, InIpBoth, InIpFirstAlone, InIpComplement, InIpEither, IsIpWithin, AreIpDisjoint}
-use Rattle.ipnetwork_ip_sets.proofs.Families.{through, in_v4, in_v6, put_together, v4_part, v6_part}
+use Rattle.ipnetwork_blocks.proofs.Families.{through}
+use Rattle.ipnetwork_ip_sets.proofs.Families.{in_v4, in_v6, put_together, v4_part, v6_part}
 
 -- ---- facts that hold together
 

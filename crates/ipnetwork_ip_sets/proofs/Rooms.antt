@@ -8,7 +8,7 @@ use Rattle.ipnetwork_family.specs.Network.{Network}
 use Rattle.ipnetwork.specs.declared.ip_network.IpNetwork.{IpNetwork}
 use Rattle.ipnetwork_blocks.specs.AggregateIp.{as_v4, as_v6}
 use Rattle.ipnetwork_ip_sets.specs.IpSets.{v4_then_v6, HasTooLittleRoom}
-use Rattle.ipnetwork_ip_sets.proofs.Families.{v4_own, v6_own}
+use Rattle.ipnetwork_blocks.proofs.Families.{v4_own, v6_own}
 
 -- for the blocks of two sets, the list of the one family
 pub too_little_v4 : (v4 v6 : List Network) (a b : ℕ) (blocks : List IpNetwork) → blocks ≡ v4_then_v6 v4 v6 → a < length v4 → HasTooLittleRoom a b blocks

@@ -5,9 +5,9 @@ use Rattle.ipnetwork_addr.specs.declared.ip.IpAddr.{IpAddr}
 use Rattle.ipnetwork_addr.specs.declared.ip.IpAddr.TheVariants as addresses
 use Rattle.ipnetwork_family.specs.Network.{Network}
 use Rattle.ipnetwork.specs.declared.ip_network.IpNetwork.{IpNetwork}
-use Rattle.ipnetwork_blocks.specs.Aggregate.{InUnion, SameUnion}
+use Rattle.ipnetwork_blocks.specs.Aggregate.{InUnion}
 use Rattle.ipnetwork_blocks.specs.AggregateIp.{as_v4, as_v6, IsIpAggregate}
-use Rattle.ipnetwork_blocks.specs.AggregateIpLaws.{InIpUnion, SameIpUnion, IpAggregateIsApart, IpAggregateIsLeast}
+use Rattle.ipnetwork_blocks.specs.AggregateIpLaws.{InIpUnion, IpAggregateIsApart, IpAggregateIsLeast}
 use Rattle.ipnetwork_blocks.specs.LeastList.{IsLeastList}
 use Rattle.ipnetwork_blocks.specs.LeastListLaws.{IsShortest}
 use Rattle.ipnetwork_blocks.proofs.LeastLists.{least_of_same, least_unique}
@@ -18,7 +18,8 @@ use Rattle.ipnetwork_ip_sets.specs.IpSets.{v4_then_v6, IsIpLeastList, IsIpAddres
 use Rattle.ipnetwork_ip_sets.specs.Laws.{EachFamilyKeepsItsAddresses, IpAggregateIsLeastList, IsIpShortest, IpCommonPartIsShortest, IpDifferenceIsShortest}
 use Rattle.ipnetwork_ip_sets.specs.Laws.{IpComplementIsShortest, IpUnionIsShortest, SameIpAddressesAreOneSet, SameIpBlocksAreEqual, IpCommonPartCommutes}
 use Rattle.ipnetwork_ip_sets.specs.Laws.{IpUnionCommutes, IpCommonPartOfOne, IpUnionOfOne, IpDifferenceIsDisjoint, IpPartsMakeTheWhole}
-use Rattle.ipnetwork_ip_sets.proofs.Families.{through, v4_of_both, v6_of_both, in_v4, in_v6, v4_part, v6_part, both_equal}
+use Rattle.ipnetwork_blocks.proofs.Families.{through, v4_of_both, v6_of_both, v4_family, v6_family, same_in_family, same_by_family}
+use Rattle.ipnetwork_ip_sets.proofs.Families.{in_v4, in_v6, v4_part, v6_part, both_equal}
 use Rattle.ipnetwork_ip_sets.proofs.FamilySets.{IsOperation, both, alone, rest, either, parts, disjoint_by_family}
 
 -- ---- each family
@@ -109,22 +110,12 @@ module _ (is_apart : IpAggregateIsApart) (is_least : IpAggregateIsLeast) where
 
 -- ---- equal sets
 
-same_by_family : (a b : List IpNetwork) → SameUnion 32 (filter_map as_v4 a) (filter_map as_v4 b) → SameUnion 128 (filter_map as_v6 a) (filter_map as_v6 b) → SameIpUnion a b
-same_by_family a b h k (addresses.V4 x) = through ((in_v4 a x).1, (in_v4 a x).0) (through (h x) (in_v4 b x))
-same_by_family a b h k (addresses.V6 x) = through ((in_v6 a x).1, (in_v6 a x).0) (through (k x) (in_v6 b x))
-
-same_v4 : (a b : List IpNetwork) → SameIpUnion a b → SameUnion 32 (filter_map as_v4 a) (filter_map as_v4 b)
-same_v4 a b h x = through (in_v4 a x) (through (h (addresses.V4 x)) ((in_v4 b x).1, (in_v4 b x).0))
-
-same_v6 : (a b : List IpNetwork) → SameIpUnion a b → SameUnion 128 (filter_map as_v6 a) (filter_map as_v6 b)
-same_v6 a b h x = through (in_v6 a x) (through (h (addresses.V6 x)) ((in_v6 b x).1, (in_v6 b x).0))
-
 pub same_ip_addresses_are_one_set : sets.SameAddressesAreOneSet → SameIpAddressesAreOneSet
 same_ip_addresses_are_one_set law a b h k =
     let front = law 32 (filter_map as_v4 a) (filter_map as_v4 b) (v4_set a h) (v4_set b k) in
     let back = law 128 (filter_map as_v6 a) (filter_map as_v6 b) (v6_set a h) (v6_set b k) in (
       (λ e. same_by_family a b (front.0 (ap (filter_map as_v4) e)) (back.0 (ap (filter_map as_v6) e))),
-      (λ same. both_equal a b h.0 h.1 k.0 k.1 h.2 k.2 (front.1 (same_v4 a b same)) (back.1 (same_v6 a b same))),
+      (λ same. both_equal a b h.0 h.1 k.0 k.1 h.2 k.2 (front.1 (same_in_family v4_family a b same)) (back.1 (same_in_family v6_family a b same))),
     )
 
 and_told : (p q : Bool) → IsTrue (p && q) ↔ (IsTrue p × IsTrue q)

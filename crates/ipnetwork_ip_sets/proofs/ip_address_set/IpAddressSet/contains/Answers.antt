@@ -1,4 +1,5 @@
-use Rattle.ipnetwork_ip_sets.proofs.Families.{through, in_v4, in_v6}
+use Rattle.ipnetwork_blocks.proofs.Families.{through}
+use Rattle.ipnetwork_ip_sets.proofs.Families.{in_v4, in_v6}
 use Rattle.ipnetwork_ip_sets.proofs.ip_address_set.IpAddressSet.contains.Goals as goal
 
 pub returns-in-V4 : goal.returns-in-V4

@@ -1,4 +1,4 @@
-use Rattle.ipnetwork_ip_sets.proofs.Families.{through, v4_family, v6_family, lies_in_family}
+use Rattle.ipnetwork_blocks.proofs.Families.{through, v4_family, v6_family, lies_in_family}
 use Rattle.ipnetwork_ip_sets.proofs.ip_address_set.IpAddressSet.covers.Goals as goal
 
 pub returns-in-V4 : goal.returns-in-V4

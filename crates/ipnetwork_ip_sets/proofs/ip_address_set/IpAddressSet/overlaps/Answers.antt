@@ -1,4 +1,5 @@
-use Rattle.ipnetwork_ip_sets.proofs.Families.{through, v4_family, v6_family, meets_in_family}
+use Rattle.ipnetwork_blocks.proofs.Families.{through, v4_family, v6_family}
+use Rattle.ipnetwork_ip_sets.proofs.Families.{meets_in_family}
 use Rattle.ipnetwork_ip_sets.proofs.ip_address_set.IpAddressSet.overlaps.Goals as goal
 
 pub returns-in-V4 : goal.returns-in-V4

@@ -1,5 +1,5 @@
 use Rattle.std.proofs.Common.{sym}
-use Rattle.ipnetwork_ip_sets.proofs.Families.{v4_own}
+use Rattle.ipnetwork_blocks.proofs.Families.{v4_own}
 use Rattle.ipnetwork_ip_sets.proofs.ip_address_set.IpAddressSet.v4.Goals as goal
 
 pub returns-clause-blocks : goal.returns-clause-blocks
