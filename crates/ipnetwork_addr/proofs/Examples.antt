@@ -237,9 +237,9 @@ lower_case_hex = refl
 -- the first of equal runs is left out, the longest of others, and none of one group
 pub zeros_left_out :
     map printed (
-      (0 ∷ 0 ∷ 1 ∷ 0 ∷ 0 ∷ 1 ∷ 0 ∷ 0 ∷ [])
-      ∷ (1 ∷ 0 ∷ 0 ∷ 1 ∷ 0 ∷ 0 ∷ 0 ∷ 0 ∷ [])
-      ∷ (8193 ∷ 3512 ∷ 0 ∷ 1 ∷ 1 ∷ 1 ∷ 1 ∷ 1 ∷ []) ∷ [])
+    (0 ∷ 0 ∷ 1 ∷ 0 ∷ 0 ∷ 1 ∷ 0 ∷ 0 ∷ [])
+    ∷ (1 ∷ 0 ∷ 0 ∷ 1 ∷ 0 ∷ 0 ∷ 0 ∷ 0 ∷ [])
+    ∷ (8193 ∷ 3512 ∷ 0 ∷ 1 ∷ 1 ∷ 1 ∷ 1 ∷ 1 ∷ []) ∷ [])
     ≡ codes "::1:0:0:1:0:0" ∷ codes "1:0:0:1::" ∷ codes "2001:db8:0:1:1:1:1:1" ∷ []
 unfolding digits
 zeros_left_out = refl

@@ -1,10 +1,10 @@
 -- How long the texts of addresses, networks and faults are at the most.
-use Rattle.std.proofs.Common.{◌≡◌, ℕ, zero, suc, ◌+◌, ◌-◌, ◌*◌, ◌/◌, ◌%◌, ◌^◌, ◌<◌, ◌≤◌, ◌==◌, nat_le, false, List, [], ◌∷◌, ◌++◌, length, map, take, drop, get_or, flat_map, decimal, refl, ap, sym, subst, ◌∙◌, arith, inl, inr, lit≤, lit<, length-take-le, length-drop}
+use Rattle.std.proofs.Common.{◌≡◌, ℕ, zero, suc, ◌+◌, ◌-◌, ◌*◌, ◌/◌, ◌%◌, ◌^◌, ◌<◌, ◌≤◌, ◌==◌, nat_le, List, [], ◌∷◌, ◌++◌, length, map, take, drop, get_or, flat_map, decimal, refl, ap, sym, subst, ◌∙◌, arith, lit≤, lit<, length-take-le, length-drop}
 use Rattle.std.specs.Prelude.{codes}
 use Rattle.std.specs.Int.Digits.{AllBelowBase}
 use Rattle.std.specs.List.{AllByRecursion, join_with_byte}
-use Rattle.std.proofs.lemmas.Bool.{cases_lt, cond_both, leb-true}
-use Rattle.std.proofs.lemmas.Fmt.{length-decimal-le, hex_one_digit, hex_two_digits}
+use Rattle.std.proofs.lemmas.Bool.{cond_both, leb-true}
+use Rattle.std.proofs.lemmas.Fmt.{length-decimal-le}
 use Rattle.std.proofs.lemmas.List.{length-append}
 use Rattle.ipnetwork_addr.specs.Texts.{dot, colon}
 use Rattle.ipnetwork_addr.specs.Digits.{octets_of, segments_of}
@@ -12,7 +12,7 @@ use Rattle.ipnetwork_addr.specs.Ipv4Text.{canonical_v4}
 use Rattle.ipnetwork_addr.specs.Ipv6Canonical.{hex, hex_groups}
 use Rattle.ipnetwork_addr.specs.Computed.Ipv6Canonical.{gap_among, gapped, zeros_in_front, canonical_v6}
 use Rattle.ipnetwork_addr.specs.declared.ip.IpAddr.TheVariants as addresses
-use Rattle.ipnetwork_addr.proofs.Hexes.{hex_three, hex_four, hex_groups-cons}
+use Rattle.ipnetwork_addr.proofs.Hexes.{length-hex-le, hex_groups-cons}
 use Rattle.ipnetwork_addr.proofs.Ipv6Printed.{fit_take, fit_drop, segments_fit}
 use Rattle.ipnetwork_family.specs.NetworkText.{slash}
 use Rattle.ipnetwork.specs.declared.ip_network.IpNetwork.TheVariants.{V4, V6}
@@ -40,23 +40,11 @@ dotted (a ∷ b ∷ c ∷ d ∷ e ∷ octets) four fit = absurd (omega (arith, f
 v4_length : (a : ℕ) → length (canonical_v4 a) ≤ 15
 v4_length a = dotted (octets_of a) refl (omega arith, (omega arith, (omega arith, (omega arith, tt))))
 
-hex_length : (g : ℕ) → g < 2 ^ 16 → length (hex g) ≤ 4
-hex_length g fits = elim (cases_lt g 16) [
-  | inl one ↦ rw (hex_one_digit false g one) (lit≤ tt)
-  | inr h ↦ elim (cases_lt g 256) [
-    | inl two ↦ rw (hex_two_digits false g h two) (lit≤ tt)
-    | inr h ↦ elim (cases_lt g 4096) [
-      | inl three ↦ rw (hex_three g h three) (lit≤ tt)
-      | inr h ↦ rw (hex_four g h fits) (lit≤ tt)
-    ]
-  ]
-]
-
 -- groups, each behind a colon
 behind_colons : (groups : List ℕ) → AllBelowBase (2 ^ 16) groups → length (flat_map (λ x. colon ∷ hex x) groups) ≤ 5 * length groups
 behind_colons [] fit = lit≤ tt
 behind_colons (g ∷ groups) fit =
-    let first = hex_length g fit.0 in
+    let first = length-hex-le g fit.0 in
     let rest = behind_colons groups fit.1 in
     let whole = length-append (colon ∷ hex g) (flat_map (λ x. colon ∷ hex x) groups) in
     omega (arith, first, rest, whole)
@@ -64,7 +52,7 @@ behind_colons (g ∷ groups) fit =
 groups_length : (groups : List ℕ) → AllBelowBase (2 ^ 16) groups → length (hex_groups groups) ≤ 5 * length groups - 1
 groups_length [] fit = lit≤ tt
 groups_length (g ∷ groups) fit =
-    let first = hex_length g fit.0 in
+    let first = length-hex-le g fit.0 in
     let rest = behind_colons groups fit.1 in
     let is = ap length (hex_groups-cons g groups) in
     let whole = length-append (hex g) (flat_map (λ x. colon ∷ hex x) groups) in
