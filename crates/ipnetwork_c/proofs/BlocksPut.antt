@@ -22,16 +22,11 @@ nothing_put held list = record {
   front = λ room. record { front = []; blocks_are = refl; list = refl };
 }
 
--- a number that is kept to the greatest one, and what is added
-kept_sum : (a b m : ℕ) → min (min a m + b) m ≡ min (a + b) m
-kept_sum a b m = omega arith
-
 one_more : (blocks : List Network) (n : Network) → length (blocks ++ n ∷ []) ≡ length blocks + 1
 one_more blocks n = length-append blocks (n ∷ [])
 
 counts_on : (blocks : List Network) (n : Network) (count next : ℕ) → count ≡ min (length blocks) (2 ^ 128 - 1) → next ≡ min (count + 1) (2 ^ 128 - 1) → next ≡ min (length (blocks ++ n ∷ [])) (2 ^ 128 - 1)
-counts_on blocks n count next is told =
-    told ∙ ap (λ k. min (k + 1) (2 ^ 128 - 1)) is ∙ kept_sum (length blocks) 1 (2 ^ 128 - 1) ∙ ap (λ k. min k (2 ^ 128 - 1)) (sym (one_more blocks n))
+counts_on blocks n count next is told = let more = one_more blocks n in omega (arith, is, told, more)
 
 -- there is room for one block more
 pub block_put : {C : Type 0} (held : C → Network) (blocks : List Network) (before list : List C) (count next : ℕ) (c : C) (n : Network) → HasBlocks held blocks before list count → count < length list → length list < 2 ^ 64
@@ -86,18 +81,12 @@ given pair held blocks before after count h =
 
 -- ---- what the caller is told
 
-kept_is : (n kept m : ℕ) → kept ≡ min n m → kept < m → kept ≡ n
-kept_is n kept m is below = omega (arith, is, below)
-
-twice_kept : (n wanted told : ℕ) → wanted ≡ min n (2 ^ 128 - 1) → told ≡ min wanted (2 ^ 64 - 1) → told ≡ min n (2 ^ 64 - 1)
-twice_kept n wanted told is told_is = omega (arith, is, told_is)
-
 -- there are more than the list has room for
 pub too_many : {C : Type 0} (w : ℕ) (held : C → Network) (S : ℕ → Type 0) (before : List C) (blocks : List Network) (told_before wanted told : ℕ) → IsLeastList w S blocks → wanted ≡ min (length blocks) (2 ^ 128 - 1)
     → length before < wanted → told ≡ min wanted (2 ^ 64 - 1) → PutsBlocks w held S (before, told_before) (before, told) 4
 too_many w held S before blocks told_before wanted told least is more told_is =
     let most = min-le_left (length blocks) (2 ^ 128 - 1) in
-    (blocks, least, (twice_kept (length blocks) wanted told is told_is, Nothing ((λ room. omega (arith, is, more, most, room)), refl) refl))
+    (blocks, least, (omega (arith, is, told_is), Nothing ((λ room. omega (arith, is, more, most, room)), refl) refl))
 
 -- there is room for them, and they are put there
 pub all_put : {C : Type 0} (w : ℕ) (held : C → Network) (S : ℕ → Type 0) (before after : List C) (counted blocks : List Network) (told_before wanted told again : ℕ) → IsLeastList w S counted → wanted ≡ min (length counted) (2 ^ 128 - 1)
@@ -105,8 +94,8 @@ pub all_put : {C : Type 0} (w : ℕ) (held : C → Network) (S : ℕ → Type 0)
 all_put w held S before after counted blocks told_before wanted told again least is room few told_is once has =
     let same : counted ≡ blocks = least_unique w S counted blocks least once in
     let long : length counted ≡ length blocks = ap length same in
-    let exact : wanted ≡ length counted = kept_is (length counted) wanted (2 ^ 128 - 1) is (omega (arith, room, few)) in
+    let exact : wanted ≡ length counted = omega (arith, is, room, few) in
     let small : wanted ≤ 2 ^ 64 - 1 = omega (arith, room, few) in
     let fits : length blocks ≤ length before = omega (arith, exact, long, room) in
-    let kept : told ≡ min (length blocks) (2 ^ 64 - 1) = twice_kept (length counted) wanted told is told_is ∙ ap (λ k. min k (2 ^ 64 - 1)) long in
+    let kept : told ≡ min (length blocks) (2 ^ 64 - 1) = omega (arith, is, told_is, long) in
     (blocks, once, (kept, On (fits, (refl, (told_is ∙ min-eq_left small ∙ exact ∙ long, has.front fits)))))

@@ -5,6 +5,7 @@ use Rattle.std.specs.List.{AllPairs}
 use Rattle.std.proofs.lemmas.List.{length-map}
 use Rattle.ipnetwork_family.specs.Network.{Network, Member}
 use Rattle.ipnetwork_blocks.specs.AggregateLaws.{AggregateHasOneBlock}
+use Rattle.ipnetwork_blocks.proofs.AggregateMapped.{read_map}
 use Rattle.ipnetwork_sets.specs.Private.Search.{NoneUpTo, IsLastUpTo, IsSplit}
 use Rattle.ipnetwork_sets.proofs.Searched.{split_none_at, split_last, none_holds, holds_by_last}
 use Rattle.std.specs.Prelude.{slice_get, Some}
@@ -125,6 +126,10 @@ none_next held list x i e m got =
     let l = slice_get_within (map held list) i m got in
     let size = length-map list held in
     absurd (omega (arith, e, l, size))
+
+-- the last of the first `end` values, and what it holds
+pub last_held : {C : Type 0} (held : C → Network) (list : List C) (end : ℕ) (value : C) → 0 < end → end ≤ length list → value ≡ get_or list (end - 1) value → (end ≤ length (map held list)) × (held value ≡ get_or (map held list) (end - 1) (held value))
+last_held held list end value some within is = let size = length-map list held in (omega (arith, size, within), read_map held list (end - 1) value (omega arith) is)
 
 -- the last network fits, if the one that stands there does
 pub last_fits : (w : ℕ) (ns : List Network) (i : ℕ) (b : Network) → b ≡ get_or ns (i - 1) b → PrefixFits w b → LastFits w ns i

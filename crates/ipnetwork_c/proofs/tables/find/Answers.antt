@@ -10,7 +10,7 @@ use Rattle.std.proofs.lemmas.Option.{slice_get_read}
 use Rattle.ipnetwork_c.specs.Searches.{StandsAt, ComesTo}
 use Rattle.ipnetwork_c.specs.Searches.ComesTo.{First, On}
 use Rattle.ipnetwork_sets.specs.Private.Search.{IsSplit}
-use Rattle.ipnetwork_c.proofs.Searching.{stands_split, none_fits, last_fits, last_does_not_fit}
+use Rattle.ipnetwork_c.proofs.Searching.{stands_split, none_fits, last_held, last_fits, last_does_not_fit}
 use Rattle.ipnetwork_c.proofs.TableFinding.{by_address, taken_ascends, search_begins, search_goes_on, search_finds, search_fails}
 use Rattle.ipnetwork_c.proofs.tables.find.Goals as goal
 
@@ -31,10 +31,8 @@ pub returns-then-not-fits : goal.returns-then-not-fits
 returns-then-not-fits g c =
     let w : ℕ = g.N.CidrNetwork.WIDTH in
     let ns : List Network = map g.H.HoldsNetwork.held c.args.blocks.now in
-    let size = length-map c.args.blocks.now g.H.HoldsNetwork.held in
-    let within = c.loop-end.invariant.within in
     let b : Network = g.H.HoldsNetwork.held c.index-blocks-end.result in
-    let is = read_map g.H.HoldsNetwork.held c.args.blocks.now (c.loop-end.end - 1) c.index-blocks-end.result (omega arith) c.index-blocks-end.is in
+    let (within, is) = last_held g.H.HoldsNetwork.held c.args.blocks.now c.loop-end.end c.index-blocks-end.result (omega arith) c.loop-end.invariant.within c.index-blocks-end.is in
     let not = last_does_not_fit w ns c.loop-end.end b (omega arith) (omega arith) is (λ fits. iff_false c.fits.ensures c.if-not-fits.true ((g.met.H.Listed.fitting c.index-blocks-end.result).1 fits)) in
     (c.loop-end.end, c.loop-end.invariant.comes, Nothing (not, refl) c.loop-end.invariant.place)
 
@@ -42,10 +40,8 @@ pub returns-then-contains : goal.returns-then-contains
 returns-then-contains g c =
     let w : ℕ = g.N.CidrNetwork.WIDTH in
     let ns : List Network = map g.H.HoldsNetwork.held c.args.blocks.now in
-    let size = length-map c.args.blocks.now g.H.HoldsNetwork.held in
-    let within = c.loop-end.invariant.within in
     let b : Network = g.H.HoldsNetwork.held c.index-blocks-end.result in
-    let is = read_map g.H.HoldsNetwork.held c.args.blocks.now (c.loop-end.end - 1) c.index-blocks-end.result (omega arith) c.index-blocks-end.is in
+    let (within, is) = last_held g.H.HoldsNetwork.held c.args.blocks.now c.loop-end.end c.index-blocks-end.result (omega arith) c.loop-end.invariant.within c.index-blocks-end.is in
     let has : Member w b (g.N.CidrNetwork.number c.args.address) = rw c.held_network-block.ensures at (c.contains.ensures.0 c.if-contains.true) in
     let again : c.loop-end.end ≡ c.loop-end.end - 1 + 1 = omega arith in
     let fits = last_fits w ns c.loop-end.end b is ((g.met.H.Listed.fitting c.index-blocks-end.result).0 (c.fits.ensures.0 c.if-not-fits.false)) in
