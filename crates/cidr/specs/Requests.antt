@@ -54,30 +54,23 @@ unknown = Plain (codes "unknown command")
 abbrev pub too_long : Request
 too_long = Plain (codes "line too long")
 
--- the commands that take one word: those that ask the routes,
-abbrev pub one_word_routing : List ℕ → List ℕ → Request
-one_word_routing command word =
-    if bytes_eq command (codes "drop") then dropping (ip_network_of word)
-    else (if bytes_eq command (codes "find") then finding (ip_of word) else unknown)
-
--- and before them all others
+-- the commands that take one word; the last two ask the routes
 unfoldable pub one_word_request : List ℕ → List ℕ → Request
 one_word_request command word =
     if bytes_eq command (codes "read") then Plain (read_answer word)
     else (if bytes_eq command (codes "ends") then Plain (ends_answer word)
     else (if bytes_eq command (codes "read4") then Plain (read4_answer word)
-    else (if bytes_eq command (codes "read6") then Plain (read6_answer word) else one_word_routing command word)))
+    else (if bytes_eq command (codes "read6") then Plain (read6_answer word)
+    else (if bytes_eq command (codes "drop") then dropping (ip_network_of word)
+    else (if bytes_eq command (codes "find") then finding (ip_of word) else unknown)))))
 
--- the commands that take two words, in the same way
-abbrev pub two_words_routing : List ℕ → List ℕ → List ℕ → Request
-two_words_routing command first second =
-    if bytes_eq command (codes "add") then adding (ip_network_of first) (route_number_of second) else unknown
-
+-- the commands that take two words; the last asks the routes
 unfoldable pub two_words_request : List ℕ → List ℕ → List ℕ → Request
 two_words_request command first second =
     if bytes_eq command (codes "has") then Plain (has_answer first second)
     else (if bytes_eq command (codes "rel") then Plain (rel_answer first second)
-    else (if bytes_eq command (codes "has4") then Plain (has4_answer first second) else two_words_routing command first second))
+    else (if bytes_eq command (codes "has4") then Plain (has4_answer first second)
+    else (if bytes_eq command (codes "add") then adding (ip_network_of first) (route_number_of second) else unknown)))
 
 -- what the words of a line ask, by their number
 unfoldable pub request_in : List (List ℕ) → Request

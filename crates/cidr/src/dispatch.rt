@@ -1,7 +1,7 @@
 //! The command that a line asks, by its name and the number of its words.
 ghost use Rattle.cidr.specs.Private.Replies.{HasRoom, RepliesTo};
 ghost use Rattle.cidr.specs.Private.Routes.{routes_of};
-ghost use Rattle.cidr.specs.Requests.{request_in, one_word_request, one_word_routing, two_words_request, two_words_routing};
+ghost use Rattle.cidr.specs.Requests.{request_in, one_word_request, two_words_request};
 ghost use Rattle.cidr.specs.Words.{words};
 
 use crate::commands::ends::ends;
@@ -54,23 +54,7 @@ fn answer_one(command: &[u8], word: &[u8], routes: &mut RouteTables, replies: &m
         read4(word, replies);
     } else if names::is_read6(command) {
         read6(word, replies);
-    } else {
-        answer_routing_one(command, word, routes, replies);
-    }
-}
-
-/// The answer of such a command that asks the routes.
-fn answer_routing_one(
-    command: &[u8],
-    word: &[u8],
-    routes: &mut RouteTables,
-    replies: &mut Buffer<'_>,
-)
-    requires { HasRoom replies.old }
-    ensures { RepliesTo (routes_of routes.old)
-        (one_word_routing command.now word.now) replies.old replies.new (routes_of routes.new) }
-{
-    if names::is_drop(command) {
+    } else if names::is_drop(command) {
         drop(word, routes, replies);
     } else if names::is_find(command) {
         find(word, routes, replies);
@@ -98,24 +82,7 @@ fn answer_two(
         rel(first, second, replies);
     } else if names::is_has4(command) {
         has4(first, second, replies);
-    } else {
-        answer_routing_two(command, first, second, routes, replies);
-    }
-}
-
-/// The answer of such a command that asks the routes.
-fn answer_routing_two(
-    command: &[u8],
-    first: &[u8],
-    second: &[u8],
-    routes: &mut RouteTables,
-    replies: &mut Buffer<'_>,
-)
-    requires { HasRoom replies.old }
-    ensures { RepliesTo (routes_of routes.old) (two_words_routing command.now first.now second.now)
-        replies.old replies.new (routes_of routes.new) }
-{
-    if names::is_add(command) {
+    } else if names::is_add(command) {
         add(first, second, routes, replies);
     } else {
         reply(replies, UNKNOWN);

@@ -27,29 +27,15 @@ use Rattle.cidr_merge.specs.declared.reading.Sets.{Sets}
 use Rattle.cidr_merge.proofs.ReadInTurn.{slice_rest}
 
 -- the reading stopped at a list of the first side,
-pub first_stopped : {Z T : Type 0} (read : Result T ReadFault) (fault : ReadFault)
-    (known : KnownLists) (words : List (String Z)) (request : Request)
-    (start between refused : Refused) → start ≡ no_refusals
-    → read ≡ Err fault
-    → IfErr read (λ f. Stops (source known request.shape) request.first
-    (slice_range words request.first request.middle) (nothing_read start) f between)
-    → refused ≡ between
-    → StopsInSides known words request fault refused
-first_stopped {Z} {T} read fault known words request start between refused s e stops r =
-    let names = slice_range words request.first request.middle in
-    let said =
-    subst (λ (r : Result T ReadFault). IfErr r (λ f. Stops
-    (source known request.shape) request.first names (nothing_read start) f between)) e stops in
-    inl (subst (λ (l : Refused). Stops (source known request.shape) request.first names
-    (nothing_read no_refusals) fault l) (sym r)
-    (subst (λ (l : Refused). Stops (source known request.shape) request.first names
-    (nothing_read l) fault between) s said))
-
--- of the second side no list was read then,
-pub no_second : {U G : Type 0} (read : Result U G) (fault : G) (second count to : ℕ)
-    → read ≡ Err fault → to ≡ (if is_err read then second else count) → to ≡ second
-no_second {U} {G} read fault second count to e t =
-    t ∙ ap {B = ℕ} (λ (r : Result U G). if is_err r then second else count) e
+pub first_stopped : {Z : Type 0} (fault : ReadFault) (known : KnownLists) (words : List (String Z))
+    (request : Request) (between refused : Refused)
+    → Stops (source known request.shape) request.first
+    (slice_range words request.first request.middle) (nothing_read no_refusals) fault between
+    → refused ≡ between → StopsInSides known words request fault refused
+first_stopped fault known words request between refused stops r =
+    inl (subst (λ (l : Refused). Stops (source known request.shape) request.first
+    (slice_range words request.first request.middle) (nothing_read no_refusals) fault l) (sym r)
+    stops)
 
 -- or both sides were read, or the reading stopped at a list of the second
 pub sides_read : {Z T : Type 0} (result : Result T ReadFault) (known : KnownLists)
@@ -73,61 +59,37 @@ sides_read (Ok all) known words request first second between refused to t firsts
   },
   tt,
 )
-sides_read (Err fault) known words request first second between refused to t firsts seconds stops =
-    (
-      tt,
-      inr (
-        first,
-        between,
-        firsts,
-        subst (λ names. Stops (source known request.shape) request.second names
-            (nothing_read between) fault refused)
-            (ap (λ n. slice_range words request.second n) t
-            ∙ slice_rest words request.second) stops,
-      ),
-    )
+sides_read (Err fault) known words request first second between refused to t firsts seconds stops = (
+  tt,
+  inr (
+    first,
+    between,
+    firsts,
+    subst (λ names. Stops (source known request.shape) request.second names
+        (nothing_read between) fault refused)
+        (ap (λ n. slice_range words request.second n) t
+        ∙ slice_rest words request.second) stops,
+  ),
+)
 
 -- the answer was given
-pub merged : {Z W E T F : Type 0} (read : Result T F) (done : T) (known : KnownLists)
-    (words : List (String Z)) (request : Request) (first second : Sets) (refused : Refused)
-    (is_empty : Bool) (end : Ending W E) (told : Written E) → read ≡ Ok done
-    → OnOk read (ReadsSides known words request first second refused)
+pub merged : {Z W E : Type 0} (known : KnownLists) (words : List (String Z)) (request : Request)
+    (first second : Sets) (refused : Refused) (is_empty : Bool) (end : Ending W E)
+    (told : Written E) → ReadsSides known words request first second refused
     → Tells end.errors told (refusals_text words in_list refused)
     → is_empty ≡ (length refused.kept == 0) → EndsAnswering request (not is_empty) first second
     (record end { errors = told })
     → EndsMerging known words request end
-merged {Z} {W} {E} {T} {F} read done known words request first second refused is_empty end told e
-    sides tells f ends = (
-      refused,
-      told,
-      tells,
-      inr (
-        first,
-        second,
-        subst (λ (r : Result T F). OnOk r
-            (ReadsSides known words request first second refused)) e sides,
-        subst (λ (b : Bool). EndsAnswering request (not b) first second
-            (record end { errors = told })) f ends,
-      ),
-    )
-
--- the reading stopped
-pub stopped : {Z W E T : Type 0} (read : Result T ReadFault) (known : KnownLists)
-    (words : List (String Z)) (request : Request) (refused : Refused) (fault : ReadFault)
-    (end : Ending W E) (told : Written E)
-    → read ≡ Err fault → IfErr read (λ f. StopsInSides known words request f refused)
-    → Tells end.errors told (refusals_text words in_list refused) → IsSilent end
-    → Tells told end.errors_after (fault_text words fault) → EndsMerging known words request end
-stopped {Z} {W} {E} {T} read known words request refused fault end told e stops tells silent why = (
+merged known words request first second refused is_empty end told sides tells f ends = (
   refused,
   told,
   tells,
-  inl (
-    fault,
-    subst (λ (r : Result T ReadFault). IfErr r
-        (λ f. StopsInSides known words request f refused)) e stops,
-    silent,
-    why,
+  inr (
+    first,
+    second,
+    sides,
+    subst (λ (b : Bool). EndsAnswering request (not b) first second
+        (record end { errors = told })) f ends,
   ),
 )
 

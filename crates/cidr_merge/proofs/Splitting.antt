@@ -1,6 +1,6 @@
 -- How a run ends that splits lists.
 use Rattle.std.proofs.Common.{◌≡◌, ◌==◌, List, Bool, not, subst, inl, inr, length}
-use Rattle.std.specs.Prelude.{Result, Ok, Err, OnOk, IfErr, String, slice_range}
+use Rattle.std.specs.Prelude.{String, slice_range}
 use Rattle.lines.specs.Outputs.{Written}
 use Rattle.lists.specs.KnownLists.{KnownLists}
 use Rattle.lists.specs.Lists.{nothing_read}
@@ -18,60 +18,44 @@ use Rattle.cidr_merge.specs.declared.split_words.SplitRequest.{SplitRequest}
 use Rattle.cidr_merge.proofs.ReadInTurn.{slice_rest}
 
 -- the lists were read
-pub lists_split : {Z W E T F : Type 0} (read : Result T F) (done : T) (known : KnownLists)
-    (words : List (String Z)) (request : SplitRequest) (sets : Sets) (start refused : Refused)
-    (is_empty : Bool) (end : Ending W E) (told : Written E) → start ≡ no_refusals → read ≡ Ok done
-    → OnOk read (ReadsSide (source known request.shape) request.first
-    (slice_range words request.first (length words)) start sets refused)
+pub lists_split : {Z W E : Type 0} (known : KnownLists) (words : List (String Z))
+    (request : SplitRequest) (sets : Sets) (refused : Refused) (is_empty : Bool)
+    (end : Ending W E) (told : Written E)
+    → ReadsSide (source known request.shape) request.first
+    (slice_range words request.first (length words)) no_refusals sets refused
     → Tells end.errors told (refusals_text words in_list refused)
     → is_empty ≡ (length refused.kept == 0) → EndsCutting request (not is_empty) sets
     (record end { errors = told })
     → EndsSplitting known words request end
-lists_split {Z} {W} {E} {T} {F} read done known words request sets start refused is_empty end told s
-    e side tells f ends =
-    let all = subst (λ (r : Result T F). OnOk r (ReadsSide
-    (source known request.shape) request.first (slice_range words request.first
-    (length words)) start sets refused)) e side in (
-      refused,
-      told,
-      tells,
-      inr (
-        sets,
-        subst (λ names. ReadsSide
-            (source known request.shape) request.first names no_refusals sets refused)
-            (slice_rest words request.first)
-            (subst (λ (r : Refused). ReadsSide (source known request.shape) request.first
-            (slice_range words request.first (length words)) r sets refused) s all),
-        subst (λ (b : Bool). EndsCutting request (not b) sets
-            (record end { errors = told })) f ends,
-      ),
-    )
+lists_split known words request sets refused is_empty end told side tells f ends = (
+  refused,
+  told,
+  tells,
+  inr (
+    sets,
+    subst (λ names. ReadsSide (source known request.shape) request.first names no_refusals sets
+        refused) (slice_rest words request.first) side,
+    subst (λ (b : Bool). EndsCutting request (not b) sets (record end { errors = told })) f ends,
+  ),
+)
 
 -- or not to their ends
-pub split_stopped : {Z W E T : Type 0} (read : Result T ReadFault) (fault : ReadFault)
-    (known : KnownLists) (words : List (String Z)) (request : SplitRequest)
-    (start refused : Refused)
-    (end : Ending W E) (told : Written E) → start ≡ no_refusals → read ≡ Err fault
-    → IfErr read (λ f. Stops (source known request.shape) request.first
-    (slice_range words request.first (length words)) (nothing_read start) f refused)
+pub split_stopped : {Z W E : Type 0} (fault : ReadFault) (known : KnownLists)
+    (words : List (String Z)) (request : SplitRequest) (refused : Refused) (end : Ending W E)
+    (told : Written E)
+    → Stops (source known request.shape) request.first
+    (slice_range words request.first (length words)) (nothing_read no_refusals) fault refused
     → Tells end.errors told (refusals_text words in_list refused) → IsSilent end
     → Tells told end.errors_after (fault_text words fault) → EndsSplitting known words request end
-split_stopped {Z} {W} {E} {T} read fault known words request start refused end told s e stops tells
-    silent why =
-    let names = slice_range words request.first (length words) in
-    let at = subst (λ (r : Result T ReadFault). IfErr r
-    (λ f. Stops (source known request.shape) request.first names
-    (nothing_read start) f refused)) e stops in (
-      refused,
-      told,
-      tells,
-      inl (
-        fault,
-        subst (λ ns. Stops (source known request.shape) request.first ns
-            (nothing_read no_refusals) fault refused) (slice_rest words request.first)
-            (subst (λ (r : Refused). Stops (source known request.shape) request.first names
-            (nothing_read r) fault refused) s at),
-        silent,
-        why,
-      ),
-    )
+split_stopped fault known words request refused end told stops tells silent why = (
+  refused,
+  told,
+  tells,
+  inl (
+    fault,
+    subst (λ names. Stops (source known request.shape) request.first names
+        (nothing_read no_refusals) fault refused) (slice_rest words request.first) stops,
+    silent,
+    why,
+  ),
+)

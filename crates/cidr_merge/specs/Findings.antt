@@ -1,5 +1,5 @@
 -- What is found in lists that are looked over. A finding is a line of the output.
-use Rattle.std.specs.Prelude.{◌≡◌, ◌==◌, ◌<◌, ◌≤◌, ◌⊎◌, ◌&&◌, ℕ, ◌+◌, Bool, false, not, List, []}
+use Rattle.std.specs.Prelude.{◌≡◌, ◌==◌, ◌<◌, ◌≤◌, ◌⊎◌, ◌&&◌, ℕ, Bool, false, not, List, []}
 use Rattle.std.specs.Prelude.{◌∷◌, ◌++◌, length, Option, None, Some, Ok, Err, if◌then◌else◌, codes}
 use Rattle.std.specs.Prelude.{decimal, String}
 use Rattle.std.specs.Ordering.{is_le}

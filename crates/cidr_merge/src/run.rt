@@ -110,11 +110,11 @@ fn read_sides<L: OpenLists>(
     ensures stopped { IfErr result.3 (λ fault. StopsInSides (L.known given.now.lists.now)
         given.now.words.now request fault result.2) }
 {
+    let shape = request.shape;
     let none = Refusals::new();
-    let (first, refusals, read) =
-        read_side(given, request.shape, request.first, request.middle, none);
+    let (first, refusals, read) = read_side(given, shape, request.first, request.middle, none);
     let to = end_of_second(&read, request.second, given.words.len());
-    let (second, refusals, end) = read_side(given, request.shape, request.second, to, refusals);
+    let (second, refusals, end) = read_side(given, shape, request.second, to, refusals);
     match read {
         Ok(()) => (first, second, refusals, end),
         Err(fault) => (first, second, refusals, Err(fault)),

@@ -1,5 +1,5 @@
 use Rattle.cidr_merge.specs.Shapes.{source}
-use Rattle.cidr_merge.proofs.Runs.{first_stopped, no_second, sides_read}
+use Rattle.cidr_merge.proofs.Runs.{first_stopped, sides_read}
 use Rattle.cidr_merge.proofs.Stopping.{none_refused}
 use Rattle.cidr_merge.proofs.run.read_sides.Goals as goal
 
@@ -19,10 +19,9 @@ returns-in-Err-clause-stopped g c =
     let firsts = c.read_side-first.result in
     let none = c.read_side-second.result in
     let known = g.L.OpenLists.known c.args.given.now.lists.now in
-    first_stopped firsts.2 c.in-Err.fault known c.args.given.now.words.now c.args.request
-    c.new-none.result firsts.1 none.1 c.new-none.ensures c.in-Err.is
-    c.read_side-first.ensures.stopped
+    first_stopped c.in-Err.fault known c.args.given.now.words.now c.args.request firsts.1 none.1
+    (rw (c.in-Err.is, c.new-none.ensures) at c.read_side-first.ensures.stopped)
     (none_refused none.2 (source known c.args.request.shape) c.args.given.now.words.now
     c.args.request.second c.end_of_second-to.result firsts.1 none.0 none.1
-    (no_second firsts.2 c.in-Err.fault _ _ _ c.in-Err.is c.end_of_second-to.ensures.end)
+    (rw c.in-Err.is at c.end_of_second-to.ensures.end)
     c.read_side-second.ensures.read c.read_side-second.ensures.stopped)

@@ -17,28 +17,25 @@ returns-in-Ok-read g c =
     inl (
       c.in-Ok.request,
       c.in-Ok.ensures.asked,
-      lists_split r.2 c.in-Ok-read.field-0
-          (g.L.OpenLists.known c.args.given.now.lists.now) c.args.given.now.words.now
-          c.in-Ok.request r.0 c.new-none.result r.1 c.is_empty.result
+      lists_split (g.L.OpenLists.known c.args.given.now.lists.now) c.args.given.now.words.now
+          c.in-Ok.request r.0 r.1 c.is_empty.result
           (ending c.args.output.now c.print_split.new.output c.args.errors.now
-          c.print_split.new.errors c.print_split.result)
-          c.tell_refusals.new.errors c.new-none.ensures c.in-Ok-read.is
-          c.read_side-sets.ensures.read c.tell_refusals.ensures c.is_empty.ensures
-          c.print_split.ensures,
+          c.print_split.new.errors c.print_split.result) c.tell_refusals.new.errors
+          (rw (c.in-Ok-read.is, c.new-none.ensures) at c.read_side-sets.ensures.read)
+          c.tell_refusals.ensures c.is_empty.ensures c.print_split.ensures,
     )
 
 pub returns : goal.returns
 returns g c =
-    let r = c.read_side-sets.result in
     inl (
       c.in-Ok.request,
       c.in-Ok.ensures.asked,
-      split_stopped r.2 c.in-Err-read.fault
+      split_stopped c.in-Err-read.fault
           (g.L.OpenLists.known c.args.given.now.lists.now) c.args.given.now.words.now
-          c.in-Ok.request c.new-none.result r.1
+          c.in-Ok.request c.read_side-sets.result.1
           (ending c.args.output.now c.args.output.now c.args.errors.now
-          c.refuse_lists.new.errors c.refuse_lists.result)
-          c.tell_refusals.new.errors c.new-none.ensures c.in-Err-read.is
-          c.read_side-sets.ensures.stopped c.tell_refusals.ensures
-          (refl, c.refuse_lists.ensures.status) c.refuse_lists.ensures.told,
+          c.refuse_lists.new.errors c.refuse_lists.result) c.tell_refusals.new.errors
+          (rw (c.in-Err-read.is, c.new-none.ensures) at c.read_side-sets.ensures.stopped)
+          c.tell_refusals.ensures (refl, c.refuse_lists.ensures.status)
+          c.refuse_lists.ensures.told,
     )
