@@ -193,16 +193,18 @@ module _ (known : KnownLists) (inside : IsVerdict (by false without.Stop) (codes
       → end.status ≡ 2 → EndsLogs (by false without.Stop) known (codes "a" ∷ codes "b" ∷ []) end
   unfolding digits
   stopped_at_the_second_line opened a end written told status =
-      stopped_behind_a_line faults.Address refl
-      (record {
-        read = codes "10.0.0.1\nbad\n10.0.0.1\n";
-        line = ended (codes "bad");
-        others = ended (codes "10.0.0.1") ∷ [];
-        is_first = a;
-        are = refl;
-        is_line = inl refl;
-        is_so = (bad, refl);
-      }, opened) end written told status
+      stopped_behind_a_line faults.Address refl (
+        record {
+          read = codes "10.0.0.1\nbad\n10.0.0.1\n";
+          line = ended (codes "bad");
+          others = ended (codes "10.0.0.1") ∷ [];
+          is_first = a;
+          are = refl;
+          is_line = inl refl;
+          is_so = (bad, refl);
+        },
+        opened,
+      ) end written told status
 
   -- a read that fails: the lines before it whose line feed was read were filtered, and what follows them is no line
   pub stopped_by_a_failed_read : known.may_open (codes "a") true → known.may_fail (codes "a") → IsFirstOf known (codes "a") (codes "10.0.0.1\n10.0.0.1") → {W E : Type 0} (end : Ending W E) → HasWritten end (codes "10.0.0.1\n")

@@ -35,6 +35,9 @@ returns-in-Err-clause-ends g c =
     let same = ap (usage_text about.program.now about.usage.now words fault.subject) c.text-problem.ensures in
     let told = tells_same c.args.errors.now c.refuse_usage.new.errors _ _ same c.refuse_usage.ensures.told in
     not_asked about.help.now about.version.now c.args.words.now _ end c.in_default.ensures
-    (inr (c.in-Ok.arranged.items, c.in-Ok.ensures,
-    subst (λ ws. EndsAsked g.G.Grammar.options about.program.now about.usage.now ws (λ request files. ⊥) end) c.as_slice-in_order.ensures.value
-    (inr (fault, c.in-Err.ensures.nothing, c.in-Err.ensures.wrong, ((refl, c.refuse_usage.ensures.status), told)))))
+    (inr (
+      c.in-Ok.arranged.items,
+      c.in-Ok.ensures,
+      subst (λ ws. EndsAsked g.G.Grammar.options about.program.now about.usage.now ws (λ request files. ⊥) end) c.as_slice-in_order.ensures.value
+          (inr (fault, c.in-Err.ensures.nothing, c.in-Err.ensures.wrong, ((refl, c.refuse_usage.ensures.status), told))),
+    ))
