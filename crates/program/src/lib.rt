@@ -8,6 +8,7 @@ pub mod log_fault;
 pub mod log_reader;
 pub mod messages;
 pub mod progress;
+pub mod putting;
 pub mod standard_error;
 pub mod standard_output;
 pub mod start;
