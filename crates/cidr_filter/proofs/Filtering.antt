@@ -74,32 +74,33 @@ numbers_same old mid between new lines fits first idle last =
 
 module _ (filter : Filter) where
   pub begins : (reader : LogReader) (remained : Option (List ℕ)) (old : Stand)
-      → old.lines ≤ 2 ^ 64 - 1 → HandsFirst reader remained remained [] → is_below filter.most 0 ≡ true → FiltersSoFar filter reader remained remained old old
-  begins reader remained old fits hands below = record {
+      → HandsFirst reader remained remained [] → is_below filter.most 0 ≡ true → FiltersSoFar filter reader remained remained old old
+  begins reader remained old hands below = record {
     first = [];
     hands = hands;
-    added = [];
-    count = 0;
-    fits = fits;
-    filters = (refl, refl);
-    below = below;
-    goes = goes_nowhere old;
-    addressed = or_none old.addressed old.addressed refl;
+    is_done = record {
+      added = [];
+      count = 0;
+      filters = (refl, refl);
+      below = below;
+      goes = goes_nowhere old;
+      addressed = or_none old.addressed old.addressed refl;
+    };
   }
 
   pub begins_with : (reader : LogReader) (remained : Option (List ℕ)) (old : Stand)
-      → old.lines ≤ 2 ^ 64 - 1 → HandsFirst reader remained remained [] → is_spent filter.most ≡ false → FiltersWith filter reader remained remained old old filter.most
+      → HandsFirst reader remained remained [] → is_spent filter.most ≡ false → FiltersWith filter reader remained remained old old filter.most
   unfolding begins
-  begins_with reader remained old fits hands some = (begins reader remained old fits hands (none_below filter.most some), none_less filter.most)
+  begins_with reader remained old hands some = (begins reader remained old hands (none_below filter.most some), none_less filter.most)
 
   module _ (was now : LogReader) (remained before after : Option (List ℕ)) (old mid between : Stand)
       (s : FiltersSoFar filter was remained before old mid) (idle : Goes mid between [] 0 0)
-      (still : between.addressed ≡ mid.addressed) where
+      (still : between.addressed ≡ mid.addressed) (fits : old.lines ≤ 2 ^ 64 - 1) where
     -- a line more, whose output was put
     pub more_filters : (line : LogLine) (verdict : Verdict) → IsVerdict filter (content line) verdict → is_refused filter verdict ≡ false
-        → Filters filter old.lines (s.first ++ line ∷ []) (s.added ++ output_of filter (old.lines + length s.first + 1) verdict line) (s.count + one_if (is_selected filter verdict))
+        → Filters filter old.lines (s.first ++ line ∷ []) (s.is_done.added ++ output_of filter (old.lines + length s.first + 1) verdict line) (s.is_done.count + one_if (is_selected filter verdict))
     more_filters line verdict judges passes =
-        both filter old.lines s.first (line ∷ []) s.added (output_of filter (old.lines + length s.first + 1) verdict line) s.count (one_if (is_selected filter verdict)) s.filters (
+        both filter old.lines s.first (line ∷ []) s.is_done.added (output_of filter (old.lines + length s.first + 1) verdict line) s.is_done.count (one_if (is_selected filter verdict)) s.is_done.filters (
           verdict,
           [],
           0,
@@ -111,14 +112,14 @@ module _ (filter : Filter) where
         )
 
     pub more_goes : (new : Stand) (line : LogLine) (verdict : Verdict) → Goes between new (output_of filter (old.lines + length s.first + 1) verdict line) (one_if (is_selected filter verdict)) 1
-        → Goes old new (s.added ++ output_of filter (old.lines + length s.first + 1) verdict line) (s.count + one_if (is_selected filter verdict)) (length (s.first ++ line ∷ []))
+        → Goes old new (s.is_done.added ++ output_of filter (old.lines + length s.first + 1) verdict line) (s.is_done.count + one_if (is_selected filter verdict)) (length (s.first ++ line ∷ []))
     more_goes new line verdict goes =
         let added = output_of filter (old.lines + length s.first + 1) verdict line in
         let count = one_if (is_selected filter verdict) in
-        subst (λ (n : ℕ). Goes old new (s.added ++ added) (s.count + count) n)
+        subst (λ (n : ℕ). Goes old new (s.is_done.added ++ added) (s.is_done.count + count) n)
         (sym (length-append s.first (line ∷ [])))
-        (goes_on old between new s.added added s.count count (length s.first) 1
-        (goes_still old mid between s.added s.count (length s.first) s.goes idle) goes)
+        (goes_on old between new s.is_done.added added s.is_done.count count (length s.first) 1
+        (goes_still old mid between s.is_done.added s.is_done.count (length s.first) s.is_done.goes idle) goes)
 
     one_more : (new : Stand) (line : LogLine) (verdict : Verdict)
         → HandsFirst now remained after (s.first ++ line ∷ [])
@@ -127,20 +128,21 @@ module _ (filter : Filter) where
         → Goes between new (output_of filter (old.lines + length s.first + 1) verdict line)
         (one_if (is_selected filter verdict)) 1
         → new.addressed ≡ (between.addressed || is_addressed_by verdict)
-        → is_below filter.most (s.count + one_if (is_selected filter verdict)) ≡ true
+        → is_below filter.most (s.is_done.count + one_if (is_selected filter verdict)) ≡ true
         → FiltersSoFar filter now remained after old new
     one_more new line verdict hands judges passes goes seen below =
         record {
           first = s.first ++ line ∷ [];
           hands = hands;
-          added = s.added ++ output_of filter (old.lines + length s.first + 1) verdict line;
-          count = s.count + one_if (is_selected filter verdict);
-          fits = s.fits;
-          filters = more_filters line verdict judges passes;
-          below = below;
-          goes = more_goes new line verdict goes;
-          addressed = addressed_more filter s.first line verdict old.addressed mid.addressed new.addressed
-              judges s.addressed (seen ∙ ap (λ b. b || is_addressed_by verdict) still);
+          is_done = record {
+            added = s.is_done.added ++ output_of filter (old.lines + length s.first + 1) verdict line;
+            count = s.is_done.count + one_if (is_selected filter verdict);
+            filters = more_filters line verdict judges passes;
+            below = below;
+            goes = more_goes new line verdict goes;
+            addressed = addressed_more filter s.first line verdict old.addressed mid.addressed new.addressed
+                judges s.is_done.addressed (seen ∙ ap (λ b. b || is_addressed_by verdict) still);
+          };
         }
 
     -- the line that was handed out was filtered
@@ -154,26 +156,26 @@ module _ (filter : Filter) where
           let next = log_line (line_of now) end in
           let text : whole ++ feed_behind end ≡ printed next = ap (λ l. l ++ feed_behind end) all ∙ sym given.is_printed in
           let same : line ≡ content next = is ∙ sym given.is_content in
-          let number = numbers_same old.lines mid.lines between.lines new.lines (length s.first) s.fits s.goes.2 idle.2 f.3.2 in
+          let number = numbers_same old.lines mid.lines between.lines new.lines (length s.first) fits s.is_done.goes.2 idle.2 f.3.2 in
           subst (λ (h : List ℕ). Goes between new (if is_selected filter f.0 then shown_of filter h f.0 (content next) (printed next) else []) (one_if (is_selected filter f.0)) 1)
           (heads_same filter new.lines (old.lines + length s.first + 1) number)
           (subst (λ t. Goes between new (shown filter new.lines f.0 (content next) t) (one_if (is_selected filter f.0)) 1) text
           (subst (λ l. Goes between new (shown filter new.lines f.0 l (whole ++ feed_behind end)) (one_if (is_selected filter f.0)) 1)
           same f.3))
 
-      pub after_line : is_below filter.most (s.count + one_if selected) ≡ true → FiltersSoFar filter now remained after old new
+      pub after_line : is_below filter.most (s.is_done.count + one_if selected) ≡ true → FiltersSoFar filter now remained after old new
       after_line below =
           one_more new (log_line (line_of now) end) f.0 given.hands line_judged f.2 line_goes f.4
-          (sym (ap (λ (b : Bool). is_below filter.most (s.count + one_if b)) f.5) ∙ below)
+          (sym (ap (λ (b : Bool). is_below filter.most (s.is_done.count + one_if b)) f.5) ∙ below)
 
       -- and more may be selected
-      pub after_line_with : (left more : Option ℕ) → left ≡ less filter.most s.count → more ≡ less left (one_if selected) → is_spent more ≡ false
+      pub after_line_with : (left more : Option ℕ) → left ≡ less filter.most s.is_done.count → more ≡ less left (one_if selected) → is_spent more ≡ false
           → FiltersWith filter now remained after old new more
       unfolding after_line one_more
       after_line_with left more e fewer some =
-          let same = less_more filter.most left more s.count (one_if selected) e fewer in (
-            after_line (still_below filter.most more (s.count + one_if selected) same some),
-            same ∙ ap (λ (b : Bool). less filter.most (s.count + one_if b)) f.5,
+          let same = less_more filter.most left more s.is_done.count (one_if selected) e fewer in (
+            after_line (still_below filter.most more (s.is_done.count + one_if selected) same some),
+            same ∙ ap (λ (b : Bool). less filter.most (s.is_done.count + one_if b)) f.5,
           )
 
     -- one that is too long was dropped
@@ -181,14 +183,14 @@ module _ (filter : Filter) where
         → is_refused filter verdicts.TooLong ≡ false
         → Goes between new [] 0 1 → new.addressed ≡ between.addressed → FiltersSoFar filter now remained after old new
     after_long new given stays passes goes seen =
-        let none : s.count + one_if (is_selected filter verdicts.TooLong) ≡ s.count = omega arith in
+        let none : s.is_done.count + one_if (is_selected filter verdicts.TooLong) ≡ s.is_done.count = omega arith in
         one_more new given.line verdicts.TooLong (given.hands stays) given.long passes
         goes (or_none between.addressed new.addressed seen)
-        (ap (λ (n : ℕ). is_below filter.most n) none ∙ s.below)
+        (ap (λ (n : ℕ). is_below filter.most n) none ∙ s.is_done.below)
 
     pub after_long_with : (new : Stand) (left : Option ℕ) → GivesNext now remained after s.first TooLong → hurries_of now ≡ false
         → is_refused filter verdicts.TooLong ≡ false
-        → Goes between new [] 0 1 → new.addressed ≡ between.addressed → left ≡ less filter.most s.count → FiltersWith filter now remained after old new left
+        → Goes between new [] 0 1 → new.addressed ≡ between.addressed → left ≡ less filter.most s.is_done.count → FiltersWith filter now remained after old new left
     unfolding after_long one_more
     after_long_with new left given stays passes goes seen e =
-        (after_long new given stays passes goes seen, less_more filter.most left left s.count 0 e (none_less left))
+        (after_long new given stays passes goes seen, less_more filter.most left left s.is_done.count 0 e (none_less left))

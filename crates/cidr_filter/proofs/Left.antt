@@ -1,5 +1,5 @@
 -- A log that is not read any more, since as many of its lines are selected as may be.
-use Rattle.std.proofs.Common.{◌≡◌, ℕ, ◌+◌, ◌||◌, Bool, true, false, List, [], ◌∷◌, ◌++◌, length, refl, sym, ap, ◌∙◌, subst, inl, inr, append_assoc, append-nil, true≢false}
+use Rattle.std.proofs.Common.{◌≡◌, ℕ, ◌+◌, ◌-◌, ◌^◌, ◌≤◌, ◌||◌, Bool, true, false, List, [], ◌∷◌, ◌++◌, length, refl, sym, ap, ◌∙◌, subst, inl, inr, append-nil, true≢false}
 use Rattle.std.specs.Prelude.{Option, Some, Result, Ok, Err, IfOk, IfErr, OnOk, OnErr, IsOkUnless, IsTrue}
 use Rattle.lines.specs.Outputs.{Written, AppendsBeginning, Prints, FailsIn}
 use Rattle.lines.specs.declared.line_end.LineEnd.{LineEnd}
@@ -7,6 +7,8 @@ use Rattle.lines.proofs.Putting.{begins_after_puts}
 use Rattle.program.specs.LogFaults.{ended_by_read}
 use Rattle.program.specs.LogLines.{log_lines, feed_behind, log_line}
 use Rattle.program.specs.LogReaders.{HandsFirst, GivesNext, line_of, whole_of}
+use Rattle.program.specs.LogReadings.{ReadsFirst}
+use Rattle.program.proofs.LogReadings.{line_stops}
 use Rattle.program.specs.declared.log_fault.LogFault.{LogFault}
 use Rattle.program.specs.declared.log_fault.LogFault.TheVariants as faults
 use Rattle.program.specs.declared.log_reader.LogReader.{LogReader}
@@ -42,7 +44,7 @@ module _ (filter : Filter) (log : LogReader) (remained after : Option (List ℕ)
   is_left (Ok r) e h = subst (λ (r : Reached). EndsBy r filter log remained after old last) (sym e) h
   is_left (Err fault) e h = tt
 
-  is_stopped : (read_failed write_failed : Bool) (result : Result Reached LogFault) → IsOkUnless result faults.Write → OnErr result (IsTrue write_failed × WritesBeginning filter remained after old last)
+  is_stopped : (read_failed write_failed : Bool) (result : Result Reached LogFault) → IsOkUnless result faults.Write → OnErr result (IsTrue write_failed × ReadsFirst (WritesBeginning filter old last) remained after)
       → IfErr result (λ f. Stops filter remained after read_failed write_failed old last f)
   is_stopped read_failed write_failed (Ok r) e h = tt
   is_stopped read_failed write_failed (Err fault) e h = subst (λ (f : LogFault). Stops filter remained after read_failed write_failed old last f) (sym e) h
@@ -69,55 +71,52 @@ reads_still result false new e same = same ∙ sym (by_no_read result e)
 -- ---- at a line
 
 module _ {W : Type 0} (filter : Filter) (was now : LogReader) (remained before after : Option (List ℕ)) (old mid between : Stand)
-    (s : FiltersSoFar filter was remained before old mid) (idle : Goes mid between [] 0 0) (still : between.addressed ≡ mid.addressed)
+    (s : FiltersSoFar filter was remained before old mid) (idle : Goes mid between [] 0 0) (still : between.addressed ≡ mid.addressed) (fits : old.lines ≤ 2 ^ 64 - 1)
     (output output_after : Written W) (tally : Tally) (end : LineEnd) (line whole : List ℕ) (given : GivesNext now remained after s.first (Line end))
     (is : line ≡ line_of now) (all : whole ≡ whole_of now) (selected : Bool) (f : FiltersLine filter line (whole ++ feed_behind end) selected between (stand output tally)) where
-  goes : Goes old (stand output tally) (s.added ++ output_of filter (old.lines + length s.first + 1) f.0 (log_line (line_of now) end)) (s.count + one_if (is_selected filter f.0)) (length (s.first ++ log_line (line_of now) end ∷ []))
+  goes : Goes old (stand output tally) (s.is_done.added ++ output_of filter (old.lines + length s.first + 1) f.0 (log_line (line_of now) end)) (s.is_done.count + one_if (is_selected filter f.0)) (length (s.first ++ log_line (line_of now) end ∷ []))
   goes =
-      more_goes filter was now remained before after old mid between s idle still (stand output tally) (log_line (line_of now) end) f.0
-      (line_goes filter was now remained before after old mid between s idle still (stand output tally) end line whole given is all selected f)
+      more_goes filter was now remained before after old mid between s idle still fits (stand output tally) (log_line (line_of now) end) f.0
+      (line_goes filter was now remained before after old mid between s idle still fits (stand output tally) end line whole given is all selected f)
 
-  leaves_line : filter.most ≡ Some (s.count + one_if selected) → selected ≡ true → Prints output output_after []
+  leaves_line : filter.most ≡ Some (s.is_done.count + one_if selected) → selected ≡ true → Prints output output_after []
       → Leaves filter now remained after old (stand output_after tally)
   leaves_line most chosen put = record {
     first = s.first ++ log_line (line_of now) end ∷ [];
-    added = s.added ++ output_of filter (old.lines + length s.first + 1) f.0 (log_line (line_of now) end);
-    count = s.count + one_if (is_selected filter f.0);
+    added = s.is_done.added ++ output_of filter (old.lines + length s.first + 1) f.0 (log_line (line_of now) end);
+    count = s.is_done.count + one_if (is_selected filter f.0);
     hands = given.hands;
-    filters = more_filters filter was now remained before after old mid between s idle still (log_line (line_of now) end) f.0
-        (line_judged filter was now remained before after old mid between s idle still (stand output tally) end line whole given is all selected f) f.2;
+    filters = more_filters filter was now remained before after old mid between s idle still fits (log_line (line_of now) end) f.0
+        (line_judged filter was now remained before after old mid between s idle still fits (stand output tally) end line whole given is all selected f) f.2;
     all = record {
-      most = most ∙ ap (λ (b : Bool). Some (s.count + one_if b)) f.5;
+      most = most ∙ ap (λ (b : Bool). Some (s.is_done.count + one_if b)) f.5;
       last = inr (
         s.first,
         log_line (line_of now) end,
         f.0,
         refl,
         given.next.is_line,
-        line_judged filter was now remained before after old mid between s idle still (stand output tally) end line whole given is all selected f,
+        line_judged filter was now remained before after old mid between s idle still fits (stand output tally) end line whole given is all selected f,
         sym f.5 ∙ chosen,
       );
     };
     goes = goes_still old (stand output tally) (stand output_after tally) _ _ _ goes (goes_idle (stand output tally) (stand output_after tally) refl refl put);
   }
 
-  writes_line : FailsIn output output_after [] → WritesBeginning filter remained after old (stand output_after tally)
-  writes_line took = record {
-    read = given.next.read;
-    first = s.first ++ log_line (line_of now) end ∷ [];
-    others = given.next.others;
-    added = s.added ++ output_of filter (old.lines + length s.first + 1) f.0 (log_line (line_of now) end);
-    count = s.count + one_if (is_selected filter f.0);
-    reads = given.next.reads;
-    lines = given.next.lines ∙ sym (append_assoc s.first (log_line (line_of now) end ∷ []) given.next.others);
-    filters = more_filters filter was now remained before after old mid between s idle still (log_line (line_of now) end) f.0
-        (line_judged filter was now remained before after old mid between s idle still (stand output tally) end line whole given is all selected f) f.2;
-    within = within_more filter.most s.count (is_selected filter f.0) s.below;
-    beginning = subst (λ (t : List ℕ). AppendsBeginning old.holds output_after.holds (old.waits ++ t)) (append-nil (s.added ++ output_of filter (old.lines + length s.first + 1) f.0 (log_line (line_of now) end)))
-        (begins_after_puts old.holds output.holds output_after.holds old.waits output.waits (s.added ++ output_of filter (old.lines + length s.first + 1) f.0 (log_line (line_of now) end)) [] goes.0 took);
-  }
+  writes_line : FailsIn output output_after [] → ReadsFirst (WritesBeginning filter old (stand output_after tally)) remained after
+  writes_line took =
+      let added = s.is_done.added ++ output_of filter (old.lines + length s.first + 1) f.0 (log_line (line_of now) end) in
+      line_stops _ (WritesBeginning filter old (stand output_after tally)) was now remained before after s end given (record {
+        added = added;
+        count = s.is_done.count + one_if (is_selected filter f.0);
+        filters = more_filters filter was now remained before after old mid between s idle still fits (log_line (line_of now) end) f.0
+            (line_judged filter was now remained before after old mid between s idle still fits (stand output tally) end line whole given is all selected f) f.2;
+        within = within_more filter.most s.is_done.count (is_selected filter f.0) s.is_done.below;
+        beginning = subst (λ (t : List ℕ). AppendsBeginning old.holds output_after.holds (old.waits ++ t)) (append-nil added)
+            (begins_after_puts old.holds output.holds output_after.holds old.waits output.waits added [] goes.0 took);
+      })
 
-  pub line_left : (result : Result Reached LogFault) → filter.most ≡ Some (s.count + one_if selected) → selected ≡ true → IfOk result (λ r. r ≡ reached.Last)
+  pub line_left : (result : Result Reached LogFault) → filter.most ≡ Some (s.is_done.count + one_if selected) → selected ≡ true → IfOk result (λ r. r ≡ reached.Last)
       → OnOk result (Prints output output_after []) → IfOk result (λ r. EndsBy r filter now remained after old (stand output_after tally))
   line_left result most chosen last put =
       is_left filter now remained after old (stand output_after tally) result last (ok_so result (leaves_line most chosen) put)
@@ -143,18 +142,14 @@ module _ {W : Type 0} (filter : Filter) (log : LogReader) (remained : Option (Li
     goes = goes_idle (stand output tally) (stand output_after tally) refl refl put;
   }
 
-  writes_none : FailsIn output output_after [] → WritesBeginning filter remained remained (stand output tally) (stand output_after tally)
+  writes_none : FailsIn output output_after [] → ReadsFirst (WritesBeginning filter (stand output tally) (stand output_after tally)) remained remained
   writes_none took = record {
     read = hands.read;
     first = [];
     others = log_lines hands.read;
-    added = [];
-    count = 0;
     reads = hands.reads;
     lines = refl;
-    filters = (refl, refl);
-    within = ap (λ (o : Option ℕ). is_within o 0) most;
-    beginning = took;
+    is_done = record { added = []; count = 0; filters = (refl, refl); within = ap (λ (o : Option ℕ). is_within o 0) most; beginning = took };
   }
 
   pub all_left : (result : Result Reached LogFault) → IfOk result (λ r. r ≡ reached.Last)

@@ -1,8 +1,8 @@
 -- Logs that are filtered in turn.
-use Rattle.std.proofs.Common.{◌≡◌, ◌+◌, ◌-◌, ◌^◌, ◌++◌, ◌∷◌, ◌∙◌, ◌||◌, [], ℕ, Bool, List, true, false, inl, inr, refl, sym, ap, subst, arith, length, min, append_assoc, append-nil, codes}
-use Rattle.std.specs.Prelude.{Option, Some, IsTrue}
+use Rattle.std.proofs.Common.{◌≡◌, ◌+◌, ◌++◌, ◌∷◌, ◌∙◌, ◌||◌, [], ℕ, Bool, List, true, false, inl, inr, refl, sym, ap, subst, arith, length, append_assoc, append-nil, codes}
+use Rattle.std.specs.Prelude.{Option, Some}
 use Rattle.std.specs.Io.KnownBytes.{Consumes, IsAtEnd}
-use Rattle.lines.specs.Outputs.{Written, Puts, AppendsBeginning}
+use Rattle.lines.specs.Outputs.{Written}
 use Rattle.lines.proofs.Putting.{puts_nothing, puts_more}
 use Rattle.lists.specs.KnownLists.{KnownLists}
 use Rattle.program.specs.Messages.{Tells}
@@ -10,18 +10,15 @@ use Rattle.program.proofs.Told.{tells_more, tells_nothing, tells_same}
 use Rattle.cidr_filter.specs.Addressed.{any_addressed, lacking_by, lacking_text, closed_text}
 use Rattle.program.proofs.Counts.{counts_more, counts_none, counts_from_none}
 use Rattle.program.proofs.LogNames.{all_of, first_of}
-use Rattle.program.specs.LogLines.{LogLine, log_lines, ended_lines, content, IsWhole}
-use Rattle.program.specs.Logs.{IsAllOf, StopsAfter, HaltsBy}
+use Rattle.program.specs.LogLines.{LogLine, log_lines, IsWhole}
+use Rattle.program.specs.Logs.{IsAllOf}
 use Rattle.program.specs.declared.log_reader.LogReader.{LogReader}
-use Rattle.cidr_filter.specs.Filters.{is_silent, Filters, LastIsSelected}
-use Rattle.cidr_filter.specs.Logs.{FiltersLogs, is_enough, EndsRunBy, is_short, filter_for}
+use Rattle.cidr_filter.specs.Filters.{is_silent, LastIsSelected}
+use Rattle.cidr_filter.specs.Logs.{FiltersLogs, is_enough, filter_for}
 use Rattle.cidr_filter.specs.Stands.{Stand}
-use Rattle.cidr_filter.specs.Stops.{Ends, Leaves, EndsAtLine, Stops}
+use Rattle.cidr_filter.specs.Stops.{Ends, Leaves}
 use Rattle.cidr_filter.specs.Private.Runs.{FiltersNames}
 use Rattle.cidr_filter.specs.declared.filter.Filter.{Filter}
-use Rattle.cidr_filter.specs.declared.filter.Verdict.{Verdict}
-use Rattle.program.specs.declared.log_fault.LogFault.{LogFault}
-use Rattle.program.specs.declared.log_fault.LogFault.TheVariants as faults
 use Rattle.lists.specs.declared.opening.OpenFault.{OpenFault}
 use Rattle.log_programs.proofs.Lacking.{lacking_same}
 use Rattle.cidr_filter.proofs.Enough.{few_first, few_second, enough_behind, not_enough, enough_same, goes_nowhere, went_on, goes_on, goes_so}
@@ -29,29 +26,9 @@ use Rattle.log_programs.proofs.Failing.{or_assoc}
 
 -- ---- one log
 
--- the output of the first lines was put, of which there were this many, or the writer failed, which took a beginning of
--- it
-abbrev pub PutsBy : LogFault → Bool → Stand → Stand → List ℕ → ℕ → Type 0
-PutsBy faults.Open failed old new added lines = Puts old.holds old.waits new.holds new.waits added × (new.lines ≡ min lines (2 ^ 64 - 1))
-PutsBy faults.Read failed old new added lines = Puts old.holds old.waits new.holds new.waits added × (new.lines ≡ min lines (2 ^ 64 - 1))
-PutsBy faults.Write failed old new added lines = IsTrue failed × AppendsBeginning old.holds new.holds (old.waits ++ added)
-PutsBy faults.Address failed old new added lines = Puts old.holds old.waits new.holds new.waits added × (new.lines ≡ min lines (2 ^ 64 - 1))
-PutsBy faults.Length failed old new added lines = Puts old.holds old.waits new.holds new.waits added × (new.lines ≡ min lines (2 ^ 64 - 1))
-PutsBy faults.Endless failed old new added lines = Puts old.holds old.waits new.holds new.waits added × (new.lines ≡ min lines (2 ^ 64 - 1))
-
 -- the lines of what was read
 first_lines : (read pending : List ℕ) (first : List LogLine) → log_lines (read ++ []) ≡ first ++ log_lines (pending ++ []) → log_lines read ≡ first ++ log_lines pending
 first_lines read pending first e = sym (ap log_lines (append-nil read)) ∙ e ∙ ap (λ (p : List ℕ). first ++ log_lines p) (append-nil pending)
-
--- the log of this name was not filtered to its end, by the fault
-pub record NameStops (filter : Filter) (known : KnownLists) (name : List ℕ) (failed : Bool) (old new : Stand) (fault : LogFault) : Type 0 where
-  pub lines : List LogLine
-  pub added : List ℕ
-  pub count : ℕ
-  pub filters : Filters (filter_for filter name) 0 lines added count
-  pub short : is_short fault filter.most count ≡ true
-  pub halts : HaltsBy (EndsRunBy filter) known name lines fault
-  pub puts : PutsBy fault failed old new added (length lines)
 
 module _ (filter : Filter) (known : KnownLists) where
   module _ (name : List ℕ) (remained remains : Option (List ℕ)) (has : (input : List ℕ) → known.bytes_of name ≡ Some input → remained ≡ Some input) (opened : known.may_open name true) where
@@ -62,29 +39,29 @@ module _ (filter : Filter) (known : KnownLists) where
         let lines = log_lines ends.read in
         let text = lacking_text filter name lines in
         record {
-          output = ends.added;
-          count = ends.count;
+          output = ends.is_done.added;
+          count = ends.is_done.count;
           text = text;
           filters = (
-            ends.added,
+            ends.is_done.added,
             [],
-            ends.count,
+            ends.is_done.count,
             0,
             text,
             [],
             false,
             false,
-            inl ((ends.read, all_of known name remained remains has opened ends.read ends.reads ends.end, ends.filters, refl, ends.below), refl),
-            goes_nowhere (is_enough filter.shows ends.count),
-            sym (append-nil ends.added),
+            inl ((ends.read, all_of known name remained remains has opened ends.read ends.reads ends.end, ends.is_done.filters, refl, ends.is_done.below), refl),
+            goes_nowhere (is_enough filter.shows ends.is_done.count),
+            sym (append-nil ends.is_done.added),
             omega arith,
             sym (append-nil text),
             refl,
           );
           tells = tells_same errors told (lacking_by filter.place name new.lines new.addressed) text
-              (lacking_same (codes "cidr_filter") filter.place name new.lines (length lines) new.addressed (any_addressed filter lines) (counts_from_none 0 new.lines (length lines) refl ends.goes.2) ends.addressed) tells;
-          puts = ends.goes.0;
-          counted = ends.goes.1;
+              (lacking_same (codes "cidr_filter") filter.place name new.lines (length lines) new.addressed (any_addressed filter lines) (counts_from_none 0 new.lines (length lines) refl ends.is_done.goes.2) ends.is_done.addressed) tells;
+          puts = ends.is_done.goes.0;
+          counted = ends.is_done.goes.1;
         }
 
     is_whole : (read : List ℕ) (line : LogLine) → Consumes remained remains read → IsWhole (IsAtEnd remains) line → IsWhole (IsAllOf known name read) line
@@ -138,68 +115,6 @@ module _ (filter : Filter) (known : KnownLists) where
       tells = tells_nothing errors;
       puts = left.goes.0;
       counted = left.goes.1;
-    }
-
-    line_halts : (IsSo : List ℕ → Type 0) (verdict : Verdict) (old new : Stand) (h : EndsAtLine (filter_for filter name) remained remains old new verdict)
-        → IsSo (content h.line) → StopsAfter known name h.first IsSo
-    line_halts IsSo verdict old new h so = record {
-      read = h.read;
-      line = h.line;
-      others = h.others;
-      is_first = first_of known name remained remains has h.read h.reads;
-      are = h.lines;
-      is_line = is_whole h.read h.line h.reads h.is_line;
-      is_so = so;
-    }
-
-    -- a log that was not filtered to its end
-    pub stops_by : (read_failed write_failed : Bool) (old new : Stand) (fault : LogFault) → (IsTrue read_failed → known.may_fail name) → Stops (filter_for filter name) remained remains read_failed write_failed (record old { lines = 0; addressed = false }) new fault
-        → NameStops filter known name write_failed old new fault
-    stops_by read_failed write_failed old new faults.Open fails h = absurd h
-    stops_by read_failed write_failed old new faults.Read fails h = record {
-      lines = ended_lines h.1;
-      added = h.3.added;
-      count = h.3.count;
-      filters = h.3.filters;
-      short = h.3.below;
-      halts = (h.1, first_of known name remained remains has h.1 h.2, refl, opened, fails h.0);
-      puts = (h.3.goes.0, counts_from_none 0 new.lines _ refl h.3.goes.2);
-    }
-    stops_by read_failed write_failed old new faults.Write fails h = record {
-      lines = h.1.first;
-      added = h.1.added;
-      count = h.1.count;
-      filters = h.1.filters;
-      short = h.1.within;
-      halts = (h.1.read, h.1.others, first_of known name remained remains has h.1.read h.1.reads, h.1.lines);
-      puts = (h.0, h.1.beginning);
-    }
-    stops_by read_failed write_failed old new faults.Address fails h = record {
-      lines = h.first;
-      added = h.added;
-      count = h.count;
-      filters = h.filters;
-      short = h.below;
-      halts = (line_halts (EndsRunBy filter faults.Address) _ _ new h (h.judges, h.refused), opened);
-      puts = (h.goes.0, counts_from_none 0 new.lines _ refl h.goes.2);
-    }
-    stops_by read_failed write_failed old new faults.Length fails h = record {
-      lines = h.first;
-      added = h.added;
-      count = h.count;
-      filters = h.filters;
-      short = h.below;
-      halts = (line_halts (EndsRunBy filter faults.Length) _ _ new h (h.judges, h.refused), opened);
-      puts = (h.goes.0, counts_from_none 0 new.lines _ refl h.goes.2);
-    }
-    stops_by read_failed write_failed old new faults.Endless fails h = record {
-      lines = ended_lines h.0;
-      added = h.4.added;
-      count = h.4.count;
-      filters = h.4.filters;
-      short = h.4.below;
-      halts = (h.0, h.1, first_of known name remained remains has (h.0 ++ h.1) h.2, h.3, refl, opened);
-      puts = (h.4.goes.0, counts_from_none 0 new.lines _ refl h.4.goes.2);
     }
 
   -- a log that was not opened

@@ -156,26 +156,27 @@ reads_text result known number choice value text before after is same h =
     subst (λ (c : Choice). OnOk result (ReadsOption known number c value before after)) (sym is)
     (subst (λ (t : List ℕ). OnOk result (TakesLines (at_list before number) (lines t) after)) (sym same) h)
 
-file_is : {T E : Type 0} (result : Result T E) (known : KnownLists) (number : ℕ) (choice : Choice) (value : List ℕ) (before after : ReadLists)
-    → is_list choice ≡ true → ¬ (choice ≡ choices.Text) → OnOk result (ReadsList known number value before after) → OnOk result (ReadsOption known number choice value before after)
-file_is result known number (choices.Letters letters) value before after list not h = absurd (true≢false (sym list))
-file_is result known number (choices.Shared (common.Field field)) value before after list not h = absurd (true≢false (sym list))
-file_is result known number (choices.Shared (common.Separator byte)) value before after list not h = absurd (true≢false (sym list))
-file_is result known number (choices.Most most) value before after list not h = absurd (true≢false (sym list))
-file_is result known number (choices.WithoutAddress bad) value before after list not h = absurd (true≢false (sym list))
-file_is result known number choices.Longest value before after list not h = absurd (true≢false (sym list))
-file_is result known number (choices.Shared common.Mapped) value before after list not h = absurd (true≢false (sym list))
-file_is result known number (choices.Shared common.After) value before after list not h = absurd (true≢false (sym list))
-file_is result known number (choices.Shared common.File) value before after list not h = h
-file_is result known number (choices.Shared common.Input) value before after list not h = h
-file_is result known number choices.Text value before after list not h = absurd (not refl)
+-- a list that is no text is named
+as_named : (IsSo : Choice → Type 0) (choice : Choice) → is_list choice ≡ true → ¬ (choice ≡ choices.Text) → IsSo (choices.Shared common.File) → IsSo (choices.Shared common.Input) → IsSo choice
+as_named IsSo (choices.Letters letters) list not file input = absurd (true≢false (sym list))
+as_named IsSo (choices.Shared (common.Field field)) list not file input = absurd (true≢false (sym list))
+as_named IsSo (choices.Shared (common.Separator byte)) list not file input = absurd (true≢false (sym list))
+as_named IsSo (choices.Most most) list not file input = absurd (true≢false (sym list))
+as_named IsSo (choices.WithoutAddress bad) list not file input = absurd (true≢false (sym list))
+as_named IsSo choices.Longest list not file input = absurd (true≢false (sym list))
+as_named IsSo (choices.Shared common.Mapped) list not file input = absurd (true≢false (sym list))
+as_named IsSo (choices.Shared common.After) list not file input = absurd (true≢false (sym list))
+as_named IsSo (choices.Shared common.File) list not file input = file
+as_named IsSo (choices.Shared common.Input) list not file input = input
+as_named IsSo choices.Text list not file input = absurd (not refl)
 
 -- the list that an `-f` names
 pub reads_file : {T E : Type 0} (result : Result T E) (known : KnownLists) (number : ℕ) (choice : Choice) (value name : List ℕ) (before after : ReadLists)
     → is_list choice ≡ true → ¬ (choice ≡ choices.Text) → value ≡ name → OnOk result (ReadsList known number name before after)
     → OnOk result (ReadsOption known number choice value before after)
 reads_file result known number choice value name before after list not same h =
-    file_is result known number choice value before after list not (subst (λ (n : List ℕ). OnOk result (ReadsList known number n before after)) (sym same) h)
+    let read = subst (λ (n : List ℕ). OnOk result (ReadsList known number n before after)) (sym same) h in
+    as_named (λ c. OnOk result (ReadsOption known number c value before after)) choice list not read read
 
 -- ---- what was read
 
@@ -215,27 +216,12 @@ text_stops result known number choice value text before refused is same h =
     subst (λ (c : Choice). IfErr result (λ fault. StopsAtOption known number c value before fault refused)) (sym is)
     (subst (λ (t : List ℕ). IfErr result (λ fault. StopsAtText number t before fault refused)) (sym same) h)
 
-file_stops_at : {T : Type 0} (result : Result T ReadFault) (known : KnownLists) (number : ℕ) (choice : Choice) (value : List ℕ) (before : ReadLists) (refused : Refused)
-    → is_list choice ≡ true → ¬ (choice ≡ choices.Text) → IfErr result (λ fault. StopsAt known number value before fault refused)
-    → IfErr result (λ fault. StopsAtOption known number choice value before fault refused)
-file_stops_at result known number (choices.Letters letters) value before refused list not h = absurd (true≢false (sym list))
-file_stops_at result known number (choices.Shared (common.Field field)) value before refused list not h = absurd (true≢false (sym list))
-file_stops_at result known number (choices.Shared (common.Separator byte)) value before refused list not h = absurd (true≢false (sym list))
-file_stops_at result known number (choices.Most most) value before refused list not h = absurd (true≢false (sym list))
-file_stops_at result known number (choices.WithoutAddress bad) value before refused list not h = absurd (true≢false (sym list))
-file_stops_at result known number choices.Longest value before refused list not h = absurd (true≢false (sym list))
-file_stops_at result known number (choices.Shared common.Mapped) value before refused list not h = absurd (true≢false (sym list))
-file_stops_at result known number (choices.Shared common.After) value before refused list not h = absurd (true≢false (sym list))
-file_stops_at result known number (choices.Shared common.File) value before refused list not h = h
-file_stops_at result known number (choices.Shared common.Input) value before refused list not h = h
-file_stops_at result known number choices.Text value before refused list not h = absurd (not refl)
-
 pub file_stops : {T : Type 0} (result : Result T ReadFault) (known : KnownLists) (number : ℕ) (choice : Choice) (value name : List ℕ) (before : ReadLists) (refused : Refused)
     → is_list choice ≡ true → ¬ (choice ≡ choices.Text) → value ≡ name → IfErr result (λ fault. StopsAt known number name before fault refused)
     → IfErr result (λ fault. StopsAtOption known number choice value before fault refused)
 file_stops result known number choice value name before refused list not same h =
-    file_stops_at result known number choice value before refused list not
-    (subst (λ (n : List ℕ). IfErr result (λ fault. StopsAt known number n before fault refused)) (sym same) h)
+    let stops = subst (λ (n : List ℕ). IfErr result (λ fault. StopsAt known number n before fault refused)) (sym same) h in
+    as_named (λ c. IfErr result (λ fault. StopsAtOption known number c value before fault refused)) choice list not stops stops
 
 pub all_stopped : {Z T : Type 0} (result : Result T ReadFault) (known : KnownLists) (words : List (String Z)) (before : Refused) (start read : ReadLists) (refused : Refused)
     → before ≡ no_refusals → start ≡ nothing_read before → IfErr result (λ fault. Stops known words start fault read.refused) → refused ≡ read.refused

@@ -6,21 +6,22 @@ use Rattle.std.specs.Io.KnownBytes.{Appends}
 use Rattle.std.proofs.lemmas.List.{take_all, map-append}
 use Rattle.lists.specs.Lists.{nothing_read}
 use Rattle.lists.specs.Refusals.{Refused, no_refusals}
-use Rattle.lines.specs.Outputs.{Written, Puts, AppendsBeginning, Prints, Writes, FailsIn}
+use Rattle.lines.specs.Outputs.{Written, Puts, AppendsBeginning, Writes, FailsIn}
 use Rattle.lines.proofs.Putting.{begins_after_puts}
 use Rattle.program.proofs.Told.{tells_same, tells_more}
 use Rattle.program.specs.Endings.{Ending, ending, Refuses, HasTold, HasWritten, status_of, end_text}
 use Rattle.program.specs.Messages.{Tells}
 use Rattle.lists.specs.KnownLists.{KnownLists}
-use Rattle.cidr_filter.specs.Filters.{Filters, is_within, is_count, is_silent}
+use Rattle.cidr_filter.specs.Filters.{Filters, is_count, is_silent}
 use Rattle.program.specs.LogLines.{LogLine}
 use Rattle.cidr_filter.specs.Logs.{is_enough, EndsRunBy, is_short, filter_for}
 use Rattle.program.specs.Counts.{Counts}
-use Rattle.program.specs.LogFaults.{log_fault_text, Wrote, HandsOn, StopsBy}
+use Rattle.program.specs.LogFaults.{log_fault_text, IfWrite, Wrote, HandsOn, StopsBy}
 use Rattle.program.specs.Logs.{logs_of, HaltsBy}
 use Rattle.cidr_filter.specs.Reading.{Stops, HoldsRead}
 use Rattle.cidr_filter.specs.Runs.{StopsAtLog, total_text, status_by, FiltersAll, EndsLogs, filter_of, EndsRequest}
 use Rattle.cidr_filter.specs.Stands.{Stand, stand}
+use Rattle.cidr_filter.specs.Stops.{FiltersLines, WritesBeginning}
 use Rattle.program.specs.Told.{was_refused, fault_text, refusals_text}
 use Rattle.cidr_filter.specs.Told.{in_option}
 use Rattle.cidr_filter.specs.Private.Reading.{ReadsAll}
@@ -37,84 +38,83 @@ use Rattle.program.proofs.LogNames.{some_first, names_behind, names_apart, logs_
 use Rattle.program.proofs.LogReading.{failed_now}
 use Rattle.program.proofs.LogStops.{told_log, puts_then_all, written_behind, failed_behind, wrote_behind, wrote_same}
 use Rattle.cidr_filter.proofs.Enough.{none_few, few_both}
-use Rattle.cidr_filter.proofs.LogsInTurn.{PutsBy, NameStops, names_both, names_enough, enough_by, logs_both}
+use Rattle.cidr_filter.proofs.LogsInTurn.{names_both, names_enough, enough_by, logs_both}
 use Rattle.log_programs.proofs.Lacking.{same_test}
 use Rattle.cidr_filter.proofs.Spent.{below_within}
 
 -- ---- a log that stops
 
-short_within : (fault : LogFault) (most : Option ℕ) (count : ℕ) → is_short fault most count ≡ true → is_within most count ≡ true
-short_within faults.Open most count e = below_within most count e
-short_within faults.Read most count e = below_within most count e
-short_within faults.Write most count e = e
-short_within faults.Address most count e = below_within most count e
-short_within faults.Length most count e = below_within most count e
-short_within faults.Endless most count e = below_within most count e
+-- what ends a run does not depend on how a log is called
+halts_same : (filter : Filter) (known : KnownLists) (name : List ℕ) (lines : List LogLine) (fault : LogFault) → HaltsBy (EndsRunBy (filter_for filter name)) known name lines fault
+    → HaltsBy (EndsRunBy filter) known name lines fault
+halts_same filter known name lines (faults.Open cause) h = absurd h.0
+halts_same filter known name lines faults.Read h = h
+halts_same filter known name lines faults.Write h = h
+halts_same filter known name lines faults.Address h =
+    (record { read = h.0.read; line = h.0.line; others = h.0.others; is_first = h.0.is_first; are = h.0.are; is_line = h.0.is_line; is_so = h.0.is_so }, h.1)
+halts_same filter known name lines faults.Length h =
+    (record { read = h.0.read; line = h.0.line; others = h.0.others; is_first = h.0.is_first; are = h.0.are; is_line = h.0.is_line; is_so = h.0.is_so }, h.1)
+halts_same filter known name lines faults.Endless h = h
 
--- the first lines of a log were filtered, and then it stopped
-at_log : {W E : Type 0} (filter : Filter) (known : KnownLists) (name : List ℕ) (fault : LogFault) (lines : List LogLine) (added : List ℕ) (more : ℕ) (end : Ending W E)
-    → end.status ≡ 2 → Filters (filter_for filter name) 0 lines added more → is_short fault filter.most more ≡ true → HaltsBy (EndsRunBy filter) known name lines fault
-    → Wrote fault end ([] ++ added)
-    → HasTold end (log_fault_text name (length lines) fault) → StopsAtLog filter known (name ∷ []) end
-at_log filter known name fault lines added more end two filters short halts wrote told = record {
-  before = [];
-  name = name;
-  behind = [];
-  output = [];
-  selected = 0;
-  texts = [];
-  missed = false;
-  lines = lines;
-  added = added;
-  more = more;
-  fault = fault;
-  logs = refl;
-  filters = (refl, refl, refl, refl);
-  few = none_few (is_silent filter.shows);
-  first = filters;
-  short = short;
-  halts = halts;
-  wrote = wrote;
-  told = told;
-  status = two;
-}
+module _ {W E : Type 0} (filter : Filter) (known : KnownLists) (name : List ℕ) (end : Ending W E) (two : end.status ≡ 2) (mid : Written W) (old new : Tally) (lines : List LogLine) where
+  -- before the lines of the log
+  abbrev start : Stand
+  start = record (stand end.output old) { lines = 0; addressed = false }
 
-module _ {W E : Type 0} (filter : Filter) (known : KnownLists) (name : List ℕ) (lines : List LogLine) (added : List ℕ) (more : ℕ)
-    (filters : Filters (filter_for filter name) 0 lines added more) (end : Ending W E) (two : end.status ≡ 2) (mid : Written W) (told : ℕ) where
-  -- the output of these lines was put, and then what waited was written or not
-  handed : (fault : LogFault) → is_short fault filter.most more ≡ true → HaltsBy (EndsRunBy filter) known name lines fault → ((text : List ℕ) → HasWritten end text → Wrote fault end text)
-      → Prints end.output mid added × (told ≡ min (length lines) (2 ^ 64 - 1))
-      → HandsOn name told fault (record end { output = mid }) → StopsAtLog filter known (name ∷ []) end
-  handed fault short halts wrote p (inl h) =
-      at_log filter known name fault lines added more end two filters short halts (wrote ([] ++ added) (written_behind end mid added p.0 h.0))
-      (tells_same end.errors end.errors_after _ _ (told_log name told (length lines) fault p.1) h.1)
-  handed fault short halts wrote p (inr h) =
-      at_log filter known name faults.Write lines added more end two filters (short_within fault filter.most more short) (some_first (EndsRunBy filter) known name lines fault halts) (failed_behind end mid added p.0 h.0) h.1
+  -- the first lines of a log were filtered, and then it stopped
+  at_log : (fault : LogFault) (added : List ℕ) (more : ℕ) → Filters (filter_for filter name) 0 lines added more → is_short fault filter.most more ≡ true
+      → HaltsBy (EndsRunBy (filter_for filter name)) known name lines fault → Wrote fault end ([] ++ added)
+      → HasTold end (log_fault_text name (length lines) fault) → StopsAtLog filter known (name ∷ []) end
+  at_log fault added more filters short halts wrote told = record {
+    before = [];
+    name = name;
+    behind = [];
+    output = [];
+    selected = 0;
+    texts = [];
+    missed = false;
+    lines = lines;
+    added = added;
+    more = more;
+    fault = fault;
+    logs = refl;
+    filters = (refl, refl, refl, refl);
+    few = none_few (is_silent filter.shows);
+    first = filters;
+    short = short;
+    halts = halts_same filter known name lines fault halts;
+    wrote = wrote;
+    told = told;
+    status = two;
+  }
+
+  -- their output was put, and then what waited was written or not
+  handed : (fault : LogFault) → HaltsBy (EndsRunBy (filter_for filter name)) known name lines fault → ((text : List ℕ) → HasWritten end text → Wrote fault end text)
+      → (d : FiltersLines (filter_for filter name) start (stand mid new) lines) → is_short fault filter.most d.count ≡ true
+      → HandsOn name new.lines fault (record end { output = mid }) → StopsAtLog filter known (name ∷ []) end
+  handed fault halts wrote d short (inl h) =
+      at_log fault d.added d.count d.filters short halts (wrote ([] ++ d.added) (written_behind end mid d.added d.goes.0 h.0))
+      (tells_same end.errors end.errors_after _ _ (told_log name new.lines (length lines) fault (counts_from_none 0 new.lines _ refl d.goes.2)) h.1)
+  handed fault halts wrote d short (inr h) =
+      at_log faults.Write d.added d.count d.filters (below_within filter.most d.count d.below) (some_first (EndsRunBy (filter_for filter name)) known name lines fault halts)
+      (failed_behind end mid d.added d.goes.0 h.0) h.1
 
   -- the writer had failed
-  had_failed : is_within filter.most more ≡ true → HaltsBy (EndsRunBy filter) known name lines faults.Write → IsTrue mid.failed
-      × FailsIn end.output mid added
+  had_failed : HaltsBy (EndsRunBy (filter_for filter name)) known name lines faults.Write → IsTrue mid.failed × WritesBeginning (filter_for filter name) start (stand mid new) lines
       → (end.output_after ≡ mid) × HasTold (record end { output = mid }) (codes "write error\n") → StopsAtLog filter known (name ∷ []) end
-  had_failed short halts p stops =
-      at_log filter known name faults.Write lines added more end two filters short halts
-      (subst (λ (o : Written W). (o.failed ≡ true) × FailsIn end.output o added) (sym stops.0) p) stops.1
+  had_failed halts d stops =
+      at_log faults.Write d.1.added d.1.count d.1.filters d.1.within halts
+      (subst (λ (o : Written W). (o.failed ≡ true) × FailsIn end.output o d.1.added) (sym stops.0) (d.0, d.1.beginning)) stops.1
 
-  stops_now : (fault : LogFault) (old new : Tally) → new.lines ≡ told → is_short fault filter.most more ≡ true → HaltsBy (EndsRunBy filter) known name lines fault
-      → PutsBy fault mid.failed (stand end.output old) (stand mid new) added (length lines)
-      → StopsBy name told fault (record end { output = mid }) → StopsAtLog filter known (name ∷ []) end
-  stops_now faults.Open old new same short halts puts stops = handed faults.Open short halts (λ text h. h) (puts.0, sym same ∙ puts.1) stops
-  stops_now faults.Read old new same short halts puts stops = handed faults.Read short halts (λ text h. h) (puts.0, sym same ∙ puts.1) stops
-  stops_now faults.Write old new same short halts puts stops = had_failed short halts puts stops
-  stops_now faults.Address old new same short halts puts stops = handed faults.Address short halts (λ text h. h) (puts.0, sym same ∙ puts.1) stops
-  stops_now faults.Length old new same short halts puts stops = handed faults.Length short halts (λ text h. h) (puts.0, sym same ∙ puts.1) stops
-  stops_now faults.Endless old new same short halts puts stops = handed faults.Endless short halts (λ text h. h) (puts.0, sym same ∙ puts.1) stops
-
--- a log that was not filtered to its end
-pub name_stops : {W E : Type 0} (filter : Filter) (known : KnownLists) (name : List ℕ) (end : Ending W E) → end.status ≡ 2 → (mid : Written W) (fault : LogFault) (old new : Tally)
-    → NameStops filter known name mid.failed (stand end.output old) (stand mid new) fault → StopsBy name new.lines fault (record end { output = mid })
-    → StopsAtLog filter known (name ∷ []) end
-name_stops filter known name end two mid fault old new s stops =
-    stops_now filter known name s.lines s.added s.count s.filters end two mid new.lines fault old new refl s.short s.halts s.puts stops
+  pub name_stops : (fault : LogFault) → HaltsBy (EndsRunBy (filter_for filter name)) known name lines fault
+      → IfWrite fault (IsTrue mid.failed × WritesBeginning (filter_for filter name) start (stand mid new) lines) (FiltersLines (filter_for filter name) start (stand mid new) lines)
+      → StopsBy name new.lines fault (record end { output = mid }) → StopsAtLog filter known (name ∷ []) end
+  name_stops (faults.Open cause) halts d stops = handed (faults.Open cause) halts (λ text h. h) d d.below stops
+  name_stops faults.Read halts d stops = handed faults.Read halts (λ text h. h) d d.below stops
+  name_stops faults.Write halts d stops = had_failed halts d stops
+  name_stops faults.Address halts d stops = handed faults.Address halts (λ text h. h) d d.below stops
+  name_stops faults.Length halts d stops = handed faults.Length halts (λ text h. h) d d.below stops
+  name_stops faults.Endless halts d stops = handed faults.Endless halts (λ text h. h) d d.below stops
 
 -- ---- logs in turn
 

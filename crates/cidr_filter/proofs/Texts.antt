@@ -1,10 +1,10 @@
 -- The addresses of a line that are printed.
 use Rattle.std.proofs.Common.{◌≡◌, ℕ, ◌-◌, List, [], ◌++◌, drop, take, None, Some, ap, sym, subst, ◌∙◌, append_assoc, append-nil}
-use Rattle.std.specs.Prelude.{Option, Result, OnOk, OnErr, slice_get}
+use Rattle.std.specs.Prelude.{Option, slice_get}
 use Rattle.std.specs.List.{slice_range}
 use Rattle.std.specs.Option.{option_to_list}
-use Rattle.lines.specs.Outputs.{Written, Puts, AppendsBeginning, Prints, FailsIn}
-use Rattle.lines.proofs.Putting.{puts_nothing, begins_within, begins_after_puts}
+use Rattle.lines.specs.Outputs.{Puts, AppendsBeginning}
+use Rattle.lines.proofs.Putting.{begins_within, begins_after_puts}
 use Rattle.ipnetwork_addr.specs.declared.ip.IpAddr.{IpAddr}
 use Rattle.line_addresses.specs.Addresses.{address_of, with_text, addresses_of}
 use Rattle.line_addresses.specs.Following.{following}
@@ -69,15 +69,3 @@ of_first filter head rest found next = sym (ap (λ l. texts_of filter head (take
 
 pub of_no_first : (filter : Filter) (head rest : List ℕ) → addresses_of rest ≡ [] → [] ≡ texts_of filter head (of_rest (Some rest))
 of_no_first filter head rest none = sym (ap (λ l. texts_of filter head (take 1 l)) none)
-
--- ---- with what is printed by another name
-
-module _ {W T E : Type 0} (result : Result T E) (old new : Written W) (text other : List ℕ) (same : text ≡ other) where
-  pub prints_it : OnOk result (Prints old new text) → OnOk result (Prints old new other)
-  prints_it h = subst (λ (t : List ℕ). OnOk result (Prints old new t)) same h
-
-  pub fails_in_it : OnErr result (FailsIn old new text) → OnErr result (FailsIn old new other)
-  fails_in_it h = subst (λ (t : List ℕ). OnErr result (FailsIn old new t)) same h
-
-pub prints_nothing : {W : Type 0} (old : Written W) (other : List ℕ) → [] ≡ other → Prints old old other
-prints_nothing old other same = subst (λ (t : List ℕ). Prints old old t) same (puts_nothing old.holds old.waits)

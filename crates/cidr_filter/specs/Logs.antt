@@ -64,7 +64,7 @@ FiltersLogs filter known (name ∷ names) output selected told missed = (added :
 -- so many lines of a log are selected where it ends a run, by the fault: fewer than may be, and at a failed write as many
 -- at the most
 abbrev pub is_short : LogFault → Option ℕ → ℕ → Bool
-is_short faults.Open most count = is_below most count
+is_short (faults.Open cause) most count = is_below most count
 is_short faults.Read most count = is_below most count
 is_short faults.Write most count = is_within most count
 is_short faults.Address most count = is_below most count
@@ -74,7 +74,7 @@ is_short faults.Endless most count = is_below most count
 -- what ends a run, by the fault: a line, given without its end, without an address, if the option says so, or one that is
 -- too long and is not dropped
 abbrev pub EndsRunBy : Filter → LogFault → List ℕ → Type 0
-EndsRunBy filter faults.Open line = ⊥
+EndsRunBy filter (faults.Open cause) line = ⊥
 EndsRunBy filter faults.Read line = ⊥
 EndsRunBy filter faults.Write line = ⊥
 EndsRunBy filter faults.Address line = IsVerdict filter line verdicts.NoAddress × (is_refused filter verdicts.NoAddress ≡ true)

@@ -1,12 +1,13 @@
 //! Filters the logs of a run in turn.
 ghost use Rattle.std.specs.Prelude.{◌≡◌, ◌≤◌, ◌++◌, ◌||◌, ◌&&◌, ◌∷◌, [], decimal, length, nat_lt, is_err, OnOk, OnErr, MatchOption};
 ghost use Rattle.std.specs.Io.KnownBytes.{Appends};
-ghost use Rattle.lines.specs.Outputs.{Prints, Writes, FailsIn};
+ghost use Rattle.lines.specs.Outputs.{Writes, FailsIn};
 ghost use Rattle.program.specs.Endings.{ending};
 ghost use Rattle.program.specs.Logs.{logs_of};
 ghost use Rattle.cidr_filter.specs.Runs.{EndsLogs, StopsAtLog, total_text, status_by};
 ghost use Rattle.cidr_filter.specs.Stands.{stand};
 ghost use Rattle.cidr_filter.specs.Private.Runs.{FiltersNames};
+ghost use Rattle.program.specs.Putting.{PutsOrFails};
 
 use crate::filter::{Filter, Verdict};
 use crate::help::PROGRAM;
@@ -16,13 +17,13 @@ use crate::telling::tell_closed;
 use line_addresses::Text;
 use lines::fault::RunFault;
 use lines::output::Output;
-use lines::watched::Watched;
-use lists::{OpenFault, OpenLists};
+use lists::{OpenLists, open_list};
 use log_programs::telling::tell_lacking;
 use program::ending::{FAILED, end};
 use program::log_fault::stop;
 use program::log_reader::LogReader;
 use program::messages::number_text;
+use program::putting::put_both;
 use std::io::Write;
 use std::mem::replace;
 
@@ -138,14 +139,13 @@ fn filter_one<'a, L: OpenLists, W: Write, E: Write>(
 {
     tally.lines = 0;
     tally.is_addressed = false;
-    let log = match lists.open(name) {
+    let mut log = match open_list(lists, name) {
         Ok(log) => log,
-        Err(error) => {
-            tell_closed(name, OpenFault::of(error.kind()), errors);
+        Err(cause) => {
+            tell_closed(name, cause, errors);
             return Some(true);
         }
     };
-    let mut log = Watched::new(log);
     let label = label_of(filter.named, name);
     let before = replace(&mut filter.name, Text::new(label));
     let mut lines = LogReader::new(buffer, filter.refuses(&Verdict::TooLong));
@@ -191,21 +191,9 @@ fn write_end<W: Write>(
 
 // Writes a number and a line feed.
 fn write_number<W: Write>(number: u64, output: &mut Output<'_, W>) -> Result<(), RunFault>
-    ensures ok { OnOk result (Prints output.old output.new (decimal number ++ 10 ∷ [])) }
-    ensures err { OnErr result (FailsIn output.old output.new ((decimal number ++ 10 ∷ []))) }
-    ensures failed { output.new.failed ≡ (output.old.failed || is_err result) }
+    ensures { PutsOrFails result output.old output.new (decimal number ++ 10 ∷ []) }
 {
-    put_number(number, output)?;
-    output.put(b"\n")
-}
-
-// Writes a number.
-fn put_number<W: Write>(number: u64, output: &mut Output<'_, W>) -> Result<(), RunFault>
-    ensures ok { OnOk result (Prints output.old output.new (decimal number)) }
-    ensures err { OnErr result (FailsIn output.old output.new (decimal number)) }
-    ensures failed { output.new.failed ≡ (output.old.failed || is_err result) }
-{
-    output.put(number_text(number).as_str().as_bytes())
+    put_both(number_text(number).as_str().as_bytes(), b"\n", output)
 }
 
 // The exit status by whether the selected lines end the run, whether a log could not be opened, and

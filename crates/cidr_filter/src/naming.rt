@@ -1,13 +1,14 @@
 //! What stands before what is printed of a line: the name of its log, and its number.
-ghost use Rattle.std.specs.Prelude.{◌≡◌, ◌||◌, ◌++◌, ◌∷◌, [], decimal, OnOk, OnErr, is_err};
-ghost use Rattle.lines.specs.Outputs.{Prints, FailsIn};
+ghost use Rattle.std.specs.Prelude.{◌≡◌, ◌++◌, ◌∷◌, [], decimal};
 ghost use Rattle.cidr_filter.specs.Filters.{head_of, name_head, number_head};
 ghost use Rattle.cidr_filter.specs.Logs.{label_of};
+ghost use Rattle.program.specs.Putting.{PutsOrFails};
 
 use crate::filter::Filter;
 use lines::fault::RunFault;
 use lines::output::Output;
 use program::messages::number_text;
+use program::putting::put_both;
 use std::io::Write;
 
 /// What the log of this name is called before its lines; nothing, if it is not named there.
@@ -30,9 +31,7 @@ pub(crate) fn put_head<W: Write>(
     number: u64,
     output: &mut Output<'_, W>,
 ) -> Result<(), RunFault>
-    ensures ok { OnOk result (Prints output.old output.new (head_of filter.now number)) }
-    ensures failed { output.new.failed ≡ (output.old.failed || is_err result) }
-    ensures beginning { OnErr result (FailsIn output.old output.new (head_of filter.now number)) }
+    ensures { PutsOrFails result output.old output.new (head_of filter.now number) }
 {
     put_name(filter, output)?;
     put_number(filter.numbered, number, output)
@@ -41,15 +40,13 @@ pub(crate) fn put_head<W: Write>(
 // Writes what the log is called, and a colon, or nothing if it is not named.
 #[inline(always)]
 fn put_name<W: Write>(filter: &Filter, output: &mut Output<'_, W>) -> Result<(), RunFault>
-    ensures ok { OnOk result (Prints output.old output.new (name_head filter.now.name)) }
-    ensures failed { output.new.failed ≡ (output.old.failed || is_err result) }
-    ensures beginning { OnErr result (FailsIn output.old output.new (name_head filter.now.name)) }
+    ensures { PutsOrFails result output.old output.new (name_head filter.now.name) }
 {
     let name = filter.name.bytes();
     if name.is_empty() {
         return Ok(());
     }
-    put_label(name, output)
+    put_both(name, b":", output)
 }
 
 // Writes the number of a line and a colon, if lines are numbered.
@@ -59,9 +56,7 @@ fn put_number<W: Write>(
     number: u64,
     output: &mut Output<'_, W>,
 ) -> Result<(), RunFault>
-    ensures ok { OnOk result (Prints output.old output.new (number_head numbered number)) }
-    ensures failed { output.new.failed ≡ (output.old.failed || is_err result) }
-    ensures beginning { OnErr result (FailsIn output.old output.new (number_head numbered number)) }
+    ensures { PutsOrFails result output.old output.new (number_head numbered number) }
 {
     if !numbered {
         return Ok(());
@@ -71,19 +66,7 @@ fn put_number<W: Write>(
 
 // Writes a number and a colon.
 fn put_decimal<W: Write>(number: u64, output: &mut Output<'_, W>) -> Result<(), RunFault>
-    ensures ok { OnOk result (Prints output.old output.new (decimal number ++ 58 ∷ [])) }
-    ensures failed { output.new.failed ≡ (output.old.failed || is_err result) }
-    ensures beginning { OnErr result (FailsIn output.old output.new (decimal number ++ 58 ∷ [])) }
+    ensures { PutsOrFails result output.old output.new (decimal number ++ 58 ∷ []) }
 {
-    put_label(number_text(number).as_str().as_bytes(), output)
-}
-
-// Writes a text and a colon.
-fn put_label<W: Write>(text: &[u8], output: &mut Output<'_, W>) -> Result<(), RunFault>
-    ensures ok { OnOk result (Prints output.old output.new (text.now ++ 58 ∷ [])) }
-    ensures failed { output.new.failed ≡ (output.old.failed || is_err result) }
-    ensures beginning { OnErr result (FailsIn output.old output.new (text.now ++ 58 ∷ [])) }
-{
-    output.put(text)?;
-    output.put(b":")
+    put_both(number_text(number).as_str().as_bytes(), b":", output)
 }

@@ -1,18 +1,20 @@
 //! Prints a line.
-ghost use Rattle.std.specs.Prelude.{◌≡◌, ◌||◌, ◌++◌, ◌∷◌, [], OnOk, OnErr, is_err};
-ghost use Rattle.lines.specs.Outputs.{Puts, AppendsBeginning, Prints, FailsIn};
+ghost use Rattle.std.specs.Prelude.{◌≡◌, ◌++◌, ◌∷◌, []};
+ghost use Rattle.lines.specs.Outputs.{Prints};
 ghost use Rattle.cidr_filter.specs.Filters.{head_of, mark_of, block_text, block_in, shown_of};
 ghost use Rattle.program.specs.LogLines.{feed_behind};
+ghost use Rattle.program.specs.Putting.{PutsOrFails};
 
 use crate::filter::{Filter, Shown, Verdict};
 use crate::listed::Listed;
 use crate::naming::put_head;
-use crate::printing_addresses::{print_addresses, put_text};
+use crate::printing_addresses::print_addresses;
 use ipnetwork::IpNetwork;
 use lines::fault::RunFault;
 use lines::line_end::LineEnd;
 use lines::output::Output;
 use program::log_reader::put_feed;
+use program::putting::put_both;
 use std::io::Write;
 
 /// Writes what is printed of the line of this number and verdict, which is given without its end
@@ -26,21 +28,14 @@ pub(crate) fn print_selected<W: Write>(
     end: LineEnd,
     output: &mut Output<'_, W>,
 ) -> Result<(), RunFault>
-    ensures ok { OnOk result (Puts
-        output.old.holds output.old.waits
-        output.new.holds output.new.waits
+    ensures { PutsOrFails result output.old output.new
         (shown_of filter.now (head_of filter.now number) verdict.now line.now
-        (whole.now ++ feed_behind end))) }
-    ensures failed { output.new.failed ≡ (output.old.failed || is_err result) }
-    ensures beginning { OnErr result (AppendsBeginning
-        output.old.holds output.new.holds (output.old.waits
-        ++ shown_of filter.now (head_of filter.now number) verdict.now line.now
-        (whole.now ++ feed_behind end))) }
+        (whole.now ++ feed_behind end)) }
 {
     match filter.shows {
         Shown::Lines => print_named(filter, number, verdict, whole, end, output),
         Shown::Addresses => print_addresses(filter, number, line, output),
-        Shown::Names => put_text(filter.name.bytes(), output),
+        Shown::Names => put_both(filter.name.bytes(), b"\n", output),
         Shown::Count | Shown::Nothing => Ok(()),
     }
 }
@@ -54,16 +49,9 @@ fn print_named<W: Write>(
     end: LineEnd,
     output: &mut Output<'_, W>,
 ) -> Result<(), RunFault>
-    ensures ok { OnOk result (Puts
-        output.old.holds output.old.waits
-        output.new.holds output.new.waits
+    ensures { PutsOrFails result output.old output.new
         (head_of filter.now number
-        ++ (mark_of filter.now.listed verdict.now ++ (whole.now ++ feed_behind end)))) }
-    ensures failed { output.new.failed ≡ (output.old.failed || is_err result) }
-    ensures beginning { OnErr result (AppendsBeginning
-        output.old.holds output.new.holds (output.old.waits
-        ++ (head_of filter.now number
-        ++ (mark_of filter.now.listed verdict.now ++ (whole.now ++ feed_behind end))))) }
+        ++ (mark_of filter.now.listed verdict.now ++ (whole.now ++ feed_behind end))) }
 {
     put_head(filter, number, output)?;
     print_line(&filter.listed, verdict, whole, end, output)
@@ -78,14 +66,8 @@ fn print_line<W: Write>(
     end: LineEnd,
     output: &mut Output<'_, W>,
 ) -> Result<(), RunFault>
-    ensures ok { OnOk result (Puts
-        output.old.holds output.old.waits
-        output.new.holds output.new.waits
-        (mark_of listed.now verdict.now ++ (whole.now ++ feed_behind end))) }
-    ensures failed { output.new.failed ≡ (output.old.failed || is_err result) }
-    ensures beginning { OnErr result (AppendsBeginning
-        output.old.holds output.new.holds
-        (output.old.waits ++ (mark_of listed.now verdict.now ++ (whole.now ++ feed_behind end)))) }
+    ensures { PutsOrFails result output.old output.new
+        (mark_of listed.now verdict.now ++ (whole.now ++ feed_behind end)) }
 {
     put_mark(listed, verdict, output)?;
     put_line(whole, end, output)
@@ -97,13 +79,7 @@ fn put_line<W: Write>(
     end: LineEnd,
     output: &mut Output<'_, W>,
 ) -> Result<(), RunFault>
-    ensures ok { OnOk result (Puts
-        output.old.holds output.old.waits
-        output.new.holds output.new.waits (whole.now ++ feed_behind end)) }
-    ensures failed { output.new.failed ≡ (output.old.failed || is_err result) }
-    ensures beginning { OnErr result (AppendsBeginning
-        output.old.holds output.new.holds
-        (output.old.waits ++ (whole.now ++ feed_behind end))) }
+    ensures { PutsOrFails result output.old output.new (whole.now ++ feed_behind end) }
 {
     output.put(whole)?;
     put_feed(end, output)
@@ -115,10 +91,7 @@ fn put_mark<W: Write>(
     verdict: &Verdict,
     output: &mut Output<'_, W>,
 ) -> Result<(), RunFault>
-    ensures ok { OnOk result (Prints output.old output.new (mark_of listed.now verdict.now)) }
-    ensures failed { output.new.failed ≡ (output.old.failed || is_err result) }
-    ensures beginning { OnErr result
-        (FailsIn output.old output.new (mark_of listed.now verdict.now)) }
+    ensures { PutsOrFails result output.old output.new (mark_of listed.now verdict.now) }
 {
     match listed {
         Listed::Addresses(_) => Ok(()),
@@ -126,29 +99,13 @@ fn put_mark<W: Write>(
     }
 }
 
-// Writes a block and a tab, or a minus sign for none.
+// Writes a block, or a minus sign for none, and a tab.
 fn put_block<W: Write>(block: Option<IpNetwork>, output: &mut Output<'_, W>) -> Result<(), RunFault>
-    ensures ok { OnOk result (Prints output.old output.new (block_text block ++ 9 ∷ [])) }
-    ensures failed { output.new.failed ≡ (output.old.failed || is_err result) }
-    ensures beginning { OnErr result
-        (FailsIn output.old output.new ((block_text block ++ 9 ∷ []))) }
-{
-    put_block_text(block, output)?;
-    output.put(b"\t")
-}
-
-// Writes a block, or a minus sign for none.
-fn put_block_text<W: Write>(
-    block: Option<IpNetwork>,
-    output: &mut Output<'_, W>,
-) -> Result<(), RunFault>
-    ensures ok { OnOk result (Prints output.old output.new (block_text block)) }
-    ensures failed { output.new.failed ≡ (output.old.failed || is_err result) }
-    ensures beginning { OnErr result (FailsIn output.old output.new (block_text block)) }
+    ensures { PutsOrFails result output.old output.new (block_text block ++ 9 ∷ []) }
 {
     match block {
-        Some(block) => output.put(block.canonical().as_str().as_bytes()),
-        None => output.put(b"-"),
+        Some(block) => put_both(block.canonical().as_str().as_bytes(), b"\t", output),
+        None => put_both(b"-", b"\t", output),
     }
 }
 

@@ -1,8 +1,9 @@
 //! Prints the addresses of a line that are in the list.
-ghost use Rattle.std.specs.Prelude.{◌≡◌, ◌||◌, ◌++◌, ◌∷◌, [], Some, OnOk, OnErr, is_err};
-ghost use Rattle.lines.specs.Outputs.{Prints, FailsIn};
+ghost use Rattle.std.specs.Prelude.{◌++◌, ◌∷◌, [], Some};
+ghost use Rattle.lines.specs.Outputs.{Prints};
 ghost use Rattle.line_addresses.specs.Addresses.{addresses_of};
 ghost use Rattle.cidr_filter.specs.Filters.{head_of, of_part, of_rest, spelled_at, text_of, texts_of};
+ghost use Rattle.program.specs.Putting.{PutsOrFails};
 
 use crate::filter::Filter;
 use crate::naming::put_head;
@@ -10,6 +11,7 @@ use ipnetwork::IpAddr;
 use line_addresses::{Place, address_of, field_of, following, next_address, word_of};
 use lines::fault::RunFault;
 use lines::output::Output;
+use program::putting::put_both;
 use std::io::Write;
 
 /// Writes the addresses of the line of this number that are in the list, one a line, as they are
@@ -20,13 +22,9 @@ pub(crate) fn print_addresses<W: Write>(
     line: &[u8],
     output: &mut Output<'_, W>,
 ) -> Result<(), RunFault>
-    ensures ok { OnOk result (Prints output.old output.new
+    ensures { PutsOrFails result output.old output.new
         (texts_of filter.now (head_of filter.now line_number)
-        (spelled_at filter.now.place line.now))) }
-    ensures failed { output.new.failed ≡ (output.old.failed || is_err result) }
-    ensures beginning { OnErr result (FailsIn output.old output.new
-        (texts_of filter.now (head_of filter.now line_number)
-        (spelled_at filter.now.place line.now))) }
+        (spelled_at filter.now.place line.now)) }
 {
     match &filter.place {
         Place::Field { number, separator } => match field_of(line, *number, *separator) {
@@ -52,11 +50,8 @@ fn print_part<W: Write>(
     part: &[u8],
     output: &mut Output<'_, W>,
 ) -> Result<(), RunFault>
-    ensures ok { OnOk result (Prints output.old output.new
-        (texts_of filter.now (head_of filter.now number) (of_part (Some part.now)))) }
-    ensures failed { output.new.failed ≡ (output.old.failed || is_err result) }
-    ensures beginning { OnErr result (FailsIn output.old output.new
-        (texts_of filter.now (head_of filter.now number) (of_part (Some part.now)))) }
+    ensures { PutsOrFails result output.old output.new
+        (texts_of filter.now (head_of filter.now number) (of_part (Some part.now))) }
 {
     match address_of(part) {
         Some(address) => print_found(filter, number, address, part, output),
@@ -71,11 +66,8 @@ fn print_first<W: Write>(
     rest: &[u8],
     output: &mut Output<'_, W>,
 ) -> Result<(), RunFault>
-    ensures ok { OnOk result (Prints output.old output.new
-        (texts_of filter.now (head_of filter.now number) (of_rest (Some rest.now)))) }
-    ensures failed { output.new.failed ≡ (output.old.failed || is_err result) }
-    ensures beginning { OnErr result (FailsIn output.old output.new
-        (texts_of filter.now (head_of filter.now number) (of_rest (Some rest.now)))) }
+    ensures { PutsOrFails result output.old output.new
+        (texts_of filter.now (head_of filter.now number) (of_rest (Some rest.now))) }
 {
     match next_address(rest, 0) {
         Some(found) => {
@@ -93,11 +85,8 @@ fn print_anywhere<W: Write>(
     line: &[u8],
     output: &mut Output<'_, W>,
 ) -> Result<(), RunFault>
-    ensures ok { OnOk result (Prints output.old output.new
-        (texts_of filter.now (head_of filter.now number) (addresses_of line.now))) }
-    ensures failed { output.new.failed ≡ (output.old.failed || is_err result) }
-    ensures beginning { OnErr result (FailsIn output.old output.new
-        (texts_of filter.now (head_of filter.now number) (addresses_of line.now))) }
+    ensures { PutsOrFails result output.old output.new
+        (texts_of filter.now (head_of filter.now number) (addresses_of line.now)) }
 {
     let mut at = 0;
     'addresses: while let Some(found) = next_address(line, at) {
@@ -116,12 +105,8 @@ fn print_found<W: Write>(
     text: &[u8],
     output: &mut Output<'_, W>,
 ) -> Result<(), RunFault>
-    ensures ok { OnOk result (Prints output.old output.new
-        (text_of filter.now (head_of filter.now number) address text.now)) }
-    ensures failed { output.new.failed ≡ (output.old.failed || is_err result) }
-    ensures beginning { OnErr result
-        (FailsIn output.old output.new
-        (text_of filter.now (head_of filter.now number) address text.now)) }
+    ensures { PutsOrFails result output.old output.new
+        (text_of filter.now (head_of filter.now number) address text.now) }
 {
     if !filter.prints(address) {
         return Ok(());
@@ -136,22 +121,9 @@ fn print_named<W: Write>(
     text: &[u8],
     output: &mut Output<'_, W>,
 ) -> Result<(), RunFault>
-    ensures ok { OnOk result (Prints output.old output.new
-        (head_of filter.now number ++ (text.now ++ 10 ∷ []))) }
-    ensures failed { output.new.failed ≡ (output.old.failed || is_err result) }
-    ensures beginning { OnErr result
-        (FailsIn output.old output.new (head_of filter.now number ++ (text.now ++ 10 ∷ []))) }
+    ensures { PutsOrFails result output.old output.new
+        (head_of filter.now number ++ (text.now ++ 10 ∷ [])) }
 {
     put_head(filter, number, output)?;
-    put_text(text, output)
-}
-
-/// Writes a text and a line feed.
-pub(crate) fn put_text<W: Write>(text: &[u8], output: &mut Output<'_, W>) -> Result<(), RunFault>
-    ensures ok { OnOk result (Prints output.old output.new (text.now ++ 10 ∷ [])) }
-    ensures failed { output.new.failed ≡ (output.old.failed || is_err result) }
-    ensures beginning { OnErr result (FailsIn output.old output.new (text.now ++ 10 ∷ [])) }
-{
-    output.put(text)?;
-    output.put(b"\n")
+    put_both(text, b"\n", output)
 }

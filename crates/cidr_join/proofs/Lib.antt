@@ -9,14 +9,11 @@ pub mod LogsInTurn
 pub mod Marks
 pub mod Numbering
 pub mod OneOutput
-pub mod Reading
 pub mod Repeated
 pub mod Runs
-pub mod Stopping
 pub mod Taking
 pub mod TallyLines
 pub mod TallyNames
 pub mod TallyParts
 pub mod TallyRows
 pub mod Tallying
-pub mod Trims

@@ -155,28 +155,34 @@ routes_numbered network routes numbered t4 t6 first second is4 is6 one h4 h6 =
 clear_at : {V : Type 0} (w : ℕ) (t : FinMap network_cmp V) (n : Network) (v : V) → HasOnlyBlocks w t → get t n ≡ Some v → HostBitsAreZero w n
 clear_at w t n v blocks has = (blocks n (ap is_some has)).block
 
+-- what stands at the number that is found for an address
+stands : (w : ℕ) (by : Network → Value → Found) (table : Values) (numbers : FinMap network_cmp ℕ) (founds : List Found) (IsSo : Found → Type 0) (a : ℕ) (found : Option (Network × ℕ))
+    → AreNumbered by table numbers founds → slice_get founds 0 ≡ Some prints.Nothing → Answers w numbers a found → HasOnlyBlocks w numbers
+    → (NoneHolds w table a → IsSo prints.Nothing) → ((n : Network) (v : Value) → IsLongest w table a n v → HostBitsAreZero w n → IsSo (by n v))
+    → (f : Found) × (slice_get founds (number_or_none found) ≡ Some f) × IsSo f
+stands w by table numbers founds IsSo a None h nothing none blocks nowhere longest = (prints.Nothing, nothing, nowhere (none_at by table w numbers founds a h none))
+stands w by table numbers founds IsSo a (Some found) h nothing is blocks nowhere longest =
+    let s = found_at by table w numbers founds a found.0 found.1 h is in
+    (by found.0 s.0, s.2, longest found.0 s.0 s.1 (clear_at w numbers found.0 found.1 blocks is.stored))
+
 module _ (routes : Routes) (numbered : Numbered) where
   pub stands_v4 : (network : Bool) (a : ℕ) (found : Option (Network × ℕ)) → NumbersRoutes network routes numbered → Answers 32 numbered.v4 a found → HasOnlyBlocks 32 numbered.v4
       → (f : Found) × (slice_get numbered.founds.items (number_or_none found) ≡ Some f) × FindsBy (answers_by network routes) (addresses.V4 a) f
-  stands_v4 true a None h none blocks = (prints.Nothing, h.nothing, none_at (found_by true (λ n. families.V4 n)) routes.v4 32 numbered.v4 numbered.founds.items a h.v4 none)
-  stands_v4 false a None h none blocks = (prints.Nothing, h.nothing, none_at (found_by false (λ n. families.V4 n)) routes.v4 32 numbered.v4 numbered.founds.items a h.v4 none)
-  stands_v4 true a (Some found) h longest blocks =
-      let s = found_at (found_by true (λ n. families.V4 n)) routes.v4 32 numbered.v4 numbered.founds.items a found.0 found.1 h.v4 longest in
-      (prints.Network (families.V4 found.0), s.2, (s.0, (s.1, clear_at 32 numbered.v4 found.0 found.1 blocks longest.stored)))
-  stands_v4 false a (Some found) h longest blocks =
-      let s = found_at (found_by false (λ n. families.V4 n)) routes.v4 32 numbered.v4 numbered.founds.items a found.0 found.1 h.v4 longest in
-      (prints.Value s.0, s.2, (families.V4 found.0, (s.1, clear_at 32 numbered.v4 found.0 found.1 blocks longest.stored)))
+  stands_v4 true a found h is blocks =
+      stands 32 (found_by true (λ n. families.V4 n)) routes.v4 numbered.v4 numbered.founds.items (FindsBy (answers_by true routes) (addresses.V4 a)) a found h.v4 h.nothing is blocks
+      (λ none. none) (λ n v longest clear. (v, (longest, clear)))
+  stands_v4 false a found h is blocks =
+      stands 32 (found_by false (λ n. families.V4 n)) routes.v4 numbered.v4 numbered.founds.items (FindsBy (answers_by false routes) (addresses.V4 a)) a found h.v4 h.nothing is blocks
+      (λ none. none) (λ n v longest clear. (families.V4 n, (longest, clear)))
 
   pub stands_v6 : (network : Bool) (a : ℕ) (found : Option (Network × ℕ)) → NumbersRoutes network routes numbered → Answers 128 numbered.v6 a found → HasOnlyBlocks 128 numbered.v6
       → (f : Found) × (slice_get numbered.founds.items (number_or_none found) ≡ Some f) × FindsBy (answers_by network routes) (addresses.V6 a) f
-  stands_v6 true a None h none blocks = (prints.Nothing, h.nothing, none_at (found_by true (λ n. families.V6 n)) routes.v6 128 numbered.v6 numbered.founds.items a h.v6 none)
-  stands_v6 false a None h none blocks = (prints.Nothing, h.nothing, none_at (found_by false (λ n. families.V6 n)) routes.v6 128 numbered.v6 numbered.founds.items a h.v6 none)
-  stands_v6 true a (Some found) h longest blocks =
-      let s = found_at (found_by true (λ n. families.V6 n)) routes.v6 128 numbered.v6 numbered.founds.items a found.0 found.1 h.v6 longest in
-      (prints.Network (families.V6 found.0), s.2, (s.0, (s.1, clear_at 128 numbered.v6 found.0 found.1 blocks longest.stored)))
-  stands_v6 false a (Some found) h longest blocks =
-      let s = found_at (found_by false (λ n. families.V6 n)) routes.v6 128 numbered.v6 numbered.founds.items a found.0 found.1 h.v6 longest in
-      (prints.Value s.0, s.2, (families.V6 found.0, (s.1, clear_at 128 numbered.v6 found.0 found.1 blocks longest.stored)))
+  stands_v6 true a found h is blocks =
+      stands 128 (found_by true (λ n. families.V6 n)) routes.v6 numbered.v6 numbered.founds.items (FindsBy (answers_by true routes) (addresses.V6 a)) a found h.v6 h.nothing is blocks
+      (λ none. none) (λ n v longest clear. (v, (longest, clear)))
+  stands_v6 false a found h is blocks =
+      stands 128 (found_by false (λ n. families.V6 n)) routes.v6 numbered.v6 numbered.founds.items (FindsBy (answers_by false routes) (addresses.V6 a)) a found h.v6 h.nothing is blocks
+      (λ none. none) (λ n v longest clear. (families.V6 n, (longest, clear)))
 
 pub not_empty : (numbered : Numbered) (empty : Bool) → empty ≡ (vec_len numbered.founds == 0) → empty ≡ false → ¬ (numbered.founds.items ≡ [])
 not_empty numbered empty is not none =

@@ -24,7 +24,7 @@ use Rattle.cidr_join.specs.declared.routes.RouteFault.TheVariants as routes
 use Rattle.cidr_join.specs.declared.text.TextFault.{TextFault}
 use Rattle.cidr_join.specs.declared.text.TextFault.TheVariants as faults
 use Rattle.cidr_join.specs.declared.value.Value.{Value}
-use Rattle.cidr_join.proofs.LogsInTurn.{known_first, known_all}
+use Rattle.program.proofs.LogNames.{known_first, known_all}
 use Rattle.line_addresses.proofs.Parts.{parts_from, part_from}
 
 -- one network more got the value

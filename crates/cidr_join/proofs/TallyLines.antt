@@ -4,16 +4,25 @@ use Rattle.std.specs.Prelude.{Option, Result, Ok, Err, OnOk}
 use Rattle.std.specs.Option.{is_some}
 use Rattle.ipnetwork_addr.specs.declared.ip.IpAddr.{IpAddr}
 use Rattle.cidr_join.specs.Joins.{Finds, address_in, mark_of}
+use Rattle.cidr_join.specs.Logs.{EndsRunBy}
 use Rattle.program.specs.LogLines.{LogLine, content}
 use Rattle.cidr_join.specs.Addressed.{is_addressed, any_addressed}
 use Rattle.cidr_join.specs.Stands.{Sees}
 use Rattle.cidr_join.specs.TallyRuns.{Marks}
-use Rattle.cidr_join.specs.Private.TallyProgress.{IsCounted, CountsLine, CountsAll, CountsLines}
+use Rattle.cidr_join.specs.Private.TallyProgress.{IsCounted, CountsLine, CountsAll, CountsLines, StopsCounting, ended_by_read, tally_fault}
 use Rattle.cidr_join.specs.declared.counts.Counts.{Counts}
 use Rattle.cidr_join.specs.declared.found.Found.{Found}
 use Rattle.cidr_join.specs.declared.join.Join.{Join}
 use Rattle.cidr_join.specs.declared.seen.Seen.{Seen}
 use Rattle.cidr_join.proofs.Addressed.{sees_nothing, sees_more, any_more}
+use Rattle.lines.specs.Outputs.{Written}
+use Rattle.program.specs.LogFaults as logs
+use Rattle.program.specs.LogReaders.{Breaks}
+use Rattle.program.specs.LogReadings.{ReadsSoFar}
+use Rattle.program.specs.declared.log_fault.LogFault.{LogFault}
+use Rattle.program.specs.declared.log_fault.LogFault.TheVariants as faults
+use Rattle.program.specs.declared.log_reader.LogReader.{LogReader}
+use Rattle.program.proofs.LogReadings.{breaks}
 
 pub marks_both : (join : Join) (lines more : List LogLine) (a b : List (List ℕ)) → Marks join lines a → Marks join more b → Marks join (lines ++ more) (a ++ b)
 marks_both join [] more a b p q = subst (λ (t : List (List ℕ)). Marks join more t) (ap (λ t. t ++ b) (sym p)) q
@@ -65,3 +74,24 @@ module _ (founds : List Found) where
             (subst (λ (b : Bool). Sees was is (length first + 1) b) (any_more join first next line same)
             (sees_more was among is (length first) 1 (any_addressed join first) (is_addressed join line) d.3 f.3)),
       )
+
+-- ---- a log that is not read to its end
+
+pub counting_breaks : {W : Type 0} (Done : List LogLine → Type 0) (was now : LogReader) (remained before after : Option (List ℕ)) (s : ReadsSoFar Done was remained before) (read_failed : Bool)
+    (old new : Written W) (fault : LogFault) → Breaks remained after read_failed old new s.first fault → StopsCounting Done remained after read_failed (tally_fault fault)
+counting_breaks Done was now remained before after s read_failed old new faults.Write h = tt
+counting_breaks Done was now remained before after s read_failed old new (faults.Open cause) h = absurd h
+counting_breaks Done was now remained before after s read_failed old new faults.Read h =
+    breaks Done Done was now remained before after s EndsRunBy Done old new (λ put. s.is_done) (λ took. s.is_done) read_failed faults.Read h
+counting_breaks Done was now remained before after s read_failed old new faults.Address h = absurd h
+counting_breaks Done was now remained before after s read_failed old new faults.Length h = absurd h
+counting_breaks Done was now remained before after s read_failed old new faults.Endless h =
+    breaks Done Done was now remained before after s EndsRunBy Done old new (λ put. s.is_done) (λ took. s.is_done) read_failed faults.Endless h
+
+pub reads_same : (T A : Type 0) (fault : LogFault) → logs.ended_by_read {T = T} (Err fault) ≡ ended_by_read {T = A} (Err (tally_fault fault))
+reads_same T A (faults.Open cause) = refl
+reads_same T A faults.Read = refl
+reads_same T A faults.Write = refl
+reads_same T A faults.Address = refl
+reads_same T A faults.Length = refl
+reads_same T A faults.Endless = refl

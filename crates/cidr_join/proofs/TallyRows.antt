@@ -10,8 +10,8 @@ use Rattle.program.specs.Messages.{Tells}
 use Rattle.cidr_join.specs.Tallies.{Row, row_text, rows_text}
 use Rattle.cidr_join.specs.TallyRuns.{EndsWith}
 use Rattle.program.proofs.Told.{tells_more, tells_same}
-use Rattle.cidr_join.proofs.LogsInTurn.{puts_then_all}
-use Rattle.cidr_join.proofs.Stopping.{failed_now}
+use Rattle.program.proofs.LogReading.{failed_now}
+use Rattle.program.proofs.LogStops.{puts_then_all}
 
 rows_both : (first second : List Row) → rows_text (first ++ second) ≡ rows_text first ++ rows_text second
 rows_both [] second = refl
@@ -69,4 +69,4 @@ pub ends_with : {W E T F : Type 0} (written : Result T F) (end : Ending W E) (te
 ends_with (Ok done) end text was between told ok err failed two before tells =
     inl (ok, tells_same end.errors end.errors_after (told ++ []) told (append-nil told) (tells_more end.errors between end.errors_after told [] before tells), two)
 ends_with (Err fault) end text was between told ok err failed two before tells =
-    inr (failed_now end.output_after.failed was failed, err, tells_more end.errors between end.errors_after told (codes "write error\n") before tells, two)
+    inr ((failed_now end.output_after.failed was failed, err), tells_more end.errors between end.errors_after told (codes "write error\n") before tells, two)

@@ -1,7 +1,8 @@
 -- What a line of a list says: a network or a range, and a value behind it.
-use Rattle.std.specs.Prelude.{◌≡◌, ◌≢◌, ◌≤◌, ◌<◌, ◌==◌, ◌||◌, ◌&&◌, ◌+◌, ◌-◌, ◌⊎◌, ℕ, Bool, true, false, not, List, [], ◌∷◌, length, take, drop, Option, None, Some, Result, Ok, Err, if◌then◌else◌, codes}
-use Rattle.std.specs.List.{prefix_len, suffix_len}
+use Rattle.std.specs.Prelude.{◌≡◌, ◌≢◌, ◌≤◌, ◌<◌, ◌==◌, ◌||◌, ◌&&◌, ◌+◌, ◌⊎◌, ℕ, Bool, true, false, not, List, [], ◌∷◌, length, take, drop, Option, None, Some, Result, Ok, Err, if◌then◌else◌, codes}
+use Rattle.std.specs.List.{prefix_len}
 use Rattle.lists.specs.Entries.{ReadsEntry}
+use Rattle.lists.specs.Lines.{trimmed_by}
 use Rattle.lists.specs.declared.entry.Entry.{Entry}
 use Rattle.lists.specs.declared.entry.EntryFault.{EntryFault}
 use Rattle.lists.specs.declared.entry.EntryFault.TheVariants as faults
@@ -22,15 +23,9 @@ is_space byte = byte == 32
 abbrev pub is_word : ℕ → Bool
 is_word byte = not (byte == 32) && not (byte == 9) && not (byte == 44)
 
--- the text without the blanks that it begins with, without those that it ends with, and without both
-abbrev pub without_front : List ℕ → List ℕ
-without_front text = drop (prefix_len is_blank text) text
-
-abbrev pub without_end : List ℕ → List ℕ
-without_end text = take (length text - suffix_len is_blank text) text
-
+-- the text without the blanks around it
 abbrev pub trimmed : List ℕ → List ℕ
-trimmed text = without_end (without_front text)
+trimmed text = trimmed_by is_blank text
 
 -- the lengths of the word and of the spaces that a text begins with
 abbrev pub word_len : List ℕ → ℕ

@@ -1,22 +1,22 @@
 -- How a run ends: its exit status, what was written, and what was reported.
 use Rattle.std.specs.Prelude.{◌≡◌, ℕ, Bool, List, ◌∷◌, ◌++◌, true, false, ◌⊎◌, if◌then◌else◌, Option, None, Some, length, take, drop, codes, String, ◌==◌}
 use Rattle.std.specs.List.{slice_split}
-use Rattle.lines.specs.Outputs.{FailsIn}
 use Rattle.lists.specs.KnownLists.{KnownLists}
-use Rattle.program.specs.Endings.{Ending, Refuses, HasTold, HasWritten}
+use Rattle.program.specs.Endings.{Ending, Refuses, HasTold}
 use Rattle.log_programs.specs.Runs as runs
 use Rattle.log_programs.specs.Shared as shared
 use Rattle.cidr_join.specs.CommandLines.{join_options}
 use Rattle.cidr_join.specs.Joins.{Joins}
 use Rattle.program.specs.LogLines.{LogLine}
-use Rattle.cidr_join.specs.Logs.{JoinsLogs, HaltsBy}
-use Rattle.program.specs.Logs.{logs_of, IsAllOf}
+use Rattle.cidr_join.specs.Logs.{JoinsLogs, EndsRunBy}
+use Rattle.program.specs.LogFaults.{log_fault_text, Wrote}
+use Rattle.program.specs.Logs.{logs_of, IsAllOf, HaltsBy}
 use Rattle.cidr_join.specs.Options.{syntax_of_options}
 use Rattle.cidr_join.specs.Routes.{no_networks}
-use Rattle.cidr_join.specs.TallyRuns.{EndsTally}
+use Rattle.cidr_join.specs.TallyRuns.{EndsTally, EndsWith}
 use Rattle.cidr_join.specs.Takes.{TakesLines, StopsTaking}
 use Rattle.cidr_join.specs.Texts.{TextStops}
-use Rattle.cidr_join.specs.Told.{text_fault_text, take_fault_text, log_fault_text}
+use Rattle.cidr_join.specs.Told.{text_fault_text, take_fault_text}
 use Rattle.log_programs.specs.Values.{value_of}
 use Rattle.cidr_join.specs.declared.answers.Answers.{Answers}
 use Rattle.cidr_join.specs.declared.answers.Answers.TheVariants as answers
@@ -25,24 +25,10 @@ use Rattle.cidr_join.specs.declared.join.Join.{Join}
 use Rattle.line_addresses.specs.declared.place.Place.{Place}
 use Rattle.cidr_join.specs.declared.lengths.Lengths.{Lengths}
 use Rattle.cidr_join.specs.declared.list.TakeFault.{TakeFault}
-use Rattle.cidr_join.specs.declared.log.LogFault.{LogFault}
-use Rattle.cidr_join.specs.declared.log.LogFault.TheVariants as faults
+use Rattle.program.specs.declared.log_fault.LogFault.{LogFault}
 use Rattle.cidr_join.specs.declared.routes.Networks.{Networks}
 use Rattle.cidr_join.specs.declared.routes.Routes.{Routes}
 use Rattle.cidr_join.specs.declared.text.TextFault.{TextFault}
-
--- the writer failed, and took a beginning of what waited and the text
-abbrev pub FailsWriting : {W E : Type 0} → Ending W E → List ℕ → Type 0
-FailsWriting end text = (end.output_after.failed ≡ true)
-    × FailsIn end.output end.output_after text
-
--- the text was written, unless it was a write that ended the run
-abbrev pub Wrote : {W E : Type 0} → LogFault → Ending W E → List ℕ → Type 0
-Wrote (faults.Open cause) end text = HasWritten end text
-Wrote faults.Read end text = HasWritten end text
-Wrote faults.Write end text = FailsWriting end text
-Wrote faults.Length end text = HasWritten end text
-Wrote faults.Endless end text = HasWritten end text
 
 -- a log was not joined to its end, and ended the run: those before it were joined, and its first lines; their outputs
 -- were written, the cause was reported after what there is to report of those before it, and the status is 2
@@ -58,7 +44,7 @@ pub record StopsAtLog {W E : Type 0} (join : Join) (known : KnownLists) (names :
   pub logs : names ≡ before ++ name ∷ behind
   pub joins : JoinsLogs join known before output texts
   pub first : Joins join lines added
-  pub halts : HaltsBy known name lines fault
+  pub halts : HaltsBy EndsRunBy known name lines fault
   pub wrote : Wrote fault end (output ++ added)
   pub told : HasTold end (texts ++ log_fault_text name (length lines) fault)
   pub status : end.status ≡ 2
@@ -70,8 +56,7 @@ pub record JoinsAll {W E : Type 0} (join : Join) (known : KnownLists) (names : L
   pub joins : JoinsLogs join known names output texts
   -- their output was written, what there is to report of them was reported, and the status is 0; or the writer failed, and
   -- that was reported after it
-  pub ends : (HasWritten end output × HasTold end texts × (end.status ≡ 0))
-      ⊎ (FailsWriting end output × HasTold end (texts ++ codes "write error\n") × (end.status ≡ 2))
+  pub ends : EndsWith output texts end
 
 -- the logs were joined, in turn
 abbrev pub EndsLogs : {W E : Type 0} → Join → KnownLists → List (List ℕ) → Ending W E → Type 0

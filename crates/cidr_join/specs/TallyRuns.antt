@@ -1,19 +1,16 @@
 -- The tally of a run.
-use Rattle.std.specs.Prelude.{◌≡◌, ◌≤◌, ◌⊎◌, ℕ, true, List, [], ◌∷◌, ◌++◌, length, codes}
-use Rattle.lines.specs.Outputs.{FailsIn}
+use Rattle.std.specs.Prelude.{◌≡◌, ◌≤◌, ◌⊎◌, ℕ, false, Err, List, [], ◌∷◌, ◌++◌, length, codes}
 use Rattle.lists.specs.KnownLists.{KnownLists}
 use Rattle.program.specs.Endings.{Ending, Refuses, HasTold, HasWritten}
-use Rattle.cidr_join.specs.Addressed.{lacking_text}
 use Rattle.cidr_join.specs.Joins.{Finds, address_in, mark_of}
-use Rattle.program.specs.LogLines.{LogLine, log_lines, content}
-use Rattle.cidr_join.specs.Logs.{HaltsBy}
-use Rattle.program.specs.Logs.{IsAllOf}
+use Rattle.program.specs.LogLines.{LogLine, content}
+use Rattle.cidr_join.specs.Logs.{ReadsLogs, EndsRunBy}
+use Rattle.program.specs.LogFaults.{ended_by_write, log_fault_text, FailsWriting}
+use Rattle.program.specs.Logs.{HaltsBy}
 use Rattle.cidr_join.specs.Tallies.{Row, IsTally, rows_text}
-use Rattle.cidr_join.specs.Told.{log_fault_text}
 use Rattle.cidr_join.specs.declared.found.Found.{Found}
 use Rattle.cidr_join.specs.declared.join.Join.{Join}
-use Rattle.cidr_join.specs.declared.log.LogFault.{LogFault}
-use Rattle.cidr_join.specs.declared.log.LogFault.TheVariants as faults
+use Rattle.program.specs.declared.log_fault.LogFault.{LogFault}
 
 -- what is printed before each of these lines, each of which has at most 1,048,576 bytes without its end
 abbrev pub Marks : Join → List LogLine → List (List ℕ) → Type 0
@@ -24,18 +21,11 @@ Marks join (line ∷ lines) marks = (found : Found) × (others : List (List ℕ)
 -- what is printed before the lines of the logs of these names, which were read to their ends, and what is reported of
 -- those in which no line has an address
 abbrev pub MarksLogs : Join → KnownLists → List (List ℕ) → List (List ℕ) → List ℕ → Type 0
-MarksLogs join known [] marks told = (marks ≡ []) × (told ≡ [])
-MarksLogs join known (name ∷ names) marks told = (read : List ℕ) × (first : List (List ℕ)) × (others : List (List ℕ)) × (texts : List ℕ)
-    × IsAllOf known name read × Marks join (log_lines read) first × MarksLogs join known names others texts × (marks ≡ first ++ others)
-    × (told ≡ lacking_text join name (log_lines read) ++ texts)
+MarksLogs join known names marks told = ReadsLogs (Marks join) join known names marks told
 
 -- nothing is written before all logs are read, so that no write ends the reading
 abbrev pub IsOfReading : LogFault → Type 0
-IsOfReading (faults.Open cause) = Unit {0}
-IsOfReading faults.Read = Unit {0}
-IsOfReading faults.Write = ⊥
-IsOfReading faults.Length = Unit {0}
-IsOfReading faults.Endless = Unit {0}
+IsOfReading fault = ended_by_write {T = Unit {0}} (Err fault) ≡ false
 
 -- a log was not read to its end: those before it were, and its first lines; this is what is reported, after what there is
 -- to report of those before it
@@ -51,7 +41,7 @@ pub record StopsAtName (join : Join) (known : KnownLists) (names : List (List �
   pub logs : names ≡ before ++ name ∷ behind
   pub are : MarksLogs join known before earlier texts
   pub first : Marks join lines marks
-  pub halts : HaltsBy known name lines fault
+  pub halts : HaltsBy EndsRunBy known name lines fault
   pub of_reading : IsOfReading fault
   pub is : text ≡ texts ++ log_fault_text name (length lines) fault
 
@@ -73,7 +63,7 @@ StopsTally join known names text = StopsAtName join known names text ⊎ RunsOut
 -- what waited and the text, and that was reported after the other one
 abbrev pub EndsWith : {W E : Type 0} → List ℕ → List ℕ → Ending W E → Type 0
 EndsWith text told end = (HasWritten end text × HasTold end told × (end.status ≡ 0))
-    ⊎ ((end.output_after.failed ≡ true) × FailsIn end.output end.output_after text × HasTold end (told ++ codes "write error\n") × (end.status ≡ 2))
+    ⊎ (FailsWriting end text × HasTold end (told ++ codes "write error\n") × (end.status ≡ 2))
 
 -- nothing was written, and the cause reported; or the tally of what is printed before the lines of the logs was written,
 -- and what there is to report of them was reported

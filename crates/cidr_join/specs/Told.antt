@@ -4,8 +4,6 @@ use Rattle.lists.specs.Opening.{open_fault_text}
 use Rattle.program.specs.LogFaults.{line_text}
 use Rattle.cidr_join.specs.Entries.{cause_text}
 use Rattle.cidr_join.specs.declared.list.TakeFault.{TakeFault}
-use Rattle.cidr_join.specs.declared.log.LogFault.{LogFault}
-use Rattle.cidr_join.specs.declared.log.LogFault.TheVariants as faults
 use Rattle.cidr_join.specs.declared.routes.RouteFault.{RouteFault}
 use Rattle.cidr_join.specs.declared.routes.RouteFault.TheVariants as routes
 use Rattle.cidr_join.specs.declared.text.TextFault.{TextFault}
@@ -25,11 +23,3 @@ route_fault_text name before (routes.Refused cause) = line_text name before (cau
 
 abbrev pub take_fault_text : List ℕ → TakeFault → List ℕ
 take_fault_text name fault = route_fault_text name fault.lines fault.fault
-
--- what is reported if a log was not joined to its end, after this many of its lines
-abbrev pub log_fault_text : List ℕ → ℕ → LogFault → List ℕ
-log_fault_text name before (faults.Open cause) = name ++ open_fault_text cause
-log_fault_text name before faults.Read = name ++ codes ": cannot read\n"
-log_fault_text name before faults.Write = codes "write error\n"
-log_fault_text name before faults.Length = line_text name before (codes "length")
-log_fault_text name before faults.Endless = name ++ codes ": too long\n"

@@ -1,11 +1,10 @@
 //! What a line of a list says.
 ghost use Rattle.std.specs.Prelude.{◌≡◌, ◌≤◌, length, Some, Ok, IfOk, IfErr};
-ghost use Rattle.std.specs.List.{prefix_len, suffix_len};
 ghost use Rattle.lists.specs.Entries.{ReadsEntry};
-ghost use Rattle.cidr_join.specs.Entries.{ReadsRoute, EntryFails, trimmed, is_blank, is_space, is_word, is_skipped, word_len, space_len, tail_len, dash_len, entry_len, value_part, behind_comma, cause_text};
+ghost use Rattle.cidr_join.specs.Entries.{ReadsRoute, EntryFails, is_skipped, tail_len, dash_len, entry_len, value_part, behind_comma, cause_text};
 
 use crate::value::Value;
-use lists::{Entry, EntryFault, LINE_MAX, read_entry};
+use lists::{ByteKind, Entry, EntryFault, LINE_MAX, front_len, read_entry, trim};
 
 /// Why a line of a list is refused.
 #[derive(Clone, Copy, Debug, PartialEq, Eq)]
@@ -53,7 +52,7 @@ pub(crate) fn read_route(line: &[u8]) -> Result<Option<Said<'_>>, Cause>
     if line.len() > LINE_MAX {
         return Err(Cause::Length);
     }
-    let text = trim(line);
+    let text = trim::<Blank>(line);
     if is_skipped(text) {
         return Ok(None);
     }
@@ -98,7 +97,7 @@ fn entry_len(text: &[u8]) -> usize
     ensures len { result ≡ entry_len text.now }
     ensures within { result ≤ length text.now }
 {
-    let word = word_len(text);
+    let word = front_len::<OfWord>(text);
     word + tail_len(&text[word..])
 }
 
@@ -107,7 +106,7 @@ fn tail_len(text: &[u8]) -> usize
     ensures len { result ≡ tail_len text.now }
     ensures within { result ≤ length text.now }
 {
-    let spaces = space_len(text);
+    let spaces = front_len::<Space>(text);
     let dash = dash_len(&text[spaces..]);
     if dash == 0 {
         return 0;
@@ -122,42 +121,18 @@ fn dash_len(text: &[u8]) -> usize
 {
     match text.split_first() {
         Some((byte, rest)) if *byte == b'-' => {
-            let spaces = space_len(rest);
-            1 + spaces + word_len(&rest[spaces..])
+            let spaces = front_len::<Space>(rest);
+            1 + spaces + front_len::<OfWord>(&rest[spaces..])
         }
         _ => 0,
     }
-}
-
-// The length of the word that a text begins with.
-fn word_len(text: &[u8]) -> usize
-    ensures len { result ≡ word_len text.now }
-    ensures within { result ≤ length text.now }
-{
-    let mut count = 0;
-    while count < text.len() && is_word(text[count]) {
-        count += 1;
-    }
-    count
-}
-
-// How many spaces a text begins with.
-fn space_len(text: &[u8]) -> usize
-    ensures len { result ≡ space_len text.now }
-    ensures within { result ≤ length text.now }
-{
-    let mut count = 0;
-    while count < text.len() && is_space(text[count]) {
-        count += 1;
-    }
-    count
 }
 
 // What stands behind blanks and one comma.
 fn value_part(text: &[u8]) -> &[u8]
     ensures { result.now ≡ value_part text.now }
 {
-    trim(behind_comma(trim(text)))
+    trim::<Blank>(behind_comma(trim::<Blank>(text)))
 }
 
 // The text behind a comma that it begins with, or the whole text.
@@ -170,54 +145,41 @@ fn behind_comma(text: &[u8]) -> &[u8]
     }
 }
 
-// The text without the blanks around it.
-#[tactic(auto, using(crate::proofs::Trims::front_within, crate::proofs::Trims::end_within))]
-fn trim(text: &[u8]) -> &[u8]
-    ensures { result.now ≡ trimmed text.now }
-{
-    let rest = &text[blanks_in_front(text)..];
-    &rest[..rest.len() - blanks_at_end(rest)]
-}
+// A space, a tab or a carriage return.
+struct Blank;
 
-// How many blanks the text begins with.
-fn blanks_in_front(text: &[u8]) -> usize
-    ensures { result ≡ prefix_len is_blank text.now }
-{
-    let mut count = 0;
-    while count < text.len() && is_blank(text[count]) {
-        count += 1;
+impl ByteKind for Blank {
+    ghost use Rattle.cidr_join.specs.Entries.{is_blank};
+
+    ghost is_one = { is_blank };
+
+    fn has(byte: u8) -> bool {
+        byte == b' ' || byte == b'\t' || byte == b'\r'
     }
-    count
 }
 
-// How many blanks it ends with.
-fn blanks_at_end(text: &[u8]) -> usize
-    ensures { result ≡ suffix_len is_blank text.now }
-{
-    let mut end = text.len();
-    while end > 0 && is_blank(text[end - 1]) {
-        end -= 1;
+// A space.
+struct Space;
+
+impl ByteKind for Space {
+    ghost use Rattle.cidr_join.specs.Entries.{is_space};
+
+    ghost is_one = { is_space };
+
+    fn has(byte: u8) -> bool {
+        byte == b' '
     }
-    text.len() - end
 }
 
-// Whether a byte is a space, a tab or a carriage return.
-fn is_blank(byte: u8) -> bool
-    ensures { result ≡ is_blank byte }
-{
-    byte == b' ' || byte == b'\t' || byte == b'\r'
-}
+// Neither a space nor a tab nor a comma.
+struct OfWord;
 
-// Whether a byte is a space.
-fn is_space(byte: u8) -> bool
-    ensures { result ≡ is_space byte }
-{
-    byte == b' '
-}
+impl ByteKind for OfWord {
+    ghost use Rattle.cidr_join.specs.Entries.{is_word};
 
-// Whether a byte is neither a space nor a tab nor a comma.
-fn is_word(byte: u8) -> bool
-    ensures { result ≡ is_word byte }
-{
-    byte != b' ' && byte != b'\t' && byte != b','
+    ghost is_one = { is_word };
+
+    fn has(byte: u8) -> bool {
+        byte != b' ' && byte != b'\t' && byte != b','
+    }
 }

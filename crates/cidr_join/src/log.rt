@@ -1,35 +1,21 @@
 //! Joins the lines of a log to a list.
-ghost use Rattle.std.specs.Prelude.{◌≡◌, ◌||◌, ◌≤◌, ◌++◌, [], length, OnOk, OnErr, IfErr, IsOkUnless, Err};
+ghost use Rattle.std.specs.Prelude.{◌≡◌, ◌||◌, ◌≤◌, ◌++◌, [], length, OnOk, IfErr, Err};
 ghost use Rattle.lines.specs.Watched.{device_of, has_failed};
 ghost use Rattle.cidr_join.specs.Stands.{stand};
-ghost use Rattle.cidr_join.specs.Stops.{Ends, Stops, ended_by_read, ended_by_write};
+ghost use Rattle.cidr_join.specs.Stops.{Ends, Stops};
 ghost use Rattle.cidr_join.specs.Private.Progress.{JoinsLine, LineStops};
+ghost use Rattle.program.specs.LogFaults.{ended_by_read, ended_by_write};
 ghost use Rattle.program.specs.LogLines.{feed_behind};
 
-use crate::join::{Join, LINE_MAX};
+use crate::join::Join;
 use crate::printing::print_line;
 use crate::seen::Seen;
-use lines::line_buffer::{LineBuffer, NextLine};
 use lines::line_end::LineEnd;
 use lines::output::Output;
 use lines::watched::Watched;
-use lists::OpenFault;
+use program::log_fault::LogFault;
+use program::log_reader::{LogReader, NextLogLine};
 use std::io::{Read, Write};
-
-/// Why a log is not joined to its end.
-#[derive(Clone, Copy, Debug, PartialEq, Eq)]
-pub enum LogFault {
-    /// The log cannot be opened, for this cause.
-    Open(OpenFault),
-    /// A read failed.
-    Read,
-    /// A write failed.
-    Write,
-    /// A line that is too long ends the run.
-    Length,
-    /// The log has more than 18,446,744,073,709,551,615 bytes.
-    Endless,
-}
 
 /// Writes each line of a log with the value of its address, and counts it.
 ///
@@ -62,37 +48,19 @@ pub fn join_log<R: Read, W: Write>(
     ensures written { OnOk result (output.new.waits ≡ []) }
     ensures handed_on { result ≡ Err LogFault.Read → output.old.waits ≡ [] → output.new.waits ≡ [] }
 {
-    let mut lines = LineBuffer::new(buffer, LINE_MAX);
-    let mut room = u64::MAX;
+    let mut log = LogReader::new(buffer, true);
     'lines: loop {
-        match lines.next() {
-            NextLine::Line(end) => {
-                let line = lines.line();
-                let whole = lines.whole_line();
+        match log.next(reader, output) {
+            Ok(NextLogLine::Line(end)) => {
+                let line = log.line();
+                let whole = log.whole_line();
                 if let Err(fault) = join_line(join, line, whole, end, output, seen) {
                     return Err(fault);
                 }
             }
-            NextLine::TooLong => return Err(LogFault::Length),
-            NextLine::Ask => {
-                let Ok(_) = output.hand_on() else {
-                    return Err(LogFault::Write);
-                };
-                if lines.is_too_long() {
-                    return Err(LogFault::Length);
-                }
-                let Ok(read) = lines.ask(reader) else {
-                    return Err(LogFault::Read);
-                };
-                if read as u64 > room {
-                    return Err(LogFault::Endless);
-                }
-                room -= read as u64;
-            }
-            NextLine::End => match output.hand_on() {
-                Ok(()) => return Ok(()),
-                Err(_) => return Err(LogFault::Write),
-            },
+            Ok(NextLogLine::TooLong) => return Err(LogFault::Length),
+            Ok(NextLogLine::End) => return Ok(()),
+            Err(fault) => return Err(fault),
         }
     }
 }
@@ -110,7 +78,8 @@ fn join_line<W: Write>(
     requires { length line.now ≤ length whole.now }
     ensures ok { OnOk result (JoinsLine join.now line.now (whole.now ++ feed_behind end)
         (stand output.old seen.old) (stand output.new seen.new)) }
-    ensures err { IfErr result (LineStops join.now line.now (whole.now ++ feed_behind end)
+    ensures err { IfErr result (λ fault. (fault ≡ LogFault.Write)
+        × LineStops join.now line.now (whole.now ++ feed_behind end)
         output.new.failed
         (stand output.old seen.old) (stand output.new seen.new)) }
     ensures writer_failed { output.new.failed ≡ (output.old.failed || ended_by_write result) }

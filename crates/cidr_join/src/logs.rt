@@ -3,18 +3,17 @@ ghost use Rattle.std.specs.Prelude.{◌≡◌, ◌≤◌, ◌∷◌, [], true, f
 ghost use Rattle.program.specs.Logs.{logs_of};
 ghost use Rattle.program.specs.Endings.{ending};
 ghost use Rattle.cidr_join.specs.Runs.{EndsLogs, StopsAtLog};
-ghost use Rattle.cidr_join.specs.Private.Runs.{JoinsNames, StopsBy};
+ghost use Rattle.cidr_join.specs.Private.Runs.{JoinsNames};
 
 use crate::help::PROGRAM;
 use crate::join::Join;
-use crate::log::{LogFault, join_log};
+use crate::log::join_log;
 use crate::seen::Seen;
-use crate::telling::tell_log_fault;
 use lines::output::Output;
-use lines::watched::Watched;
-use lists::{OpenFault, OpenLists};
+use lists::{OpenLists, open_list};
 use log_programs::telling::tell_lacking;
 use program::ending::{FAILED, end};
+use program::log_fault::{LogFault, stop};
 use std::io::Write;
 
 /// Joins the logs of these names in their order, or standard input if there is no name, and returns the exit status.
@@ -88,15 +87,13 @@ fn join_one<L: OpenLists, W: Write, E: Write>(
         lines: 0,
         is_addressed: false,
     };
-    let log = match lists.open(name) {
+    let mut log = match open_list(lists, name) {
         Ok(log) => log,
-        Err(error) => {
-            let cause = OpenFault::of(error.kind());
+        Err(cause) => {
             stop(name, LogFault::Open(cause), seen.lines, output, errors);
             return false;
         }
     };
-    let mut log = Watched::new(log);
     let end = join_log(join, buffer, &mut log, output, &mut seen);
     lists.close(name, log);
     match end {
@@ -115,26 +112,5 @@ fn join_one<L: OpenLists, W: Write, E: Write>(
             stop(name, fault, seen.lines, output, errors);
             false
         }
-    }
-}
-
-// Writes what waits, and reports why a log was not joined to its end, after this many of its lines: a failed write,
-// if one fails now.
-fn stop<W: Write, E: Write>(
-    name: &str,
-    fault: LogFault,
-    lines: u64,
-    output: &mut Output<'_, W>,
-    errors: &mut Output<'_, E>,
-)
-    ensures { StopsBy name.now lines fault
-        (ending output.old output.new errors.old errors.new 2) }
-{
-    match fault {
-        LogFault::Write => tell_log_fault(name, LogFault::Write, lines, errors),
-        _ => match output.hand_on() {
-            Ok(()) => tell_log_fault(name, fault, lines, errors),
-            Err(_) => tell_log_fault(name, LogFault::Write, lines, errors),
-        },
     }
 }

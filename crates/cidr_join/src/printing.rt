@@ -1,8 +1,9 @@
 //! Prints a line.
-ghost use Rattle.std.specs.Prelude.{◌≡◌, ◌≤◌, ◌||◌, ◌++◌, ◌∷◌, [], length, drop, OnOk, OnErr, is_err};
-ghost use Rattle.lines.specs.Outputs.{Prints, FailsIn};
+ghost use Rattle.std.specs.Prelude.{◌≤◌, ◌++◌, ◌∷◌, [], length};
+ghost use Rattle.lines.specs.Outputs.{Prints};
 ghost use Rattle.cidr_join.specs.Joins.{mark_of, shown_of};
 ghost use Rattle.program.specs.LogLines.{feed_behind};
+ghost use Rattle.program.specs.Putting.{PutsOrFails};
 
 use crate::found::Found;
 use crate::join::Join;
@@ -10,6 +11,7 @@ use lines::fault::RunFault;
 use lines::line_end::LineEnd;
 use lines::output::Output;
 use program::log_reader::put_feed;
+use program::putting::put_both;
 use std::io::Write;
 
 /// Writes a line, and before it or behind it what was found for its address: the value, or the network, or a minus sign
@@ -23,13 +25,8 @@ pub(crate) fn print_line<W: Write>(
     output: &mut Output<'_, W>,
 ) -> Result<(), RunFault>
     requires { length line.now ≤ length whole.now }
-    ensures ok { OnOk result (Prints output.old output.new
-        (shown_of join.now.last (mark_of found.now) line.now
-        (whole.now ++ feed_behind end))) }
-    ensures failed { output.new.failed ≡ (output.old.failed || is_err result) }
-    ensures beginning { OnErr result (FailsIn output.old output.new
-        (shown_of join.now.last (mark_of found.now) line.now
-        (whole.now ++ feed_behind end))) }
+    ensures { PutsOrFails result output.old output.new
+        (shown_of join.now.last (mark_of found.now) line.now (whole.now ++ feed_behind end)) }
 {
     match found {
         Found::Network(network) => {
@@ -58,11 +55,8 @@ fn print_with<W: Write>(
     output: &mut Output<'_, W>,
 ) -> Result<(), RunFault>
     requires { length line.now ≤ length whole.now }
-    ensures ok { OnOk result (Prints output.old output.new
-        (shown_of last mark.now line.now (whole.now ++ feed_behind end))) }
-    ensures failed { output.new.failed ≡ (output.old.failed || is_err result) }
-    ensures beginning { OnErr result (FailsIn output.old output.new
-        (shown_of last mark.now line.now (whole.now ++ feed_behind end))) }
+    ensures { PutsOrFails result output.old output.new
+        (shown_of last mark.now line.now (whole.now ++ feed_behind end)) }
 {
     if !last {
         return put_parts(mark, whole, b"", end, output);
@@ -79,11 +73,8 @@ fn put_parts<W: Write>(
     end: LineEnd,
     output: &mut Output<'_, W>,
 ) -> Result<(), RunFault>
-    ensures ok { OnOk result (Prints output.old output.new
-        ((first.now ++ 9 ∷ []) ++ ((second.now ++ third.now) ++ feed_behind end))) }
-    ensures failed { output.new.failed ≡ (output.old.failed || is_err result) }
-    ensures beginning { OnErr result (FailsIn output.old output.new
-        ((first.now ++ 9 ∷ []) ++ ((second.now ++ third.now) ++ feed_behind end))) }
+    ensures { PutsOrFails result output.old output.new
+        ((first.now ++ 9 ∷ []) ++ ((second.now ++ third.now) ++ feed_behind end)) }
 {
     put_both(first, b"\t", output)?;
     put_rest(second, third, end, output)
@@ -96,27 +87,9 @@ fn put_rest<W: Write>(
     end: LineEnd,
     output: &mut Output<'_, W>,
 ) -> Result<(), RunFault>
-    ensures ok { OnOk result (Prints output.old output.new
-        ((first.now ++ second.now) ++ feed_behind end)) }
-    ensures failed { output.new.failed ≡ (output.old.failed || is_err result) }
-    ensures beginning { OnErr result (FailsIn output.old output.new
-        ((first.now ++ second.now) ++ feed_behind end)) }
+    ensures { PutsOrFails result output.old output.new
+        ((first.now ++ second.now) ++ feed_behind end) }
 {
     put_both(first, second, output)?;
     put_feed(end, output)
-}
-
-/// Writes two texts.
-pub(crate) fn put_both<W: Write>(
-    first: &[u8],
-    second: &[u8],
-    output: &mut Output<'_, W>,
-) -> Result<(), RunFault>
-    ensures ok { OnOk result (Prints output.old output.new (first.now ++ second.now)) }
-    ensures failed { output.new.failed ≡ (output.old.failed || is_err result) }
-    ensures beginning { OnErr result
-        (FailsIn output.old output.new (first.now ++ second.now)) }
-{
-    output.put(first)?;
-    output.put(second)
 }

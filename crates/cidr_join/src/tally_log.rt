@@ -2,16 +2,18 @@
 ghost use Rattle.std.specs.Prelude.{◌≡◌, ◌||◌, ◌≤◌, length, OnOk, IfErr};
 ghost use Rattle.lines.specs.Watched.{device_of, has_failed};
 ghost use Rattle.cidr_join.specs.Private.Numbering.{IsNumbering};
-ghost use Rattle.cidr_join.specs.Private.TallyProgress.{CountsLine, CountsLines, ReadsAll, StopsReading, ended_by_read};
+ghost use Rattle.cidr_join.specs.Private.TallyProgress.{CountsLine, CountsLines, StopsCounting, ended_by_read, tally_fault};
+ghost use Rattle.program.specs.LogReadings.{ReadsAll};
 
 use crate::counts::Counts;
 use crate::found::Found;
-use crate::join::{Join, LINE_MAX};
-use crate::log::LogFault;
+use crate::join::Join;
 use crate::numbered::Numbered;
 use crate::seen::Seen;
-use lines::line_buffer::{LineBuffer, NextLine};
+use lines::output::Output;
 use lines::watched::Watched;
+use program::log_fault::LogFault;
+use program::log_reader::{LogReader, NextLogLine};
 use std::alloc::{AllocError, Global};
 use std::io::Read;
 
@@ -44,7 +46,7 @@ pub(crate) fn tally_log<R: Read>(
         (R.remaining (device_of reader.old))
         (R.remaining (device_of reader.new))) }
     ensures err { IfErr result
-        (StopsReading (CountsLines numbered.now.founds.items join.now counts.old counts.new
+        (StopsCounting (CountsLines numbered.now.founds.items join.now counts.old counts.new
         seen.old seen.new)
         (R.remaining (device_of reader.old))
         (R.remaining (device_of reader.new))
@@ -52,31 +54,36 @@ pub(crate) fn tally_log<R: Read>(
     ensures reader_failed { has_failed reader.new
         ≡ (has_failed reader.old || ended_by_read result) }
 {
-    let mut lines = LineBuffer::new(buffer, LINE_MAX);
-    let mut room = u64::MAX;
+    // Nothing is put into it, so that nothing is written before a read.
+    let mut slice = [0; 1];
+    let mut nothing = Output::new(Vec::new(alloc), &mut slice);
+    let mut log = LogReader::new(buffer, true);
     'lines: loop {
-        match lines.next() {
-            NextLine::Line(_) => {
-                let line = lines.line();
+        match log.next(reader, &mut nothing) {
+            Ok(NextLogLine::Line(_)) => {
+                let line = log.line();
                 if let Err(_) = count_line(alloc, join, numbered, line, counts, seen) {
                     return Err(TallyFault::OutOfMemory);
                 }
             }
-            NextLine::TooLong => return Err(TallyFault::Log(LogFault::Length)),
-            NextLine::Ask => {
-                if lines.is_too_long() {
-                    return Err(TallyFault::Log(LogFault::Length));
-                }
-                let Ok(read) = lines.ask(reader) else {
-                    return Err(TallyFault::Log(LogFault::Read));
-                };
-                if read as u64 > room {
-                    return Err(TallyFault::Log(LogFault::Endless));
-                }
-                room -= read as u64;
-            }
-            NextLine::End => return Ok(()),
+            Ok(NextLogLine::TooLong) => return Err(TallyFault::Log(LogFault::Length)),
+            Ok(NextLogLine::End) => return Ok(()),
+            Err(fault) => return Err(tally_fault(fault)),
         }
+    }
+}
+
+// The fault of a log of whose lines nothing is written but to memory.
+fn tally_fault(fault: LogFault) -> TallyFault
+    ensures { result ≡ tally_fault fault }
+{
+    match fault {
+        LogFault::Open(cause) => TallyFault::Log(LogFault::Open(cause)),
+        LogFault::Read => TallyFault::Log(LogFault::Read),
+        LogFault::Write => TallyFault::OutOfMemory,
+        LogFault::Address => TallyFault::Log(LogFault::Address),
+        LogFault::Length => TallyFault::Log(LogFault::Length),
+        LogFault::Endless => TallyFault::Log(LogFault::Endless),
     }
 }
 

@@ -1,6 +1,6 @@
 //! Counts what a list gives the lines of the logs of a run, and prints the counts.
-ghost use Rattle.std.specs.Prelude.{◌≡◌, ◌≤◌, ◌++◌, ◌∷◌, ◌||◌, [], true, false, List, ℕ, length, codes, map, OnOk, OnErr, is_err};
-ghost use Rattle.lines.specs.Outputs.{Prints, FailsIn, Writes};
+ghost use Rattle.std.specs.Prelude.{◌≡◌, ◌≤◌, ◌++◌, ◌∷◌, ◌||◌, [], true, false, length, map, OnOk, OnErr, is_err};
+ghost use Rattle.lines.specs.Outputs.{FailsIn, Writes};
 ghost use Rattle.program.specs.Endings.{ending};
 ghost use Rattle.program.specs.Messages.{Tells};
 ghost use Rattle.program.specs.Logs.{logs_of};
@@ -9,24 +9,23 @@ ghost use Rattle.cidr_join.specs.TallyRuns.{EndsTally};
 ghost use Rattle.cidr_join.specs.Private.Counting.{row_of};
 ghost use Rattle.cidr_join.specs.Private.Numbering.{IsNumbering};
 ghost use Rattle.cidr_join.specs.Private.TallyProgress.{CountsNames, TellsStop, tally_fault_text};
+ghost use Rattle.program.specs.Putting.{PutsOrFails};
 
 use crate::counts::Counts;
 use crate::help::PROGRAM;
 use crate::join::Join;
-use crate::log::LogFault;
 use crate::numbered::Numbered;
-use crate::printing::put_both;
 use crate::seen::Seen;
 use crate::tally::Row;
 use crate::tally_log::{TallyFault, tally_log};
-use crate::telling::tell_log_fault;
 use lines::fault::RunFault;
 use lines::output::Output;
-use lines::watched::Watched;
-use lists::{OpenFault, OpenLists};
+use lists::{OpenLists, open_list};
 use log_programs::telling::tell_lacking;
 use program::ending::{FAILED, end};
+use program::log_fault::{LogFault, tell_log_fault};
 use program::messages::{number_text, tell};
+use program::putting::put_both;
 use std::alloc::Global;
 use std::io::Write;
 
@@ -129,16 +128,14 @@ fn tally_one<L: OpenLists, E: Write>(
         lines: 0,
         is_addressed: false,
     };
-    let log = match lists.open(name) {
+    let mut log = match open_list(lists, name) {
         Ok(log) => log,
-        Err(error) => {
-            let cause = OpenFault::of(error.kind());
+        Err(cause) => {
             let fault = TallyFault::Log(LogFault::Open(cause));
             tell_stop(name, fault, seen.lines, errors);
             return false;
         }
     };
-    let mut log = Watched::new(log);
     let end = tally_log(alloc, join, numbered, buffer, &mut log, counts, &mut seen);
     lists.close(name, log);
     match end {
@@ -183,10 +180,7 @@ fn write_rows<W: Write>(rows: &[Row], output: &mut Output<'_, W>) -> Result<(), 
 
 // Writes rows.
 fn put_rows<W: Write>(rows: &[Row], output: &mut Output<'_, W>) -> Result<(), RunFault>
-    ensures ok { OnOk result (Prints output.old output.new (rows_text (map row_of rows.now))) }
-    ensures failed { output.new.failed ≡ (output.old.failed || is_err result) }
-    ensures beginning { OnErr result
-        (FailsIn output.old output.new (rows_text (map row_of rows.now))) }
+    ensures { PutsOrFails result output.old output.new (rows_text (map row_of rows.now)) }
 {
     for row in rows {
         put_row(row, output)?;
@@ -196,10 +190,7 @@ fn put_rows<W: Write>(rows: &[Row], output: &mut Output<'_, W>) -> Result<(), Ru
 
 // Writes a count, a tab, its text and a line feed.
 fn put_row<W: Write>(row: &Row, output: &mut Output<'_, W>) -> Result<(), RunFault>
-    ensures ok { OnOk result (Prints output.old output.new (row_text (row_of row.now))) }
-    ensures failed { output.new.failed ≡ (output.old.failed || is_err result) }
-    ensures beginning { OnErr result
-        (FailsIn output.old output.new (row_text (row_of row.now))) }
+    ensures { PutsOrFails result output.old output.new (row_text (row_of row.now)) }
 {
     let count = number_text(row.0.0);
     put_four(
@@ -219,11 +210,8 @@ fn put_four<W: Write>(
     fourth: &[u8],
     output: &mut Output<'_, W>,
 ) -> Result<(), RunFault>
-    ensures ok { OnOk result (Prints output.old output.new
-        ((first.now ++ second.now) ++ (third.now ++ fourth.now))) }
-    ensures failed { output.new.failed ≡ (output.old.failed || is_err result) }
-    ensures beginning { OnErr result (FailsIn output.old output.new
-        ((first.now ++ second.now) ++ (third.now ++ fourth.now))) }
+    ensures { PutsOrFails result output.old output.new
+        ((first.now ++ second.now) ++ (third.now ++ fourth.now)) }
 {
     put_both(first, second, output)?;
     put_both(third, fourth, output)

@@ -1,9 +1,8 @@
 //! Messages on the error writer. If a write of one fails, nothing else changes.
 ghost use Rattle.program.specs.Messages.{Tells};
-ghost use Rattle.cidr_join.specs.Told.{log_fault_text, text_fault_text, take_fault_text};
+ghost use Rattle.cidr_join.specs.Told.{text_fault_text, take_fault_text};
 
 use crate::list::TakeFault;
-use crate::log::LogFault;
 use crate::routes::RouteFault;
 use crate::text::TextFault;
 use lines::output::Output;
@@ -30,23 +29,5 @@ pub(crate) fn tell_take_fault<E: Write>(name: &str, fault: TakeFault, errors: &m
     match fault.fault {
         RouteFault::OutOfMemory => tell("out of memory\n", errors),
         RouteFault::Refused(cause) => tell_line(name, fault.lines as u64, cause.text(), errors),
-    }
-}
-
-/// Reports why the log of this name was not joined to its end, after this many of its lines.
-pub(crate) fn tell_log_fault<E: Write>(
-    name: &str,
-    fault: LogFault,
-    lines: u64,
-    errors: &mut Output<'_, E>,
-)
-    ensures { Tells errors.old errors.new (log_fault_text name.now lines fault) }
-{
-    match fault {
-        LogFault::Open(cause) => tell_of(name, cause.text(), errors),
-        LogFault::Read => tell_of(name, ": cannot read\n", errors),
-        LogFault::Write => tell("write error\n", errors),
-        LogFault::Length => tell_line(name, lines, "length", errors),
-        LogFault::Endless => tell_of(name, ": too long\n", errors),
     }
 }

@@ -5,7 +5,7 @@ ghost use Rattle.program.specs.Logs.{IsAllOf};
 ghost use Rattle.cidr_join.specs.Texts.{ReadsAll, StopsReading, ended_by_read, TextStops};
 
 use lines::watched::Watched;
-use lists::{OpenFault, OpenLists};
+use lists::{OpenFault, OpenLists, open_list};
 use std::alloc::Global;
 use std::io::Read;
 
@@ -37,11 +37,10 @@ pub(crate) fn text_of<L: OpenLists>(
     ensures ok { IfOk result (λ text. IsAllOf (L.known lists.now) name.now text.items) }
     ensures err { IfErr result (TextStops (L.known lists.now) name.now) }
 {
-    let list = match lists.open(name) {
+    let mut list = match open_list(lists, name) {
         Ok(list) => list,
-        Err(error) => return Err(TextFault::Open(OpenFault::of(error.kind()))),
+        Err(cause) => return Err(TextFault::Open(cause)),
     };
-    let mut list = Watched::new(list);
     let text = read_all(alloc, &mut list);
     lists.close(name, list);
     text

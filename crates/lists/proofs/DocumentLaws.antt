@@ -1,9 +1,9 @@
 -- What a document that is taken adds to the addresses.
-use Rattle.std.proofs.Common.{◌≡◌, ◌↔◌, ◌⊎◌, ◌∙◌, ℕ, Bool, true, false, List, [], ◌∷◌, refl, sym, ap, subst, inl, inr, ⊎_elim}
+use Rattle.std.proofs.Common.{◌≡◌, ◌↔◌, ◌⊎◌, ◌∙◌, ℕ, Bool, true, false, List, [], ◌∷◌, sym, ap, subst, inl, inr, ⊎_elim}
 use Rattle.std.specs.Prelude.{Some, Result, Ok, Err}
 use Rattle.std.specs.List.{Contains}
 use Rattle.ipnetwork_addr.specs.declared.ip.IpAddr.{IpAddr}
-use Rattle.ipnetwork_blocks.proofs.LeastLists.{contains_cons, contains_head, contains_tail, contains_nil}
+use Rattle.ipnetwork_blocks.proofs.LeastLists.{contains_nil}
 use Rattle.serde_json.specs.Data.{Data}
 use Rattle.lists.specs.DocumentLaws.{Occurs, TextNames, DocumentNames, DocumentsAddWhatTheyName}
 use Rattle.lists.specs.Documents.{strings_of, TakesText, TakesString, TakesStrings}
@@ -14,7 +14,7 @@ use Rattle.lists.specs.declared.entry.EntryFault.{EntryFault}
 use Rattle.lists.proofs.Gained.{same_addresses}
 use Rattle.lists.proofs.Occurrences.{told, occurs}
 use Rattle.lists.proofs.Readings.{OneNetwork, OneAddress, one_entry}
-use Rattle.lists.proofs.Taken.{on_next_line}
+use Rattle.lists.proofs.Taken.{on_next_line, one_or_others}
 
 -- a text names one entry
 abbrev OneEntry : Type 0
@@ -63,19 +63,8 @@ strings_add one strict before after [] h works a = same_addresses before after (
 strings_add one strict before after (text ∷ texts) h works a =
     let midway = all_worked strict h.0 after texts h.2 works in
     let start = worked strict before h.0 text h.1 midway in
-    let first = string_adds one strict before h.0 text start h.1 midway a in
-    let rest = strings_add one strict h.0 after texts h.2 works a in (
-      (λ x. ⊎_elim
-          (λ (d : HasAddress h.0 a). ⊎_elim
-          (λ (e : HasAddress before a). inl e)
-          (λ (e : TextNames text a). inr (text, contains_head text texts, e)) (first.0 d))
-          (λ (d : TextsName texts a). inr (d.0, contains_tail text texts d.0 d.1, d.2)) (rest.0 x)),
-      (λ o. rest.1 (⊎_elim
-          (λ (d : HasAddress before a). inl (first.1 (inl d)))
-          (λ (d : TextsName (text ∷ texts) a). ⊎_elim
-          (λ (e : text ≡ d.0). inl (first.1 (inr (subst (λ (t : List ℕ). TextNames t a) (sym e) d.2))))
-          (λ (e : Contains texts d.0). inr (d.0, e, d.2)) (contains_cons text texts d.0 d.1)) o)),
-    )
+    one_or_others (HasAddress before a) (HasAddress h.0 a) (HasAddress after a) (λ t. TextNames t a) text texts
+    (string_adds one strict before h.0 text start h.1 midway a) (strings_add one strict h.0 after texts h.2 works a)
 
 one_document : (a b : Data) → Some a ≡ Some b → a ≡ b
 one_document a b e = cc

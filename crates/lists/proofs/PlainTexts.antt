@@ -145,7 +145,7 @@ no_end text h =
 
 trimmed_is : (text : List ℕ) → AllByRecursion IsQuiet text → trimmed text ≡ text
 trimmed_is text h =
-    ap without_end (ap (λ n. drop n text) (no_front text h))
+    ap (without_end is_blank) (ap (λ n. drop n text) (no_front text h))
     ∙ ap (λ n. take (length text - n) text) (no_end text h)
     ∙ take_all (length text - 0) text (omega arith)
 

@@ -64,24 +64,29 @@ all_worked : (before after : ReadLists) (ls : List (List ℕ)) → TakesLines be
 all_worked before after [] h works = ap (λ (l : ReadLists). l.is_out_of_memory) (sym h) ∙ works
 all_worked before after (line ∷ ls) h works = worked before h.0 (asked 1024 line) h.1 (all_worked h.0 after ls h.2 works)
 
+-- with what the first of some texts adds, and what the others add to that
+pub one_or_others : (Before Midway After : Type 0) (IsNamed : List ℕ → Type 0) (text : List ℕ) (texts : List (List ℕ)) → (Midway ↔ (Before ⊎ IsNamed text))
+    → (After ↔ (Midway ⊎ ((t : List ℕ) × Contains texts t × IsNamed t))) → (After ↔ (Before ⊎ ((t : List ℕ) × Contains (text ∷ texts) t × IsNamed t)))
+one_or_others Before Midway After IsNamed text texts first rest = (
+  (λ x. ⊎_elim
+      (λ (d : Midway). ⊎_elim
+      (λ (e : Before). inl e)
+      (λ (e : IsNamed text). inr (text, contains_head text texts, e)) (first.0 d))
+      (λ (d : (t : List ℕ) × Contains texts t × IsNamed t). inr (d.0, contains_tail text texts d.0 d.1, d.2)) (rest.0 x)),
+  (λ o. rest.1 (⊎_elim
+      (λ (d : Before). inl (first.1 (inl d)))
+      (λ (d : (t : List ℕ) × Contains (text ∷ texts) t × IsNamed t). ⊎_elim
+      (λ (e : text ≡ d.0). inl (first.1 (inr (subst IsNamed (sym e) d.2))))
+      (λ (e : Contains texts d.0). inr (d.0, e, d.2)) (contains_cons text texts d.0 d.1)) o)),
+)
+
 pub lines_add : OneReading → LinesAddWhatTheyName
 lines_add one before after [] h works a = same_addresses before after (ap (λ (l : ReadLists). l.v4) h) (ap (λ (l : ReadLists). l.v6) h) (LinesName [] a) (λ n. contains_nil n.0 n.1) a
 lines_add one before after (line ∷ ls) h works a =
     let midway = all_worked h.0 after ls h.2 works in
     let start = worked before h.0 (asked 1024 line) h.1 midway in
-    let first = line_adds one before h.0 line (nat_lt 1024 (length line)) refl (taken before h.0 (asked 1024 line) h.1 start) midway a in
-    let rest = lines_add one h.0 after ls h.2 works a in (
-      (λ x. ⊎_elim
-          (λ (d : HasAddress h.0 a). ⊎_elim
-          (λ (e : HasAddress before a). inl e)
-          (λ (e : LineNames line a). inr (line, contains_head line ls, e)) (first.0 d))
-          (λ (d : LinesName ls a). inr (d.0, contains_tail line ls d.0 d.1, d.2)) (rest.0 x)),
-      (λ o. rest.1 (⊎_elim
-          (λ (d : HasAddress before a). inl (first.1 (inl d)))
-          (λ (d : LinesName (line ∷ ls) a). ⊎_elim
-          (λ (e : line ≡ d.0). inl (first.1 (inr (subst (λ (l : List ℕ). LineNames l a) (sym e) d.2))))
-          (λ (e : Contains ls d.0). inr (d.0, e, d.2)) (contains_cons line ls d.0 d.1)) o)),
-    )
+    one_or_others (HasAddress before a) (HasAddress h.0 a) (HasAddress after a) (λ l. LineNames l a) line ls
+    (line_adds one before h.0 line (nat_lt 1024 (length line)) refl (taken before h.0 (asked 1024 line) h.1 start) midway a) (lines_add one h.0 after ls h.2 works a)
 
 -- a line more
 pub takes_more : {X : Type 0} (now : X → List ℕ) (before mid after : ReadLists) (done : List X) (line : X) → TakesLines before (map now done) mid → Takes mid (asked 1024 (now line)) after

@@ -1,11 +1,11 @@
--- Comments and blanks.
-use Rattle.std.proofs.Common.{◌≡◌, ◌==◌, ◌||◌, ◌+◌, ◌≤◌, ℕ, suc, cond, not, Bool, true, false, List, [], ◌∷◌, length, take, arith, sym, ap, ◌∙◌, refl}
-use Rattle.std.specs.List.{before_first, position_or_len, prefix_len, suffix_len}
+-- Comments.
+use Rattle.std.proofs.Common.{◌≡◌, ◌==◌, ◌||◌, ◌+◌, ℕ, suc, cond, not, Bool, true, false, List, [], ◌∷◌, length, take, arith, sym, ap, ◌∙◌, refl}
+use Rattle.std.specs.List.{before_first, position_or_len}
 use Rattle.std.proofs.lemmas.Bool.{eq-eqb, ne_eqb}
 use Rattle.std.proofs.lemmas.List.{take_all}
-use Rattle.std.proofs.lemmas.List.Sums.{prefix_len-le-length, suffix_len-le-length, position_or_len_is}
+use Rattle.std.proofs.lemmas.List.Sums.{position_or_len_is}
 use Rattle.byte_search.specs.Bytes.{IsAbsent, IsNext}
-use Rattle.lists.specs.Lines.{is_blank, begins_comment, before_comment}
+use Rattle.lists.specs.Lines.{begins_comment, before_comment}
 
 -- no byte of this value
 pub none_before : (byte : ℕ) (text : List ℕ) → IsAbsent byte text 0 (length text) → text ≡ before_first (λ other. other == byte) text
@@ -45,10 +45,3 @@ before_either (x ∷ xs) = go (before_either xs) (x == 35) refl (x == 59) refl
         ∙ goes_on (λ other. other == 59) x (before_first (λ other. other == 35) xs) semicolon
         ∙ ap (λ t. x ∷ t) later
         ∙ sym (goes_on begins_comment x xs (ap (λ v. v || x == 59) hash ∙ semicolon))
-
--- there are no more blanks than bytes
-pub front_within : (text : List ℕ) → prefix_len is_blank text ≤ length text
-front_within text = prefix_len-le-length is_blank text
-
-pub end_within : (text : List ℕ) → suffix_len is_blank text ≤ length text
-end_within text = suffix_len-le-length is_blank text

@@ -14,14 +14,18 @@ begins_comment byte = byte == 35 || byte == 59
 abbrev pub before_comment : List ℕ → List ℕ
 before_comment line = before_first begins_comment line
 
--- the text without the blanks that it begins with
-abbrev pub without_front : List ℕ → List ℕ
-without_front text = drop (prefix_len is_blank text) text
+-- the text without such bytes that it begins with
+abbrev pub without_front : (ℕ → Bool) → List ℕ → List ℕ
+without_front is_one text = drop (prefix_len is_one text) text
 
--- the text without the blanks that it ends with
-abbrev pub without_end : List ℕ → List ℕ
-without_end text = take (length text - suffix_len is_blank text) text
+-- the text without such bytes that it ends with
+abbrev pub without_end : (ℕ → Bool) → List ℕ → List ℕ
+without_end is_one text = take (length text - suffix_len is_one text) text
+
+-- the text without such bytes around it
+abbrev pub trimmed_by : (ℕ → Bool) → List ℕ → List ℕ
+trimmed_by is_one text = without_end is_one (without_front is_one text)
 
 -- the text without the blanks around it
 abbrev pub trimmed : List ℕ → List ℕ
-trimmed text = without_end (without_front text)
+trimmed text = trimmed_by is_blank text

@@ -1,7 +1,7 @@
-//! A line without its comment, and a text without the blanks around it.
+//! A line without its comment.
 ghost use Rattle.std.specs.Prelude.{◌≡◌, ◌==◌};
-ghost use Rattle.std.specs.List.{before_first, prefix_len, suffix_len};
-ghost use Rattle.lists.specs.Lines.{before_comment, is_blank, trimmed};
+ghost use Rattle.std.specs.List.{before_first};
+ghost use Rattle.lists.specs.Lines.{before_comment};
 
 use byte_search::find_from;
 
@@ -20,42 +20,4 @@ fn before(text: &[u8], byte: u8) -> &[u8]
         Some(end) => &text[..end],
         None => text,
     }
-}
-
-/// The text without the blanks around it.
-#[tactic(auto, using(crate::proofs::Trims::front_within, crate::proofs::Trims::end_within))]
-pub(crate) fn trim(text: &[u8]) -> &[u8]
-    ensures { result.now ≡ trimmed text.now }
-{
-    let rest = &text[blanks_in_front(text)..];
-    &rest[..rest.len() - blanks_at_end(rest)]
-}
-
-/// How many blanks the text begins with.
-fn blanks_in_front(text: &[u8]) -> usize
-    ensures { result ≡ prefix_len is_blank text.now }
-{
-    let mut count = 0;
-    while count < text.len() && is_blank(text[count]) {
-        count += 1;
-    }
-    count
-}
-
-/// How many blanks it ends with.
-fn blanks_at_end(text: &[u8]) -> usize
-    ensures { result ≡ suffix_len is_blank text.now }
-{
-    let mut end = text.len();
-    while end > 0 && is_blank(text[end - 1]) {
-        end -= 1;
-    }
-    text.len() - end
-}
-
-/// Whether a byte is a space or a tab.
-fn is_blank(byte: u8) -> bool
-    ensures { result ≡ is_blank byte }
-{
-    byte == b' ' || byte == b'\t'
 }

@@ -9,7 +9,7 @@ ghost use Rattle.lists.specs.Private.Documents.{BytesStop, TakesBytes, FailsByte
 use crate::list_reader::ListReader;
 use crate::named::ReadFault;
 use crate::open_lists::OpenLists;
-use crate::opening::OpenFault;
+use crate::opening::open_list;
 use crate::strings::take_value;
 use lines::watched::Watched;
 use serde_json::Value;
@@ -104,11 +104,10 @@ fn bytes_of<L: OpenLists>(
     ensures ok { IfOk result (λ bytes. IsAllOf (L.known lists.now) name.now bytes.items) }
     ensures err { IfErr result (BytesStop (L.known lists.now) place name.now) }
 {
-    let list = match lists.open(name) {
+    let mut list = match open_list(lists, name) {
         Ok(list) => list,
-        Err(error) => return Err(ReadFault::Open(place, OpenFault::of(error.kind()))),
+        Err(cause) => return Err(ReadFault::Open(place, cause)),
     };
-    let mut list = Watched::new(list);
     let bytes = read_all(alloc, &mut list, place);
     lists.close(name, list);
     bytes

@@ -2,9 +2,10 @@
 ghost use Rattle.lists.specs.Entries.{ReadsEntry, ReadsText};
 ghost use Rattle.lists.specs.Private.Parts.{ReadsNetworkText};
 
-use crate::comment::{trim, without_comment};
+use crate::comment::without_comment;
 use crate::laws as list_laws;
 use crate::range::read_range;
+use crate::trimming::{Blank, trim};
 use byte_search::find_from;
 use ipnetwork::{CidrFault, IpAddr, IpNetwork, cause};
 use ipnetwork_addr::laws;
@@ -74,7 +75,7 @@ pub fn read_entry(line: &[u8]) -> Result<Option<Entry>, EntryFault>
 fn read_line(line: &[u8]) -> Result<Option<Entry>, EntryFault>
     ensures { ReadsEntry line.now result }
 {
-    let text = trim(without_comment(line));
+    let text = trim::<Blank>(without_comment(line));
     if text.is_empty() {
         return Ok(None);
     }

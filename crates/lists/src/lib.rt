@@ -18,6 +18,7 @@ mod range;
 mod read;
 mod refusals;
 mod strings;
+mod trimming;
 
 pub use document::{DOCUMENT_MAX, read_document};
 pub use entry::{Entry, EntryFault, read_entry};
@@ -25,6 +26,7 @@ pub use fault::LineFault;
 pub use list_reader::ListReader;
 pub use named::{ReadFault, read_named, read_text};
 pub use open_lists::OpenLists;
-pub use opening::OpenFault;
+pub use opening::{OpenFault, open_list};
 pub use read::{LINE_MAX, read_list};
 pub use refusals::{REFUSALS_MAX, Refusal, Refusals};
+pub use trimming::{Blank, ByteKind, front_len, trim};

@@ -7,10 +7,9 @@ ghost use Rattle.lists.specs.Reading.{ReadsList, StopsAt, StopsAtText};
 
 use crate::list_reader::ListReader;
 use crate::open_lists::OpenLists;
-use crate::opening::OpenFault;
+use crate::opening::{OpenFault, open_list};
 use crate::read::{read_list, take_text};
 use lines::fault::RunFault;
-use lines::watched::Watched;
 
 /// Why lists were not read to the end.
 ///
@@ -57,11 +56,10 @@ pub fn read_named<L: OpenLists>(
     ensures stopped { IfErr result
         (λ fault. StopsAt (L.known lists.now) place name.now reader.old fault reader.new.refused) }
 {
-    let list = match lists.open(name) {
+    let mut list = match open_list(lists, name) {
         Ok(list) => list,
-        Err(error) => return Err(ReadFault::Open(place, OpenFault::of(error.kind()))),
+        Err(cause) => return Err(ReadFault::Open(place, cause)),
     };
-    let mut list = Watched::new(list);
     let read = read_list(reader, place, &mut list);
     lists.close(name, list);
     end_of(read, place, reader.is_out_of_memory())

@@ -1,7 +1,10 @@
 //! Why a file cannot be opened.
-ghost use Rattle.std.specs.Prelude.{◌≡◌};
+ghost use Rattle.std.specs.Prelude.{◌≡◌, ℕ, List, Some, IfOk, IfErr, false, is_ok};
+ghost use Rattle.lines.specs.Watched.{device_of, has_failed};
 ghost use Rattle.lists.specs.Opening.{cause_of, open_fault_text};
 
+use crate::open_lists::OpenLists;
+use lines::watched::Watched;
 use std::io::ErrorKind;
 
 /// Why a file cannot be opened.
@@ -58,5 +61,26 @@ impl OpenFault {
             OpenFault::Directory => ": cannot open: is a directory\n",
             OpenFault::Other => ": cannot open\n",
         }
+    }
+}
+
+/// Opens the list of this name. Once a read of it has failed, it is not read again.
+///
+/// ```
+/// let system = program::system::System::new(&rt);
+/// assert!(rt; lists::open_list(&system, "-").is_ok());
+/// assert!(rt; lists::open_list(&system, "no such file").is_err());
+/// ```
+pub fn open_list<L: OpenLists>(lists: &L, name: &str) -> Result<Watched<L::List>, OpenFault>
+    ensures bytes { IfOk result (λ list. (bytes : List ℕ)
+        → (L.known lists.now).bytes_of name.now ≡ Some bytes
+        → L.List.remaining (device_of list) ≡ Some bytes) }
+    ensures opened { (L.known lists.now).may_open name.now (is_ok result) }
+    ensures missed { IfErr result (λ fault. (L.known lists.now).may_miss name.now fault) }
+    ensures failed { IfOk result (λ list. has_failed list ≡ false) }
+{
+    match lists.open(name) {
+        Ok(list) => Ok(Watched::new(list)),
+        Err(error) => Err(OpenFault::of(error.kind())),
     }
 }

@@ -3,18 +3,18 @@ ghost use Rattle.lists.specs.Entries.{IsRange};
 ghost use Rattle.lists.specs.Private.Parts.{ReadsRange};
 ghost use Rattle.std.specs.Prelude.{◌↔◌, ◌≡◌, IsTrue, MatchResult};
 
-use crate::comment::trim;
 use crate::entry::{Entry, EntryFault};
+use crate::trimming::{Blank, trim};
 use ipnetwork::IpAddr;
 
 /// The range of which these texts name the ends.
 pub(crate) fn read_range(before: &[u8], after: &[u8]) -> Result<Entry, EntryFault>
     ensures { ReadsRange before.now after.now result }
 {
-    let Ok(first) = IpAddr::read_bytes(trim(before)) else {
+    let Ok(first) = IpAddr::read_bytes(trim::<Blank>(before)) else {
         return Err(EntryFault::Address);
     };
-    let Ok(last) = IpAddr::read_bytes(trim(after)) else {
+    let Ok(last) = IpAddr::read_bytes(trim::<Blank>(after)) else {
         return Err(EntryFault::Address);
     };
     between(first, last)

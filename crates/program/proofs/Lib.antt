@@ -4,6 +4,7 @@ pub mod HandedLines
 pub mod LogLines
 pub mod LogNames
 pub mod LogReading
+pub mod LogReadings
 pub mod LogStops
 pub mod PartExamples
 pub mod Puts

@@ -19,7 +19,7 @@ told_line name cause lines count e =
     ap (λ n. name ++ codes ":" ++ decimal n ++ codes ": refused " ++ cause ++ codes "\n") same
 
 pub told_log : (name : List ℕ) (lines count : ℕ) (fault : LogFault) → lines ≡ min count (2 ^ 64 - 1) → log_fault_text name lines fault ≡ log_fault_text name count fault
-told_log name lines count faults.Open e = refl
+told_log name lines count (faults.Open cause) e = refl
 told_log name lines count faults.Read e = refl
 told_log name lines count faults.Write e = refl
 told_log name lines count faults.Address e = told_line name (codes "address") lines count e
@@ -27,7 +27,7 @@ told_log name lines count faults.Length e = told_line name (codes "length") line
 told_log name lines count faults.Endless e = refl
 
 pub stops_else : {W E : Type 0} (name : List ℕ) (lines : ℕ) (fault : LogFault) (end : Ending W E) → ¬ (fault ≡ faults.Write) → HandsOn name lines fault end → StopsBy name lines fault end
-stops_else name lines faults.Open end not h = h
+stops_else name lines (faults.Open cause) end not h = h
 stops_else name lines faults.Read end not h = h
 stops_else name lines faults.Write end not h = absurd (not refl)
 stops_else name lines faults.Address end not h = h
@@ -78,7 +78,7 @@ failed_behind end mid added p h = (
 pub wrote_behind : {W E : Type 0} (fault : LogFault) (end : Ending W E) (mid : Written W) (between : Written E) (output text : List ℕ)
     → Prints end.output mid output
     → Wrote fault (record end { output = mid; errors = between }) text → Wrote fault end (output ++ text)
-wrote_behind faults.Open end mid between output text p h = puts_then_all _ _ _ _ _ output text p h
+wrote_behind (faults.Open cause) end mid between output text p h = puts_then_all _ _ _ _ _ output text p h
 wrote_behind faults.Read end mid between output text p h = puts_then_all _ _ _ _ _ output text p h
 wrote_behind faults.Write end mid between output text p h = (h.0, begins_after_puts _ _ _ _ _ output text p h.1)
 wrote_behind faults.Address end mid between output text p h = puts_then_all _ _ _ _ _ output text p h

@@ -4,8 +4,10 @@ pub mod Endings
 pub mod LogFaults
 pub mod LogLines
 pub mod LogReaders
+pub mod LogReadings
 pub mod Logs
 pub mod Messages
+pub mod Putting
 pub mod Runs
 pub mod Told
 pub mod Usage

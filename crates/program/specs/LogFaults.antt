@@ -1,6 +1,7 @@
 -- Why a log is not read to its end, and what is reported then.
 use Rattle.std.specs.Prelude.{◌≡◌, ℕ, ◌+◌, ◌-◌, ◌^◌, ◌⊎◌, min, Bool, true, false, List, [], ◌++◌, codes, decimal, Result, Ok, Err}
 use Rattle.lines.specs.Outputs.{FailsIn}
+use Rattle.lists.specs.Opening.{open_fault_text}
 use Rattle.program.specs.Endings.{Ending, HasTold, HasWritten}
 use Rattle.program.specs.declared.log_fault.LogFault.{LogFault}
 use Rattle.program.specs.declared.log_fault.LogFault.TheVariants as faults
@@ -8,7 +9,7 @@ use Rattle.program.specs.declared.log_fault.LogFault.TheVariants as faults
 -- whether a read ended it
 abbrev pub ended_by_read : {T : Type 0} → Result T LogFault → Bool
 ended_by_read (Ok done) = false
-ended_by_read (Err faults.Open) = false
+ended_by_read (Err (faults.Open cause)) = false
 ended_by_read (Err faults.Read) = true
 ended_by_read (Err faults.Write) = false
 ended_by_read (Err faults.Address) = false
@@ -18,7 +19,7 @@ ended_by_read (Err faults.Endless) = false
 -- whether a write did
 abbrev pub ended_by_write : {T : Type 0} → Result T LogFault → Bool
 ended_by_write (Ok done) = false
-ended_by_write (Err faults.Open) = false
+ended_by_write (Err (faults.Open cause)) = false
 ended_by_write (Err faults.Read) = false
 ended_by_write (Err faults.Write) = true
 ended_by_write (Err faults.Address) = false
@@ -31,7 +32,7 @@ line_text name before cause = name ++ codes ":" ++ decimal (min (before + 1) (2 
 
 -- what is reported if a log was not read to its end, after this many of its lines
 abbrev pub log_fault_text : List ℕ → ℕ → LogFault → List ℕ
-log_fault_text name before faults.Open = name ++ codes ": cannot open\n"
+log_fault_text name before (faults.Open cause) = name ++ open_fault_text cause
 log_fault_text name before faults.Read = name ++ codes ": cannot read\n"
 log_fault_text name before faults.Write = codes "write error\n"
 log_fault_text name before faults.Address = line_text name before (codes "address")
@@ -43,14 +44,18 @@ abbrev pub FailsWriting : {W E : Type 0} → Ending W E → List ℕ → Type 0
 FailsWriting end text = (end.output_after.failed ≡ true)
     × FailsIn end.output end.output_after text
 
+-- the first is true if a write ended the run, and else the second
+abbrev pub IfWrite : LogFault → Type 0 → Type 0 → Type 0
+IfWrite (faults.Open cause) First Second = Second
+IfWrite faults.Read First Second = Second
+IfWrite faults.Write First Second = First
+IfWrite faults.Address First Second = Second
+IfWrite faults.Length First Second = Second
+IfWrite faults.Endless First Second = Second
+
 -- the text was written, unless it was a write that ended the run
 abbrev pub Wrote : {W E : Type 0} → LogFault → Ending W E → List ℕ → Type 0
-Wrote faults.Open end text = HasWritten end text
-Wrote faults.Read end text = HasWritten end text
-Wrote faults.Write end text = FailsWriting end text
-Wrote faults.Address end text = HasWritten end text
-Wrote faults.Length end text = HasWritten end text
-Wrote faults.Endless end text = HasWritten end text
+Wrote fault end text = IfWrite fault (FailsWriting end text) (HasWritten end text)
 
 -- what waited was written, and the fault reported; or the writer failed, and that was reported
 abbrev pub HandsOn : {W E : Type 0} → List ℕ → ℕ → LogFault → Ending W E → Type 0
@@ -59,9 +64,5 @@ HandsOn name lines fault end = (HasWritten end [] × HasTold end (log_fault_text
 
 -- so it was, unless the writer had failed
 abbrev pub StopsBy : {W E : Type 0} → List ℕ → ℕ → LogFault → Ending W E → Type 0
-StopsBy name lines faults.Open end = HandsOn name lines faults.Open end
-StopsBy name lines faults.Read end = HandsOn name lines faults.Read end
-StopsBy name lines faults.Write end = (end.output_after ≡ end.output) × HasTold end (log_fault_text name lines faults.Write)
-StopsBy name lines faults.Address end = HandsOn name lines faults.Address end
-StopsBy name lines faults.Length end = HandsOn name lines faults.Length end
-StopsBy name lines faults.Endless end = HandsOn name lines faults.Endless end
+StopsBy name lines fault end =
+    IfWrite fault ((end.output_after ≡ end.output) × HasTold end (log_fault_text name lines faults.Write)) (HandsOn name lines fault end)

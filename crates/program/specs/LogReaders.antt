@@ -76,7 +76,7 @@ GivesNext new remained remains first End = (read : List ℕ) × Consumes remaine
 
 -- what was read and written if these first lines were handed out, and the log is not read to its end, by the fault
 abbrev pub Breaks : {W : Type 0} → Option (List ℕ) → Option (List ℕ) → Bool → Written W → Written W → List LogLine → LogFault → Type 0
-Breaks remained remains read_failed old new first faults.Open = ⊥
+Breaks remained remains read_failed old new first (faults.Open cause) = ⊥
 -- a read failed: they are the lines that are ended
 Breaks remained remains read_failed old new first faults.Read = IsTrue read_failed × Prints old new []
     × (read : List ℕ) × Consumes remained remains read × (ended_lines read ≡ first)

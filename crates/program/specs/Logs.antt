@@ -35,7 +35,7 @@ pub record StopsAfter (known : KnownLists) (name : List ℕ) (lines : List LogLi
 -- run: of a line without its end, if an address or its length does, and of no bytes, if a log that cannot be opened does
 abbrev pub HaltsBy : (LogFault → List ℕ → Type 0) → KnownLists → List ℕ → List LogLine → LogFault → Type 0
 -- it was not opened
-HaltsBy Ends known name lines faults.Open = Ends faults.Open [] × (lines ≡ []) × known.may_open name false
+HaltsBy Ends known name lines (faults.Open cause) = Ends (faults.Open cause) [] × (lines ≡ []) × known.may_open name false × known.may_miss name cause
 -- a read failed: the lines of which the line feed was read
 HaltsBy Ends known name lines faults.Read =
     (read : List ℕ) × IsFirstOf known name read × (lines ≡ ended_lines read) × known.may_open name true × known.may_fail name

@@ -9,6 +9,7 @@ pub mod log_reader;
 pub mod memory;
 pub mod messages;
 pub mod progress;
+pub mod putting;
 pub mod standard_error;
 pub mod standard_output;
 pub mod start;

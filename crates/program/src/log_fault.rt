@@ -6,13 +6,14 @@ ghost use Rattle.program.specs.Messages.{Tells};
 
 use crate::messages::{tell, tell_number};
 use lines::output::Output;
+use lists::OpenFault;
 use std::io::Write;
 
 /// Why a log is not read to its end.
 #[derive(Clone, Copy, Debug, PartialEq, Eq)]
 pub enum LogFault {
-    /// The log cannot be opened.
-    Open,
+    /// The log cannot be opened, for this cause.
+    Open(OpenFault),
     /// A read failed.
     Read,
     /// A write failed.
@@ -59,12 +60,23 @@ pub fn stop<W: Write, E: Write>(
     }
 }
 
-// Reports why the log of this name was not read to its end, after this many of its lines.
-fn tell_log_fault<E: Write>(name: &str, fault: LogFault, lines: u64, errors: &mut Output<'_, E>)
+/// Reports why the log of this name was not read to its end, after this many of its lines.
+///
+/// ```
+/// use program::log_fault::{LogFault, tell_log_fault};
+///
+/// let (mut slice, mut room) = ([0; 64], [0; 23]);
+/// let mut errors = lines::output::Output::new(room.as_mut_slice(), &mut slice);
+/// tell_log_fault("log", LogFault::Length, 6, &mut errors);
+/// assert_eq!(rt; errors.finish(), Ok(()));
+/// drop(errors);
+/// assert_eq!(rt; room.as_slice(), b"log:7: refused length\n\0".as_slice());
+/// ```
+pub fn tell_log_fault<E: Write>(name: &str, fault: LogFault, lines: u64, errors: &mut Output<'_, E>)
     ensures { Tells errors.old errors.new (log_fault_text name.now lines fault) }
 {
     match fault {
-        LogFault::Open => tell_of(name, ": cannot open\n", errors),
+        LogFault::Open(cause) => tell_of(name, cause.text(), errors),
         LogFault::Read => tell_of(name, ": cannot read\n", errors),
         LogFault::Write => tell("write error\n", errors),
         LogFault::Address => tell_line(name, lines, "address", errors),

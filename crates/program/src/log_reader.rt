@@ -1,9 +1,10 @@
 //! The lines of a log, as they are read.
-ghost use Rattle.std.specs.Prelude.{◌≡◌, ◌≤◌, ◌||◌, ◌++◌, ℕ, List, [], Option, length, OnOk, IfOk, IfErr, Ok, Err, is_err, OnErr};
-ghost use Rattle.lines.specs.Outputs.{Prints, FailsIn};
+ghost use Rattle.std.specs.Prelude.{◌≡◌, ◌≤◌, ◌||◌, ℕ, List, [], Option, length, OnOk, IfOk, IfErr, Ok, Err};
+ghost use Rattle.lines.specs.Outputs.{Prints};
 ghost use Rattle.lines.specs.Watched.{device_of, has_failed};
 ghost use Rattle.program.specs.LogFaults.{ended_by_read, ended_by_write};
 ghost use Rattle.program.specs.LogLines.{LogLine, feed_behind};
+ghost use Rattle.program.specs.Putting.{PutsOrFails};
 
 use crate::log_fault::LogFault;
 use lines::fault::RunFault;
@@ -211,9 +212,7 @@ impl<'b> LogReader<'b> {
 /// assert_eq!(rt; room, *b"\n.");
 /// ```
 pub fn put_feed<W: Write>(end: LineEnd, output: &mut Output<'_, W>) -> Result<(), RunFault>
-    ensures ok { OnOk result (Prints output.old output.new (feed_behind end)) }
-    ensures failed { output.new.failed ≡ (output.old.failed || is_err result) }
-    ensures beginning { OnErr result (FailsIn output.old output.new (feed_behind end)) }
+    ensures { PutsOrFails result output.old output.new (feed_behind end) }
 {
     match end {
         LineEnd::LineFeed => Ok(()),

@@ -1,14 +1,14 @@
 -- How far a log is filtered.
-use Rattle.std.specs.Prelude.{◌≡◌, ℕ, ◌-◌, ◌^◌, ◌≤◌, Bool, true, false, ◌||◌, IsTrue, List, [], ◌++◌, length, Option, if◌then◌else◌}
+use Rattle.std.specs.Prelude.{◌≡◌, ℕ, Bool, true, false, ◌||◌, IsTrue, List, [], ◌++◌, Option, if◌then◌else◌}
 use Rattle.lines.specs.Outputs.{AppendsBeginning}
 use Rattle.program.specs.Counts.{Counts}
-use Rattle.cidr_filter.specs.Addressed.{is_addressed_by, any_addressed}
-use Rattle.cidr_filter.specs.Filters.{IsVerdict, is_refused, is_selected, head_of, shown_of, one_if, is_below, Filters}
-use Rattle.program.specs.LogLines.{LogLine}
-use Rattle.program.specs.LogReaders.{HandsFirst}
+use Rattle.cidr_filter.specs.Addressed.{is_addressed_by}
+use Rattle.cidr_filter.specs.Filters.{IsVerdict, is_refused, is_selected, head_of, shown_of, one_if}
+use Rattle.program.specs.LogReadings.{ReadsSoFar}
 use Rattle.program.specs.declared.log_reader.LogReader.{LogReader}
 use Rattle.cidr_filter.specs.Private.Leaving.{less}
 use Rattle.cidr_filter.specs.Stands.{Stand, Goes}
+use Rattle.cidr_filter.specs.Stops.{FiltersLines}
 use Rattle.cidr_filter.specs.declared.filter.Filter.{Filter}
 use Rattle.cidr_filter.specs.declared.filter.Verdict.{Verdict}
 use Rattle.cidr_filter.specs.declared.filter.Verdict.TheVariants as verdicts
@@ -35,7 +35,7 @@ RefusesLine filter line old new verdict =
 
 -- or the writer failed, which took a beginning of what waited and of the line's output
 abbrev pub LineStops : Filter → List ℕ → List ℕ → Bool → Stand → Stand → LogFault → Type 0
-LineStops filter line text write_failed old new faults.Open = ⊥
+LineStops filter line text write_failed old new (faults.Open cause) = ⊥
 LineStops filter line text write_failed old new faults.Read = ⊥
 LineStops filter line text write_failed old new faults.Write =
     IsTrue write_failed × (verdict : Verdict) × IsVerdict filter line verdict × (is_refused filter verdict ≡ false)
@@ -47,18 +47,11 @@ LineStops filter line text write_failed old new faults.Length =
     RefusesLine filter line old new verdicts.TooLong
 LineStops filter line text write_failed old new faults.Endless = ⊥
 
--- what was read: its first lines were filtered, and what follows them is pending
-pub record FiltersSoFar (filter : Filter) (reader : LogReader) (remained remains : Option (List ℕ)) (old new : Stand) : Type 0 where
-  pub first : List LogLine
-  pub hands : HandsFirst reader remained remains first
-  pub added : List ℕ
-  pub count : ℕ
-  pub fits : old.lines ≤ 2 ^ 64 - 1
-  pub filters : Filters filter old.lines first added count
-  pub below : is_below filter.most count ≡ true
-  pub goes : Goes old new added count (length first)
-  pub addressed : new.addressed ≡ (old.addressed || any_addressed filter first)
+-- the lines that were handed out were filtered
+abbrev pub FiltersSoFar : Filter → LogReader → Option (List ℕ) → Option (List ℕ) → Stand → Stand → Type 0
+FiltersSoFar filter reader remained remains old new = ReadsSoFar (FiltersLines filter old new) reader remained remains
 
 -- and so many more lines may be selected
 abbrev pub FiltersWith : Filter → LogReader → Option (List ℕ) → Option (List ℕ) → Stand → Stand → Option ℕ → Type 0
-FiltersWith filter reader remained remains old new left = (s : FiltersSoFar filter reader remained remains old new) × (left ≡ less filter.most s.count)
+FiltersWith filter reader remained remains old new left =
+    (s : FiltersSoFar filter reader remained remains old new) × (left ≡ less filter.most s.is_done.count)

@@ -35,7 +35,7 @@ returns-then-is_spent-clause-handed_on g c = λ is. absurd (no_read c.leave.resu
 
 pub lines-init : goal.lines-init
 lines-init g c = record {
-  sofar = begins_with c.args.filter.now c.args.log.now _ (stand c.args.output.now c.args.tally.now) c.counted.ensures.fits (c.requires.unread _) (sym c.is_spent.ensures ∙ c.if-is_spent.false);
+  sofar = begins_with c.args.filter.now c.args.log.now _ (stand c.args.output.now c.args.tally.now) (c.requires.unread _) (sym c.is_spent.ensures ∙ c.if-is_spent.false);
   hurries = c.requires.hurries ∙ sym c.refuses-refuses_long_lines.ensures;
   reads = refl;
   writes = refl;
@@ -48,7 +48,7 @@ returns-in-Err-filter_line-clause-err g c =
     let s = c.lines.invariant.sofar.0 in
     let between = stand c.next.new.output c.lines.tally in
     line_stops c.args.filter.now c.lines.log c.next.new.self _ _ _ _ (stand c.lines.output c.lines.tally) between s
-    (goes_idle (stand c.lines.output c.lines.tally) between refl refl c.in-Ok-Line.ensures.put) _ c.in-Ok-Line.end
+    (goes_idle (stand c.lines.output c.lines.tally) between refl refl c.in-Ok-Line.ensures.put) refl c.counted.ensures.fits _ c.in-Ok-Line.end
     c.line-line.result.now c.whole_line-whole.result.now (subst (λ (n : NextLogLine). GivesNext c.next.new.self (g.R.Read.remaining (device_of c.args.reader.now)) (g.R.Read.remaining (device_of c.next.new.reader)) s.first n)
     c.in-Ok-Line.field-0-is (c.in-Ok-Line.ensures.gives _ s.first s.hands))
     c.line-line.ensures c.whole_line-whole.ensures (has_failed c.next.new.reader) c.filter_line.new.output.failed
@@ -60,7 +60,7 @@ lines-preserved-else-is_spent-2 g c =
     let between = stand c.next.new.output c.lines.tally in
     record {
       sofar = after_line_with c.args.filter.now c.lines.log c.next.new.self _ _ _ _ (stand c.lines.output c.lines.tally) between s
-          (goes_idle (stand c.lines.output c.lines.tally) between refl refl c.in-Ok-Line.ensures.put) refl _ c.in-Ok-Line.end
+          (goes_idle (stand c.lines.output c.lines.tally) between refl refl c.in-Ok-Line.ensures.put) refl c.counted.ensures.fits _ c.in-Ok-Line.end
           c.line-line.result.now c.whole_line-whole.result.now (subst (λ (n : NextLogLine). GivesNext c.next.new.self (g.R.Read.remaining (device_of c.args.reader.now)) (g.R.Read.remaining (device_of c.next.new.reader)) s.first n)
           c.in-Ok-Line.field-0-is (c.in-Ok-Line.ensures.gives _ s.first s.hands))
           c.line-line.ensures c.whole_line-whole.ensures c.in-Ok.is_selected c.in-Ok.ensures.ok
@@ -78,22 +78,22 @@ returns-then-is_spent-2-clause-ok g c =
     let s = c.lines.invariant.sofar.0 in
     let between = stand c.next.new.output c.lines.tally in
     let selected = c.in-Ok.is_selected in
-    let more = less_more c.args.filter.now.most c.lines.left c.fewer-left.result s.count (one_if selected) c.lines.invariant.sofar.1 c.fewer-left.ensures in
+    let more = less_more c.args.filter.now.most c.lines.left c.fewer-left.result s.is_done.count (one_if selected) c.lines.invariant.sofar.1 c.fewer-left.ensures in
     let spent = sym c.is_spent-in-Ok-Line.ensures ∙ c.if-is_spent-2.true in
     line_left c.args.filter.now c.lines.log c.next.new.self _ _ _ _ (stand c.lines.output c.lines.tally) between s
-    (goes_idle (stand c.lines.output c.lines.tally) between refl refl c.in-Ok-Line.ensures.put) refl c.filter_line.new.output c.leave-then-is_spent-2.new.output c.filter_line.new.tally c.in-Ok-Line.end
+    (goes_idle (stand c.lines.output c.lines.tally) between refl refl c.in-Ok-Line.ensures.put) refl c.counted.ensures.fits c.filter_line.new.output c.leave-then-is_spent-2.new.output c.filter_line.new.tally c.in-Ok-Line.end
     c.line-line.result.now c.whole_line-whole.result.now (subst (λ (n : NextLogLine). GivesNext c.next.new.self (g.R.Read.remaining (device_of c.args.reader.now)) (g.R.Read.remaining (device_of c.next.new.reader)) s.first n)
     c.in-Ok-Line.field-0-is (c.in-Ok-Line.ensures.gives _ s.first s.hands))
     c.line-line.ensures c.whole_line-whole.ensures selected c.in-Ok.ensures.ok c.leave-then-is_spent-2.result
-    (all_selected c.args.filter.now.most c.fewer-left.result s.count selected more s.below spent)
-    (last_selected c.args.filter.now.most c.fewer-left.result s.count selected more s.below spent) c.leave-then-is_spent-2.ensures.last c.leave-then-is_spent-2.ensures.ok
+    (all_selected c.args.filter.now.most c.fewer-left.result s.is_done.count selected more s.is_done.below spent)
+    (last_selected c.args.filter.now.most c.fewer-left.result s.is_done.count selected more s.is_done.below spent) c.leave-then-is_spent-2.ensures.last c.leave-then-is_spent-2.ensures.ok
 
 pub returns-then-is_spent-2-clause-err : goal.returns-then-is_spent-2-clause-err
 returns-then-is_spent-2-clause-err g c =
     let s = c.lines.invariant.sofar.0 in
     let between = stand c.next.new.output c.lines.tally in
     line_left_unwritten c.args.filter.now c.lines.log c.next.new.self _ _ _ _ (stand c.lines.output c.lines.tally) between s
-    (goes_idle (stand c.lines.output c.lines.tally) between refl refl c.in-Ok-Line.ensures.put) refl c.filter_line.new.output c.leave-then-is_spent-2.new.output c.filter_line.new.tally c.in-Ok-Line.end
+    (goes_idle (stand c.lines.output c.lines.tally) between refl refl c.in-Ok-Line.ensures.put) refl c.counted.ensures.fits c.filter_line.new.output c.leave-then-is_spent-2.new.output c.filter_line.new.tally c.in-Ok-Line.end
     c.line-line.result.now c.whole_line-whole.result.now (subst (λ (n : NextLogLine). GivesNext c.next.new.self (g.R.Read.remaining (device_of c.args.reader.now)) (g.R.Read.remaining (device_of c.next.new.reader)) s.first n)
     c.in-Ok-Line.field-0-is (c.in-Ok-Line.ensures.gives _ s.first s.hands))
     c.line-line.ensures c.whole_line-whole.ensures c.in-Ok.is_selected c.in-Ok.ensures.ok (has_failed c.next.new.reader) c.leave-then-is_spent-2.result
@@ -118,7 +118,7 @@ returns-then-refuses_long_lines-clause-err g c =
     let s = c.lines.invariant.sofar.0 in
     let between = stand c.next.new.output c.lines.tally in
     long_line_stops c.args.filter.now c.lines.log c.next.new.self _ _ _ _ (stand c.lines.output c.lines.tally) between s
-    (goes_idle (stand c.lines.output c.lines.tally) between refl refl c.in-Ok-TooLong.ensures.put)
+    (goes_idle (stand c.lines.output c.lines.tally) between refl refl c.in-Ok-TooLong.ensures.put) refl
     (subst (λ (n : NextLogLine). GivesNext c.next.new.self (g.R.Read.remaining (device_of c.args.reader.now)) (g.R.Read.remaining (device_of c.next.new.reader)) s.first n)
     c.in-Ok-TooLong.field-0-is (c.in-Ok-TooLong.ensures.gives _ s.first s.hands))
     (sym c.refuses-refuses_long_lines.ensures ∙ c.if-refuses_long_lines.true)
@@ -130,7 +130,7 @@ lines-preserved g c =
     let hurries = c.next.ensures.hurries ∙ c.lines.invariant.hurries in
     record {
       sofar = after_long_with c.args.filter.now c.lines.log c.next.new.self _ _ _ _ (stand c.lines.output c.lines.tally) between s
-          (goes_idle (stand c.lines.output c.lines.tally) between refl refl c.in-Ok-TooLong.ensures.put) refl _ c.lines.left
+          (goes_idle (stand c.lines.output c.lines.tally) between refl refl c.in-Ok-TooLong.ensures.put) refl c.counted.ensures.fits _ c.lines.left
           (subst (λ (n : NextLogLine). GivesNext c.next.new.self (g.R.Read.remaining (device_of c.args.reader.now)) (g.R.Read.remaining (device_of c.next.new.reader)) s.first n)
           c.in-Ok-TooLong.field-0-is (c.in-Ok-TooLong.ensures.gives _ s.first s.hands)) (hurries ∙ c.if-refuses_long_lines.false)
           (sym c.refuses-refuses_long_lines.ensures ∙ c.if-refuses_long_lines.false) (
@@ -151,9 +151,9 @@ returns-in-Ok-End-clause-ok g c =
     let s = c.lines.invariant.sofar.0 in
     let between = stand c.next.new.output c.lines.tally in
     log_ends c.args.filter.now c.lines.log c.next.new.self _ _ _ _ (stand c.lines.output c.lines.tally) between s
-    (goes_idle (stand c.lines.output c.lines.tally) between refl refl c.in-Ok-End.ensures.put)
+    (goes_idle (stand c.lines.output c.lines.tally) between refl refl c.in-Ok-End.ensures.put) refl
     (subst (λ (n : NextLogLine). GivesNext c.next.new.self (g.R.Read.remaining (device_of c.args.reader.now)) (g.R.Read.remaining (device_of c.next.new.reader)) s.first n)
-    c.in-Ok-End.field-0-is (c.in-Ok-End.ensures.gives _ s.first s.hands)) refl
+    c.in-Ok-End.field-0-is (c.in-Ok-End.ensures.gives _ s.first s.hands))
 
 -- ---- a log that is not read to its end
 

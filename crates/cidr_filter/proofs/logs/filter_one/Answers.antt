@@ -1,21 +1,21 @@
-use Rattle.std.proofs.Common.{◌∙◌, ap, false, refl, subst, sym, List, ℕ}
+use Rattle.std.proofs.Common.{◌∙◌, ap, false, refl, subst, List, ℕ}
 use Rattle.lines.specs.Watched.{device_of, has_failed}
-use Rattle.lists.specs.Opening.{cause_of}
-use Rattle.lists.specs.declared.opening.OpenFault.{OpenFault}
 use Rattle.program.specs.Endings.{ending}
-use Rattle.cidr_filter.specs.Stands.{stand}
-use Rattle.cidr_filter.specs.Stops.{Ends, Leaves, Stops}
+use Rattle.program.proofs.LogReadings.{halts_by}
+use Rattle.cidr_filter.specs.Logs.{EndsRunBy, filter_for}
+use Rattle.cidr_filter.specs.Stands.{Stand, stand}
+use Rattle.cidr_filter.specs.Stops.{Ends, FiltersLines, Leaves, Stops, WritesBeginning}
 use Rattle.cidr_filter.specs.declared.log.Reached.TheVariants as reached
 use Rattle.cidr_filter.specs.declared.filter.Filter.{Filter}
 use Rattle.cidr_filter.proofs.Left.{ended_at}
-use Rattle.cidr_filter.proofs.LogsInTurn.{stops_by, name_missed, name_ended, name_left}
+use Rattle.cidr_filter.proofs.LogsInTurn.{name_missed, name_ended, name_left}
 use Rattle.cidr_filter.proofs.Runs.{name_stops}
 use Rattle.cidr_filter.proofs.logs.filter_one.Goals as goal
 
 pub returns-in-Err-clause-logs : goal.returns-in-Err-clause-logs
 returns-in-Err-clause-logs g c =
-    name_missed c.args.filter.now (g.L.OpenLists.known c.args.lists.now) c.args.name.now c.of.result
-    (stand c.args.output.now c.args.tally.now) c.args.errors.now c.tell_closed.new.errors c.in-Err.ensures.opened (subst (λ (fault : OpenFault). (g.L.OpenLists.known c.args.lists.now).may_miss c.args.name.now fault) (sym (c.of.ensures ∙ ap cause_of c.kind.ensures)) c.in-Err.ensures.missed) c.tell_closed.ensures
+    name_missed c.args.filter.now (g.L.OpenLists.known c.args.lists.now) c.args.name.now c.in-Err.cause
+    (stand c.args.output.now c.args.tally.now) c.args.errors.now c.tell_closed.new.errors c.in-Err.ensures.opened c.in-Err.ensures.missed c.tell_closed.ensures
 
 -- ---- a log that was opened
 
@@ -30,11 +30,11 @@ returns-in-Ok-End-clause-logs g c =
     let known = g.L.OpenLists.known c.args.lists.now in
     let remaining = g.L.List.Read.remaining in
     name_ended c.args.filter.now known c.args.name.now
-    (remaining (device_of c.new-log.result)) (remaining (device_of c.filter_log-end.new.reader))
-    (λ input e. ap remaining c.new-log.ensures.device ∙ c.in-Ok.ensures.bytes input e) c.in-Ok.ensures.opened
+    (remaining (device_of c.in-Ok.log)) (remaining (device_of c.filter_log-end.new.reader))
+    c.in-Ok.ensures.bytes c.in-Ok.ensures.opened
     (stand c.args.output.now c.args.tally.now) (stand c.filter_log-end.new.output c.filter_log-end.new.tally)
     c.args.errors.now c.tell_lacking.new.errors
-    (subst (λ (f : Filter). Ends f (remaining (device_of c.new-log.result)) (remaining (device_of c.filter_log-end.new.reader))
+    (subst (λ (f : Filter). Ends f (remaining (device_of c.in-Ok.log)) (remaining (device_of c.filter_log-end.new.reader))
     (record (stand c.args.output.now c.args.tally.now) { lines = 0; addressed = false }) (stand c.filter_log-end.new.output c.filter_log-end.new.tally)) (ap (λ (n : List ℕ). record c.args.filter.now { name = n }) (c.replace-before.ensures.after ∙ c.new.ensures ∙ c.label_of-label.ensures))
     (ended_at _ _ _ _ _ _ c.filter_log-end.result _ reached.End c.in-Ok-End.is (rw c.in-Ok-End.is at c.in-Ok-End.field-0-is) c.filter_log-end.ensures.ok)) c.tell_lacking.ensures
 
@@ -43,11 +43,11 @@ returns-in-Ok-Last-clause-logs g c =
     let known = g.L.OpenLists.known c.args.lists.now in
     let remaining = g.L.List.Read.remaining in
     name_left c.args.filter.now known c.args.name.now
-    (remaining (device_of c.new-log.result)) (remaining (device_of c.filter_log-end.new.reader))
-    (λ input e. ap remaining c.new-log.ensures.device ∙ c.in-Ok.ensures.bytes input e) c.in-Ok.ensures.opened
+    (remaining (device_of c.in-Ok.log)) (remaining (device_of c.filter_log-end.new.reader))
+    c.in-Ok.ensures.bytes c.in-Ok.ensures.opened
     (stand c.args.output.now c.args.tally.now) (stand c.filter_log-end.new.output c.filter_log-end.new.tally)
     c.args.errors.now c.filter_log-end.new.log
-    (subst (λ (f : Filter). Leaves f c.filter_log-end.new.log (remaining (device_of c.new-log.result)) (remaining (device_of c.filter_log-end.new.reader))
+    (subst (λ (f : Filter). Leaves f c.filter_log-end.new.log (remaining (device_of c.in-Ok.log)) (remaining (device_of c.filter_log-end.new.reader))
     (record (stand c.args.output.now c.args.tally.now) { lines = 0; addressed = false }) (stand c.filter_log-end.new.output c.filter_log-end.new.tally)) (ap (λ (n : List ℕ). record c.args.filter.now { name = n }) (c.replace-before.ensures.after ∙ c.new.ensures ∙ c.label_of-label.ensures))
     (ended_at _ _ _ _ _ _ c.filter_log-end.result _ reached.Last c.in-Ok-Last.is (rw c.in-Ok-Last.is at c.in-Ok-Last.field-0-is) c.filter_log-end.ensures.ok))
 
@@ -57,16 +57,12 @@ returns-in-Err-end-clause-logs g c =
     let remaining = g.L.List.Read.remaining in
     let mid = c.filter_log-end.new.output in
     let tally = c.filter_log-end.new.tally in
-    name_stops c.args.filter.now known c.args.name.now
-    (ending c.args.output.now c.stop.new.output c.args.errors.now
-    c.stop.new.errors 2) refl
-    mid c.in-Err-end.fault c.args.tally.now tally
-    (stops_by c.args.filter.now known c.args.name.now
-    (remaining (device_of c.new-log.result)) (remaining (device_of c.filter_log-end.new.reader))
-    (λ input e. ap remaining c.new-log.ensures.device ∙ c.in-Ok.ensures.bytes input e)
-    c.in-Ok.ensures.opened
-    (has_failed c.filter_log-end.new.reader) mid.failed
-    (stand c.args.output.now c.args.tally.now) (stand mid tally)
-    c.in-Err-end.fault c.close.ensures.failed
-    (subst (λ (f : Filter). Stops f (remaining (device_of c.new-log.result)) (remaining (device_of c.filter_log-end.new.reader)) (has_failed c.filter_log-end.new.reader) mid.failed
-    (record (stand c.args.output.now c.args.tally.now) { lines = 0; addressed = false }) (stand mid tally) c.in-Err-end.fault) (ap (λ (n : List ℕ). record c.args.filter.now { name = n }) (c.replace-before.ensures.after ∙ c.new.ensures ∙ c.label_of-label.ensures)) c.in-Err-end.ensures.err)) c.stop.ensures
+    let before : Stand = record (stand c.args.output.now c.args.tally.now) { lines = 0; addressed = false } in
+    let halts = halts_by known c.args.name.now (remaining (device_of c.in-Ok.log)) (remaining (device_of c.filter_log-end.new.reader))
+    c.in-Ok.ensures.bytes c.in-Ok.ensures.opened (EndsRunBy (filter_for c.args.filter.now c.args.name.now))
+    (FiltersLines (filter_for c.args.filter.now c.args.name.now) before (stand mid tally)) (WritesBeginning (filter_for c.args.filter.now c.args.name.now) before (stand mid tally))
+    (has_failed c.filter_log-end.new.reader) mid.failed c.close.ensures.failed c.in-Err-end.fault
+    (subst (λ (f : Filter). Stops f (remaining (device_of c.in-Ok.log)) (remaining (device_of c.filter_log-end.new.reader)) (has_failed c.filter_log-end.new.reader) mid.failed
+    before (stand mid tally) c.in-Err-end.fault) (ap (λ (n : List ℕ). record c.args.filter.now { name = n }) (c.replace-before.ensures.after ∙ c.new.ensures ∙ c.label_of-label.ensures)) c.in-Err-end.ensures.err) in
+    name_stops c.args.filter.now known c.args.name.now (ending c.args.output.now c.stop.new.output c.args.errors.now c.stop.new.errors 2) refl
+    mid c.args.tally.now tally halts.0 c.in-Err-end.fault halts.1 halts.2 c.stop.ensures

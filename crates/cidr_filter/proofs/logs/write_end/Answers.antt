@@ -33,4 +33,4 @@ returns-in_err-write_number-clause-err g c =
     let held = c.args.output.now.holds in
     let holds = c.write_number.new.output.holds in
     on_err c.from_residual.result _
-    (subst (λ (t : List ℕ). AppendsBeginning held holds (c.args.output.now.waits ++ t)) (number_told c.args.counts c.args.selected c.if-not-counts.false (omega arith)) c.in_err-write_number.ensures.err)
+    (subst (λ (t : List ℕ). AppendsBeginning held holds (c.args.output.now.waits ++ t)) (number_told c.args.counts c.args.selected c.if-not-counts.false (omega arith)) c.in_err-write_number.ensures.beginning)

@@ -1,12 +1,10 @@
 use Rattle.cidr_filter.specs.Filters.{head_of}
-use Rattle.cidr_filter.proofs.Texts.{of_first, of_no_first, prints_it, fails_in_it, prints_nothing}
+use Rattle.program.proofs.Puts.{puts_it, puts_none}
+use Rattle.cidr_filter.proofs.Texts.{of_first, of_no_first}
 use Rattle.cidr_filter.proofs.printing_addresses.print_first.Goals as goal
 
-pub returns-in-Some-clause-ok : goal.returns-in-Some-clause-ok
-returns-in-Some-clause-ok g c = prints_it c.print_found.result c.args.output.now c.print_found.new.output _ _ (of_first c.args.filter.now (head_of c.args.filter.now c.args.number) c.args.rest.now c.in-Some.found c.in-Some.ensures) c.print_found.ensures.ok
+pub returns-in-Some : goal.returns-in-Some
+returns-in-Some g c = puts_it c.print_found.result c.args.output.now c.print_found.new.output _ _ (of_first c.args.filter.now (head_of c.args.filter.now c.args.number) c.args.rest.now c.in-Some.found c.in-Some.ensures) c.print_found.ensures
 
-pub returns-in-Some-clause-beginning : goal.returns-in-Some-clause-beginning
-returns-in-Some-clause-beginning g c = fails_in_it c.print_found.result c.args.output.now c.print_found.new.output _ _ (of_first c.args.filter.now (head_of c.args.filter.now c.args.number) c.args.rest.now c.in-Some.found c.in-Some.ensures) c.print_found.ensures.beginning
-
-pub returns-in-None-clause-ok : goal.returns-in-None-clause-ok
-returns-in-None-clause-ok g c = prints_nothing c.args.output.now _ (of_no_first c.args.filter.now (head_of c.args.filter.now c.args.number) c.args.rest.now c.in-None.ensures)
+pub returns-in-None : goal.returns-in-None
+returns-in-None g c = puts_none tt c.args.output.now _ (of_no_first c.args.filter.now (head_of c.args.filter.now c.args.number) c.args.rest.now c.in-None.ensures)

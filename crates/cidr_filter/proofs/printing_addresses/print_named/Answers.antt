@@ -1,25 +1,13 @@
-use Rattle.std.proofs.Common.{[], ◌∷◌, ◌++◌, List, ℕ, subst, append_assoc}
-use Rattle.lines.specs.Outputs.{AppendsBeginning}
-use Rattle.lines.proofs.Putting.{begins_within}
+use Rattle.std.proofs.Common.{rules}
+use Rattle.std.proofs.Common.{[], ◌∷◌, ◌++◌}
 use Rattle.cidr_filter.specs.Filters.{head_of}
-use Rattle.program.proofs.Puts.{put_two_ok, on_err, begins_after_ok}
+use Rattle.program.proofs.Puts.{puts_two, fails_first}
 use Rattle.cidr_filter.proofs.printing_addresses.print_named.Goals as goal
 
-pub returns-clause-ok : goal.returns-clause-ok
-returns-clause-ok g c =
-    put_two_ok c.put_text.result c.args.output.now.holds c.put_head.new.output.holds c.put_text.new.output.holds c.args.output.now.waits c.put_head.new.output.waits
-    c.put_text.new.output.waits (head_of c.args.filter.now c.args.number) (c.args.text.now ++ 10 ∷ []) c.in_ok-put_head.ensures.ok c.put_text.ensures.ok
+pub returns-in_err-put_head : goal.returns-in_err-put_head
+returns-in_err-put_head g c =
+    fails_first c.from_residual.result c.args.output.now c.put_head.new.output (head_of c.args.filter.now c.args.number) (c.args.text.now ++ 10 ∷ []) (search rules) c.in_err-put_head.ensures.failed c.in_err-put_head.ensures.beginning
 
-pub returns-in_err-put_head-clause-beginning : goal.returns-in_err-put_head-clause-beginning
-returns-in_err-put_head-clause-beginning g c =
-    let held = c.args.output.now.holds in
-    let holds = c.put_head.new.output.holds in
-    let head = head_of c.args.filter.now c.args.number in
-    on_err c.from_residual.result _
-    (subst (λ (t : List ℕ). AppendsBeginning held holds t) (append_assoc c.args.output.now.waits head (c.args.text.now ++ 10 ∷ []))
-    (begins_within held holds (c.args.output.now.waits ++ head) (c.args.text.now ++ 10 ∷ []) c.in_err-put_head.ensures.beginning))
-
-pub returns-clause-beginning : goal.returns-clause-beginning
-returns-clause-beginning g c =
-    begins_after_ok c.put_text.result c.args.output.now.holds c.put_head.new.output.holds c.put_text.new.output.holds c.args.output.now.waits c.put_head.new.output.waits
-    (head_of c.args.filter.now c.args.number) (c.args.text.now ++ 10 ∷ []) c.in_ok-put_head.ensures.ok c.put_text.ensures.beginning
+pub returns : goal.returns
+returns g c =
+    puts_two c.put_both.result c.args.output.now c.put_head.new.output c.put_both.new.output (head_of c.args.filter.now c.args.number) (c.args.text.now ++ 10 ∷ []) c.in_ok-put_head.ensures.ok c.in_ok-put_head.ensures.failed c.put_both.ensures

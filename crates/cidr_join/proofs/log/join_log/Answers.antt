@@ -1,16 +1,15 @@
-use Rattle.std.proofs.Common.{◌-◌, ◌∙◌, length, ap, refl, sym, arith}
-use Rattle.lines.specs.Watched.{has_failed}
+use Rattle.std.proofs.Common.{[], refl, subst}
+use Rattle.lines.specs.Watched.{device_of, has_failed}
 use Rattle.lines.proofs.Writes.{still_works}
-use Rattle.cidr_join.proofs.Joining.{goes_out, begins, after_line, before_asking, after_asking, less_to_hand, less_to_read, line_within}
-use Rattle.cidr_join.proofs.Stopping.{failed_now, line_stops, long_line_stops, log_ends, writing_stops, read_stops, endless_stops, long_stops}
+use Rattle.program.specs.LogReaders.{GivesNext}
+use Rattle.program.specs.declared.log_reader.NextLogLine.{NextLogLine}
+use Rattle.cidr_join.specs.Stands.{stand}
+use Rattle.cidr_join.proofs.Joining.{no_lines, handed_within, line_joined, line_stops, long_line_stops, log_ends, breaks}
 use Rattle.cidr_join.proofs.log.join_log.Goals as goal
 
 pub lines-init : goal.lines-init
 lines-init g c = record {
-  sofar = begins c.args.join.now _ c.new-lines.result _ _ refl
-      c.new-lines.ensures.holds c.new-lines.ensures.ended;
-  limit = c.new-lines.ensures.limit;
-  size = refl;
+  sofar = record { first = []; hands = c.new-log.ensures.begins _; is_done = no_lines c.args.join.now (stand c.args.output.now c.args.seen.now) };
   reads = refl;
   writes = refl;
 }
@@ -19,133 +18,56 @@ lines-init g c = record {
 
 pub join_line-requires : goal.join_line-requires
 join_line-requires g c =
-    let given = c.in-Line.ensures.gives c.lines.invariant.sofar.pending c.lines.invariant.sofar.holds in
-    line_within c.line-line.result.now c.whole_line-whole.result.now c.next.new.self.line c.next.new.self.whole _ c.line-line.ensures c.whole_line-whole.ensures given.2
+    let s = c.lines.invariant.sofar in
+    handed_within c.args.join.now c.lines.log c.next.new.self _ _ _ _ c.lines.output c.next.new.output c.lines.seen s c.in-Ok-Line.ensures.put c.in-Ok-Line.end
+    c.line-line.result.now c.whole_line-whole.result.now (subst (λ (n : NextLogLine). GivesNext c.next.new.self (g.R.Read.remaining (device_of c.args.reader.now)) (g.R.Read.remaining (device_of c.next.new.reader)) s.first n)
+    c.in-Ok-Line.field-0-is (c.in-Ok-Line.ensures.gives _ s.first s.hands))
+    c.line-line.ensures c.whole_line-whole.ensures
 
-pub returns-in-Err-clause-err : goal.returns-in-Err-clause-err
-returns-in-Err-clause-err g c =
-    line_stops c.args.join.now c.lines.room c.lines.lines c.next.new.self _ _ _ _
-    c.lines.invariant.sofar c.next.ensures.ended _ c.in-Line.end c.line-line.result.now
-    c.whole_line-whole.result.now c.in-Line.ensures.gives c.line-line.ensures
-    c.whole_line-whole.ensures (c.next.ensures.limit ∙ c.lines.invariant.limit) (has_failed c.lines.reader)
-    c.join_line.new.output.failed c.in-Err.fault
-    c.in-Err.ensures.err
-
-pub lines-preserved-in_default : goal.lines-preserved-in_default
-lines-preserved-in_default g c = record {
-  sofar = after_line c.args.join.now c.lines.room c.lines.lines c.next.new.self _ _
-      _ _ c.lines.invariant.sofar c.next.ensures.ended _ c.in-Line.end c.line-line.result.now
-      c.whole_line-whole.result.now c.in-Line.ensures.gives c.line-line.ensures
-      c.whole_line-whole.ensures (c.next.ensures.limit ∙ c.lines.invariant.limit) c.in_default.ensures.ok;
-  limit = c.next.ensures.limit ∙ c.lines.invariant.limit;
-  size = ap length c.next.ensures.unmoved ∙ c.lines.invariant.size;
-  reads = c.lines.invariant.reads;
-  writes = still_works _ _ _ c.in_default.ensures.writer_failed c.lines.invariant.writes;
-}
-
--- ---- a line that is too long
-
-pub returns-in-TooLong-clause-err : goal.returns-in-TooLong-clause-err
-returns-in-TooLong-clause-err g c =
-    long_line_stops c.args.join.now c.lines.room c.lines.lines c.next.new.self _ _ _
-    _ c.lines.invariant.sofar c.next.ensures.ended c.in-TooLong.ensures.gives
-    (c.next.ensures.limit ∙ c.lines.invariant.limit)
-
--- ---- more bytes are needed
-
-pub returns-in_default-hand_on-clause-err : goal.returns-in_default-hand_on-clause-err
-returns-in_default-hand_on-clause-err g c = (
-  failed_now c.hand_on.new.self.failed _ c.in_default-hand_on.ensures.failed,
-  writing_stops c.args.join.now c.lines.room c.lines.lines _ _ _ _ _
-      c.lines.invariant.sofar c.in_default-hand_on.ensures.err,
-)
-
-pub is_too_long-requires : goal.is_too_long-requires
-is_too_long-requires g c = (c.in-Ask.ensures.gives c.lines.invariant.sofar.pending
-    c.lines.invariant.sofar.holds).2
-
-pub returns-then-is_too_long-clause-err : goal.returns-then-is_too_long-clause-err
-returns-then-is_too_long-clause-err g c =
-    let idle = before_asking c.args.join.now c.lines.room c.lines.lines
-    c.next.new.self _ _ _ _ _ c.lines.invariant.sofar c.in-Ask.ensures.gives
-    c.next.ensures.ended
-    (goes_out _ _ refl c.in-Ok.ensures.emptied c.in-Ok.ensures.ok) in
-    let long = (c.is_too_long.ensures idle.sofar.pending idle.sofar.holds).0
-    c.if-is_too_long.true in
-    long_stops c.args.join.now c.lines.room c.next.new.self _ _ _ _ idle
-    (omega (arith, long, c.next.ensures.limit, c.lines.invariant.limit))
-
-pub ask-requires : goal.ask-requires
-ask-requires g c = (c.in-Ask.ensures.gives c.lines.invariant.sofar.pending
-    c.lines.invariant.sofar.holds).2
-
-pub returns-in_default-ask-clause-err : goal.returns-in_default-ask-clause-err
-returns-in_default-ask-clause-err g c =
-    let idle = before_asking c.args.join.now c.lines.room c.lines.lines
-    c.next.new.self _ _ _ _ _ c.lines.invariant.sofar c.in-Ask.ensures.gives
-    c.next.ensures.ended
-    (goes_out _ _ refl c.in-Ok.ensures.emptied c.in-Ok.ensures.ok) in
-    let stops = read_stops c.args.join.now c.lines.room c.next.new.self _ _ _ _ _
-    idle c.in_default-ask.ensures.err in (
-      failed_now (has_failed c.ask.new.reader) _ c.in_default-ask.ensures.failed,
-      stops.0,
-      stops.1,
-      stops.2,
-    )
-
-pub returns-then-read-room-clause-err : goal.returns-then-read-room-clause-err
-returns-then-read-room-clause-err g c =
-    let idle = before_asking c.args.join.now c.lines.room c.lines.lines
-    c.next.new.self _ _ _ _ _ c.lines.invariant.sofar c.in-Ask.ensures.gives
-    c.next.ensures.ended
-    (goes_out _ _ refl c.in-Ok.ensures.emptied c.in-Ok.ensures.ok) in
-    endless_stops c.args.join.now c.lines.room c.next.new.self _ _ _ _ _ idle
-    c.ask.new.self c.in-Ok-ask.read c.in-Ok-ask.ensures.read c.if-read-room.true
+pub returns-in-Err-join_line-clause-err : goal.returns-in-Err-join_line-clause-err
+returns-in-Err-join_line-clause-err g c =
+    let s = c.lines.invariant.sofar in
+    line_stops c.args.join.now c.lines.log c.next.new.self _ _ _ _ c.lines.output c.next.new.output c.lines.seen s c.in-Ok-Line.ensures.put c.in-Ok-Line.end
+    c.line-line.result.now c.whole_line-whole.result.now (subst (λ (n : NextLogLine). GivesNext c.next.new.self (g.R.Read.remaining (device_of c.args.reader.now)) (g.R.Read.remaining (device_of c.next.new.reader)) s.first n)
+    c.in-Ok-Line.field-0-is (c.in-Ok-Line.ensures.gives _ s.first s.hands))
+    c.line-line.ensures c.whole_line-whole.ensures _ (has_failed c.next.new.reader) c.join_line.new.output.failed c.in-Err-join_line.fault
+    c.in-Err-join_line.ensures.err.0 c.in-Err-join_line.ensures.err.1
 
 pub lines-preserved : goal.lines-preserved
 lines-preserved g c =
-    let before = c.lines.invariant in
-    let asked = c.in-Ok-ask.ensures in
-    let idle = before_asking c.args.join.now c.lines.room c.lines.lines
-    c.next.new.self _ _ _ _ _ before.sofar c.in-Ask.ensures.gives c.next.ensures.ended
-    (goes_out _ _ refl c.in-Ok.ensures.emptied c.in-Ok.ensures.ok) in
+    let s = c.lines.invariant.sofar in
     record {
-      sofar = after_asking c.args.join.now c.lines.room
-          (c.lines.room - c.in-Ok-ask.read) c.in-Ok-ask.read c.next.new.self c.ask.new.self _ _ _
-          _ _ idle
-          asked.read asked.ended c.if-read-room.false refl;
-      limit = asked.limit ∙ c.next.ensures.limit ∙ before.limit;
-      size = asked.size ∙ ap length c.next.ensures.unmoved ∙ before.size;
-      reads = still_works _ _ _ asked.failed before.reads;
-      writes = still_works _ _ _ c.in-Ok.ensures.failed before.writes;
+      sofar = line_joined c.args.join.now c.lines.log c.next.new.self _ _ _ _ c.lines.output c.next.new.output c.lines.seen s c.in-Ok-Line.ensures.put c.in-Ok-Line.end
+          c.line-line.result.now c.whole_line-whole.result.now (subst (λ (n : NextLogLine). GivesNext c.next.new.self (g.R.Read.remaining (device_of c.args.reader.now)) (g.R.Read.remaining (device_of c.next.new.reader)) s.first n)
+          c.in-Ok-Line.field-0-is (c.in-Ok-Line.ensures.gives _ s.first s.hands))
+          c.line-line.ensures c.whole_line-whole.ensures _ c.in_default.ensures.ok;
+      reads = still_works _ _ _ c.in-Ok-Line.ensures.reader_failed c.lines.invariant.reads;
+      writes = still_works _ _ _ c.in_default.ensures.writer_failed
+          (still_works _ _ _ c.in-Ok-Line.ensures.writer_failed c.lines.invariant.writes);
     }
 
--- ---- that it ends
+-- ---- a line that is too long
 
-pub lines-smaller-in_default : goal.lines-smaller-in_default
-lines-smaller-in_default g c = less_to_hand (length c.new-lines.result.bytes) c.lines.room
-    c.lines.lines c.next.new.self c.next.ensures.ended c.in-Line.ensures.less
-
-pub lines-smaller : goal.lines-smaller
-lines-smaller g c =
-    let given = c.in-Ask.ensures.gives c.lines.invariant.sofar.pending
-    c.lines.invariant.sofar.holds in
-    let asked = c.in-Ok-ask.ensures in
-    less_to_read (length c.new-lines.result.bytes) c.lines.room c.in-Ok-ask.read c.lines.lines
-    c.ask.new.self (sym c.next.ensures.ended ∙ given.3) asked.ended c.if-read-room.false
-    (asked.size ∙ ap length c.next.ensures.unmoved ∙ c.lines.invariant.size)
+pub returns-in-Ok-TooLong-clause-err : goal.returns-in-Ok-TooLong-clause-err
+returns-in-Ok-TooLong-clause-err g c =
+    let s = c.lines.invariant.sofar in
+    long_line_stops c.args.join.now c.lines.log c.next.new.self _ _ _ _ c.lines.output c.next.new.output c.lines.seen s c.in-Ok-TooLong.ensures.put
+    (has_failed c.next.new.reader) c.next.new.output.failed (subst (λ (n : NextLogLine). GivesNext c.next.new.self (g.R.Read.remaining (device_of c.args.reader.now)) (g.R.Read.remaining (device_of c.next.new.reader)) s.first n)
+    c.in-Ok-TooLong.field-0-is (c.in-Ok-TooLong.ensures.gives _ s.first s.hands))
 
 -- ---- the end of the log
 
-pub returns-in-Err-hand_on-clause-err : goal.returns-in-Err-hand_on-clause-err
-returns-in-Err-hand_on-clause-err g c = (
-  failed_now c.hand_on-in-End.new.self.failed _ c.in-Err-hand_on.ensures.failed,
-  writing_stops c.args.join.now c.lines.room c.lines.lines _ _ _ _ _
-      c.lines.invariant.sofar c.in-Err-hand_on.ensures.err,
-)
+pub returns-in-Ok-End-clause-ok : goal.returns-in-Ok-End-clause-ok
+returns-in-Ok-End-clause-ok g c =
+    let s = c.lines.invariant.sofar in
+    log_ends c.args.join.now c.lines.log c.next.new.self _ _ _ _ c.lines.output c.next.new.output c.lines.seen s c.in-Ok-End.ensures.put
+    (subst (λ (n : NextLogLine). GivesNext c.next.new.self (g.R.Read.remaining (device_of c.args.reader.now)) (g.R.Read.remaining (device_of c.next.new.reader)) s.first n)
+    c.in-Ok-End.field-0-is (c.in-Ok-End.ensures.gives _ s.first s.hands))
 
-pub returns-in-Ok-hand_on-clause-ok : goal.returns-in-Ok-hand_on-clause-ok
-returns-in-Ok-hand_on-clause-ok g c =
-    log_ends c.args.join.now c.lines.room c.lines.lines c.next.new.self _ _ _ _
-    c.lines.invariant.sofar c.next.ensures.ended _ c.in-End.ensures.gives
-    (goes_out _ _ refl c.in-Ok-hand_on.ensures.emptied c.in-Ok-hand_on.ensures.ok)
+-- ---- a log that is not read to its end
+
+pub returns-in-Err-clause-err : goal.returns-in-Err-clause-err
+returns-in-Err-clause-err g c =
+    let s = c.lines.invariant.sofar in
+    breaks c.args.join.now c.lines.log c.next.new.self _ _ _ _ c.lines.output c.next.new.output c.lines.seen s
+    (has_failed c.next.new.reader) c.in-Err.fault (c.in-Err.ensures.breaks _ s.first s.hands)

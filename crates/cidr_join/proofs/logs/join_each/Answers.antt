@@ -1,20 +1,29 @@
 use Rattle.std.proofs.Common.{◌∙◌, sym, arith}
-use Rattle.cidr_join.proofs.LogsInTurn.{names_none}
-use Rattle.cidr_join.proofs.Runs.{names_more, input_named, input_stops, one_more, all_named, one_stops}
+use Rattle.lines.proofs.Putting.{puts_nothing, puts_more}
+use Rattle.lines.specs.Outputs.{Prints}
+use Rattle.program.proofs.LogNames.{names_more}
+use Rattle.program.specs.Endings.{ending}
+use Rattle.cidr_join.specs.Joins.{Joins}
+use Rattle.cidr_join.specs.Private.Runs.{JoinsNames}
+use Rattle.cidr_join.specs.Runs.{StopsAtLog}
+use Rattle.cidr_join.proofs.LogsInTurn.{names_none, one_more, of_input, of_all}
+use Rattle.cidr_join.proofs.Runs.{one_stops}
 use Rattle.cidr_join.proofs.logs.join_each.Goals as goal
 
 pub returns-then-is_empty-clause-all : goal.returns-then-is_empty-clause-all
 returns-then-is_empty-clause-all g c = λ yes.
-    input_named c.args.join.now (g.L.OpenLists.known c.args.lists.now) c.args.files.now _ _ _ _ (sym c.is_empty.ensures ∙ c.if-is_empty.true) (c.join_one.ensures.all yes)
+    of_input c.args.files.now (λ names. JoinsNames c.args.join.now (g.L.OpenLists.known c.args.lists.now) names c.args.output.now c.join_one.new.output c.args.errors.now c.join_one.new.errors)
+    (sym c.is_empty.ensures ∙ c.if-is_empty.true) (c.join_one.ensures.all yes)
 
 pub returns-then-is_empty-clause-stopped : goal.returns-then-is_empty-clause-stopped
 returns-then-is_empty-clause-stopped g c = λ no.
-    input_stops c.args.join.now (g.L.OpenLists.known c.args.lists.now) c.args.files.now _ (sym c.is_empty.ensures ∙ c.if-is_empty.true) (c.join_one.ensures.stopped no)
+    of_input c.args.files.now (λ names. StopsAtLog c.args.join.now (g.L.OpenLists.known c.args.lists.now) names (ending c.args.output.now c.join_one.new.output c.args.errors.now c.join_one.new.errors 2))
+    (sym c.is_empty.ensures ∙ c.if-is_empty.true) (c.join_one.ensures.stopped no)
 
 pub loop-file-init : goal.loop-file-init
 loop-file-init g c = record {
   room = c.requires;
-  names = names_none c.args.join.now (g.L.OpenLists.known c.args.lists.now) _ _;
+  names = names_none (Joins c.args.join.now) Prints c.args.join.now (g.L.OpenLists.known c.args.lists.now) c.args.output.now c.args.errors.now (puts_nothing _ _);
 }
 
 pub loop-file-preserved : goal.loop-file-preserved
@@ -24,7 +33,9 @@ loop-file-preserved g c =
     let name = c.as_str-name.result.now in
     record {
       room = omega (arith, c.loop-file.invariant.room, c.join_one-in-loop-file.auto.buffer);
-      names = one_more c.args.join.now (g.L.OpenLists.known c.args.lists.now) files i name _ _ _ _ _ _ (names_more files i c.file-item.result name (omega arith) c.file-item.is c.as_str-name.ensures.value)
+      names = one_more (Joins c.args.join.now) Prints c.args.join.now (g.L.OpenLists.known c.args.lists.now) (λ old mid new a b p q. puts_more _ _ _ _ _ _ a b p q) files i name
+          c.args.output.now c.loop-file.output c.join_one-in-loop-file.new.output c.args.errors.now c.loop-file.errors c.join_one-in-loop-file.new.errors
+          (names_more files i c.file-item.result name (omega arith) c.file-item.is c.as_str-name.ensures.value)
           c.loop-file.invariant.names (c.join_one-in-loop-file.ensures.all c.if-not-join_one.false);
     }
 
@@ -40,5 +51,5 @@ returns-then-not-join_one-clause-stopped g c = λ no.
 
 pub returns-clause-all : goal.returns-clause-all
 returns-clause-all g c = λ yes.
-    all_named c.args.join.now (g.L.OpenLists.known c.args.lists.now) c.args.files.now c.loop-file.file-index _ _ _ _ (sym c.is_empty.ensures ∙ c.if-is_empty.false) (omega arith)
-    c.loop-file.invariant.names
+    of_all c.args.files.now (λ names. JoinsNames c.args.join.now (g.L.OpenLists.known c.args.lists.now) names c.args.output.now c.loop-file.output c.args.errors.now c.loop-file.errors)
+    c.loop-file.file-index (sym c.is_empty.ensures ∙ c.if-is_empty.false) (omega arith) c.loop-file.invariant.names

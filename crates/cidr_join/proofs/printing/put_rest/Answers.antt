@@ -1,32 +1,13 @@
-use Rattle.std.proofs.Common.{◌++◌, List, ℕ, subst, append_assoc}
-use Rattle.lines.specs.Outputs.{AppendsBeginning}
-use Rattle.lines.proofs.Putting.{begins_within}
+use Rattle.std.proofs.Common.{rules}
+use Rattle.std.proofs.Common.{◌++◌}
 use Rattle.program.specs.LogLines.{feed_behind}
-use Rattle.cidr_join.proofs.Joining.{put_two_ok}
-use Rattle.cidr_join.proofs.Stopping.{on_err, begins_after_ok}
+use Rattle.program.proofs.Puts.{puts_two, fails_first}
 use Rattle.cidr_join.proofs.printing.put_rest.Goals as goal
 
-pub returns-clause-ok : goal.returns-clause-ok
-returns-clause-ok g c =
-    put_two_ok c.put_feed.result c.args.output.now.holds
-    c.put_both.new.output.holds c.put_feed.new.output.holds
-    c.args.output.now.waits c.put_both.new.output.waits
-    c.put_feed.new.output.waits (c.args.first.now ++ c.args.second.now) (feed_behind c.args.end)
-    c.in_ok-put_both.ensures.ok c.put_feed.ensures.ok
+pub returns-in_err-put_both : goal.returns-in_err-put_both
+returns-in_err-put_both g c =
+    fails_first c.from_residual.result c.args.output.now c.put_both.new.output (c.args.first.now ++ c.args.second.now) (feed_behind c.args.end) (search rules) c.in_err-put_both.ensures.failed c.in_err-put_both.ensures.beginning
 
-pub returns-in_err-put_both-clause-beginning : goal.returns-in_err-put_both-clause-beginning
-returns-in_err-put_both-clause-beginning g c =
-    let held = c.args.output.now.holds in
-    let holds = c.put_both.new.output.holds in
-    on_err c.from_residual.result _
-    (subst (λ (t : List ℕ). AppendsBeginning held holds t)
-    (append_assoc c.args.output.now.waits (c.args.first.now ++ c.args.second.now) (feed_behind c.args.end))
-    (begins_within held holds (c.args.output.now.waits ++ (c.args.first.now ++ c.args.second.now))
-    (feed_behind c.args.end) c.in_err-put_both.ensures.beginning))
-
-pub returns-clause-beginning : goal.returns-clause-beginning
-returns-clause-beginning g c =
-    begins_after_ok c.put_feed.result c.args.output.now.holds
-    c.put_both.new.output.holds c.put_feed.new.output.holds
-    c.args.output.now.waits c.put_both.new.output.waits
-    (c.args.first.now ++ c.args.second.now) (feed_behind c.args.end) c.in_ok-put_both.ensures.ok c.put_feed.ensures.beginning
+pub returns : goal.returns
+returns g c =
+    puts_two c.put_feed.result c.args.output.now c.put_both.new.output c.put_feed.new.output (c.args.first.now ++ c.args.second.now) (feed_behind c.args.end) c.in_ok-put_both.ensures.ok c.in_ok-put_both.ensures.failed c.put_feed.ensures

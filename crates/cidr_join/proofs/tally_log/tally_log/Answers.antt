@@ -1,90 +1,69 @@
-use Rattle.std.proofs.Common.{◌-◌, ◌∙◌, length, ap, refl, sym, arith}
-use Rattle.lines.specs.Watched.{has_failed}
+use Rattle.std.proofs.Common.{◌∙◌, ◌||◌, [], Bool, ap, refl, subst, sym, arith, length}
+use Rattle.std.specs.Prelude.{Err}
+use Rattle.lines.specs.Watched.{device_of, has_failed}
 use Rattle.lines.proofs.Writes.{still_works}
-use Rattle.cidr_join.proofs.Joining.{less_to_hand, less_to_read}
-use Rattle.cidr_join.proofs.Reading.{begins, after_line, before_asking, after_asking, long_line_stops, log_ends, read_stops, endless_stops, long_stops}
-use Rattle.cidr_join.proofs.Stopping.{failed_now}
-use Rattle.cidr_join.proofs.TallyLines.{no_lines, line_more}
+use Rattle.program.specs.LogReaders.{GivesNext}
+use Rattle.program.specs.declared.log_reader.NextLogLine.{NextLogLine}
+use Rattle.program.proofs.LogReadings.{after_line, line_ends, log_ends}
+use Rattle.program.specs.declared.log_fault.LogFault.TheVariants.{Length}
+use Rattle.cidr_join.specs.Logs.{EndsRunBy}
+use Rattle.cidr_join.specs.Private.TallyProgress.{CountsLines, StopsCounting, ended_by_read}
+use Rattle.cidr_join.specs.declared.tally_log.TallyFault.{TallyFault}
+use Rattle.log_programs.proofs.Failing.{or_on}
+use Rattle.cidr_join.proofs.TallyLines.{no_lines, line_more, counting_breaks, reads_same}
 use Rattle.cidr_join.proofs.tally_log.tally_log.Goals as goal
 
 pub lines-init : goal.lines-init
 lines-init g c = record {
-  sofar = begins _ _ _ _ refl c.new-lines.ensures.holds c.new-lines.ensures.ended (no_lines c.args.numbered.now.founds.items c.args.join.now c.args.counts.now c.args.seen.now);
-  limit = c.new-lines.ensures.limit;
-  size = refl;
+  sofar = record {
+    first = [];
+    hands = c.new-log.ensures.begins _;
+    is_done = no_lines c.args.numbered.now.founds.items c.args.join.now c.args.counts.now c.args.seen.now;
+  };
   reads = refl;
 }
 
 -- ---- a line
 
-pub lines-preserved-in_default : goal.lines-preserved-in_default
-lines-preserved-in_default g c = record {
-  sofar = after_line _ c.lines.room c.lines.lines c.next.new.self _ _ c.lines.invariant.sofar c.next.ensures.ended _ c.line-line.result.now c.in-Line.field-0 c.in-Line.ensures.gives
-      c.line-line.ensures (c.next.ensures.limit ∙ c.lines.invariant.limit)
-      (line_more c.args.numbered.now.founds.items c.args.join.now c.args.counts.now c.lines.counts c.count_line.new.counts c.args.seen.now c.lines.seen c.count_line.new.seen c.line-line.result.now c.in_default.ensures);
-  limit = c.next.ensures.limit ∙ c.lines.invariant.limit;
-  size = ap length c.next.ensures.unmoved ∙ c.lines.invariant.size;
-  reads = c.lines.invariant.reads;
-}
+pub lines-preserved : goal.lines-preserved
+lines-preserved g c =
+    let s = c.lines.invariant.sofar in
+    let given = (subst (λ (n : NextLogLine). GivesNext c.next.new.self (g.R.Read.remaining (device_of c.args.reader.now)) (g.R.Read.remaining (device_of c.next.new.reader)) s.first n)
+    c.in-Ok-Line.field-0-is (c.in-Ok-Line.ensures.gives _ s.first s.hands)) in
+    record {
+      sofar = after_line _ _ c.lines.log c.next.new.self _ _ _ s _ given
+          (line_more c.args.numbered.now.founds.items c.args.join.now c.args.counts.now c.lines.counts c.count_line.new.counts c.args.seen.now c.lines.seen c.count_line.new.seen c.line-line.result.now c.in_default.ensures
+          s.first _ (given.is_content ∙ sym c.line-line.ensures) (omega (arith, given.within, ap length c.line-line.ensures)) s.is_done);
+      reads = still_works _ _ _ c.in-Ok-Line.ensures.reader_failed c.lines.invariant.reads;
+    }
 
 -- ---- a line that is too long
 
-pub returns-in-TooLong-clause-err : goal.returns-in-TooLong-clause-err
-returns-in-TooLong-clause-err g c =
-    long_line_stops _ c.lines.room c.lines.lines c.next.new.self _ _ c.lines.invariant.sofar c.next.ensures.ended c.in-TooLong.ensures.gives
-    (c.next.ensures.limit ∙ c.lines.invariant.limit)
-
--- ---- more bytes are needed
-
-pub is_too_long-requires : goal.is_too_long-requires
-is_too_long-requires g c = (c.in-Ask.ensures.gives c.lines.invariant.sofar.pending c.lines.invariant.sofar.holds).2
-
-pub returns-then-is_too_long-clause-err : goal.returns-then-is_too_long-clause-err
-returns-then-is_too_long-clause-err g c =
-    let idle = before_asking _ c.lines.room c.lines.lines c.next.new.self _ _ c.lines.invariant.sofar c.next.ensures.ended c.in-Ask.ensures.gives in
-    let long = (c.is_too_long.ensures idle.sofar.pending idle.sofar.holds).0 c.if-is_too_long.true in
-    long_stops _ c.lines.room c.next.new.self _ _ idle (omega (arith, long, c.next.ensures.limit, c.lines.invariant.limit))
-
-pub ask-requires : goal.ask-requires
-ask-requires g c = (c.in-Ask.ensures.gives c.lines.invariant.sofar.pending c.lines.invariant.sofar.holds).2
-
-pub returns-in_default-ask-clause-err : goal.returns-in_default-ask-clause-err
-returns-in_default-ask-clause-err g c =
-    let idle = before_asking _ c.lines.room c.lines.lines c.next.new.self _ _ c.lines.invariant.sofar c.next.ensures.ended c.in-Ask.ensures.gives in
-    let stops = read_stops _ c.lines.room c.next.new.self _ _ _ idle c.in_default-ask.ensures.err in
-    (failed_now (has_failed c.ask.new.reader) _ c.in_default-ask.ensures.failed, stops.0, stops.1, stops.2)
-
-pub returns-then-read-room-clause-err : goal.returns-then-read-room-clause-err
-returns-then-read-room-clause-err g c =
-    let idle = before_asking _ c.lines.room c.lines.lines c.next.new.self _ _ c.lines.invariant.sofar c.next.ensures.ended c.in-Ask.ensures.gives in
-    endless_stops _ c.lines.room c.next.new.self _ _ _ idle c.ask.new.self c.in-Ok.read c.in-Ok.ensures.read c.if-read-room.true
-
-pub lines-preserved : goal.lines-preserved
-lines-preserved g c =
-    let before = c.lines.invariant in
-    let asked = c.in-Ok.ensures in
-    let idle = before_asking _ c.lines.room c.lines.lines c.next.new.self _ _ before.sofar c.next.ensures.ended c.in-Ask.ensures.gives in
-    record {
-      sofar = after_asking _ c.lines.room c.next.new.self _ _ _ idle (c.lines.room - c.in-Ok.read) c.in-Ok.read c.ask.new.self asked.read asked.ended c.if-read-room.false refl;
-      limit = asked.limit ∙ c.next.ensures.limit ∙ before.limit;
-      size = asked.size ∙ ap length c.next.ensures.unmoved ∙ before.size;
-      reads = still_works _ _ _ asked.failed before.reads;
-    }
-
--- ---- that it ends
-
-pub lines-smaller-in_default : goal.lines-smaller-in_default
-lines-smaller-in_default g c = less_to_hand (length c.new-lines.result.bytes) c.lines.room c.lines.lines c.next.new.self c.next.ensures.ended c.in-Line.ensures.less
-
-pub lines-smaller : goal.lines-smaller
-lines-smaller g c =
-    let given = c.in-Ask.ensures.gives c.lines.invariant.sofar.pending c.lines.invariant.sofar.holds in
-    let asked = c.in-Ok.ensures in
-    less_to_read (length c.new-lines.result.bytes) c.lines.room c.in-Ok.read c.lines.lines c.ask.new.self (sym c.next.ensures.ended ∙ given.3) asked.ended c.if-read-room.false
-    (asked.size ∙ ap length c.next.ensures.unmoved ∙ c.lines.invariant.size)
+pub returns-in-Ok-TooLong-clause-err : goal.returns-in-Ok-TooLong-clause-err
+returns-in-Ok-TooLong-clause-err g c =
+    let s = c.lines.invariant.sofar in
+    let given = (subst (λ (n : NextLogLine). GivesNext c.next.new.self (g.R.Read.remaining (device_of c.args.reader.now)) (g.R.Read.remaining (device_of c.next.new.reader)) s.first n)
+    c.in-Ok-TooLong.field-0-is (c.in-Ok-TooLong.ensures.gives _ s.first s.hands)) in
+    line_ends _ _ c.lines.log c.next.new.self _ _ _ s (EndsRunBy Length) given.line given.next given.long s.is_done
 
 -- ---- the end of the log
 
-pub returns-in-End-clause-ok : goal.returns-in-End-clause-ok
-returns-in-End-clause-ok g c =
-    log_ends _ c.lines.room c.lines.lines c.next.new.self _ _ c.lines.invariant.sofar c.next.ensures.ended c.in-End.ensures.gives
+pub returns-in-Ok-End-clause-ok : goal.returns-in-Ok-End-clause-ok
+returns-in-Ok-End-clause-ok g c =
+    let s = c.lines.invariant.sofar in
+    log_ends _ _ c.lines.log c.next.new.self _ _ _ s (subst (λ (n : NextLogLine). GivesNext c.next.new.self (g.R.Read.remaining (device_of c.args.reader.now)) (g.R.Read.remaining (device_of c.next.new.reader)) s.first n)
+    c.in-Ok-End.field-0-is (c.in-Ok-End.ensures.gives _ s.first s.hands)) s.is_done
+
+-- ---- a log that is not read to its end
+
+pub returns-in-Err-clause-err : goal.returns-in-Err-clause-err
+returns-in-Err-clause-err g c =
+    let s = c.lines.invariant.sofar in
+    subst (λ (f : TallyFault). StopsCounting (CountsLines c.args.numbered.now.founds.items c.args.join.now c.args.counts.now c.lines.counts c.args.seen.now c.lines.seen)
+    (g.R.Read.remaining (device_of c.args.reader.now)) (g.R.Read.remaining (device_of c.next.new.reader)) (has_failed c.next.new.reader) f) (sym c.tally_fault.ensures)
+    (counting_breaks _ c.lines.log c.next.new.self _ _ _ s (has_failed c.next.new.reader) c.lines.nothing c.next.new.output c.in-Err.fault (c.in-Err.ensures.breaks _ s.first s.hands))
+
+pub returns-in-Err-clause-reader_failed : goal.returns-in-Err-clause-reader_failed
+returns-in-Err-clause-reader_failed g c =
+    or_on _ _ _ _ c.lines.invariant.reads c.in-Err.ensures.reader_failed
+    ∙ ap (λ (b : Bool). has_failed c.args.reader.now || b) (reads_same NextLogLine (Unit {0}) c.in-Err.fault ∙ ap (λ (f : TallyFault). ended_by_read {T = Unit {0}} (Err f)) (sym c.tally_fault.ensures))

@@ -33,15 +33,15 @@ returns g c =
     let counts = c.tally_each.ensures.all c.if-not-tally_each.false in
     let rows = c.in-Ok-into_rows.rows.items in
     inr (
-      counts.0,
-      counts.1,
+      counts.all,
+      counts.text,
       map row_of rows,
-      counts.2,
-      c.in-Ok-into_rows.ensures counts.0
-          (subst (λ (f : List Found). IsCounted f counts.0 c.tally_each.new.counts) (sym c.founds-founds.ensures)
-          (counts.3 [] (c.in-Ok-new.ensures c.in-Ok.numbered.founds.items (ap length c.founds-founds.ensures)))),
+      counts.reads,
+      c.in-Ok-into_rows.ensures counts.all
+          (subst (λ (f : List Found). IsCounted f counts.all c.tally_each.new.counts) (sym c.founds-founds.ensures)
+          (counts.is_done [] (c.in-Ok-new.ensures c.in-Ok.numbered.founds.items (ap length c.founds-founds.ensures)))),
       ends_with c.write_rows-written.result (ending c.args.output.now c.write_rows-written.new.output c.args.errors.now c.end.new.errors c.end.result)
-          (rows_text (map row_of rows)) c.args.output.now.failed c.tally_each.new.errors counts.1 (rw c.as_slice.ensures.value at c.write_rows-written.ensures.ok)
+          (rows_text (map row_of rows)) c.args.output.now.failed c.tally_each.new.errors counts.text (rw c.as_slice.ensures.value at c.write_rows-written.ensures.ok)
           (rw c.as_slice.ensures.value at c.write_rows-written.ensures.beginning) c.write_rows-written.ensures.failed c.end.ensures.status
-          counts.4 c.end.ensures.told,
+          counts.tells c.end.ensures.told,
     )

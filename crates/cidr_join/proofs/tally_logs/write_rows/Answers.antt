@@ -1,5 +1,5 @@
 use Rattle.log_programs.proofs.Failing.{none_or, or_on}
-use Rattle.cidr_join.proofs.Stopping.{on_err}
+use Rattle.program.proofs.Puts.{on_err}
 use Rattle.cidr_join.proofs.TallyRows.{written_all, failed_all}
 use Rattle.cidr_join.proofs.tally_logs.write_rows.Goals as goal
 

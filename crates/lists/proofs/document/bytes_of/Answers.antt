@@ -1,4 +1,3 @@
-use Rattle.std.proofs.Common.{◌∙◌, ap}
 use Rattle.lines.specs.Watched.{device_of, has_failed}
 use Rattle.lists.proofs.Documents.{bytes_read, bytes_stop}
 use Rattle.lists.proofs.document.bytes_of.Goals as goal
@@ -6,13 +5,13 @@ use Rattle.lists.proofs.document.bytes_of.Goals as goal
 pub returns-clause-ok : goal.returns-clause-ok
 returns-clause-ok g c =
     let remaining = g.L.List.Read.remaining in
-    bytes_read (g.L.OpenLists.known c.args.lists.now) c.args.name.now c.args.place (remaining (device_of c.new-list.result)) (remaining (device_of c.read_all-bytes.new.reader))
-    (λ input e. ap remaining c.new-list.ensures.device ∙ c.in-Ok.ensures.bytes input e)
+    bytes_read (g.L.OpenLists.known c.args.lists.now) c.args.name.now c.args.place (remaining (device_of c.in-Ok.list)) (remaining (device_of c.read_all-bytes.new.reader))
+    c.in-Ok.ensures.bytes
     c.in-Ok.ensures.opened (λ bytes. bytes.items) c.read_all-bytes.result c.read_all-bytes.ensures.ok
 
 pub returns-clause-err : goal.returns-clause-err
 returns-clause-err g c =
     let remaining = g.L.List.Read.remaining in
-    bytes_stop (g.L.OpenLists.known c.args.lists.now) c.args.name.now c.args.place (remaining (device_of c.new-list.result)) (remaining (device_of c.read_all-bytes.new.reader))
-    (λ input e. ap remaining c.new-list.ensures.device ∙ c.in-Ok.ensures.bytes input e)
+    bytes_stop (g.L.OpenLists.known c.args.lists.now) c.args.name.now c.args.place (remaining (device_of c.in-Ok.list)) (remaining (device_of c.read_all-bytes.new.reader))
+    c.in-Ok.ensures.bytes
     c.in-Ok.ensures.opened (has_failed c.read_all-bytes.new.reader) c.read_all-bytes.result c.close.ensures.failed c.read_all-bytes.ensures.err

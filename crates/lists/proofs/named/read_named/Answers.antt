@@ -10,7 +10,7 @@ returns-clause-stopped g c =
     let remaining = g.L.List.Read.remaining in
     let read = c.read_list-read.result in
     read_stopped (g.L.OpenLists.known c.args.lists.now) c.args.place c.args.name.now c.args.reader.now
-    c.read_list-read.new.lists (remaining (device_of c.new-list.result)) _ c.in-Ok.ensures.opened (λ bytes e. ap remaining c.new-list.ensures.device ∙ c.in-Ok.ensures.bytes bytes e)
+    c.read_list-read.new.lists (remaining (device_of c.in-Ok.list)) _ c.in-Ok.ensures.opened c.in-Ok.ensures.bytes
     read c.is_out_of_memory.result c.end_of.result c.end_of.ensures
-    (λ ended. c.close.ensures.failed (c.read_list-read.ensures.failed ∙ ap (λ (b : Bool). b || ended_by_read read) c.new-list.ensures.failed ∙ ended))
+    (λ ended. c.close.ensures.failed (c.read_list-read.ensures.failed ∙ ap (λ (b : Bool). b || ended_by_read read) c.in-Ok.ensures.failed ∙ ended))
     c.read_list-read.ensures.taken c.read_list-read.ensures.stopped c.is_out_of_memory.ensures

@@ -1,0 +1,28 @@
+//! Texts that are written one after the other.
+ghost use Rattle.std.specs.Prelude.{◌++◌};
+ghost use Rattle.program.specs.Putting.{PutsOrFails};
+
+use lines::fault::RunFault;
+use lines::output::Output;
+use std::io::Write;
+
+/// Writes two texts.
+///
+/// ```
+/// let (mut slice, mut room) = ([0; 8], [0; 3]);
+/// let mut output = lines::output::Output::new(room.as_mut_slice(), &mut slice);
+/// assert_eq!(rt; program::putting::put_both(b"12", b"\n", &mut output), Ok(()));
+/// assert_eq!(rt; output.finish(), Ok(()));
+/// drop(output);
+/// assert_eq!(rt; room, *b"12\n");
+/// ```
+pub fn put_both<W: Write>(
+    first: &[u8],
+    second: &[u8],
+    output: &mut Output<'_, W>,
+) -> Result<(), RunFault>
+    ensures { PutsOrFails result output.old output.new (first.now ++ second.now) }
+{
+    output.put(first)?;
+    output.put(second)
+}
