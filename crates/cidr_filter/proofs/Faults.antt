@@ -2,7 +2,7 @@
 use Rattle.std.proofs.Common.{◌≡◌, false, List, ℕ, length, drop, codes}
 use Rattle.std.specs.Prelude.{None, nat_lt, bytes_eq}
 use Rattle.std.specs.List.{list_all}
-use Rattle.log_programs.specs.Laws.{are_flags, begins_with}
+use Rattle.log_programs.specs.WordRules.{are_flags, begins_with}
 use Rattle.log_programs.specs.Plain.{begins}
 use Rattle.log_programs.proofs.OtherWords.{NoneIs, no_part, no_flags}
 use Rattle.cidr_filter.specs.Laws.{option_names, before_values, is_flag, is_option_word}

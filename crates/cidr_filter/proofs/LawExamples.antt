@@ -6,7 +6,7 @@ use Rattle.std.specs.String.{string_bytes}
 use Rattle.ipnetwork.specs.declared.ip_network.IpNetwork.TheVariants.{V4, V6}
 use Rattle.program.specs.declared.usage.Subject.TheVariants as subjects
 use Rattle.log_programs.specs.CommandLines.{AsksNothing, option_of}
-use Rattle.log_programs.specs.Laws.{is_one_of, begins_with, OthersAreNoOptions, OthersAskForNothing, WordsHaveOneFault}
+use Rattle.log_programs.specs.WordRules.{is_one_of, begins_with, OthersAreNoOptions, OthersAskForNothing, WordsHaveOneFault}
 use Rattle.cidr_filter.specs.CommandLines.{filter_options}
 use Rattle.cidr_filter.specs.Filters.{IsVerdict, Filters}
 use Rattle.cidr_filter.specs.Laws.{LinesHaveOneVerdict, LogsHaveOneOutput, OutputsOfPartsFollow, NumbersAreNotShown, LinesThatEndRunsAreWhole, is_option_word}

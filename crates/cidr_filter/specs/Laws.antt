@@ -1,7 +1,7 @@
 -- What follows from the clauses of a command line and of a log.
 use Rattle.std.specs.Prelude.{◌≡◌, ℕ, ◌+◌, ◌==◌, ◌||◌, Bool, false, List, [], ◌∷◌, ◌++◌, length, codes}
 use Rattle.program.specs.LogLines.{LogLine, log_lines, content, IsWhole}
-use Rattle.log_programs.specs.Laws.{is_word_of}
+use Rattle.log_programs.specs.WordRules.{is_word_of}
 use Rattle.cidr_filter.specs.Filters.{IsVerdict, Filters}
 use Rattle.cidr_filter.specs.declared.filter.Filter.{Filter}
 use Rattle.cidr_filter.specs.declared.filter.Verdict.{Verdict}

@@ -70,7 +70,6 @@ pub(crate) const PROGRAM: &str = "cidr_filter";
 
 /// How the program is used: what is reported for arguments that are not a command, after what is
 /// wrong with them.
-pub(crate) const USAGE: &str =
-    "usage: cidr_filter [-v] [-c | -H] [-h] [-n] [-l] [-q] [-o] [-m N] \
+pub(crate) const USAGE: &str = "usage: cidr_filter [-v] [-c | -H] [-h] [-n] [-l] [-q] [-o] [-m N] \
      [-a | --after TEXT | [-k N] [-d CHAR | -w]] [--mapped] [--bad drop|keep|stop] [--longest] \
      (-f LIST | -e TEXT).. [FILE..]; try --help\n";

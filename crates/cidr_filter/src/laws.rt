@@ -1,6 +1,6 @@
 //! What follows from the clauses of a command line and of a log. Each function's contract is a law:
 //! it does nothing, and a proof that calls it may use the law.
-ghost use Rattle.log_programs.specs.Laws.{OthersAreNoOptions, OthersAskForNothing, WordsHaveOneFault};
+ghost use Rattle.log_programs.specs.WordRules.{OthersAreNoOptions, OthersAskForNothing, WordsHaveOneFault};
 ghost use Rattle.cidr_filter.specs.CommandLines.{filter_options};
 ghost use Rattle.cidr_filter.specs.Laws.{is_option_word, LinesHaveOneVerdict, LogsHaveOneOutput, OutputsOfPartsFollow, NumbersAreNotShown, LinesThatEndRunsAreWhole};
 

@@ -5,7 +5,7 @@ use Rattle.std.specs.List.{list_all, list_any}
 use Rattle.std.specs.String.{string_bytes}
 use Rattle.program.specs.declared.usage.Subject.TheVariants as subjects
 use Rattle.log_programs.specs.CommandLines.{AsksNothing, option_of}
-use Rattle.log_programs.specs.Laws.{is_one_of, begins_with, OthersAreNoOptions, OthersAskForNothing, WordsHaveOneFault}
+use Rattle.log_programs.specs.WordRules.{is_one_of, begins_with, OthersAreNoOptions, OthersAskForNothing, WordsHaveOneFault}
 use Rattle.cidr_join.specs.CommandLines.{join_options}
 use Rattle.cidr_join.specs.Joins.{Joins}
 use Rattle.cidr_join.specs.Laws.{LogsHaveOneOutput, OutputsOfPartsFollow, Tallies, TalliesOfPartsAddUp, is_option_word}

@@ -1,7 +1,7 @@
 -- What follows from the clauses of a command line and of a log.
 use Rattle.std.specs.Prelude.{◌≡◌, ℕ, ◌+◌, ◌-◌, ◌^◌, min, ◌==◌, ◌||◌, Bool, List, [], ◌∷◌, ◌++◌, codes}
 use Rattle.program.specs.LogLines.{LogLine, log_lines}
-use Rattle.log_programs.specs.Laws.{is_word_of}
+use Rattle.log_programs.specs.WordRules.{is_word_of}
 use Rattle.cidr_join.specs.Joins.{Joins}
 use Rattle.cidr_join.specs.Tallies.{Row, counted_by, IsTally}
 use Rattle.cidr_join.specs.TallyRuns.{Marks}

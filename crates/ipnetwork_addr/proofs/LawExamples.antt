@@ -134,7 +134,6 @@ pub no_text_of_both : ((text : List ℕ) (a b : ℕ) → NamesV4 text a → Name
 no_text_of_both law computed address =
     law (codes "192.0.2.1") 0xc0000201 address (v4_text_names_one computed)
 
-
 abbrev width : IpAddr → ℕ
 width (V4 address) = 32
 width (V6 address) = 128

@@ -4,7 +4,7 @@ use Rattle.std.specs.Prelude.{Option, None, String, bytes_eq}
 use Rattle.std.specs.List.{list_all, list_any}
 use Rattle.std.specs.String.{string_bytes}
 use Rattle.log_programs.specs.CommandLines.{option_of, with_next}
-use Rattle.log_programs.specs.Laws.{are_flags, begins_with, begins_with_one_of, is_one_of, is_word_of, OthersAreNoOptions, OthersAskForNothing}
+use Rattle.log_programs.specs.WordRules.{are_flags, begins_with, begins_with_one_of, is_one_of, is_word_of, OthersAreNoOptions, OthersAskForNothing}
 use Rattle.log_programs.specs.Options.{Options}
 use Rattle.log_programs.specs.Plain.{begins, is_plain}
 use Rattle.log_programs.proofs.Requests.{no_files}

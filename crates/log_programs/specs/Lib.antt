@@ -3,7 +3,6 @@ pub mod Arranged
 pub mod CommandLines
 pub mod Joined
 pub mod Lacking
-pub mod Laws
 pub mod Numbers
 pub mod Options
 pub mod Plain
@@ -13,3 +12,4 @@ pub mod Shared
 pub mod Syntax
 pub mod Usage
 pub mod Values
+pub mod WordRules

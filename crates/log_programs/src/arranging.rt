@@ -84,7 +84,7 @@ fn put_word<G: Grammar>(
     ensures { OnOk result (map string_bytes all.new.items
         ≡ (if belongs options mode word.now
         then map string_bytes all.old.items
-            ++ words_at G.options.syntax mode (string_bytes word.now)
+        ++ words_at G.options.syntax mode (string_bytes word.now)
         else map string_bytes all.old.items)) }
 {
     if belongs(options, mode, word) {

@@ -47,13 +47,13 @@ fn joined_in<G: Grammar>(word: &str) -> Option<&str>
     ensures words { MatchOption result (words_in G.options.syntax word.now ≡ word.now ∷ [])
         (λ text. words_in G.options.syntax word.now
         ≡ letter_words G.options.syntax text.now
-            ++ value_words (after_letters G.options.syntax text.now)) }
+        ++ value_words (after_letters G.options.syntax text.now)) }
     ensures awaits { MatchOption result (awaits_value G.options.syntax word.now ≡ false)
         (λ text. awaits_value G.options.syntax word.now
         ≡ (length (after_letters G.options.syntax text.now) == 1)) }
     ensures value { IfSome result
         (λ text. begins_with_value G.options.syntax (after_letters G.options.syntax text.now)
-            ≡ true) }
+        ≡ true) }
 {
     let Some((first, text)) = split_letter(word) else {
         return None;
@@ -105,7 +105,7 @@ fn without_letter<G: Grammar>(text: &str) -> Option<&str>
         (λ rest. length rest.now < length text.now) }
     ensures same { MatchOption result (after_letters G.options.syntax text.now ≡ text.now)
         (λ rest. after_letters G.options.syntax text.now
-            ≡ after_letters G.options.syntax rest.now) }
+        ≡ after_letters G.options.syntax rest.now) }
 {
     G::law_letters();
     let Some((letter, rest)) = split_letter(text) else {

@@ -1,4 +1,4 @@
--- What follows from the clauses of a command line.
+-- What holds of the words of a command line, whatever options a program has.
 use Rattle.std.specs.Prelude.{◌≡◌, ℕ, ◌||◌, ◌&&◌, Bool, true, false, List, [], ◌∷◌, None, take, drop, length, nat_lt, codes, bytes_eq, String}
 use Rattle.std.specs.List.{list_all, list_any}
 use Rattle.std.specs.String.{string_bytes}
