@@ -50,7 +50,7 @@ pub struct Said {
     pub mapped: bool,
     /// Whether a list is among the options.
     pub has_list: bool,
-    /// Whether more than one is.
+    /// Whether a `-f` follows a list that was named.
     pub has_lists: bool,
     /// How often the options name standard input.
     pub inputs: usize,
