@@ -5,7 +5,7 @@ use Rattle.std.specs.List.{Contains}
 use Rattle.ipnetwork_addr.specs.declared.ip.IpAddr.{IpAddr}
 use Rattle.ipnetwork_blocks.proofs.LeastLists.{contains_nil}
 use Rattle.serde_json.specs.Data.{Data}
-use Rattle.lists.specs.DocumentLaws.{Occurs, TextNames, DocumentNames, DocumentsAddWhatTheyName}
+use Rattle.lists.specs.DocumentLaws.{TextNames, DocumentNames, DocumentsAddWhatTheyName}
 use Rattle.lists.specs.Documents.{strings_of, TakesText, TakesString, TakesStrings}
 use Rattle.lists.specs.Entries.{NamesEntry, ReadsText}
 use Rattle.lists.specs.Lists.{ReadLists, HasAddress, Names, at_next_line}
