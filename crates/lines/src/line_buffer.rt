@@ -6,7 +6,7 @@ ghost use Rattle.lines.specs.Watched.{device_of, has_failed};
 use crate::fault::RunFault;
 use crate::line_end::{Cut, LineEnd, cut_before};
 use crate::watched::Watched;
-use byte_search::find_from;
+use byte_search::find_far;
 use std::io::Read;
 use std::marker::Model;
 
@@ -235,7 +235,7 @@ impl<'b> LineBuffer<'b> {
     {
         let (start, searched, end) = (self.start, self.searched, self.end);
         let window = &self.buffer[..end];
-        let at = find_from(window, searched, b'\n')?;
+        let at = find_far(window, searched, b'\n')?;
         Some(cut_before(&window[start..at]))
     }
 
