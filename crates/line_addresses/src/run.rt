@@ -53,6 +53,7 @@ pub(crate) fn address_in(run: &[u8]) -> Option<(IpAddr, usize)>
 /// assert_eq!(rt; address_of(b"10.1.1.1"), Some("10.1.1.1".parse()?));
 /// assert_eq!(rt; address_of(b"10.1.1.1."), None);
 /// ```
+#[inline(always)]
 pub fn address_of(text: &[u8]) -> Option<IpAddr>
     ensures { result ≡ address_of text.now }
 {
