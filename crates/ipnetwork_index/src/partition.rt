@@ -133,6 +133,10 @@ impl<N: IndexedNetwork> Partition<N> {
         ensures { LiesAt self.now (N.Number.value number) result }
     {
         let lasts = self.lasts.as_slice();
+        // One range has all numbers.
+        if lasts.len() == 4 {
+            return 0;
+        }
         let starts = self.starts.as_slice();
         let by_halves = self.by_halves;
         if by_halves {

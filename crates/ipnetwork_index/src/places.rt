@@ -83,7 +83,7 @@ fn are_many_and_spread<N: IndexedNetwork>(lasts: &[N::Addr]) -> bool
     if N::WIDTH > 32 {
         return false;
     }
-    if lasts.len() < 1 << 17 || lasts.len() > u32::MAX as usize {
+    if lasts.len() < 1 << 16 || lasts.len() > u32::MAX as usize {
         return false;
     }
     let few = lasts.len() / 64;

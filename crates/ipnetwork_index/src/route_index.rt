@@ -167,8 +167,8 @@ impl<N: IndexedNetwork, V: Copy> RouteIndex<N, V> {
     /// twice the blocks (`laws::few_routed_ranges`). Beside the last numbers of the ranges, as an
     /// `AddressIndex` has them, the index has the table, and of each range a byte and a value. It
     /// has two to four places of 4 bytes for each range, or at most one from 2^16 ranges on, but no
-    /// more than 2^20. From 2^17 IPv4 ranges on it has of each range 2 bytes in place of 4, if all
-    /// but a 32nd of them reach over a fourth of the addresses, and one place for two to eight
+    /// more than 2^20. From 2^16 IPv4 ranges on it has of each range 2 bytes in place of 4, if all
+    /// but a 32nd of them reach over a fourth of the addresses, and one place for one to eight
     /// ranges, or more from 2^23 ranges on, but no more than 2^20 and one.
     ///
     /// ```
