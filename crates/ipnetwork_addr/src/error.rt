@@ -1,4 +1,5 @@
 //! The error of reading an address.
+ghost use Rattle.std.specs.Prelude.{Some};
 
 use std::error::Error;
 use std::fmt;
@@ -21,7 +22,6 @@ pub enum AddrParseError {
 }
 
 impl fmt::Display for AddrParseError {
-    ghost use Rattle.std.specs.Prelude.{Some};
     ghost use Rattle.ipnetwork_addr.specs.Faults.{addr_fault_text};
 
     ghost output = { λ fault. Some (addr_fault_text fault) };

@@ -1,4 +1,6 @@
 //! Addresses of either family.
+ghost use Rattle.std.specs.Prelude.{◌≡◌, ◌≤◌, Some, length};
+ghost use Rattle.ipnetwork_addr.specs.Reading.{Reads};
 
 use crate::first_mark::has_colon_first;
 use crate::{ADDRESS_TEXT_CAPACITY, AddrParseError, Ipv4Addr, Ipv6Addr};
@@ -22,8 +24,6 @@ pub enum IpAddr {
 }
 
 impl IpAddr {
-    ghost use Rattle.std.specs.Prelude.{◌≡◌, ◌≤◌, length};
-    ghost use Rattle.ipnetwork_addr.specs.Reading.{Reads};
     ghost use Rattle.ipnetwork_addr.specs.Either.{NamesIp, canonical_ip};
 
     /// The address that a text names, as `Ipv4Addr::read_bytes` or `Ipv6Addr::read_bytes` reads it: no text names one
@@ -70,7 +70,6 @@ impl IpAddr {
 impl FromStr for IpAddr {
     type Err = AddrParseError;
 
-    ghost use Rattle.ipnetwork_addr.specs.Reading.{Reads};
     ghost use Rattle.ipnetwork_addr.specs.Either.{NamesIp};
     ghost use Rattle.ipnetwork_addr.specs.declared.error.AddrParseError.TheVariants as faults;
 
@@ -83,7 +82,6 @@ impl FromStr for IpAddr {
 }
 
 impl fmt::Display for IpAddr {
-    ghost use Rattle.std.specs.Prelude.{Some};
     ghost use Rattle.ipnetwork_addr.specs.Either.{canonical_ip};
 
     ghost output = { λ address. Some (canonical_ip address) };

@@ -1,9 +1,9 @@
 //! Reads the octets of an IPv4 text, from left to right.
-ghost use Rattle.std.specs.Prelude.{◌≡◌, ◌+◌, ◌<◌, ◌≤◌, ◌↔◌, [], ◌∷◌, length, take, drop, slice_index, IsTrue, MatchOption};
+ghost use Rattle.std.specs.Prelude.{◌≡◌, ◌+◌, ◌<◌, ◌≤◌, ◌↔◌, [], ◌∷◌, length, take, slice_index, IsTrue, MatchOption};
 ghost use Rattle.std.specs.Int.Digits.{number_from_digits};
 ghost use Rattle.ipnetwork_addr.specs.Ipv4Text.{IsOctet, NamesV4};
 ghost use Rattle.ipnetwork_addr.specs.Private.NoAddress.{NamesNoV4};
-ghost use Rattle.ipnetwork_addr.specs.Private.OctetFront.{IsNoOctet, IsOctetEnd, HasNoOctetEnd, BeginsWithOctet, NoOctetAndDot, before_dot};
+ghost use Rattle.ipnetwork_addr.specs.Private.OctetFront.{IsNoOctet, IsOctetEnd, HasNoOctetEnd, FindsOctet, before_dot};
 ghost use Rattle.ipnetwork_addr.specs.Texts.{dot};
 
 use crate::decimal_value::{
@@ -42,9 +42,7 @@ fn read_from_left(text: &[u8]) -> Option<[u8; 4]>
 #[inline(always)]
 fn read_octet_and_dot(text: &[u8], at: usize) -> Option<(u8, usize)>
     requires { at ≤ length text.now }
-    ensures { MatchOption result (NoOctetAndDot (drop at text.now))
-        (λ found. (found.1 ≤ length text.now)
-        × BeginsWithOctet (drop at text.now) found.0 (dot ∷ drop found.1 text.now)) }
+    ensures { FindsOctet text.now at result }
 {
     if text.len() - at < 4 || text[at + 1] == b'.' {
         return read_by_places(text, at);
@@ -63,9 +61,7 @@ fn read_octet_and_dot(text: &[u8], at: usize) -> Option<(u8, usize)>
 #[inline(always)]
 fn read_by_places(text: &[u8], at: usize) -> Option<(u8, usize)>
     requires { at ≤ length text.now }
-    ensures { MatchOption result (NoOctetAndDot (drop at text.now))
-        (λ found. (found.1 ≤ length text.now)
-        × BeginsWithOctet (drop at text.now) found.0 (dot ∷ drop found.1 text.now)) }
+    ensures { FindsOctet text.now at result }
 {
     let rest = &text[at..];
     let end = octet_end(rest)?;

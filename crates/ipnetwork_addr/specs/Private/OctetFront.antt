@@ -1,5 +1,5 @@
 -- The octets that a text begins with.
-use Rattle.std.specs.Prelude.{◌≡◌, ◌≢◌, ℕ, ◌*◌, ◌<◌, ◌≤◌, ◌⊎◌, List, [], ◌∷◌, ◌++◌, ◌==◌, length, slice_index, decimal, nat_lt, if◌then◌else◌}
+use Rattle.std.specs.Prelude.{◌≡◌, ◌≢◌, ℕ, ◌*◌, ◌<◌, ◌≤◌, ◌⊎◌, List, [], ◌∷◌, ◌++◌, ◌==◌, drop, length, slice_index, Option, MatchOption, decimal, nat_lt, if◌then◌else◌}
 use Rattle.std.specs.Char.{digit_value}
 use Rattle.ipnetwork_addr.specs.Ipv4Text.{IsOctet}
 use Rattle.ipnetwork_addr.specs.Texts.{dot}
@@ -37,6 +37,12 @@ pub record BeginsWithOctet (text : List ℕ) (octet : ℕ) (rest : List ℕ) : T
 -- the text begins with no octet and dot
 abbrev pub NoOctetAndDot : List ℕ → Type 0
 NoOctetAndDot text = (octet : ℕ) (rest : List ℕ) → ¬ (BeginsWithOctet text octet (dot ∷ rest))
+
+-- the octet before the first dot from this place on, and the place after that dot; none if no octet stands there
+abbrev pub FindsOctet : List ℕ → ℕ → Option (ℕ × ℕ) → Type 0
+FindsOctet text at result =
+    MatchOption result (NoOctetAndDot (drop at text))
+    (λ found. (found.1 ≤ length text) × BeginsWithOctet (drop at text) found.0 (dot ∷ drop found.1 text))
 
 -- the bytes before a dot: two of them if the third is the dot, else three
 abbrev pub before_dot : ℕ → ℕ → ℕ → List ℕ

@@ -55,10 +55,7 @@ impl<D: Write> Watched<D> {
         ensures uncalled { IsTrue (has_failed self.old)
             → (result ≡ Err RunFault.Write) × (device_of self.new ≡ device_of self.old) }
     {
-        if self.device.failed() {
-            return Err(RunFault::Write);
-        }
-        if self.device.flush().is_err() {
+        if self.device.failed() || self.device.flush().is_err() {
             return Err(RunFault::Write);
         }
         Ok(())
