@@ -1,7 +1,7 @@
 -- Hosts, subnets, siblings and blocks that follow and precede at which a misreading of the definitions would show.
-use Rattle.std.proofs.Common.{◌≡◌, ◌↔◌, ℕ, ◌^◌, ◌<◌, ◌≤◌, sym, refl, ap, subst, arith, inl, inr, List, [], ◌∷◌}
+use Rattle.std.proofs.Common.{◌≡◌, ◌↔◌, ℕ, ◌^◌, ◌<◌, ◌≤◌, sym, refl, ◌∙◌, ap, subst, arith, inl, inr, List, [], ◌∷◌}
 use Rattle.std.proofs.lemmas.List.{append_cancel_right}
-use Rattle.ipnetwork_family.specs.Network.{Network, IsNetwork, count_up}
+use Rattle.ipnetwork_family.specs.Network.{Network, IsNetwork, count_up, members}
 use Rattle.ipnetwork_blocks.specs.Supernets.{IsSibling}
 use Rattle.ipnetwork_blocks.specs.FollowingBlock.{following_block}
 use Rattle.ipnetwork_blocks.specs.PrecedingBlock.{preceding_block}
@@ -29,20 +29,6 @@ two_of_four =
     one_list (AreIpv4Hosts (net 5 30)) (5 ∷ 6 ∷ []) (record { inner = λ short. refl; whole = λ long. absurd (omega arith) })
     (λ xs h. append_cancel_right xs (5 ∷ 6 ∷ []) (7 ∷ []) (sym (ap rest (h.inner (omega arith)))))
 
--- 0.0.0.5/31
-pub both_of_two : (hosts : List ℕ) → AreIpv4Hosts (net 5 31) hosts ↔ (hosts ≡ 4 ∷ 5 ∷ [])
-unfolding count_up
-both_of_two =
-    one_list (AreIpv4Hosts (net 5 31)) (4 ∷ 5 ∷ []) (record { inner = λ short. absurd (omega arith); whole = λ long. refl })
-    (λ xs h. sym (h.whole (omega arith)))
-
--- 0.0.0.5/32
-pub the_one : (hosts : List ℕ) → AreIpv4Hosts (net 5 32) hosts ↔ (hosts ≡ 5 ∷ [])
-unfolding count_up
-the_one =
-    one_list (AreIpv4Hosts (net 5 32)) (5 ∷ []) (record { inner = λ short. absurd (omega arith); whole = λ long. refl })
-    (λ xs h. sym (h.whole (omega arith)))
-
 -- ::5/126
 pub three_of_four : (hosts : List ℕ) → AreIpv6Hosts (net 5 126) hosts ↔ (hosts ≡ 5 ∷ 6 ∷ 7 ∷ [])
 unfolding count_up rest
@@ -50,19 +36,23 @@ three_of_four =
     one_list (AreIpv6Hosts (net 5 126)) (5 ∷ 6 ∷ 7 ∷ []) (record { inner = λ short. refl; whole = λ long. absurd (omega arith) })
     (λ xs h. sym (ap rest (h.inner (omega arith))))
 
--- ::5/127
-pub both_of_two_v6 : (hosts : List ℕ) → AreIpv6Hosts (net 5 127) hosts ↔ (hosts ≡ 4 ∷ 5 ∷ [])
-unfolding count_up
-both_of_two_v6 =
-    one_list (AreIpv6Hosts (net 5 127)) (4 ∷ 5 ∷ []) (record { inner = λ short. absurd (omega arith); whole = λ long. refl })
-    (λ xs h. sym (h.whole (omega arith)))
+all_of_v4 : (p : ℕ) (hosts : List ℕ) → 30 < p → members 32 (net 5 p) ≡ hosts → (xs : List ℕ) → AreIpv4Hosts (net 5 p) xs ↔ (xs ≡ hosts)
+all_of_v4 p hosts long is =
+    one_list (AreIpv4Hosts (net 5 p)) hosts (record { inner = λ short. absurd (omega arith); whole = λ _. is }) (λ xs h. sym (h.whole (omega arith)) ∙ is)
 
--- ::5/128
-pub the_one_v6 : (hosts : List ℕ) → AreIpv6Hosts (net 5 128) hosts ↔ (hosts ≡ 5 ∷ [])
+all_of_v6 : (p : ℕ) (hosts : List ℕ) → 126 < p → members 128 (net 5 p) ≡ hosts → (xs : List ℕ) → AreIpv6Hosts (net 5 p) xs ↔ (xs ≡ hosts)
+all_of_v6 p hosts long is =
+    one_list (AreIpv6Hosts (net 5 p)) hosts (record { inner = λ short. absurd (omega arith); whole = λ _. is }) (λ xs h. sym (h.whole (omega arith)) ∙ is)
+
+-- 0.0.0.5/31, and ::5/127
+pub both_of_two : (hosts : List ℕ) → (AreIpv4Hosts (net 5 31) hosts ↔ (hosts ≡ 4 ∷ 5 ∷ [])) × (AreIpv6Hosts (net 5 127) hosts ↔ (hosts ≡ 4 ∷ 5 ∷ []))
 unfolding count_up
-the_one_v6 =
-    one_list (AreIpv6Hosts (net 5 128)) (5 ∷ []) (record { inner = λ short. absurd (omega arith); whole = λ long. refl })
-    (λ xs h. sym (h.whole (omega arith)))
+both_of_two hosts = (all_of_v4 31 (4 ∷ 5 ∷ []) (omega arith) refl hosts, all_of_v6 127 (4 ∷ 5 ∷ []) (omega arith) refl hosts)
+
+-- 0.0.0.5/32, and ::5/128
+pub the_one : (hosts : List ℕ) → (AreIpv4Hosts (net 5 32) hosts ↔ (hosts ≡ 5 ∷ [])) × (AreIpv6Hosts (net 5 128) hosts ↔ (hosts ≡ 5 ∷ []))
+unfolding count_up
+the_one hosts = (all_of_v4 32 (5 ∷ []) (omega arith) refl hosts, all_of_v6 128 (5 ∷ []) (omega arith) refl hosts)
 
 -- ---- subnets: 192.0.2.0 is 3221225984, and host bits change nothing
 

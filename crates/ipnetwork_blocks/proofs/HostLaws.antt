@@ -4,7 +4,7 @@ use Rattle.std.proofs.lemmas.Bool.{cases_lt}
 use Rattle.std.proofs.lemmas.List.{get_or_append_left, get_or-append-add, length-append, append-nil}
 use Rattle.std.specs.List.{Contains}
 use Rattle.std.specs.List.Sorted.{IsStrictlyIncreasing}
-use Rattle.ipnetwork_family.specs.Network.{Network, IsNetwork, Member, low, high, block_size, count_up}
+use Rattle.ipnetwork_family.specs.Network.{Network, IsNetwork, Member, low, high, block_size, count_up, members}
 use Rattle.ipnetwork_family.proofs.Blocks.{size_pos, within_member, member_within}
 use Rattle.ipnetwork_family.proofs.Members.{length-count_up, get_or-count_up}
 use Rattle.ipnetwork_blocks.specs.Hosts.{AreIpv4Hosts, AreIpv6Hosts, ListsThose}
@@ -43,6 +43,21 @@ lists_between start count before after hosts h = record {
       (i, below, h.item i x below ∙ (omega arith));
 }
 
+-- all members of a network
+all_members : (w : ℕ) (n : Network) (hosts : List ℕ) (Q : ℕ → Type 0) → IsNetwork w n → members w n ≡ hosts → ((x : ℕ) → Q x) → ListsThose (λ x. Member w n x × Q x) hosts
+all_members w n hosts Q net is holds =
+    let s : ℕ = block_size w n.prefix in
+    let a : ℕ = low w n in
+    let at = stands a s [] hosts [] (is ∙ sym (append-nil hosts)) in
+    let list = lists_between a s 0 0 hosts at in
+    record {
+      ascending = list.ascending;
+      exactly = λ x. (
+        (λ c. let k = list.each x c in (member_within w n net x (omega (arith, k.0)) (omega (arith, k.1, at.size)), holds x)),
+        (λ m. let k = within_member w n x m.0 in list.all x (omega (arith, k.0)) (omega (arith, k.1, at.size))),
+      );
+    }
+
 pub ipv4_hosts_law : (n : Network) (hosts : List ℕ) → IsNetwork 32 n → AreIpv4Hosts n hosts
     → ListsThose (λ x. Member 32 n x × (n.prefix ≤ 30 → (x ≢ low 32 n) × (x ≢ high 32 n))) hosts
 ipv4_hosts_law n hosts net h =
@@ -51,15 +66,7 @@ ipv4_hosts_law n hosts net h =
     let s_pos : 0 < s = size_pos 32 n.prefix in
     ⊎_elim
     (λ (long : 30 < n.prefix).
-    let at = stands a s [] hosts [] (h.whole (omega arith) ∙ sym (append-nil hosts)) in
-    let list = lists_between a s 0 0 hosts at in
-    record {
-      ascending = list.ascending;
-      exactly = λ x. (
-        (λ c. let k = list.each x c in (member_within 32 n net x (omega (arith, k.0)) (omega (arith, k.1, at.size)), λ short. absurd (omega arith))),
-        (λ m. let k = within_member 32 n x m.0 in list.all x (omega (arith, k.0)) (omega (arith, k.1, at.size))),
-      );
-    })
+    all_members 32 n hosts (λ x. n.prefix ≤ 30 → (x ≢ low 32 n) × (x ≢ high 32 n)) net (h.whole (omega arith)) (λ x short. absurd (omega arith)))
     (λ (short : n.prefix ≤ 30).
     let two = two_members 32 n (omega arith) in
     let at = stands a s (a ∷ []) hosts (high 32 n ∷ []) (h.inner short) in
@@ -87,16 +94,7 @@ ipv6_hosts_law n hosts net h =
     let s : ℕ = block_size 128 n.prefix in
     let a : ℕ = low 128 n in
     ⊎_elim
-    (λ (long : 126 < n.prefix).
-    let at = stands a s [] hosts [] (h.whole (omega arith) ∙ sym (append-nil hosts)) in
-    let list = lists_between a s 0 0 hosts at in
-    record {
-      ascending = list.ascending;
-      exactly = λ x. (
-        (λ c. let k = list.each x c in (member_within 128 n net x (omega (arith, k.0)) (omega (arith, k.1, at.size)), λ short. absurd (omega arith))),
-        (λ m. let k = within_member 128 n x m.0 in list.all x (omega (arith, k.0)) (omega (arith, k.1, at.size))),
-      );
-    })
+    (λ (long : 126 < n.prefix). all_members 128 n hosts (λ x. n.prefix ≤ 126 → x ≢ low 128 n) net (h.whole (omega arith)) (λ x short. absurd (omega arith)))
     (λ (short : n.prefix ≤ 126).
     let at = stands a s (a ∷ []) hosts [] (h.inner short ∙ ap (λ xs. a ∷ xs) (sym (append-nil hosts))) in
     let list = lists_between a s 1 0 hosts at in

@@ -47,6 +47,18 @@ pairs_append {X} R (x ∷ xs) ys h k across =
     (Contains-append_cases xs ys (get_or (xs ++ ys) i d) (Contains-get_or (xs ++ ys) i d l)))
     (pairs_append R xs ys (pairs_tail R x xs h) k (λ a b c e. across a b (contains_tail x xs a c) e))
 
+-- what is in a list that ascends by a key, behind its first, is in another behind the same first
+rest_of_same : {X : Type 0} (key : X → ℕ) (x y : X) (xs ys : List X) → AllPairs (λ a b. key a < key b) (x ∷ xs) → x ≡ y
+    → ((b : X) → Contains (x ∷ xs) b → Contains (y ∷ ys) b) → (b : X) → Contains xs b → Contains ys b
+rest_of_same {X} key x y xs ys h first has b c =
+    let R : X → X → Type 0 = λ a b. key a < key b in
+    let less = pairs_head R x xs h b c in
+    let key_same : key x ≡ key y = ap key first in
+    ⊎_elim (λ (e : y ≡ b).
+    let key_b : key y ≡ key b = ap key e in
+    let r : Contains ys b = absurd (omega arith) in r)
+    (λ (d : Contains ys b). d) (contains_cons y ys b (has b (contains_tail x xs b c)))
+
 -- two lists that ascend by one key and have the same elements are equal
 ascending_unique : {X : Type 0} (key : X → ℕ) (xs ys : List X) → AllPairs (λ a b. key a < key b) xs → AllPairs (λ a b. key a < key b) ys
     → ((b : X) → Contains xs b ↔ Contains ys b) → xs ≡ ys
@@ -63,20 +75,8 @@ ascending_unique {X} key (x ∷ xs) (y ∷ ys) h k same =
     let r : x ≡ y = absurd (omega arith) in r)
     (contains_cons x xs y ((same y).1 (contains_head y ys))))
     (contains_cons y ys x ((same x).0 (contains_head x xs))) in
-    let key_same : key x ≡ key y = ap key first in
-    let to : (b : X) → Contains xs b → Contains ys b =
-    λ b c. ⊎_elim (λ (e : y ≡ b).
-    let less = pairs_head R x xs h b c in
-    let key_b : key y ≡ key b = ap key e in
-    let r : Contains ys b = absurd (omega arith) in r)
-    (λ (d : Contains ys b). d) (contains_cons y ys b ((same b).0 (contains_tail x xs b c))) in
-    let from : (b : X) → Contains ys b → Contains xs b =
-    λ b c. ⊎_elim (λ (e : x ≡ b).
-    let less = pairs_head R y ys k b c in
-    let key_b : key x ≡ key b = ap key e in
-    let r : Contains xs b = absurd (omega arith) in r)
-    (λ (d : Contains xs b). d) (contains_cons x xs b ((same b).1 (contains_tail y ys b c))) in
-    ap (λ z. z ∷ xs) first ∙ ap (λ zs. y ∷ zs) (ascending_unique key xs ys (pairs_tail R x xs h) (pairs_tail R y ys k) (λ b. (to b, from b)))
+    ap (λ z. z ∷ xs) first ∙ ap (λ zs. y ∷ zs) (ascending_unique key xs ys (pairs_tail R x xs h) (pairs_tail R y ys k)
+    (λ b. (rest_of_same key x y xs ys h first (λ a. (same a).0) b, rest_of_same key y x ys xs k (sym first) (λ a. (same a).1) b)))
 
 -- ---- least lists
 
@@ -84,13 +84,17 @@ ascending_unique {X} key (x ∷ xs) (y ∷ ys) h k same =
 pub own_address : (w : ℕ) (n : Network) → IsNetwork w n → Member w n n.address
 own_address w n h = (h.address_fits, refl)
 
-maximal_of_same : (w : ℕ) (S T : ℕ → Type 0) → ((x : ℕ) → S x ↔ T x) → (b : Network) → IsMaximalIn w S b → IsMaximalIn w T b
-maximal_of_same w S T same b m = record {
+-- a block that is maximal in one set is so in another if it lies there, and the networks around it that do lie in the first
+maximal_in : (w : ℕ) (S T : ℕ → Type 0) (b : Network) → IsMaximalIn w S b → LiesIn w T b → ((n : Network) → IsNetwork w n → Subnet w b n → LiesIn w T n → LiesIn w S n) → IsMaximalIn w T b
+maximal_in w S T b m lies around = record {
   network = m.network;
   block = m.block;
-  lies = λ x k. (same x).0 (m.lies x k);
-  maximal = λ n h lt sub lies. m.maximal n h lt sub (λ x k. (same x).1 (lies x k));
+  lies = lies;
+  maximal = λ n h lt sub wide. m.maximal n h lt sub (around n h sub wide);
 }
+
+maximal_of_same : (w : ℕ) (S T : ℕ → Type 0) → ((x : ℕ) → S x ↔ T x) → (b : Network) → IsMaximalIn w S b → IsMaximalIn w T b
+maximal_of_same w S T same b m = maximal_in w S T b m (λ x k. (same x).0 (m.lies x k)) (λ n h sub lies x k. (same x).1 (lies x k))
 
 -- a least list depends on the addresses of the set alone,
 pub least_of_same : (w : ℕ) (S T : ℕ → Type 0) (r : List Network) → ((x : ℕ) → S x ↔ T x) → IsLeastList w S r → IsLeastList w T r
@@ -161,18 +165,8 @@ least_of_two w S P Q r s parts before one h k =
             (λ (c : Contains s b). upper b ((k.maximal b).0 c))
             (Contains-append_cases r s b c)),
         (λ (m : IsMaximalIn w S b). ⊎_elim
-            (λ (lies : LiesIn w P b). Contains-append_left r s b ((h.maximal b).1 (record {
-              network = m.network;
-              block = m.block;
-              lies = lies;
-              maximal = λ n nn lt sub wide. m.maximal n nn lt sub (λ x l. (parts x).1 (inl (wide x l)));
-            })))
-            (λ (lies : LiesIn w Q b). Contains-append_right r s b ((k.maximal b).1 (record {
-              network = m.network;
-              block = m.block;
-              lies = lies;
-              maximal = λ n nn lt sub wide. m.maximal n nn lt sub (λ x l. (parts x).1 (inr (wide x l)));
-            })))
+            (λ (lies : LiesIn w P b). Contains-append_left r s b ((h.maximal b).1 (maximal_in w S P b m lies (λ n nn sub wide x l. (parts x).1 (inl (wide x l))))))
+            (λ (lies : LiesIn w Q b). Contains-append_right r s b ((k.maximal b).1 (maximal_in w S Q b m lies (λ n nn sub wide x l. (parts x).1 (inr (wide x l))))))
             (one b m.network m.lies)),
       );
       ascending = pairs_append (λ a b. a.address < b.address) r s h.ascending k.ascending
@@ -183,29 +177,19 @@ least_of_two w S P Q r s parts before one h k =
     }
   where
     lower : (b : Network) → IsMaximalIn w P b → IsMaximalIn w S b
-    lower b m = record {
-      network = m.network;
-      block = m.block;
-      lies = λ x l. (parts x).1 (inl (m.lies x l));
-      maximal = λ n nn lt sub lies. ⊎_elim
-          (λ (wide : LiesIn w P n). m.maximal n nn lt sub wide)
-          (λ (wide : LiesIn w Q n).
-          let x = own_address w b m.network in
-          let less = before b.address b.address (m.lies b.address x) (wide b.address (sub b.address x)) in
-          let r : ⊥ = omega arith in r)
-          (one n nn lies);
-    }
+    lower b m = maximal_in w P S b m (λ x l. (parts x).1 (inl (m.lies x l))) (λ n nn sub lies. ⊎_elim
+        (λ (wide : LiesIn w P n). wide)
+        (λ (wide : LiesIn w Q n).
+        let x = own_address w b m.network in
+        let less = before b.address b.address (m.lies b.address x) (wide b.address (sub b.address x)) in
+        let r : LiesIn w P n = absurd (omega arith) in r)
+        (one n nn lies))
 
     upper : (b : Network) → IsMaximalIn w Q b → IsMaximalIn w S b
-    upper b m = record {
-      network = m.network;
-      block = m.block;
-      lies = λ x l. (parts x).1 (inr (m.lies x l));
-      maximal = λ n nn lt sub lies. ⊎_elim
-          (λ (wide : LiesIn w P n).
-          let x = own_address w b m.network in
-          let less = before b.address b.address (wide b.address (sub b.address x)) (m.lies b.address x) in
-          let r : ⊥ = omega arith in r)
-          (λ (wide : LiesIn w Q n). m.maximal n nn lt sub wide)
-          (one n nn lies);
-    }
+    upper b m = maximal_in w Q S b m (λ x l. (parts x).1 (inr (m.lies x l))) (λ n nn sub lies. ⊎_elim
+        (λ (wide : LiesIn w P n).
+        let x = own_address w b m.network in
+        let less = before b.address b.address (wide b.address (sub b.address x)) (m.lies b.address x) in
+        let r : LiesIn w Q n = absurd (omega arith) in r)
+        (λ (wide : LiesIn w Q n). wide)
+        (one n nn lies))

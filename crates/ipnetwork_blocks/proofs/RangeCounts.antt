@@ -51,22 +51,29 @@ split w k base first last fails =
     let upper : List Network = blocks_within w k (base + 2 ^ k) first last in
     ap (λ t. length (cond t (block_from w (suc k) base ∷ []) (lower ++ upper))) (has_not base (2 ^ suc k) first last fails) ∙ length-append lower upper
 
+-- the halves of a block
+record HasHalves (w k base : ℕ) : Type 0 where
+  pub lower : Begins w k base
+  pub upper : Begins w k (base + 2 ^ k)
+  pub two : 2 ^ suc k ≡ 2 ^ k + 2 ^ k
+
+halved : (w k base : ℕ) → Begins w (suc k) base → HasHalves w k base
+halved w k base h = record { lower = lower_begins w k base h; upper = upper_begins w k base h; two = twice k }
+
 -- a block that the range ends with, or behind: one block for each host bit at most
 count_to_end : (w k base first last : ℕ) → Begins w k base → base < first → base + 2 ^ k ≤ last + 1 → count w k base first last ≤ k
 count_to_end w zero base first last h from to = omega (arith, outside w 0 base first last h (inr (omega arith)))
 count_to_end w (suc k) base first last h from to =
-    let lower = lower_begins w k base h in
-    let upper = upper_begins w k base h in
-    let two = twice k in
+    let half = halved w k base h in
     let sum = split w k base first last (λ l m. let r : ⊥ = omega arith in r) in
     ⊎_elim
     (λ (l : base + 2 ^ k < first).
-    let none = outside w k base first last lower (inr (omega arith)) in
-    let some = count_to_end w k (base + 2 ^ k) first last upper l (omega arith) in
+    let none = outside w k base first last half.lower (inr (omega arith)) in
+    let some = count_to_end w k (base + 2 ^ k) first last half.upper l (omega arith) in
     omega (arith, sum, none, some))
     (λ (le : first ≤ base + 2 ^ k).
-    let one = whole w k (base + 2 ^ k) first last upper le (omega arith) in
-    let some = count_to_end w k base first last lower from (omega arith) in
+    let one = whole w k (base + 2 ^ k) first last half.upper le (omega arith) in
+    let some = count_to_end w k base first last half.lower from (omega arith) in
     omega (arith, sum, one, some))
     (cases_lt (base + 2 ^ k) first)
 
@@ -74,18 +81,16 @@ count_to_end w (suc k) base first last h from to =
 count_from_start : (w k base first last : ℕ) → Begins w k base → first ≤ base → last + 1 < base + 2 ^ k → count w k base first last ≤ k
 count_from_start w zero base first last h from to = omega (arith, outside w 0 base first last h (inl (omega arith)))
 count_from_start w (suc k) base first last h from to =
-    let lower = lower_begins w k base h in
-    let upper = upper_begins w k base h in
-    let two = twice k in
+    let half = halved w k base h in
     let sum = split w k base first last (λ l m. let r : ⊥ = omega arith in r) in
     ⊎_elim
     (λ (l : last + 1 < base + 2 ^ k).
-    let none = outside w k (base + 2 ^ k) first last upper (inl (omega arith)) in
-    let some = count_from_start w k base first last lower from l in
+    let none = outside w k (base + 2 ^ k) first last half.upper (inl (omega arith)) in
+    let some = count_from_start w k base first last half.lower from l in
     omega (arith, sum, none, some))
     (λ (le : base + 2 ^ k ≤ last + 1).
-    let one = whole w k base first last lower from le in
-    let some = count_from_start w k (base + 2 ^ k) first last upper (omega arith) (omega arith) in
+    let one = whole w k base first last half.lower from le in
+    let some = count_from_start w k (base + 2 ^ k) first last half.upper (omega arith) (omega arith) in
     omega (arith, sum, one, some))
     (cases_lt (last + 1) (base + 2 ^ k))
 
@@ -100,36 +105,34 @@ count_within w zero base first last h =
     (cases_lt last base))
     (cases_lt base first)
 count_within w (suc k) base first last h =
-    let lower = lower_begins w k base h in
-    let upper = upper_begins w k base h in
-    let two = twice k in
+    let half = halved w k base h in
     let Goal : Type 0 = (count w (suc k) base first last ≤ 1) ⊎ (count w (suc k) base first last + 2 ≤ 2 * suc k) in
     let wider : (n : ℕ) → count w (suc k) base first last ≡ n → (n ≤ 1) ⊎ (n + 2 ≤ 2 * k) → Goal =
     λ n e o. ⊎_elim (λ (l : n ≤ 1). let r : Goal = inl (omega arith) in r) (λ (l : n + 2 ≤ 2 * k). let r : Goal = inr (omega arith) in r) o in
     ⊎_elim
     (λ (l : last < base + 2 ^ k).
     let sum = split w k base first last (λ a b. let p = pow_pos k in let r : ⊥ = omega arith in r) in
-    let none = outside w k (base + 2 ^ k) first last upper (inl l) in
-    wider (count w k base first last) (omega (arith, sum, none)) (count_within w k base first last lower))
+    let none = outside w k (base + 2 ^ k) first last half.upper (inl l) in
+    wider (count w k base first last) (omega (arith, sum, none)) (count_within w k base first last half.lower))
     (λ (to : base + 2 ^ k ≤ last). ⊎_elim
     (λ (from : first < base + 2 ^ k). ⊎_elim
     (λ (l : base < first).
     let sum = split w k base first last (λ a b. let r : ⊥ = omega arith in r) in
-    let some = count_to_end w k base first last lower l (omega arith) in
+    let some = count_to_end w k base first last half.lower l (omega arith) in
     ⊎_elim
     (λ (m : last + 1 < base + 2 ^ k + 2 ^ k).
-    let more = count_from_start w k (base + 2 ^ k) first last upper (omega arith) m in
+    let more = count_from_start w k (base + 2 ^ k) first last half.upper (omega arith) m in
     let r : Goal = inr (omega (arith, sum, some, more)) in r)
     (λ (m : base + 2 ^ k + 2 ^ k ≤ last + 1).
-    let one = whole w k (base + 2 ^ k) first last upper (omega arith) m in
+    let one = whole w k (base + 2 ^ k) first last half.upper (omega arith) m in
     one_more (count w (suc k) base first last) (omega (arith, sum, some, one)))
     (cases_lt (last + 1) (base + 2 ^ k + 2 ^ k)))
     (λ (le : first ≤ base).
-    let one = whole w k base first last lower le (omega arith) in
+    let one = whole w k base first last half.lower le (omega arith) in
     ⊎_elim
     (λ (m : last + 1 < base + 2 ^ k + 2 ^ k).
     let sum = split w k base first last (λ a b. let r : ⊥ = omega arith in r) in
-    let more = count_from_start w k (base + 2 ^ k) first last upper (omega arith) m in
+    let more = count_from_start w k (base + 2 ^ k) first last half.upper (omega arith) m in
     one_more (count w (suc k) base first last) (omega (arith, sum, one, more)))
     (λ (m : base + 2 ^ k + 2 ^ k ≤ last + 1).
     let all = whole w (suc k) base first last h le (omega arith) in
@@ -138,8 +141,8 @@ count_within w (suc k) base first last h =
     (cases_lt base first))
     (λ (l : base + 2 ^ k ≤ first).
     let sum = split w k base first last (λ a b. let p = pow_pos k in let r : ⊥ = omega arith in r) in
-    let none = outside w k base first last lower (inr l) in
-    wider (count w k (base + 2 ^ k) first last) (omega (arith, sum, none)) (count_within w k (base + 2 ^ k) first last upper))
+    let none = outside w k base first last half.lower (inr l) in
+    wider (count w k (base + 2 ^ k) first last) (omega (arith, sum, none)) (count_within w k (base + 2 ^ k) first last half.upper))
     (cases_lt first (base + 2 ^ k)))
     (cases_lt last (base + 2 ^ k))
   where
@@ -160,25 +163,21 @@ count_from_to w first last h =
 all_but_the_first : (w k base last : ℕ) → Begins w k base → base + 2 ^ k ≤ last + 1 → count w k base (base + 1) last ≡ k
 all_but_the_first w zero base last h to = outside w 0 base (base + 1) last h (inr (omega arith))
 all_but_the_first w (suc k) base last h to =
-    let lower = lower_begins w k base h in
-    let upper = upper_begins w k base h in
-    let two = twice k in
+    let half = halved w k base h in
     let pos = pow_pos k in
     let sum = split w k base (base + 1) last (λ l m. let r : ⊥ = omega arith in r) in
-    let one = whole w k (base + 2 ^ k) (base + 1) last upper (omega arith) (omega arith) in
-    let some = all_but_the_first w k base last lower (omega arith) in
+    let one = whole w k (base + 2 ^ k) (base + 1) last half.upper (omega arith) (omega arith) in
+    let some = all_but_the_first w k base last half.lower (omega arith) in
     omega (arith, sum, one, some)
 
 all_but_the_last : (w k base first last : ℕ) → Begins w k base → first ≤ base → last + 2 ≡ base + 2 ^ k → count w k base first last ≡ k
 all_but_the_last w zero base first last h from to = outside w 0 base first last h (inl (omega arith))
 all_but_the_last w (suc k) base first last h from to =
-    let lower = lower_begins w k base h in
-    let upper = upper_begins w k base h in
-    let two = twice k in
+    let half = halved w k base h in
     let pos = pow_pos k in
     let sum = split w k base first last (λ l m. let r : ⊥ = omega arith in r) in
-    let one = whole w k base first last lower from (omega arith) in
-    let some = all_but_the_last w k (base + 2 ^ k) first last upper (omega arith) (omega arith) in
+    let one = whole w k base first last half.lower from (omega arith) in
+    let some = all_but_the_last w k (base + 2 ^ k) first last half.upper (omega arith) (omega arith) in
     omega (arith, sum, one, some)
 
 -- all addresses but the first and the last
@@ -188,14 +187,12 @@ all_but_the_ends (suc k) h =
     let w : ℕ = suc k in
     let last : ℕ = 2 ^ w - 2 in
     let begins : Begins w w 0 = record { times = 0; multiple = omega arith; bits = omega arith; fits = omega arith } in
-    let lower = lower_begins w k 0 begins in
-    let upper = upper_begins w k 0 begins in
-    let two = twice k in
+    let half = halved w k 0 begins in
     let some_bits : 1 ≤ k = omega (arith, h) in
     let halves : 2 ^ 1 ≤ 2 ^ k = pow_mono some_bits in
     let sum = split w k 0 1 last (λ l m. let r : ⊥ = omega arith in r) in
-    let some = all_but_the_first w k 0 last lower (omega (arith, two, halves)) in
-    let more = all_but_the_last w k (0 + 2 ^ k) 1 last upper (omega (arith, halves)) (omega (arith, two, halves)) in
+    let some = all_but_the_first w k 0 last half.lower (omega (arith, half.two, halves)) in
+    let more = all_but_the_last w k (0 + 2 ^ k) 1 last half.upper (omega (arith, halves)) (omega (arith, half.two, halves)) in
     omega (arith, sum, some, more)
 
 -- ---- the laws

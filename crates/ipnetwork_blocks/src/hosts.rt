@@ -99,9 +99,6 @@ impl Clone for Ipv4HostIterator {
     ghost is_infallible = { λ _. Unit {0} };
 
     fn clone(&self) -> Result<Self, AllocError> {
-        Ok(Ipv4HostIterator {
-            last: self.last,
-            count: self.count,
-        })
+        Ok(Ipv4HostIterator { ..*self })
     }
 }

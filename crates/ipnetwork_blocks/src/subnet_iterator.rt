@@ -84,9 +84,6 @@ impl<N: AddressSpace> Clone for SubnetIterator<N> {
     ghost is_infallible = { λ _. Unit {0} };
 
     fn clone(&self) -> Result<Self, AllocError> {
-        Ok(SubnetIterator {
-            next: self.next,
-            last: self.last,
-        })
+        Ok(SubnetIterator { ..*self })
     }
 }
