@@ -51,40 +51,29 @@ use Rattle.ipnetwork_family.specs.Ipv6NetworkText.{ReadsV6Network}
 use Rattle.ipnetwork_family.specs.Parsing.{ParsesAsItReads, ParsesV4Network, ParsesV6Network}
 use Rattle.ipnetwork_family.specs.declared.error.CidrFault.{CidrFault}
 use Rattle.ipnetwork_family.specs.declared.error.IpNetworkError.{IpNetworkError}
+use Rattle.ipnetwork_family.proofs.Examples.{office, office_block, region, office_is_network}
 
--- 10.1.9.32/16, 10.1.0.0/16, 10.1.0.0/17 and 10.0.0.0/8
-abbrev pub with_host_bits : Network
-with_host_bits = record { address = 167840032; prefix = 16 }
-
-abbrev pub whole : Network
-whole = record { address = 167837696; prefix = 16 }
-
-abbrev pub half : Network
+-- 10.1.0.0/17
+abbrev half : Network
 half = record { address = 167837696; prefix = 17 }
 
-abbrev pub wide : Network
-wide = record { address = 167772160; prefix = 8 }
-
-with_host_bits_fits : IsNetwork 32 with_host_bits
-with_host_bits_fits = record { address_fits = omega arith; prefix_fits = omega arith }
-
-whole_fits : IsNetwork 32 whole
-whole_fits = record { address_fits = omega arith; prefix_fits = omega arith }
+office_block_fits : IsNetwork 32 office_block
+office_block_fits = record { address_fits = omega arith; prefix_fits = omega arith }
 
 half_fits : IsNetwork 32 half
 half_fits = record { address_fits = omega arith; prefix_fits = omega arith }
 
-wide_fits : IsNetwork 32 wide
-wide_fits = record { address_fits = omega arith; prefix_fits = omega arith }
+region_fits : IsNetwork 32 region
+region_fits = record { address_fits = omega arith; prefix_fits = omega arith }
 
 -- the ends are members, and no member lies past either
-pub least_is_listed : EndsLaw → Member 32 with_host_bits 167837696
+pub least_is_listed : EndsLaw → Member 32 office 167837696
 least_is_listed law =
-    (law 32 with_host_bits with_host_bits_fits).low_is_member
+    (law 32 office office_is_network).low_is_member
 
-pub greatest_is_listed : EndsLaw → Member 32 with_host_bits 167903231
+pub greatest_is_listed : EndsLaw → Member 32 office 167903231
 greatest_is_listed law =
-    (law 32 with_host_bits with_host_bits_fits).high_is_member
+    (law 32 office office_is_network).high_is_member
 
 pub none_above : EndsLaw → (w : ℕ) (n : Network) → IsNetwork w n → (x : ℕ) → high w n < x
     → ¬ (Member w n x)
@@ -97,26 +86,26 @@ none_below law w n fits x below member =
     absurd (omega (arith, ((law w n fits).within x member).0, below))
 
 -- one set
-pub in_itself : SubnetReflexive → Subnet 128 with_host_bits with_host_bits
-in_itself law = law 128 with_host_bits
+pub in_itself : SubnetReflexive → Subnet 128 office office
+in_itself law = law 128 office
 
 -- three sets of three prefix lengths
-pub half_is_in_wide : SubnetTransitive → Subnet 32 half whole → Subnet 32 whole wide
-    → Subnet 32 half wide
-half_is_in_wide law = law 32 half whole wide
+pub half_is_in_region : SubnetTransitive → Subnet 32 half office_block → Subnet 32 office_block region
+    → Subnet 32 half region
+half_is_in_region law = law 32 half office_block region
 
 -- host bits make no other set, a prefix length does
-pub same_set : SameSet → Subnet 32 with_host_bits whole × Subnet 32 whole with_host_bits
+pub same_set : SameSet → Subnet 32 office office_block × Subnet 32 office_block office
 same_set law =
-    (law 32 with_host_bits whole with_host_bits_fits whole_fits).1 (refl, refl)
+    (law 32 office office_block office_is_network office_block_fits).1 (refl, refl)
 
-pub other_set : SameSet → ¬ (Subnet 32 half whole × Subnet 32 whole half)
+pub other_set : SameSet → ¬ (Subnet 32 half office_block × Subnet 32 office_block half)
 other_set law both =
-    absurd (omega (arith, ((law 32 half whole half_fits whole_fits).0 both).0))
+    absurd (omega (arith, ((law 32 half office_block half_fits office_block_fits).0 both).0))
 
 -- without host bits it is still a network, and of the same addresses
-pub block_fits : BlockFits → IsNetwork 32 whole
-block_fits law = law 32 with_host_bits with_host_bits_fits
+pub block_fits : BlockFits → IsNetwork 32 office_block
+block_fits law = law 32 office office_is_network
 
 -- nor has it host bits, whatever the network is: 2^32 + 5 with the prefix length 30, and 5 with 40
 pub block_has_no_host_bits : BlockHasNoHostBits
@@ -129,63 +118,63 @@ block_has_no_host_bits law = (
   law 128,
 )
 
-pub block_has_no_more : BlockHasSameSet → (x : ℕ) → Member 32 whole x → Member 32 with_host_bits x
-block_has_no_more law x = (law 32 with_host_bits x).0
+pub block_has_no_more : BlockHasSameSet → (x : ℕ) → Member 32 office_block x → Member 32 office x
+block_has_no_more law x = (law 32 office x).0
 
-pub block_has_all : BlockHasSameSet → (x : ℕ) → Member 32 with_host_bits x → Member 32 whole x
-block_has_all law x = (law 32 with_host_bits x).1
+pub block_has_all : BlockHasSameSet → (x : ℕ) → Member 32 office x → Member 32 office_block x
+block_has_all law x = (law 32 office x).1
 
 -- two sets of two prefix lengths that share an address, from either side
-pub nested : Nesting → Overlap 32 half wide → Subnet 32 half wide ⊎ Subnet 32 wide half
-nested law = law 32 half wide half_fits wide_fits
+pub nested : Nesting → Overlap 32 half region → Subnet 32 half region ⊎ Subnet 32 region half
+nested law = law 32 half region half_fits region_fits
 
-pub overlaps_back : OverlapSymmetric → Overlap 32 half wide → Overlap 32 wide half
-overlaps_back law = law 32 half wide
+pub overlaps_back : OverlapSymmetric → Overlap 32 half region → Overlap 32 region half
+overlaps_back law = law 32 half region
 
-pub narrow_in_wide : OverlapByAddress → Overlap 32 half wide
-narrow_in_wide law = (law 32 half wide half_fits wide_fits).1 (inr (omega arith, refl))
+pub half_overlaps_region : OverlapByAddress → Overlap 32 half region
+half_overlaps_region law = (law 32 half region half_fits region_fits).1 (inr (omega arith, refl))
 
-pub wide_around_narrow : OverlapByAddress → Overlap 32 wide half
-wide_around_narrow law = (law 32 wide half wide_fits half_fits).1 (inl (omega arith, refl))
+pub region_overlaps_half : OverlapByAddress → Overlap 32 region half
+region_overlaps_half law = (law 32 region half region_fits half_fits).1 (inl (omega arith, refl))
 
-pub shares_an_address : OverlapByAddress → Overlap 32 wide half
-    → Member 32 wide half.address ⊎ Member 32 half wide.address
-shares_an_address law = (law 32 wide half wide_fits half_fits).0
+pub shares_an_address : OverlapByAddress → Overlap 32 region half
+    → Member 32 region half.address ⊎ Member 32 half region.address
+shares_an_address law = (law 32 region half region_fits half_fits).0
 
-pub narrow_by_its_end : OverlapByEnds → Overlap 32 wide half
+pub narrow_by_its_end : OverlapByEnds → Overlap 32 region half
 narrow_by_its_end law =
-    (law 32 wide half wide_fits half_fits).1 (inl (inr (omega arith, refl)))
+    (law 32 region half region_fits half_fits).1 (inl (inr (omega arith, refl)))
 
-pub wide_by_its_end : OverlapByEnds → Overlap 32 half wide
+pub wide_by_its_end : OverlapByEnds → Overlap 32 half region
 wide_by_its_end law =
-    (law 32 half wide half_fits wide_fits).1 (inr (inr (omega arith, refl)))
+    (law 32 half region half_fits region_fits).1 (inr (inr (omega arith, refl)))
 
 -- in order, a block comes before what lies in it, and all between lies in it too
-pub wide_comes_first : SubnetComesAfter → Subnet 32 half wide → IsNetworkAtMost wide half
-wide_comes_first law = law 32 wide half wide_fits half_fits refl refl
+pub wide_comes_first : SubnetComesAfter → Subnet 32 half region → IsNetworkAtMost region half
+wide_comes_first law = law 32 region half region_fits half_fits refl refl
 
-pub between_lies_in_wide : BetweenIsSubnet → Subnet 32 half wide → IsNetworkAtMost wide whole
-    → IsNetworkAtMost whole half → Subnet 32 whole wide
+pub between_lies_in_wide : BetweenIsSubnet → Subnet 32 half region → IsNetworkAtMost region office_block
+    → IsNetworkAtMost office_block half → Subnet 32 office_block region
 between_lies_in_wide law =
-    law 32 wide whole half wide_fits whole_fits half_fits refl refl refl
+    law 32 region office_block half region_fits office_block_fits half_fits refl refl refl
 
 -- the tests say so, and nothing else
-pub greatest_passes : MembershipComputed → IsTrue (is_member 32 with_host_bits 167903231)
-greatest_passes law = (law 32 with_host_bits 167903231).1 (omega arith, refl)
+pub greatest_passes : MembershipComputed → IsTrue (is_member 32 office 167903231)
+greatest_passes law = (law 32 office 167903231).1 (omega arith, refl)
 
 pub passes_as_member : MembershipComputed → (w : ℕ) (n : Network) (x : ℕ)
     → IsTrue (is_member w n x) → Member w n x
 passes_as_member law w n x = (law w n x).0
 
-pub half_passes : SubnetComputed → Subnet 32 half wide → IsTrue (is_subnet 32 half wide)
-half_passes law = (law 32 half wide half_fits wide_fits).1
+pub half_passes : SubnetComputed → Subnet 32 half region → IsTrue (is_subnet 32 half region)
+half_passes law = (law 32 half region half_fits region_fits).1
 
-pub passes_as_subnet : SubnetComputed → IsTrue (is_subnet 32 half wide) → Subnet 32 half wide
-passes_as_subnet law = (law 32 half wide half_fits wide_fits).0
+pub passes_as_subnet : SubnetComputed → IsTrue (is_subnet 32 half region) → Subnet 32 half region
+passes_as_subnet law = (law 32 half region half_fits region_fits).0
 
 -- the list ascends, has every member, and nothing else
-pub ascends : MembersLaw → IsStrictlyIncreasing (members 32 with_host_bits)
-ascends law = (law 32 with_host_bits with_host_bits_fits).ascending
+pub ascends : MembersLaw → IsStrictlyIncreasing (members 32 office)
+ascends law = (law 32 office office_is_network).ascending
 
 pub has_all : MembersLaw → (w : ℕ) (n : Network) → IsNetwork w n → (x : ℕ) → Member w n x
     → Contains (members w n) x
@@ -195,8 +184,8 @@ pub has_no_more : MembersLaw → (w : ℕ) (n : Network) → IsNetwork w n → (
     → ¬ (Contains (members w n) x)
 has_no_more law w n fits x out listed = out ((law w n fits).each x listed)
 
-pub stands_at : MembersLaw → slice_get (members 32 with_host_bits) 65535 ≡ Some 167903231
-stands_at law = (law 32 with_host_bits with_host_bits_fits).at 65535 (omega arith)
+pub stands_at : MembersLaw → slice_get (members 32 office) 65535 ≡ Some 167903231
+stands_at law = (law 32 office office_is_network).at 65535 (omega arith)
 
 -- the masks of no prefix length and of the longest
 pub longest_mask_differs : MasksDiffer → ¬ (mask_of 128 0 ≡ mask_of 128 128)
@@ -232,9 +221,9 @@ prefix_is_refused law text reads =
 
 -- what is printed is read again with its host bits, in either family
 pub v4_is_read : CanonicalReadsBack v4_family → (result : Result Network CidrFault)
-    → ReadsV4Network (codes "10.1.9.32/16") result → result ≡ Ok with_host_bits
+    → ReadsV4Network (codes "10.1.9.32/16") result → result ≡ Ok office
 unfolding digits
-v4_is_read law result = (law with_host_bits result with_host_bits_fits).0
+v4_is_read law result = (law office result office_is_network).0
 
 pub v6_is_read : CanonicalReadsBack v6_family
     → ReadsV6Network (codes "::1/64") (Ok (record { address = 1; prefix = 64 }))
