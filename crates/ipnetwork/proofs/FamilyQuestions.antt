@@ -65,22 +65,10 @@ v6_converts mask (Ok p) = same
 v6_converts mask (Err fault) = ((λ h. (h.0, λ p fits is. h.1 p (fits, is))), (λ h. (h.0, λ p m. h.1 p m.0 m.1)))
 
 pub v4_makes : MakesInItsFamily 32 V4 addresses.V4
-v4_makes = record {
-  width = λ a. refl;
-  made = λ a p. refl;
-  makes = λ a p result. same;
-  is_mask = λ mask p. same;
-  converts = v4_converts;
-}
+v4_makes = record { width = λ a. refl; made = λ a p. refl; makes = λ a p result. same; is_mask = λ mask p. same; converts = v4_converts }
 
 pub v6_makes : MakesInItsFamily 128 V6 addresses.V6
-v6_makes = record {
-  width = λ a. refl;
-  made = λ a p. refl;
-  makes = λ a p result. same;
-  is_mask = λ mask p. same;
-  converts = v6_converts;
-}
+v6_makes = record { width = λ a. refl; made = λ a p. refl; makes = λ a p result. same; is_mask = λ mask p. same; converts = v6_converts }
 
 -- the mask of a network converts to its prefix length
 pub mask_converted : MaskIsConverted → (n : IpNetwork) (result : Result ℕ IpNetworkError) → IsIpNetwork n → GivesMaskPrefix (ip_mask_of n) result → result ≡ Ok (prefix_of n)

@@ -1,4 +1,5 @@
 //! Networks of either family.
+ghost use Rattle.std.specs.Prelude.{◌≡◌, ◌↔◌, Some, IsTrue, IfOk, string_bytes};
 
 use crate::error::WrongFamily;
 use crate::ip_iter::IpNetworkIterator;
@@ -33,7 +34,6 @@ pub enum IpNetwork {
 // The clause `network` tells a proof in another crate what is true of each network: its fields are private, so nothing
 // else says it.
 impl IpNetwork {
-    ghost use Rattle.std.specs.Prelude.{◌≡◌, ◌≤◌, ◌↔◌, IsTrue, IfOk, string_bytes};
     ghost use Rattle.ipnetwork.specs.IpNetworks.{IsIpNetwork, address_of, prefix_of, ip_mask_of, ip_low, ip_high, ip_size, ip_members, IpMember, IpSubnet, IpOverlap, Makes, MakesWithMask, IsV4, IsV6};
     ghost use Rattle.ipnetwork.specs.IpNetworkText.{ReadsIpNetwork, ParsesIpNetwork, ip_network_text};
 
@@ -359,7 +359,6 @@ impl IpNetwork {
 }
 
 impl From<Ipv4Network> for IpNetwork {
-    ghost use Rattle.std.specs.Prelude.{◌≡◌};
     ghost use Rattle.ipnetwork.specs.declared.ip_network.IpNetwork.TheVariants as networks;
 
     ghost from_gives = { λ network either. either ≡ networks.V4 network };
@@ -371,7 +370,6 @@ impl From<Ipv4Network> for IpNetwork {
 }
 
 impl From<Ipv6Network> for IpNetwork {
-    ghost use Rattle.std.specs.Prelude.{◌≡◌};
     ghost use Rattle.ipnetwork.specs.declared.ip_network.IpNetwork.TheVariants as networks;
 
     ghost from_gives = { λ network either. either ≡ networks.V6 network };
@@ -383,7 +381,6 @@ impl From<Ipv6Network> for IpNetwork {
 }
 
 impl From<IpAddr> for IpNetwork {
-    ghost use Rattle.std.specs.Prelude.{◌≡◌};
     ghost use Rattle.ipnetwork.specs.IpNetworks.{made_of, width_of};
 
     ghost from_gives = { λ address network. network ≡ made_of address (width_of address) };
@@ -434,7 +431,6 @@ impl IntoIterator for &IpNetwork {
 
     type IntoIter = IpNetworkIterator;
 
-    ghost use Rattle.std.specs.Prelude.{◌≡◌};
     ghost use Rattle.ipnetwork.specs.IpNetworks.{ip_members};
 
     ghost into_iter_gives = { λ network left. left ≡ ip_members network.now };
@@ -472,7 +468,6 @@ impl TryFrom<&str> for IpNetwork {
 }
 
 impl fmt::Display for IpNetwork {
-    ghost use Rattle.std.specs.Prelude.{Some};
     ghost use Rattle.ipnetwork.specs.IpNetworkText.{ip_network_text};
 
     ghost output = { λ network. Some (ip_network_text network) };

@@ -1,5 +1,5 @@
 //! The number of addresses of a network.
-ghost use Rattle.std.specs.Prelude.{◌==◌, Some, decimal};
+ghost use Rattle.std.specs.Prelude.{◌≡◌, ◌==◌, Some, decimal};
 ghost use Rattle.std.proofs.Common.{rules};
 ghost use Rattle.std.specs.Cmp.{partial_order_from_own_ties};
 ghost use Rattle.std.specs.Cmp.Rules.{comparing, hashing};
@@ -34,7 +34,6 @@ pub enum NetworkSize {
 }
 
 impl From<u32> for NetworkSize {
-    ghost use Rattle.std.specs.Prelude.{◌≡◌};
     ghost use Rattle.ipnetwork.specs.declared.size.NetworkSize.TheVariants as sizes;
 
     ghost from_gives = { λ number size. size ≡ sizes.V4 number };
@@ -46,7 +45,6 @@ impl From<u32> for NetworkSize {
 }
 
 impl From<u128> for NetworkSize {
-    ghost use Rattle.std.specs.Prelude.{◌≡◌};
     ghost use Rattle.ipnetwork.specs.declared.size.NetworkSize.TheVariants as sizes;
 
     ghost from_gives = { λ number size. size ≡ sizes.V6 number };
@@ -58,7 +56,6 @@ impl From<u128> for NetworkSize {
 }
 
 impl From<NetworkSize> for u128 {
-    ghost use Rattle.std.specs.Prelude.{◌≡◌};
     ghost use Rattle.ipnetwork.specs.Sizes.{size_number};
 
     ghost from_gives = { λ size number. number ≡ size_number size };
