@@ -5,12 +5,9 @@ use Rattle.std.proofs.lemmas.List.{get_or_default, get_or-take, length-take-le, 
 use Rattle.ipnetwork_family.specs.Network.{Network, IsNetwork, IsCidrBlock, HostBitsAreZero, high}
 use Rattle.ipnetwork_blocks.specs.AggregateLaws.{AggregateIsApart}
 use Rattle.ipnetwork_blocks.specs.Private.Joining.{Follows, AreJoined}
-use Rattle.ipnetwork_blocks.proofs.AggregateFront.{joined_nil, joined_push, after_all}
+use Rattle.ipnetwork_blocks.proofs.AggregateFront.{joined_push, after_all}
 use Rattle.ipnetwork_sets.specs.Sets.{IsAddressSet}
 use Rattle.ipnetwork_sets.proofs.Lists.{set_is_joined, joined_is_set}
-
-pub check_starts : (w : ℕ) (ns : List Network) → AreJoined w (take 0 ns)
-check_starts w ns = joined_nil w
 
 -- one network more, that follows the one before it if there is one
 pub check_goes_on : (w : ℕ) (ns : List Network) (i : ℕ) (b : Network) → AreJoined w (take i ns) → i < length ns → b ≡ get_or ns i b → IsNetwork w b → HostBitsAreZero w b

@@ -5,7 +5,7 @@ use Rattle.ipnetwork_blocks.proofs.LeastLists.{least_unique, least_of_none}
 use Rattle.ipnetwork_sets.specs.DifferenceLaws.{CommonPartIsSettled, DifferenceIsSettled, FreePartIsSettled, UnionIsSettled, DifferenceOfOne, DifferenceOfUnion, DifferenceOfCommonPart}
 use Rattle.ipnetwork_sets.specs.Sets.{InBoth, InFirstAlone, InNetworkAlone, InEither}
 use Rattle.ipnetwork_sets.proofs.Steps.{same_list}
-use Rattle.ipnetwork_sets.proofs.SetLaws.{outside_union, outside_common, common_is_shortest, difference_is_shortest, union_is_shortest}
+use Rattle.ipnetwork_sets.proofs.SetLaws.{union_or_not, outside_union, outside_common}
 
 pub common_part_is_settled : CommonPartIsSettled
 common_part_is_settled w a b c d r s ac bd h k =
@@ -32,9 +32,7 @@ pub difference_of_one : DifferenceOfOne
 difference_of_one w a r h = least_unique w (InFirstAlone w a a) r [] h (least_of_none w (InFirstAlone w a a) (λ x s. s.1 s.0))
 
 pub difference_of_union : DifferenceOfUnion
-difference_of_union w a b c u f fb fc r hu hf hb hc k =
-    outside_union w (InUnion w a) b c u fb fc f r (union_is_shortest w b c u hu) (difference_is_shortest w a b fb hb) (difference_is_shortest w a c fc hc) hf k
+difference_of_union w a b c u f fb fc r hu hf hb hc k = outside_union w (InUnion w a) (union_or_not w a) (λ x m. m.2.0) b c u f fb fc r hf hb hc hu k
 
 pub difference_of_common_part : DifferenceOfCommonPart
-difference_of_common_part w a b c d f fb fc r hd hf hb hc k =
-    outside_common w (InUnion w a) b c d fb fc f r (common_is_shortest w b c d hd) (difference_is_shortest w a b fb hb) (difference_is_shortest w a c fc hc) hf k
+difference_of_common_part w a b c d f fb fc r hd hf hb hc k = outside_common w (InUnion w a) (union_or_not w a) (λ x m. m.2.0) b c d f fb fc r hf hb hc hd k

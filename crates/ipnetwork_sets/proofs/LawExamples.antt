@@ -106,20 +106,21 @@ pub parts_of_two : PartsMakeTheWhole → (common alone r : List Network) → IsA
     → IsLeastList 3 (InEither 3 common alone) r → r ≡ a
 parts_of_two law = law 3 a b
 
-pub free_of_two : FreeOfUnion → (u free free_of_b free_of_c both : List Network) → IsLeastList 3 (InEither 3 b c) u → IsLeastList 3 (InNetworkAlone 3 n u) free
-    → IsLeastList 3 (InNetworkAlone 3 n b) free_of_b → IsLeastList 3 (InNetworkAlone 3 n c) free_of_c → IsLeastList 3 (InBoth 3 free_of_b free_of_c) both → free ≡ both
+-- what is out of a union (or a common part) of two lists, and what is out of each of the two, together
+abbrev Outside : (Out : List Network → ℕ → Type 0) (Of Together : ℕ → List Network → List Network → ℕ → Type 0) (xs ys : List Network) → Type 0
+Outside Out Of Together xs ys = (u out out_of_xs out_of_ys both : List Network) → IsLeastList 3 (Of 3 xs ys) u → IsLeastList 3 (Out u) out
+    → IsLeastList 3 (Out xs) out_of_xs → IsLeastList 3 (Out ys) out_of_ys → IsLeastList 3 (Together 3 out_of_xs out_of_ys) both → out ≡ both
+
+pub free_of_two : FreeOfUnion → Outside (InNetworkAlone 3 n) InEither InBoth b c
 free_of_two law = law 3 n b c
 
-pub free_of_one_of_two : FreeOfCommonPart → (u free free_of_a free_of_b either : List Network) → IsLeastList 3 (InBoth 3 a b) u → IsLeastList 3 (InNetworkAlone 3 n u) free
-    → IsLeastList 3 (InNetworkAlone 3 n a) free_of_a → IsLeastList 3 (InNetworkAlone 3 n b) free_of_b → IsLeastList 3 (InEither 3 free_of_a free_of_b) either → free ≡ either
+pub free_of_one_of_two : FreeOfCommonPart → Outside (InNetworkAlone 3 n) InBoth InEither a b
 free_of_one_of_two law = law 3 n a b
 
-pub without_two : DifferenceOfUnion → (u alone less_b less_c both : List Network) → IsLeastList 3 (InEither 3 b c) u → IsLeastList 3 (InFirstAlone 3 a u) alone
-    → IsLeastList 3 (InFirstAlone 3 a b) less_b → IsLeastList 3 (InFirstAlone 3 a c) less_c → IsLeastList 3 (InBoth 3 less_b less_c) both → alone ≡ both
+pub without_two : DifferenceOfUnion → Outside (InFirstAlone 3 a) InEither InBoth b c
 without_two law = law 3 a b c
 
-pub without_both : DifferenceOfCommonPart → (u alone less_b less_c either : List Network) → IsLeastList 3 (InBoth 3 b c) u → IsLeastList 3 (InFirstAlone 3 a u) alone
-    → IsLeastList 3 (InFirstAlone 3 a b) less_b → IsLeastList 3 (InFirstAlone 3 a c) less_c → IsLeastList 3 (InEither 3 less_b less_c) either → alone ≡ either
+pub without_both : DifferenceOfCommonPart → Outside (InFirstAlone 3 a) InBoth InEither b c
 without_both law = law 3 a b c
 
 -- ---- other lists with the same addresses

@@ -1,5 +1,5 @@
 -- The pieces of a block that a cut set leaves.
-use Rattle.std.proofs.Common.{◌≡◌, ℕ, ◌+◌, ◌-◌, ◌*◌, ◌/◌, ◌^◌, ◌<◌, ◌≤◌, ◌⊎◌, inl, inr, sym, refl, ap, subst, ◌∙◌, arith, ⊎_elim, List, [], ◌∷◌}
+use Rattle.std.proofs.Common.{◌≡◌, ℕ, ◌+◌, ◌-◌, ◌*◌, ◌/◌, ◌^◌, ◌<◌, ◌≤◌, ◌⊎◌, inl, inr, sym, ap, subst, ◌∙◌, arith, ⊎_elim, List, ◌∷◌}
 use Rattle.std.proofs.lemmas.Bool.{cases_lt}
 use Rattle.std.proofs.lemmas.Nat.{mul-le}
 use Rattle.ipnetwork_family.specs.Network.{Network, IsNetwork, IsCidrBlock, HostBitsAreZero, Member, Subnet, low, high, block_size, block_of}
@@ -15,20 +15,13 @@ use Rattle.ipnetwork_blocks.proofs.LeastLists.{own_address, contains_head}
 use Rattle.ipnetwork_sets.specs.Sets.{IsAddressSet}
 use Rattle.ipnetwork_sets.specs.Private.Left.{IsPiece, IsLeftIn, IsWidest, IsBehind, Skips}
 use Rattle.ipnetwork_sets.proofs.Lists.{set_block}
-use Rattle.ipnetwork_sets.proofs.Steps.{smaller_inside, tail_is_set, union_cons, union_nil, union_from}
+use Rattle.ipnetwork_sets.proofs.Steps.{smaller_inside, tail_is_set, union_cons, union_from}
 
 -- the block of one bit less around a network
 parent_network : (w : ℕ) (n : Network) → IsNetwork w n → IsNetwork w (parent w n)
 parent_network w n h = (block_at_network w n.address (n.prefix - 1) h.address_fits (omega (arith, h.prefix_fits))).network
 
 -- ---- from piece to piece: what is passed
-
-pub skips_nothing : (w : ℕ) (whole : Network) (from : ℕ) (cut : List Network) → Skips w whole from cut from cut
-skips_nothing w whole from cut = record {
-  forward = omega arith;
-  passed = λ x m l k. absurd (omega arith);
-  same = λ x l. ((λ c. c), (λ c. c));
-}
 
 -- a block of the cut set that ends before what is left
 skips_first : (w : ℕ) (whole b : Network) (from : ℕ) (cut : List Network) (next : ℕ) (bs : List Network) → Skips w whole from cut next (b ∷ bs) → high w b < next
@@ -147,9 +140,6 @@ pub record EndsWith (w : ℕ) (whole piece ended : Network) : Type 0 where
   pub part : IsPiece w whole ended
   pub end : high w ended ≡ high w piece
 
-pub ends_starts : (w : ℕ) (whole piece : Network) → IsPiece w whole piece → EndsWith w whole piece piece
-ends_starts w whole piece p = record { part = p; end = refl }
-
 -- as wide as the whole, it ends where that does
 pub ends_whole : (w : ℕ) (whole piece ended : Network) → EndsWith w whole piece ended → ended.prefix ≤ whole.prefix → high w piece ≡ high w whole
 ends_whole w whole piece ended h le =
@@ -171,9 +161,6 @@ module _ (w : ℕ) (whole piece ended around_it : Network) (h : EndsWith w whole
 
   around_it_prefix : around_it.prefix ≡ ended.prefix - 1
   around_it_prefix = ap (λ n. n.prefix) is
-
-  around_it_holds : Member w around_it ended.address
-  around_it_holds = subst (λ (n : Network). Member w n ended.address) (sym is) (block_at_holds w ended.address (ended.prefix - 1) ended_network.address_fits)
 
   around_it_within : Subnet w around_it whole
   around_it_within =
@@ -249,9 +236,6 @@ module _ (w : ℕ) (whole piece ended around_it : Network) (h : EndsWith w whole
 
 -- ---- that a piece is free of the cut set, and maximal
 
-pub free_of_none : (w : ℕ) (piece : Network) (x : ℕ) → Member w piece x → ¬ (InUnion w [] x)
-free_of_none w piece x m = union_nil w x
-
 free_before : (w : ℕ) (piece b : Network) (bs : List Network) → AggregateIsApart → IsAddressSet w (b ∷ bs) → high w piece < b.address
     → (x : ℕ) → Member w piece x → ¬ (InUnion w (b ∷ bs) x)
 free_before w piece b bs law h l x m c =
@@ -275,11 +259,15 @@ later_falls w piece next h l =
     let split : (a + 1) * (w + 1) ≡ a * (w + 1) + (w + 1) = omega arith in
     omega (arith, room, split)
 
-pub longer_falls : (w : ℕ) (piece next : Network) → next.address ≡ piece.address → next.prefix ≡ piece.prefix + 1 → piece.prefix < w
+longer_falls : (w : ℕ) (piece next : Network) → next.address ≡ piece.address → next.prefix ≡ piece.prefix + 1 → piece.prefix < w
     → steps_left w next < steps_left w piece
 longer_falls w piece next at long fits =
     let same : (2 ^ w - next.address) * (w + 1) ≡ (2 ^ w - piece.address) * (w + 1) = ap (λ k. (2 ^ w - k) * (w + 1)) at in
     omega (arith, same)
+
+pub half_falls : (w : ℕ) (whole piece half : Network) → IsPiece w whole piece → piece.prefix < w → half ≡ block_of w (record { address = piece.address; prefix = piece.prefix + 1 })
+    → steps_left w half < steps_left w piece
+half_falls w whole piece half p l is = let h = half_is w whole piece half p l is in longer_falls w piece half h.0 h.1 l
 
 -- a block of the cut set that neither ends before the piece nor begins behind it: it holds the piece, or lies in it
 piece_in_first : (w : ℕ) (piece b : Network) → IsCidrBlock w piece → IsCidrBlock w b → (high w b < piece.address → ⊥) → (high w piece < b.address → ⊥)

@@ -73,7 +73,7 @@ takes_state w None rest cut p after apart h t = takes_whole w rest cut p after a
 takes_state w (Some q) rest cut p after apart h t =
     subst (λ (l : List Network). IsAtHand w (Some p) l cut) t.1 (subst (λ (o : Network × Network). IsAtHand w (Some o) rest cut) t.0 h)
 
-pub takes_blocks : (w : ℕ) (at_hand : Option (Network × Network)) (rest cut : List Network) (p : Network × Network) (after : List Network) → AggregateIsApart
+takes_blocks : (w : ℕ) (at_hand : Option (Network × Network)) (rest cut : List Network) (p : Network × Network) (after : List Network) → AggregateIsApart
     → IsAtHand w at_hand rest cut → TakesPart at_hand rest p after → left_blocks w at_hand rest cut ≡ left_blocks w (Some p) after cut
 takes_blocks w None rest cut p after apart h t =
     let hand = takes_whole w rest cut p after apart h t in
@@ -124,7 +124,7 @@ module _ (w : ℕ) (p : Network × Network) (rest cut left : List Network) (apar
   behind_whole x c = union_behind w p.0 rest apart h.0 x c
 
   -- the whole of it
-  pub passes_whole : Skips w p.0 p.1.address cut (high w p.0 + 1) left → left_blocks w (Some p) rest cut ≡ left_blocks w None rest left
+  passes_whole : Skips w p.0 p.1.address cut (high w p.0 + 1) left → left_blocks w (Some p) rest cut ≡ left_blocks w None rest left
   passes_whole skips =
       same_list w (InLeft w (Some p) rest cut) (InLeft w None rest left) (left_blocks w (Some p) rest cut) (left_blocks w None rest left)
       (left_is_least w (Some p) rest cut) (left_is_least w None rest left)
@@ -298,7 +298,7 @@ module _ (w : ℕ) (p : Network × Network) (rest cut left : List Network) (apar
           )
 
       -- both
-      pub gives_part : (next : Option (Network × Network)) → IsNextPart w p.0 piece next
+      gives_part : (next : Option (Network × Network)) → IsNextPart w p.0 piece next
           → IsAtHand w next rest left × (left_blocks w (Some p) rest cut ≡ piece ∷ left_blocks w next rest left)
       gives_part None e = gives_and_ends e
       gives_part (Some q) e = goes_on q e
@@ -309,5 +309,23 @@ module _ (w : ℕ) (p : Network × Network) (rest cut left : List Network) (apar
               let Goal : Network → Type 0 = λ n. IsAtHand w (Some (n, q.1)) rest left × (left_blocks w (Some p) rest cut ≡ piece ∷ left_blocks w (Some (n, q.1)) rest left) in
               subst Goal (sym e.0) (gives_and_goes_on q.1 e.1)
 
-  pub passed_state : IsAtHand w None rest left
+  passed_state : IsAtHand w None rest left
   passed_state = (tail_is_set w p.0 rest apart h.0, set)
+
+-- ---- a part is taken, and passed or given; the blocks were those of the entry
+
+module _ (w : ℕ) (entry : List Network) (at_hand : Option (Network × Network)) (rest cut : List Network) (p : Network × Network) (after left : List Network) (apart : AggregateIsApart)
+    (same : entry ≡ left_blocks w at_hand rest cut) (h : IsAtHand w at_hand rest cut) (t : TakesPart at_hand rest p after) (set : IsAddressSet w left) where
+  state : IsAtHand w (Some p) after cut
+  state = takes_state w at_hand rest cut p after apart h t
+
+  taken : entry ≡ left_blocks w (Some p) after cut
+  taken = same ∙ takes_blocks w at_hand rest cut p after apart h t
+
+  pub takes_whole_part : Skips w p.0 p.1.address cut (high w p.0 + 1) left → IsAtHand w None after left × (entry ≡ left_blocks w None after left)
+  takes_whole_part skips = (passed_state w p after cut left apart state set, taken ∙ passes_whole w p after cut left apart state set skips)
+
+  pub takes_piece : (piece : Network) → IsFree w p.0 piece left → Skips w p.0 p.1.address cut piece.address left → AggregateHasOneBlock → AggregateHasNetworks
+      → (next : Option (Network × Network)) → IsNextPart w p.0 piece next → IsAtHand w next after left × (entry ≡ piece ∷ left_blocks w next after left)
+  takes_piece piece free skips one networks next n =
+      let given = gives_part w p after cut left apart state set piece free skips one networks next n in (given.0, taken ∙ given.1)

@@ -12,7 +12,7 @@ use Rattle.ipnetwork_blocks.specs.AggregateLaws.{AggregateIsApart}
 use Rattle.ipnetwork_blocks.proofs.LeastLists.{contains_cons, contains_head, contains_tail, contains_nil, pairs_tail, pairs_head}
 use Rattle.ipnetwork_sets.specs.Sets.{IsAddressSet}
 use Rattle.ipnetwork_sets.specs.RangeLists.{InRanges, IsRangeList}
-use Rattle.ipnetwork_sets.specs.Private.Runs.{Touches, put_in_front, runs, runs_left, IsAhead}
+use Rattle.ipnetwork_sets.specs.Private.Runs.{Touches, put_in_front, runs, runs_left}
 use Rattle.ipnetwork_sets.proofs.Lists.{set_block}
 use Rattle.ipnetwork_sets.proofs.Steps.{tail_is_set, union_cons, union_nil, union_behind}
 
@@ -218,15 +218,7 @@ run_ends w first entry last b left after apart h e t =
     h.same ∙ ap (λ l. put_in_front (low w first, high w last) (runs w l)) e ∙ ap (put_in_front (low w first, high w last)) front
     ∙ fronts_apart (low w first) (high w last) (low w b) (high w b) (runs w after) (λ at. t (at ∙ sym block)) ∙ ap (λ l. (low w first, high w last) ∷ l) (sym front)
 
-pub behind_is_set : (w : ℕ) (last b : Network) (left after : List Network) → AggregateIsApart → IsAddressSet w (last ∷ left) → left ≡ b ∷ after → IsAddressSet w (b ∷ after)
-behind_is_set w last b left after apart h e = subst (IsAddressSet w) e (tail_is_set w last left apart h)
-
 -- ---- the first block is read ahead
-
-pub ahead_is : (w : ℕ) {X : Type 0} (pair : X → Network) (ahead : Option X) (entry left : List Network) → IsAddressSet w entry
-    → MatchOption ahead ((entry ≡ []) × (left ≡ [])) (λ b. entry ≡ pair b ∷ left) → IsAhead w (option_map pair ahead) left
-ahead_is w pair None entry left h e = e.1
-ahead_is w pair (Some b) entry left h e = subst (IsAddressSet w) e h
 
 pub ahead_runs : (w : ℕ) {X : Type 0} (pair : X → Network) (ahead : Option X) (entry left : List Network) → AggregateIsApart → IsAddressSet w entry
     → MatchOption ahead ((entry ≡ []) × (left ≡ [])) (λ b. entry ≡ pair b ∷ left) → IsRangeList (InUnion w entry) (runs_left w (option_map pair ahead) left)

@@ -9,7 +9,7 @@ use Rattle.ipnetwork_blocks.specs.LeastListLaws.{IsShortest}
 use Rattle.ipnetwork_blocks.proofs.LeastLists.{own_address, contains_head, least_of_same}
 use Rattle.ipnetwork_blocks.proofs.MaximalBlocks.{is_shortest, member_or_not}
 use Rattle.ipnetwork_sets.specs.Laws.{CommonPartIsShortest, DifferenceIsShortest, FreePartIsShortest, ComplementIsShortest, UnionIsShortest, SameAddressesAreOneSet, CommonPartCommutes, UnionCommutes, CommonPartOfOne, UnionOfOne, DifferenceIsDisjoint, PartsMakeTheWhole, FreeOfUnion, FreeOfCommonPart}
-use Rattle.ipnetwork_sets.specs.Sets.{IsAddressSet, InBoth, InFirstAlone, InNetworkAlone, InComplement, InEither, IsWithin, AreDisjoint}
+use Rattle.ipnetwork_sets.specs.Sets.{IsAddressSet, InBoth, InFirstAlone, InEither, IsWithin, AreDisjoint}
 use Rattle.ipnetwork_sets.specs.Private.LeastBlocks.{in_union, common_blocks, either_blocks, left_blocks}
 use Rattle.ipnetwork_sets.specs.Private.Left.{InLeft}
 use Rattle.ipnetwork_sets.proofs.Steps.{same_list}
@@ -45,23 +45,23 @@ pub common_is_shortest : CommonPartIsShortest
 common_is_shortest w a b r h =
     is_shortest w (InBoth w a b) r (λ x. both_or_not (InUnion w a x) (InUnion w b x) (union_or_not w a x) (union_or_not w b x)) (λ x s. s.0.2.0) h
 
+-- of a set that has each address or not, those of a list left out
+module _ (w : ℕ) (P : ℕ → Type 0) (test : (x : ℕ) → P x ⊎ ¬ (P x)) (fits : (x : ℕ) → P x → x < 2 ^ w) where
+  rest_is_shortest : (a r : List Network) → IsLeastList w (λ x. P x × ¬ (InUnion w a x)) r → IsShortest w (λ x. P x × ¬ (InUnion w a x)) r
+  rest_is_shortest a r h =
+      is_shortest w (λ x. P x × ¬ (InUnion w a x)) r (λ x. both_or_not (P x) (¬ (InUnion w a x)) (test x) (no_or_not (InUnion w a x) (union_or_not w a x))) (λ x s. fits x s.0) h
+
 pub difference_is_shortest : DifferenceIsShortest
-difference_is_shortest w a b r h =
-    is_shortest w (InFirstAlone w a b) r
-    (λ x. both_or_not (InUnion w a x) (¬ (InUnion w b x)) (union_or_not w a x) (no_or_not (InUnion w b x) (union_or_not w b x))) (λ x s. s.0.2.0) h
+difference_is_shortest w a b r h = rest_is_shortest w (InUnion w a) (union_or_not w a) (λ x c. c.2.0) b r h
 
 pub free_is_shortest : FreePartIsShortest
-free_is_shortest w n a r h =
-    is_shortest w (InNetworkAlone w n a) r
-    (λ x. both_or_not (Member w n x) (¬ (InUnion w a x)) (member_or_not w n x) (no_or_not (InUnion w a x) (union_or_not w a x))) (λ x s. s.0.0) h
+free_is_shortest w n a r h = rest_is_shortest w (Member w n) (member_or_not w n) (λ x m. m.0) a r h
 
 below_or_not : (x n : ℕ) → (x < n) ⊎ ¬ (x < n)
 below_or_not x n = ⊎_elim (λ (l : x < n). inl l) (λ (le : n ≤ x). inr (λ l. omega (arith, l, le))) (cases_lt x n)
 
 pub complement_is_shortest : ComplementIsShortest
-complement_is_shortest w a r h =
-    is_shortest w (InComplement w a) r
-    (λ x. both_or_not (x < 2 ^ w) (¬ (InUnion w a x)) (below_or_not x (2 ^ w)) (no_or_not (InUnion w a x) (union_or_not w a x))) (λ x s. s.0) h
+complement_is_shortest w a r h = rest_is_shortest w (λ x. x < 2 ^ w) (λ x. below_or_not x (2 ^ w)) (λ x l. l) a r h
 
 pub union_is_shortest : UnionIsShortest
 union_is_shortest w a b r h =
@@ -110,45 +110,45 @@ parts_make_the_whole w a b c d r h hc hd k =
 
 -- ---- De Morgan's laws
 
--- of any addresses, those that are in no union are those in neither of the two
-pub outside_union : (w : ℕ) (P : ℕ → Type 0) (a b u la lb l r : List Network) → IsShortest w (InEither w a b) u → IsShortest w (λ x. P x × ¬ (InUnion w a x)) la
-    → IsShortest w (λ x. P x × ¬ (InUnion w b x)) lb → IsLeastList w (λ x. P x × ¬ (InUnion w u x)) l → IsLeastList w (InBoth w la lb) r → l ≡ r
-outside_union w P a b u la lb l r hu ha hb h k =
-    let in_u = hu.addresses in
-    let in_a = ha.addresses in
-    let in_b = hb.addresses in
-    same_list w (λ x. P x × ¬ (InUnion w u x)) (InBoth w la lb) l r h k
-    (λ x. (
-      (λ p. ((in_a x).1 (p.0, λ m. p.1 ((in_u x).1 (inl m))), (in_b x).1 (p.0, λ m. p.1 ((in_u x).1 (inr m))))),
-      (λ p. (((in_a x).0 p.0).0, λ m. ⊎_elim (λ (c : InUnion w a x). ((in_a x).0 p.0).1 c) (λ (c : InUnion w b x). ((in_b x).0 p.1).1 c) ((in_u x).0 m))),
-    ))
+module _ (w : ℕ) (P : ℕ → Type 0) (test : (x : ℕ) → P x ⊎ ¬ (P x)) (fits : (x : ℕ) → P x → x < 2 ^ w) (a b both out out_a out_b r : List Network)
+    (h : IsLeastList w (λ x. P x × ¬ (InUnion w both x)) out) (ha : IsLeastList w (λ x. P x × ¬ (InUnion w a x)) out_a) (hb : IsLeastList w (λ x. P x × ¬ (InUnion w b x)) out_b) where
+  in_a : (x : ℕ) → InUnion w out_a x ↔ (P x × ¬ (InUnion w a x))
+  in_a = (rest_is_shortest w P test fits a out_a ha).addresses
 
--- and those that are in no common part are those that are not in the one or not in the other
-pub outside_common : (w : ℕ) (P : ℕ → Type 0) (a b c la lb l r : List Network) → IsShortest w (InBoth w a b) c → IsShortest w (λ x. P x × ¬ (InUnion w a x)) la
-    → IsShortest w (λ x. P x × ¬ (InUnion w b x)) lb → IsLeastList w (λ x. P x × ¬ (InUnion w c x)) l → IsLeastList w (InEither w la lb) r → l ≡ r
-outside_common w P a b c la lb l r hc ha hb h k =
-    let in_c = hc.addresses in
-    let in_a = ha.addresses in
-    let in_b = hb.addresses in
-    same_list w (λ x. P x × ¬ (InUnion w c x)) (InEither w la lb) l r h k
-    (λ x. (
-      (λ p. ⊎_elim
-          (λ (m : InUnion w a x). inr ((in_b x).1 (p.0, λ o. p.1 ((in_c x).1 (m, o)))))
-          (λ (m : ¬ (InUnion w a x)). inl ((in_a x).1 (p.0, m)))
-          (union_or_not w a x)),
-      (λ p. ⊎_elim
-          (λ (m : InUnion w la x). let q = (in_a x).0 m in (q.0, λ o. q.1 ((in_c x).0 o).0))
-          (λ (m : InUnion w lb x). let q = (in_b x).0 m in (q.0, λ o. q.1 ((in_c x).0 o).1))
-          p),
-    ))
+  in_b : (x : ℕ) → InUnion w out_b x ↔ (P x × ¬ (InUnion w b x))
+  in_b = (rest_is_shortest w P test fits b out_b hb).addresses
+
+  -- of any addresses, those that are in no union are those in neither of the two
+  pub outside_union : IsLeastList w (InEither w a b) both → IsLeastList w (InBoth w out_a out_b) r → out ≡ r
+  outside_union hu k =
+      let in_u = (union_is_shortest w a b both hu).addresses in
+      same_list w (λ x. P x × ¬ (InUnion w both x)) (InBoth w out_a out_b) out r h k
+      (λ x. (
+        (λ p. ((in_a x).1 (p.0, λ m. p.1 ((in_u x).1 (inl m))), (in_b x).1 (p.0, λ m. p.1 ((in_u x).1 (inr m))))),
+        (λ p. (((in_a x).0 p.0).0, λ m. ⊎_elim (λ (c : InUnion w a x). ((in_a x).0 p.0).1 c) (λ (c : InUnion w b x). ((in_b x).0 p.1).1 c) ((in_u x).0 m))),
+      ))
+
+  -- and those that are in no common part are those that are not in the one or not in the other
+  pub outside_common : IsLeastList w (InBoth w a b) both → IsLeastList w (InEither w out_a out_b) r → out ≡ r
+  outside_common hc k =
+      let in_c = (common_is_shortest w a b both hc).addresses in
+      same_list w (λ x. P x × ¬ (InUnion w both x)) (InEither w out_a out_b) out r h k
+      (λ x. (
+        (λ p. ⊎_elim
+            (λ (m : InUnion w a x). inr ((in_b x).1 (p.0, λ o. p.1 ((in_c x).1 (m, o)))))
+            (λ (m : ¬ (InUnion w a x)). inl ((in_a x).1 (p.0, m)))
+            (union_or_not w a x)),
+        (λ p. ⊎_elim
+            (λ (m : InUnion w out_a x). let q = (in_a x).0 m in (q.0, λ o. q.1 ((in_c x).0 o).0))
+            (λ (m : InUnion w out_b x). let q = (in_b x).0 m in (q.0, λ o. q.1 ((in_c x).0 o).1))
+            p),
+      ))
 
 pub free_of_union : FreeOfUnion
-free_of_union w n a b u f fa fb r hu hf ha hb k =
-    outside_union w (Member w n) a b u fa fb f r (union_is_shortest w a b u hu) (free_is_shortest w n a fa ha) (free_is_shortest w n b fb hb) hf k
+free_of_union w n a b u f fa fb r hu hf ha hb k = outside_union w (Member w n) (member_or_not w n) (λ x m. m.0) a b u f fa fb r hf ha hb hu k
 
 pub free_of_common : FreeOfCommonPart
-free_of_common w n a b c f fa fb r hc hf ha hb k =
-    outside_common w (Member w n) a b c fa fb f r (common_is_shortest w a b c hc) (free_is_shortest w n a fa ha) (free_is_shortest w n b fb hb) hf k
+free_of_common w n a b c f fa fb r hc hf ha hb k = outside_common w (Member w n) (member_or_not w n) (λ x m. m.0) a b c f fa fb r hf ha hb hc k
 
 -- ---- the questions of two sets
 
@@ -183,19 +183,22 @@ not_disjoint_if_some w a b r n s h e apart = apart n.address (something_in w (In
 
 -- ---- what the first step of an iterator answers
 
+step_answers : (P : Type 0) (r after : List Network) {X : Type 0} (pair : X → Network) (first : Option X) (answer : Bool) → (r ≡ [] → P)
+    → ((n : Network) → r ≡ n ∷ after → ¬ P) → MatchOption first ((r ≡ []) × (after ≡ [])) (λ x. r ≡ pair x ∷ after) → is_some first ≡ not answer → IsTrue answer ↔ P
+step_answers P r after pair None true left taken m e = ((λ t. left m.0), (λ k. refl))
+step_answers P r after pair None false left taken m e = absurd (true≢false (sym e))
+step_answers P r after pair (Some x) true left taken m e = absurd (true≢false e)
+step_answers P r after pair (Some x) false left taken m e = ((λ t. absurd (true≢false (sym t))), (λ k. absurd (taken (pair x) m k)))
+
 pub within_answer : (w : ℕ) (a b r after : List Network) {X : Type 0} (pair : X → Network) (first : Option X) (answer : Bool) → IsLeastList w (InFirstAlone w a b) r
     → MatchOption first ((r ≡ []) × (after ≡ [])) (λ x. r ≡ pair x ∷ after) → is_some first ≡ not answer → IsTrue answer ↔ IsWithin w a b
-within_answer w a b r after pair None true h m e = ((λ t. within_if_none w a b r h m.0), (λ k. refl))
-within_answer w a b r after pair None false h m e = absurd (true≢false (sym e))
-within_answer w a b r after pair (Some x) true h m e = absurd (true≢false e)
-within_answer w a b r after pair (Some x) false h m e = ((λ t. absurd (true≢false (sym t))), (λ k. absurd (not_within_if_some w a b r (pair x) after h m k)))
+within_answer w a b r after pair first answer h =
+    step_answers (IsWithin w a b) r after pair first answer (within_if_none w a b r h) (λ n. not_within_if_some w a b r n after h)
 
 pub disjoint_answer : (w : ℕ) (a b r after : List Network) {X : Type 0} (pair : X → Network) (first : Option X) (answer : Bool) → IsLeastList w (InBoth w a b) r
     → MatchOption first ((r ≡ []) × (after ≡ [])) (λ x. r ≡ pair x ∷ after) → is_some first ≡ not answer → IsTrue answer ↔ AreDisjoint w a b
-disjoint_answer w a b r after pair None true h m e = ((λ t. disjoint_if_none w a b r h m.0), (λ k. refl))
-disjoint_answer w a b r after pair None false h m e = absurd (true≢false (sym e))
-disjoint_answer w a b r after pair (Some x) true h m e = absurd (true≢false e)
-disjoint_answer w a b r after pair (Some x) false h m e = ((λ t. absurd (true≢false (sym t))), (λ k. absurd (not_disjoint_if_some w a b r (pair x) after h m k)))
+disjoint_answer w a b r after pair first answer h =
+    step_answers (AreDisjoint w a b) r after pair first answer (disjoint_if_none w a b r h) (λ n. not_disjoint_if_some w a b r n after h)
 
 -- ---- the blocks of an iterator are those of a set
 

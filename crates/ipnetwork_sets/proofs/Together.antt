@@ -12,7 +12,7 @@ use Rattle.ipnetwork_blocks.specs.Ranges.{FromTo}
 use Rattle.ipnetwork_blocks.proofs.LeastLists.{own_address, contains_head, least_of_none, least_of_one, least_of_same, least_of_two, least_unique}
 use Rattle.ipnetwork_sets.specs.Sets.{IsAddressSet, InEither}
 use Rattle.ipnetwork_sets.specs.Private.LeastBlocks.{either_blocks}
-use Rattle.ipnetwork_sets.specs.Private.Together.{at_hand, IsFirst, EndsAt, IsLater, IsRun}
+use Rattle.ipnetwork_sets.specs.Private.Together.{at_hand, IsFirst, EndsAt, IsLater, IsGrowing, IsRun}
 use Rattle.ipnetwork_sets.proofs.LeastBlocks.{either_is_least}
 use Rattle.ipnetwork_sets.proofs.Lists.{set_block}
 use Rattle.ipnetwork_sets.proofs.Steps.{tail_is_set, union_cons, union_nil, union_behind, union_from}
@@ -67,16 +67,7 @@ first_is_block w first second b others rest hf hs is =
     (λ (p : (first ≡ others) × (second ≡ b ∷ rest)). set_block w (b ∷ rest) b (subst (IsAddressSet w) p.1 hs) (contains_head b rest))
     is.one
 
--- the run so far, and what is left of both sets
-pub record IsGrowing (w : ℕ) (first second : List Network) (start last : ℕ) (others rest : List Network) : Type 0 where
-  pub ordered : start ≤ last
-  pub fits : last < 2 ^ w
-  pub others_are_set : IsAddressSet w others
-  pub rest_is_set : IsAddressSet w rest
-  pub parts : (x : ℕ) → InEither w first second x ↔ (FromTo start last x ⊎ InEither w others rest x)
-  pub from : (x : ℕ) → InEither w others rest x → start ≤ x
-
--- so it is if the two sets change places
+-- a run grows the same if the two sets change places
 growing_swaps : (w : ℕ) (first second : List Network) (start last : ℕ) (others rest : List Network) → IsGrowing w first second start last others rest
     → IsGrowing w second first start last rest others
 growing_swaps w first second start last others rest h = record {
@@ -183,11 +174,7 @@ module _ (w : ℕ) (apart : AggregateIsApart) where
   pub growing_ends : (first second : List Network) (start last : ℕ) (others rest : List Network) → IsGrowing w first second start last others rest
       → EndsAt w last others → EndsAt w last rest → IsRun w first second start last others rest
   growing_ends first second start last others rest h e f = record {
-    ordered = h.ordered;
-    fits = h.fits;
-    others_are_set = h.others_are_set;
-    rest_is_set = h.rest_is_set;
-    parts = h.parts;
+    grown = h;
     behind = λ x k. ⊎_elim (λ (c : InUnion w others x). behind_end last others h.others_are_set e x c) (λ (c : InUnion w rest x). behind_end last rest h.rest_is_set f x c) k;
   }
 
@@ -226,9 +213,9 @@ pub run_and_rest : (w : ℕ) (first second : List Network) (start last : ℕ) (o
     → IsLeastList w (FromTo start last) blocks → either_blocks w first second ≡ blocks ++ either_blocks w others rest
 run_and_rest w first second start last others rest blocks h k =
     least_unique w (InEither w first second) (either_blocks w first second) (blocks ++ either_blocks w others rest) (either_is_least w first second)
-    (least_of_two w (InEither w first second) (FromTo start last) (InEither w others rest) blocks (either_blocks w others rest) h.parts
+    (least_of_two w (InEither w first second) (FromTo start last) (InEither w others rest) blocks (either_blocks w others rest) h.grown.parts
     (λ x y f q. let to = f.1 in let z = h.behind y q in omega arith)
-    (on_one_side w (InEither w first second) (InEither w others rest) start last h.parts h.behind)
+    (on_one_side w (InEither w first second) (InEither w others rest) start last h.grown.parts h.behind)
     k (either_is_least w others rest))
 
 pub either_none : (w : ℕ) (first second : List Network) → first ≡ [] → second ≡ [] → either_blocks w first second ≡ []
@@ -259,7 +246,7 @@ module _ (w : ℕ) {X : Type 0} (pair : X → Network) (first second others rest
   Taken result = MatchOption result ((at_hand next ≡ []) × (after ≡ [])) (λ b. at_hand next ≡ pair b ∷ after)
 
   blocks_are : (n : Option (List Network)) → MatchOption n (last < start) (λ blocks. (start ≤ last) × IsLeastList w (FromTo start last) blocks) → IsLeastList w (FromTo start last) (at_hand n)
-  blocks_are None l = let le = h.ordered in absurd (omega arith)
+  blocks_are None l = let le = h.grown.ordered in absurd (omega arith)
   blocks_are (Some blocks) m = m.1
 
   splits : now ≡ at_hand next ++ either_blocks w others rest
@@ -267,7 +254,7 @@ module _ (w : ℕ) {X : Type 0} (pair : X → Network) (first second others rest
       sym is ∙ ap (λ t. t ++ either_blocks w first second) none ∙ run_and_rest w first second start last others rest (at_hand next) h (blocks_are next range)
 
   not_empty : at_hand next ≡ [] → ⊥
-  not_empty = range_has_block w start last (at_hand next) shortest h.ordered h.fits (blocks_are next range)
+  not_empty = range_has_block w start last (at_hand next) shortest h.grown.ordered h.grown.fits (blocks_are next range)
 
   one_taken : (b : X) → at_hand next ≡ pair b ∷ after → now ≡ pair b ∷ Left
   one_taken b e = splits ∙ ap (λ t. t ++ either_blocks w others rest) e
@@ -332,6 +319,3 @@ first_alone first second others a e f = record {
       (λ (p : second ≡ c ∷ more). absurd (cc))
       k;
 }
-
-pub second_alone : (first second rest : List Network) (b : Network) → first ≡ [] → second ≡ b ∷ rest → IsFirst first second b first rest
-second_alone first second rest b e f = first_swaps second first b rest first (first_alone second first rest b f e)

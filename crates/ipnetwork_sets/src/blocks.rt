@@ -47,20 +47,17 @@ pub trait SetBlocks<N: AddressSpace>: Drop {
 /// ```
 #[derive(Debug, Drop)]
 pub struct Blocks<'a, N: AddressSpace> {
-    rest: &'a [N],
+    rest: AddressSlice<'a, N>,
 }
 
 // A contract sees an iterator as the list of the blocks still to come.
 impl<'a, N: AddressSpace> Model for Blocks<'a, N> {
-    ghost use Rattle.std.specs.Prelude.{List, map};
+    ghost use Rattle.std.specs.Prelude.{List};
     ghost use Rattle.ipnetwork_family.specs.Network.{Network};
-    ghost use Rattle.ipnetwork_sets.specs.Sets.{IsAddressSet};
 
     ghost Value = { List Network };
 
-    ghost view = { λ b. map N.pair b.rest.now };
-
-    ghost invariant = { λ b. IsAddressSet N.WIDTH (map N.pair b.rest.now) };
+    ghost view = { λ b. b.rest };
 }
 
 impl<N: AddressSpace> AddressSet<N> {
@@ -89,7 +86,7 @@ impl<'a, N: AddressSpace> AddressSlice<'a, N> {
         ensures { result ≡ self.now }
     {
         Blocks {
-            rest: self.blocks(),
+            rest: AddressSlice::of_blocks(self.blocks()),
         }
     }
 }
@@ -103,10 +100,11 @@ impl<'a, N: AddressSpace> Iterator for Blocks<'a, N> {
 
     fn next(&mut self) -> Option<N> {
         laws::one_block();
-        let Some((block, rest)) = self.rest.split_first() else {
+        let left = self.rest.blocks();
+        let Some((block, rest)) = left.split_first() else {
             return None;
         };
-        self.rest = rest;
+        self.rest = AddressSlice::of_blocks(rest);
         Some(*block)
     }
 }
@@ -115,7 +113,7 @@ impl<'a, N: AddressSpace> SetBlocks<N> for Blocks<'a, N> {
     ghost left = { λ left. left };
 
     fn next_block(&mut self) -> Option<N> {
-        let _ = &self.rest;
+        let _ = self.rest.blocks();
         self.next()
     }
 }

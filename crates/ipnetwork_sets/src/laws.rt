@@ -11,7 +11,7 @@ ghost use Rattle.ipnetwork_sets.specs.Laws.{CommonPartIsShortest, DifferenceIsSh
 
 use ipnetwork_addr::{Ipv4Addr, Ipv6Addr};
 use ipnetwork_blocks::laws;
-use ipnetwork_family::laws as network_laws;
+use ipnetwork_family::{Address, laws as network_laws};
 
 /// Of each operation the blocks have the addresses of the set and no others, each ends before the next begins, no
 /// networks with the same addresses are fewer, and no other list is the least.
@@ -33,16 +33,14 @@ pub fn equality()
 pub fn v4_texts()
     ensures { LinesTellSets 32 (text_of v4_family) }
 {
-    network_laws::canonical_network_bytes::<Ipv4Addr>();
-    network_laws::canonical_network_is_one_to_one::<Ipv4Addr>();
+    texts::<Ipv4Addr>();
 }
 
 /// Two sets of IPv6 addresses are printed as the same text exactly if they have the same addresses.
 pub fn v6_texts()
     ensures { LinesTellSets 128 (text_of v6_family) }
 {
-    network_laws::canonical_network_bytes::<Ipv6Addr>();
-    network_laws::canonical_network_is_one_to_one::<Ipv6Addr>();
+    texts::<Ipv6Addr>();
 }
 
 /// The common part and the union are those of the two in either order, and of a set with itself they are the set.
@@ -158,3 +156,11 @@ pub fn changes()
     ensures there { AddedAndTaken }
     ensures back { TakenAndAdded }
 {}
+
+// Two sets of addresses of one family are printed as the same text exactly if they have the same addresses.
+fn texts<A: Address>()
+    ensures { LinesTellSets A.WIDTH (text_of A.family) }
+{
+    network_laws::canonical_network_bytes::<A>();
+    network_laws::canonical_network_is_one_to_one::<A>();
+}

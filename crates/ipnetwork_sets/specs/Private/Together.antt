@@ -25,11 +25,17 @@ pub record IsLater (a b last : ℕ) : Type 0 where
   pub second : b ≤ last
   pub one : (last ≡ a) ⊎ (last ≡ b)
 
--- the addresses of the union are those from the first to the last, and, after a gap, those of what is left of both sets
-pub record IsRun (w : ℕ) (first second : List Network) (start last : ℕ) (others rest : List Network) : Type 0 where
+-- the addresses of the union are those from the first to the last, and those of what is left of both sets, none of which
+-- is before the first
+pub record IsGrowing (w : ℕ) (first second : List Network) (start last : ℕ) (others rest : List Network) : Type 0 where
   pub ordered : start ≤ last
   pub fits : last < 2 ^ w
   pub others_are_set : IsAddressSet w others
   pub rest_is_set : IsAddressSet w rest
   pub parts : (x : ℕ) → InEither w first second x ↔ (FromTo start last x ⊎ InEither w others rest x)
+  pub from : (x : ℕ) → InEither w others rest x → start ≤ x
+
+-- so it is, and what is left comes after a gap
+pub record IsRun (w : ℕ) (first second : List Network) (start last : ℕ) (others rest : List Network) : Type 0 where
+  pub grown : IsGrowing w first second start last others rest
   pub behind : (x : ℕ) → InEither w others rest x → last + 1 < x

@@ -11,13 +11,11 @@ use Rattle.ipnetwork_sets.proofs.check.is_address_set.Goals.{else-next-gt0-via-t
 
 pub returns-then-not-has_no_host_bits : goal.returns-then-not-has_no_host_bits
 returns-then-not-has_no_host_bits g c =
-    let w : ℕ = g.N.CidrNetwork.WIDTH in
-    let ns : List Network = map g.H.HoldsNetwork.held c.args.list.now in
-    let size = length-map c.args.list.now g.H.HoldsNetwork.held in
-    let i : ℕ = c.loop-next.next in
-    let b : Network = g.N.CidrNetwork.pair c.held_network-block.result in
-    let is = read_held g.H.HoldsNetwork.held c.args.list.now i c.index-list-next.result b (omega arith) c.index-list-next.is c.held_network-block.ensures in
-    refused (λ h. iff_false c.has_no_host_bits.ensures.told c.if-not-has_no_host_bits.true (set_has_block w ns i b c.one_block.ensures.apart h (omega arith) is))
+    let held = g.H.HoldsNetwork.held in
+    let size = length-map c.args.list.now held in
+    let is = read_held held c.args.list.now c.loop-next.next c.index-list-next.result _ (omega arith) c.index-list-next.is c.held_network-block.ensures in
+    refused (λ h. iff_false c.has_no_host_bits.ensures.told c.if-not-has_no_host_bits.true
+    (set_has_block g.N.CidrNetwork.WIDTH (map held c.args.list.now) c.loop-next.next _ c.one_block.ensures.apart h (omega arith) is))
 
 pub overflow_sub-next : goal.overflow_sub-next
 overflow_sub-next g c = omega arith
@@ -38,15 +36,13 @@ held_network-requires g c =
 
 pub returns-then-not-follows : goal.returns-then-not-follows
 returns-then-not-follows g c =
-    let w : ℕ = g.N.CidrNetwork.WIDTH in
-    let ns : List Network = map g.H.HoldsNetwork.held c.args.list.now in
-    let size = length-map c.args.list.now g.H.HoldsNetwork.held in
+    let held = g.H.HoldsNetwork.held in
+    let size = length-map c.args.list.now held in
     let i : ℕ = c.loop-next.next in
-    let b : Network = g.N.CidrNetwork.pair c.held_network-block.result in
-    let a : Network = g.N.CidrNetwork.pair c.held_network.result in
-    let is = read_held g.H.HoldsNetwork.held c.args.list.now i c.index-list-next.result b (omega arith) c.index-list-next.is c.held_network-block.ensures in
-    let at = read_held g.H.HoldsNetwork.held c.args.list.now (i - 1) c.index-list-next-then-next-gt0.result a (omega arith) c.index-list-next-then-next-gt0.is c.held_network.ensures in
-    refused (λ h. iff_false c.follows.ensures c.if-not-follows.true (set_follows w ns i a b c.one_block.ensures.apart h (omega arith) (omega arith) at is))
+    let is = read_held held c.args.list.now i c.index-list-next.result _ (omega arith) c.index-list-next.is c.held_network-block.ensures in
+    let at = read_held held c.args.list.now (i - 1) c.index-list-next-then-next-gt0.result _ (omega arith) c.index-list-next-then-next-gt0.is c.held_network.ensures in
+    refused (λ h. iff_false c.follows.ensures c.if-not-follows.true
+    (set_follows g.N.CidrNetwork.WIDTH (map held c.args.list.now) i _ _ c.one_block.ensures.apart h (omega arith) (omega arith) at is))
 
 pub loop-next-preserved : goal.loop-next-preserved
 loop-next-preserved g c =

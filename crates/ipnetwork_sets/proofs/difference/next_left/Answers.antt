@@ -1,8 +1,8 @@
-use Rattle.std.proofs.Common.{ℕ, List, Option, map, ◌∙◌, arith}
+use Rattle.std.proofs.Common.{ℕ, Option, map, ◌∙◌, arith}
 use Rattle.std.specs.Option.{option_map}
 use Rattle.std.proofs.lemmas.List.{length-map}
 use Rattle.ipnetwork_family.specs.Network.{Network}
-use Rattle.ipnetwork_sets.proofs.LeftSets.{takes_state, takes_blocks, takes_falls, count_of_mapped, no_part, passes_whole, gives_part, passed_state}
+use Rattle.ipnetwork_sets.proofs.LeftSets.{takes_state, takes_falls, count_of_mapped, no_part, takes_piece, takes_whole_part}
 use Rattle.ipnetwork_sets.proofs.difference.next_left.Goals as goal
 
 pub returns-in_default : goal.returns-in_default
@@ -22,21 +22,14 @@ first_free-requires g c =
 
 pub returns-in-Some-free : goal.returns-in-Some-free
 returns-in-Some-free g c =
-    let w : ℕ = g.N.CidrNetwork.WIDTH in
-    let at_hand : Option (Network × Network) = option_map (λ p. (g.N.CidrNetwork.pair p.whole, g.N.CidrNetwork.pair p.piece)) c.loop-part.at_hand in
-    let part : Network × Network = (g.N.CidrNetwork.pair c.in-Some.part.whole, g.N.CidrNetwork.pair c.in-Some.part.piece) in
-    let rest : List Network = map g.H.HoldsNetwork.held c.loop-part.rest.now in
-    let cut : List Network = map g.H.HoldsNetwork.held c.loop-part.cut.now in
-    let after : List Network = map g.H.HoldsNetwork.held c.in-Some.after.now in
-    let left : List Network = map g.H.HoldsNetwork.held c.first_free.result.1.now in
-    let apart = c.one_block.ensures.apart in
-    let i = c.loop-part.invariant in
-    let state = takes_state w at_hand rest cut part after apart i.state c.in-Some.ensures.1 in
+    let held = g.H.HoldsNetwork.held in
     let free = rw c.in-Some-free.is at c.first_free.ensures.free in
-    let next : Option (Network × Network) = option_map (λ p. (g.N.CidrNetwork.pair p.whole, g.N.CidrNetwork.pair p.piece)) c.part_behind-next.result in
-    let given = gives_part w part after cut left apart state c.first_free.ensures.set.1 (g.N.CidrNetwork.pair c.in-Some-free.piece) free.0 free.1
-    c.one_block.ensures.one c.one_block.ensures.networks next c.part_behind-next.ensures in
-    (c.in-Some.ensures.0, c.first_free.ensures.set.0, given.0, i.same ∙ takes_blocks w at_hand rest cut part after apart i.state c.in-Some.ensures.1 ∙ given.1)
+    let given = takes_piece g.N.CidrNetwork.WIDTH _ (option_map (λ p. (g.N.CidrNetwork.pair p.whole, g.N.CidrNetwork.pair p.piece)) c.loop-part.at_hand) (map held c.loop-part.rest.now)
+    (map held c.loop-part.cut.now) (g.N.CidrNetwork.pair c.in-Some.part.whole, g.N.CidrNetwork.pair c.in-Some.part.piece) (map held c.in-Some.after.now)
+    (map held c.first_free.result.1.now) c.one_block.ensures.apart c.loop-part.invariant.same c.loop-part.invariant.state c.in-Some.ensures.1 c.first_free.ensures.set.1
+    (g.N.CidrNetwork.pair c.in-Some-free.piece) free.0 free.1 c.one_block.ensures.one c.one_block.ensures.networks
+    (option_map (λ p. (g.N.CidrNetwork.pair p.whole, g.N.CidrNetwork.pair p.piece)) c.part_behind-next.result) c.part_behind-next.ensures in
+    (c.in-Some.ensures.0, c.first_free.ensures.set.0, given.0, given.1)
 
 pub loop-part-smaller : goal.loop-part-smaller
 loop-part-smaller g c =
@@ -50,21 +43,10 @@ loop-part-smaller g c =
 
 pub loop-part-preserved : goal.loop-part-preserved
 loop-part-preserved g c =
-    let w : ℕ = g.N.CidrNetwork.WIDTH in
+    let held = g.H.HoldsNetwork.held in
     let at_hand : Option (Network × Network) = option_map (λ p. (g.N.CidrNetwork.pair p.whole, g.N.CidrNetwork.pair p.piece)) c.loop-part.at_hand in
     let part : Network × Network = (g.N.CidrNetwork.pair c.in-Some.part.whole, g.N.CidrNetwork.pair c.in-Some.part.piece) in
-    let rest : List Network = map g.H.HoldsNetwork.held c.loop-part.rest.now in
-    let cut : List Network = map g.H.HoldsNetwork.held c.loop-part.cut.now in
-    let after : List Network = map g.H.HoldsNetwork.held c.in-Some.after.now in
-    let left : List Network = map g.H.HoldsNetwork.held c.first_free.result.1.now in
-    let apart = c.one_block.ensures.apart in
     let i = c.loop-part.invariant in
-    let state = takes_state w at_hand rest cut part after apart i.state c.in-Some.ensures.1 in
-    let passed = rw c.in_default-free.is at c.first_free.ensures.free in
-    record {
-      rest = c.in-Some.ensures.0;
-      cut = c.first_free.ensures.set.0;
-      state = passed_state w part after cut left apart state c.first_free.ensures.set.1;
-      same = i.same ∙ takes_blocks w at_hand rest cut part after apart i.state c.in-Some.ensures.1
-          ∙ passes_whole w part after cut left apart state c.first_free.ensures.set.1 passed;
-    }
+    let passed = takes_whole_part g.N.CidrNetwork.WIDTH _ at_hand (map held c.loop-part.rest.now) (map held c.loop-part.cut.now) part (map held c.in-Some.after.now)
+    (map held c.first_free.result.1.now) c.one_block.ensures.apart i.same i.state c.in-Some.ensures.1 c.first_free.ensures.set.1 (rw c.in_default-free.is at c.first_free.ensures.free) in
+    record { rest = c.in-Some.ensures.0; cut = c.first_free.ensures.set.0; state = passed.0; same = passed.1 }

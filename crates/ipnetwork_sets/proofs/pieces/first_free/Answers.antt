@@ -2,7 +2,7 @@ use Rattle.std.proofs.Common.{◌+◌, ◌<◌, ℕ, map, ap, sym, arith}
 use Rattle.std.proofs.lemmas.Bool.{iff_false}
 use Rattle.ipnetwork_family.specs.Network.{Network, high}
 use Rattle.ipnetwork_family.proofs.Blocks.{size_pos}
-use Rattle.ipnetwork_sets.proofs.LeftParts.{goes_past, is_free, goes_behind, goes_within, later_falls, widest_behind, half_is, longer_falls, skips_to}
+use Rattle.ipnetwork_sets.proofs.LeftParts.{goes_past, is_free, goes_behind, goes_within, later_falls, widest_behind, half_is, half_falls, skips_to}
 use Rattle.ipnetwork_sets.proofs.pieces.first_free.Goals as goal
 
 pub loop-taken-preserved-then-ends_before : goal.loop-taken-preserved-then-ends_before
@@ -52,13 +52,9 @@ loop-taken-preserved-then-prefix g c =
 
 pub loop-taken-smaller : goal.loop-taken-smaller
 loop-taken-smaller g c =
-    let w : ℕ = g.N.CidrNetwork.WIDTH in
-    let whole : Network = g.N.CidrNetwork.pair c.args.whole in
-    let piece : Network = g.N.CidrNetwork.pair c.loop-taken.piece in
-    let half : Network = g.N.CidrNetwork.pair c.lower_half-piece.result in
-    let shorter : piece.prefix < w = omega (arith, c.prefix.ensures.made, c.prefix.ensures.network.prefix_fits, c.prefix-else-ends_before-2.ensures.made, c.if-prefix.false) in
-    let is = half_is w whole piece half c.loop-taken.invariant.part shorter c.lower_half-piece.ensures in
-    let fall = longer_falls w piece half is.0 is.1 shorter in
+    let fall = half_falls g.N.CidrNetwork.WIDTH (g.N.CidrNetwork.pair c.args.whole) (g.N.CidrNetwork.pair c.loop-taken.piece) (g.N.CidrNetwork.pair c.lower_half-piece.result)
+    c.loop-taken.invariant.part (omega (arith, c.prefix.ensures.made, c.prefix.ensures.network.prefix_fits, c.prefix-else-ends_before-2.ensures.made, c.if-prefix.false))
+    c.lower_half-piece.ensures in
     omega (arith, fall)
 
 pub loop-taken-preserved : goal.loop-taken-preserved

@@ -1,7 +1,7 @@
 use Rattle.std.proofs.Common.{ℕ, map, sym, subst, arith}
 use Rattle.ipnetwork_family.specs.Network.{low}
-use Rattle.ipnetwork_sets.specs.Private.Together.{IsLater}
-use Rattle.ipnetwork_sets.proofs.Together.{IsGrowing, first_is_block, growing_starts, grows_by_first, grows_by_second, growing_ends}
+use Rattle.ipnetwork_sets.specs.Private.Together.{IsGrowing, IsLater}
+use Rattle.ipnetwork_sets.proofs.Together.{first_is_block, growing_starts, grows_by_first, grows_by_second, growing_ends}
 use Rattle.ipnetwork_sets.proofs.union.next_run.Goals as goal
 
 pub loop-next-init : goal.loop-next-init

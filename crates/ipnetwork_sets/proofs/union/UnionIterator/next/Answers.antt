@@ -32,8 +32,8 @@ invariant_of-self-2 g c =
     let held = g.H.HoldsNetwork.held in
     let run = c.in-Some-next_run.found in
     let h = c.in-Some-next_run.ensures.1 in (
-      (c.in-Some-next_run.ensures.2, h.others_are_set),
-      (c.in-Some-next_run.ensures.3, h.rest_is_set),
+      (c.in-Some-next_run.ensures.2, h.grown.others_are_set),
+      (c.in-Some-next_run.ensures.3, h.grown.rest_is_set),
       next_is_set w pair _ _ _ _ c.args.self.now (at_hand c.self.inside.run)
           (low w (pair run.0)) (g.N.CidrNetwork.number run.1) c.range_to_blocks-self-inside.result (at_hand c.next_at_hand-2.new.run) c.one_block.ensures.apart c.ranges_are_shortest.ensures.range
           c.self.view_is c.in_default.ensures.0 c.self.invariant.2 h
@@ -64,8 +64,8 @@ invariant_of-self-then-ends_at g c =
     let run = c.in-Some-next_run.found in
     let last : ℕ = g.N.CidrNetwork.number run.1 in
     let h = c.in-Some-next_run.ensures in (
-      (h.2, h.1.others_are_set),
-      (h.3, h.1.rest_is_set),
+      (h.2, h.1.grown.others_are_set),
+      (h.3, h.1.grown.rest_is_set),
       next_is_set w pair _ _ _ _ c.args.self.now (at_hand c.self.inside.run)
           (low w (pair run.0)) last (Some (pair run.0 ∷ [])) [] c.one_block.ensures.apart c.ranges_are_shortest.ensures.range
           c.self.view_is c.in_default.ensures.0 c.self.invariant.2 h.1 (one_is_range w (pair run.0) last h.0 (c.ends_at.ensures.0 c.if-ends_at.true)) (Some run.0) refl,
