@@ -237,3 +237,48 @@ def in_parts(program, folder):
         output, error, status = run([IN_PARTS, *options.split()], b"", folder)
         well = (output, error.count(b"\n"), status) == (b"", 1, 2)
         yield f"{options}, in parts", well, error
+
+
+def made_stretches(rng):
+    """The lines of a log, each with the first number of its address, 0 if it has none and 12 if it is too long. Of some
+    stretches none or all of those with an address begin with 10, of others a part by chance."""
+    lines = []
+    for part in (0, 1 / 2, 1, 1 / 64, 1 / 3, 0, 1):
+        for number in range(rng.randrange(500, 1500)):
+            first = 10 if rng.random() < part else 11
+            address = f"{first}.{number & 255}.{rng.getrandbits(8)}.1"
+            if rng.random() < 1 / 32:
+                first, address = 0, rng.choice(("-", "10.0.0", "10.0.0.256"))
+            lines.append((first, f"{address} {'x' * rng.randrange(200)}{rng.choice(('', chr(13)))}\n".encode()))
+    lines.insert(len(lines) // 4, (12, b"10.0.0.1 ".ljust(1048577, b"x") + b"\n"))
+    return [*lines, (10, b"10.0.0.9 last")]
+
+
+def stretches(program, folder):
+    """Whether lines are selected changes from stretch to stretch of a log."""
+    lines = made_stretches(random.Random(49))
+    given = b"".join(line for _, line in lines)
+    short = b"".join(line for first, line in lines if first != 12)
+    for options, kinds in (("", (10,)), ("-v", (11,)), ("--bad keep", (10, 0)), ("-v --bad keep", (11, 0))):
+        log = [one for one in lines if one[0] != 12] if 0 in kinds else lines
+        selected = [(at, line.rstrip(b"\n") + b"\n") for at, (first, line) in enumerate(log, 1) if first in kinds]
+        shown = [line for _, line in selected]
+        rows = [("", b"".join(shown)), ("-n", b"".join(b"%d:%s" % one for one in selected)), ("-c", b"%d\n" % len(shown))]
+        rows += [(f"-m {most}", b"".join(shown[:most])) for most in (1, 15, 16, 17, 63, 64, 65, len(shown) // 2)]
+        for more, wanted in rows:
+            words = f"-f list {options} {more}".split()
+            got = run([program, *words], short if 0 in kinds else given, folder)
+            yield f"{words} < stretches", got == (wanted, b"", 0), got[1:]
+        words = [program, *f"-f list {options}".split()]
+        with open(os.path.join(folder, "stretches"), "wb") as log:
+            log.write(short if 0 in kinds else given)
+        with subprocess.Popen([*words, "stretches"], cwd=folder, stdout=subprocess.PIPE) as running:
+            got = running.stdout.read(100000)
+            running.stdout.close()
+        yield f"{words} stretches, of which not all is taken", got == b"".join(shown)[:100000], running.returncode
+    for at in (800, 3000):
+        ended = [one for one in lines if one[0] not in (0, 12)]
+        log = b"".join(line for _, line in ended[:at]) + b"- refused\n" + b"".join(line for _, line in ended[at:])
+        wanted = b"".join(line for first, line in ended[:at] if first == 10)
+        got = run([program, *"-f list --bad stop".split()], log, folder)
+        yield f"stretches, stopped behind {at}", got == (wanted, b"-:%d: refused address\n" % (at + 1), 2), got[1:]

@@ -1,5 +1,6 @@
 pub mod Addressed
 pub mod Among
+pub mod Copying
 pub mod Enough
 pub mod EnoughExamples
 pub mod Examples

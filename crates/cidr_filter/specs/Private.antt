@@ -1,4 +1,5 @@
 -- What the private functions promise each other.
+pub mod Copying
 pub mod Judging
 pub mod Leaving
 pub mod Progress

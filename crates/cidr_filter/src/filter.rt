@@ -1,8 +1,9 @@
 //! What a line is to the lists, and whether it is selected.
-ghost use Rattle.std.specs.Prelude.{◌≡◌, ◌≤◌, ◌||◌, Some, MatchOption};
+ghost use Rattle.std.specs.Prelude.{◌≡◌, ◌≤◌, ◌||◌, ◌∷◌, [], Some, IfSome, MatchOption};
 ghost use Rattle.line_addresses.specs.Addresses.{addresses_of};
 ghost use Rattle.cidr_filter.specs.Addressed.{is_addressed_by};
-ghost use Rattle.cidr_filter.specs.Filters.{is_listed, IsVerdict, IsVerdictOfAddresses, IsListed, TellsBlock, asked, asked_of, of_part, of_rest, spelled_at, is_selected, is_refused, is_count, is_silent};
+ghost use Rattle.cidr_filter.specs.Filters.{is_listed, IsVerdict, IsVerdictOfAddresses, IsListed, TellsBlock, addresses_in, asked, asked_of, of_part, of_rest, spelled_at, is_selected, is_refused, is_count, is_silent};
+ghost use Rattle.cidr_filter.specs.Private.Copying.{IsSelectedByAddress};
 
 use crate::listed::Listed;
 use ipnetwork::{IpAddr, IpNetwork};
@@ -104,6 +105,44 @@ impl Filter<'_> {
             return Verdict::TooLong;
         }
         self.judge_within(line)
+    }
+
+    /// Whether a line is selected, if it is not too long and has the one address that is looked for.
+    /// No branch is taken on that, so that the processor guesses nothing wrong. Of another line, and
+    /// with `--longest`, nothing is told.
+    #[inline(always)]
+    pub(crate) fn selects_by_address(&self, line: &[u8]) -> Option<bool>
+        ensures { IfSome result (IsSelectedByAddress self.now line.now) }
+    {
+        if line.len() > LINE_MAX {
+            return None;
+        }
+        let Listed::Addresses(sets) = &self.listed else {
+            return None;
+        };
+        match self.only_address(line) {
+            Some(address) => Some(sets.contains(self.asked(address)) != self.inverts),
+            None => None,
+        }
+    }
+
+    // The address of a line, if only one is looked for and the line has it.
+    #[inline(always)]
+    fn only_address(&self, line: &[u8]) -> Option<IpAddr>
+        ensures { IfSome result (λ address.
+            addresses_in self.now line.now ≡ asked self.now.mapped address ∷ []) }
+    {
+        match &self.place {
+            Place::Field { number, separator } => match field_of(line, *number, *separator) {
+                Some(field) => address_of(field),
+                None => None,
+            },
+            Place::Word(number) => match word_of(line, *number) {
+                Some(word) => address_of(word),
+                None => None,
+            },
+            Place::Anywhere | Place::After(_) => None,
+        }
     }
 
     // What a line that is not too long is to the list.
@@ -213,6 +252,7 @@ impl Filter<'_> {
     }
 
     // The address for which the list is asked.
+    #[inline(always)]
     fn asked(&self, address: IpAddr) -> IpAddr
         ensures { result ≡ asked self.now.mapped address }
     {

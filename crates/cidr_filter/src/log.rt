@@ -1,19 +1,22 @@
 //! Filters the lines of a log.
-ghost use Rattle.std.specs.Prelude.{◌≡◌, ◌||◌, ◌≤◌, ◌-◌, ◌^◌, ◌++◌, [], ℕ, List, Option, IsTrue, OnOk, OnErr, IfErr, IfOk, IsOkUnless, Err};
+ghost use Rattle.std.specs.Prelude.{◌≡◌, ◌||◌, ◌≤◌, ◌-◌, ◌^◌, ◌++◌, [], ℕ, List, true, Option, IsTrue, OnOk, OnErr, IfErr, IfOk, IsOkUnless, Err};
 ghost use Rattle.lines.specs.Outputs.{AppendsBeginning};
 ghost use Rattle.lines.specs.Watched.{device_of, has_failed};
 ghost use Rattle.program.specs.LogFaults.{ended_by_read, ended_by_write};
 ghost use Rattle.program.specs.LogLines.{feed_behind};
 ghost use Rattle.program.specs.LogReaders.{HandsFirst, hurries_of};
-ghost use Rattle.cidr_filter.specs.Filters.{head_of, is_refused, shown_of};
+ghost use Rattle.program.specs.Counts.{Counts};
+ghost use Rattle.cidr_filter.specs.Filters.{head_of, is_refused, one_if, shown_of};
 ghost use Rattle.cidr_filter.specs.Stands.{stand, stand, Goes};
 ghost use Rattle.cidr_filter.specs.Stops.{EndsBy, Stops};
+ghost use Rattle.cidr_filter.specs.Private.Copying.{copied, PrintsAsRead};
 ghost use Rattle.cidr_filter.specs.Private.Judging.{fault_of};
 ghost use Rattle.cidr_filter.specs.Private.Progress.{FiltersLine, LineStops};
 
 use crate::filter::{Filter, Verdict};
 use crate::leaving::{fewer, is_spent, leave};
-use crate::printing::print_selected;
+use crate::printing::{print_selected, prints_as_read};
+use crate::recent::Recent;
 use lines::line_end::LineEnd;
 use lines::output::Output;
 use lines::watched::Watched;
@@ -79,6 +82,8 @@ pub fn filter_log<R: Read, W: Write>(
     let _ = counted(tally.lines);
     let refuses_long_lines = filter.refuses(&Verdict::TooLong);
     let mut left = filter.most;
+    let mut recent = Recent::new(tally.selected);
+    let as_read = prints_as_read(filter);
     if is_spent(left) {
         return leave(output);
     }
@@ -87,9 +92,11 @@ pub fn filter_log<R: Read, W: Write>(
             Ok(NextLogLine::Line(end)) => {
                 let line = log.line();
                 let whole = log.whole_line();
-                match filter_line(filter, line, whole, end, output, tally) {
+                let is_copied = as_read && recent.are_many;
+                match filter_line(filter, line, whole, end, is_copied, output, tally) {
                     Ok(is_selected) => {
                         left = fewer(left, is_selected);
+                        recent.note(tally.lines, tally.selected);
                     }
                     Err(fault) => return Err(fault),
                 }
@@ -110,8 +117,75 @@ pub fn filter_log<R: Read, W: Write>(
 }
 
 // Filters a line within the limit, and returns whether it is selected. `whole` is the line as it
-// was read, with its end.
+// was read, with its end. If it `is_copied`, it is so before it is known whether it is selected.
 fn filter_line<W: Write>(
+    filter: &Filter,
+    line: &[u8],
+    whole: &[u8],
+    end: LineEnd,
+    is_copied: bool,
+    output: &mut Output<'_, W>,
+    tally: &mut Tally,
+) -> Result<bool, LogFault>
+    requires copied { IsTrue is_copied → PrintsAsRead filter.now }
+    ensures ok { IfOk result (λ is_selected.
+        FiltersLine filter.now line.now (whole.now ++ feed_behind end) is_selected
+        (stand output.old tally.old) (stand output.new tally.new)) }
+    ensures err { IfErr result (LineStops filter.now line.now (whole.now ++ feed_behind end)
+        output.new.failed
+        (stand output.old tally.old) (stand output.new tally.new)) }
+    ensures writer_failed { output.new.failed ≡ (output.old.failed || ended_by_write result) }
+{
+    if is_copied && has_feed(end) {
+        if let Some(is_selected) = filter.selects_by_address(line) {
+            return pass_line(is_selected, whole, output, tally);
+        }
+    }
+    filter_judged(filter, line, whole, end, output, tally)
+}
+
+// Counts a line that has an address, and writes it as it was read if it is selected.
+#[inline(always)]
+fn pass_line<W: Write>(
+    is_selected: bool,
+    whole: &[u8],
+    output: &mut Output<'_, W>,
+    tally: &mut Tally,
+) -> Result<bool, LogFault>
+    ensures ok { OnOk result (Goes
+        (stand output.old tally.old) (stand output.new tally.new)
+        (copied is_selected whole.now) (one_if is_selected) 1) }
+    ensures selected { IfOk result (λ selected. selected ≡ is_selected) }
+    ensures err { OnErr result (IsTrue output.new.failed) }
+    ensures beginning { OnErr result (AppendsBeginning output.old.holds output.new.holds
+        (output.old.waits ++ copied is_selected whole.now)) }
+    ensures fault { IsOkUnless result LogFault.Write }
+    ensures lines { Counts tally.old.lines tally.new.lines 1 }
+    ensures addressed { tally.new.is_addressed ≡ true }
+    ensures writer_failed { output.new.failed ≡ (output.old.failed || ended_by_write result) }
+{
+    tally.lines = tally.lines.saturating_add(1);
+    tally.is_addressed = true;
+    tally.selected = tally.selected.saturating_add(u64::from(is_selected));
+    match output.put_if(whole, is_selected) {
+        Ok(()) => Ok(is_selected),
+        Err(_) => Err(LogFault::Write),
+    }
+}
+
+// Whether no line feed is written behind a line that ended so.
+#[inline(always)]
+fn has_feed(end: LineEnd) -> bool
+    ensures { IsTrue result → feed_behind end ≡ [] }
+{
+    match end {
+        LineEnd::LineFeed | LineEnd::ReturnAndLineFeed => true,
+        LineEnd::EndOfInput => false,
+    }
+}
+
+// Filters a line within the limit, by the verdict on it.
+fn filter_judged<W: Write>(
     filter: &Filter,
     line: &[u8],
     whole: &[u8],

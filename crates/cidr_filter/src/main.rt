@@ -14,6 +14,7 @@ mod options;
 mod printing;
 mod printing_addresses;
 mod reading;
+mod recent;
 mod run;
 mod telling;
 

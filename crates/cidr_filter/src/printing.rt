@@ -1,7 +1,8 @@
 //! Prints a line.
-ghost use Rattle.std.specs.Prelude.{◌≡◌, ◌++◌, ◌∷◌, []};
+ghost use Rattle.std.specs.Prelude.{◌≡◌, ◌++◌, ◌∷◌, [], IsTrue};
 ghost use Rattle.lines.specs.Outputs.{Prints};
 ghost use Rattle.cidr_filter.specs.Filters.{head_of, mark_of, block_text, block_in, shown_of};
+ghost use Rattle.cidr_filter.specs.Private.Copying.{PrintsAsRead};
 ghost use Rattle.program.specs.LogLines.{feed_behind};
 ghost use Rattle.program.specs.Putting.{PutsOrFails};
 
@@ -37,6 +38,16 @@ pub(crate) fn print_selected<W: Write>(
         Shown::Addresses => print_addresses(filter, number, line, output),
         Shown::Names => put_both(filter.name.bytes(), b"\n", output),
         Shown::Count | Shown::Nothing => Ok(()),
+    }
+}
+
+/// Whether of a selected line the line is printed, and nothing else.
+pub(crate) fn prints_as_read(filter: &Filter) -> bool
+    ensures { IsTrue result → PrintsAsRead filter.now }
+{
+    match (filter.shows, &filter.listed) {
+        (Shown::Lines, Listed::Addresses(_)) => !filter.numbered && filter.name.bytes().is_empty(),
+        _ => false,
     }
 }
 

@@ -1,5 +1,5 @@
 //! Bytes at the front of a slice that the caller lends.
-ghost use Rattle.std.specs.Prelude.{◌≡◌, ◌+◌, ◌==◌, ◌≤◌, [], ◌∷◌, length};
+ghost use Rattle.std.specs.Prelude.{◌≡◌, ◌+◌, ◌==◌, ◌≤◌, if◌then◌else◌, [], ◌∷◌, length};
 
 use std::marker::Model;
 
@@ -127,6 +127,26 @@ impl<'a> Buffer<'a> {
         let end = self.count + bytes.len();
         self.slice[self.count..end].copy_from_slice(bytes);
         self.count = end;
+    }
+
+    /// Adds these bytes at the end, or none of them, which takes as long. There must be room for them.
+    ///
+    /// ```
+    /// let mut slice = [0; 9];
+    /// let mut buffer = lines::buffer::Buffer::new(&mut slice);
+    /// buffer.push_bytes_if(b"10", true);
+    /// buffer.push_bytes_if(b".1", false);
+    /// buffer.push_bytes_if(b"/8", true);
+    /// assert_eq!(rt; buffer.as_slice(), b"10/8".as_slice());
+    /// ```
+    #[inline(always)]
+    pub fn push_bytes_if(&mut self, bytes: &[u8], is_added: bool)
+        requires { HasRoom self.old (length bytes.now) }
+        ensures { Adds self.old self.new (if is_added then bytes.now else []) }
+    {
+        let end = self.count + bytes.len();
+        self.slice[self.count..end].copy_from_slice(bytes);
+        self.count += if is_added { bytes.len() } else { 0 };
     }
 
     /// Adds this byte at the end. There must be room for it.

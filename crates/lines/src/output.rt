@@ -1,5 +1,5 @@
 //! Gathers bytes before they are written.
-ghost use Rattle.std.specs.Prelude.{◌≡◌, ◌||◌, [], false, is_err, OnOk, OnErr, IsOkUnless, IsFalse};
+ghost use Rattle.std.specs.Prelude.{◌≡◌, ◌||◌, if◌then◌else◌, [], false, is_err, OnOk, OnErr, IsOkUnless, IsFalse};
 ghost use Rattle.std.specs.Io.KnownBytes.{Appends};
 ghost use Rattle.lines.specs.Outputs.{Puts, Prints, FailsIn, AppendsBeginning};
 
@@ -91,6 +91,40 @@ impl<'a, W: Write> Output<'a, W> {
         }
         hand_on(&mut self.writer, &mut self.waiting)?;
         self.put_first(bytes)
+    }
+
+    /// Adds these bytes as `put` does, or none. If there is room for them, it takes no branch whether they are added: so it
+    /// is faster than a branch that the processor guesses wrong.
+    ///
+    /// ```
+    /// let mut slice = [0; 8];
+    /// let mut room = [b'.'; 5];
+    /// let mut output = lines::output::Output::new(room.as_mut_slice(), &mut slice);
+    /// assert_eq!(rt; output.put_if(b"::1\n", true), Ok(()));
+    /// assert_eq!(rt; output.put_if(b"::2\n", false), Ok(()));
+    /// assert_eq!(rt; output.finish(), Ok(()));
+    /// drop(output);
+    /// assert_eq!(rt; room, *b"::1\n.");
+    /// ```
+    #[inline(always)]
+    pub fn put_if(&mut self, bytes: &[u8], is_put: bool) -> Result<(), RunFault>
+        ensures ok { OnOk result (Prints self.old self.new (if is_put then bytes.now else [])) }
+        ensures err { OnErr result (FailsIn self.old self.new (if is_put then bytes.now else [])) }
+        ensures works { OnOk result (IsFalse self.new.failed) }
+        ensures failed { self.new.failed ≡ (self.old.failed || is_err result) }
+        ensures fault { IsOkUnless result RunFault.Write }
+    {
+        if self.writer.failed() {
+            return Err(RunFault::Write);
+        }
+        if self.waiting.remaining() >= bytes.len() {
+            self.waiting.push_bytes_if(bytes, is_put);
+            return Ok(());
+        }
+        if !is_put {
+            return Ok(());
+        }
+        self.put(bytes)
     }
 
     // Adds bytes if none wait, on a writer that has not failed.

@@ -1,0 +1,56 @@
+-- Lines that are copied into the output before it is known whether they are selected.
+use Rattle.std.proofs.Common.{◌≡◌, ◌↔◌, ℕ, ◌≤◌, ◌∙◌, Bool, true, false, not, List, [], ◌∷◌, length, refl, sym, ap, subst, arith, inl, true≢false}
+use Rattle.std.specs.Prelude.{Option, None, Some, IfSome, IsTrue}
+use Rattle.std.proofs.Math.Bool.{beq}
+use Rattle.std.specs.Option.{option_to_list}
+use Rattle.ipnetwork_addr.specs.declared.ip.IpAddr.{IpAddr}
+use Rattle.line_addresses.specs.Addresses.{address_of, with_text}
+use Rattle.line_addresses.specs.declared.place.Place.{Place}
+use Rattle.cidr_filter.specs.Filters.{IsVerdict, IsVerdictOfAddresses, FirstListed, TellsBlock, addresses_in, asked, asked_of, of_part, spelled_at}
+use Rattle.cidr_filter.specs.Listed.{HasAddress, IsIn}
+use Rattle.cidr_filter.specs.Private.Copying.{IsSelectedByAddress}
+use Rattle.cidr_filter.specs.declared.filter.Filter.{Filter}
+use Rattle.cidr_filter.specs.declared.filter.Verdict.TheVariants as verdicts
+use Rattle.cidr_filter.specs.declared.listed.Listed.{Listed}
+use Rattle.cidr_filter.specs.declared.listed.Listed.TheVariants.{Addresses}
+use Rattle.cidr_filter.specs.declared.listed.Sets.{Sets}
+
+-- ---- the address that is looked for
+
+module _ (filter : Filter) (line part : List ℕ) (place : Place) (is : filter.place ≡ place) (same : spelled_at place line ≡ of_part (Some part)) where
+  pub found_only : (found : Option IpAddr) → found ≡ address_of part → IfSome found (λ address. addresses_in filter line ≡ asked filter.mapped address ∷ [])
+  found_only None e = tt
+  found_only (Some address) e =
+      ap (λ (q : Place). asked_of filter (spelled_at q line)) is
+      ∙ ap (asked_of filter) same
+      ∙ ap (λ (o : Option IpAddr). asked_of filter (option_to_list (with_text part o))) (sym e)
+
+-- ---- whether a line is selected
+
+unlike_true : (inverts : Bool) → not (beq true inverts) ≡ not inverts
+unlike_true true = refl
+unlike_true false = refl
+
+unlike_false : (inverts : Bool) → not (beq false inverts) ≡ inverts
+unlike_false true = refl
+unlike_false false = refl
+
+module _ (filter : Filter) (line : List ℕ) (sets : Sets) (address : IpAddr) (short : length line ≤ 1048576) (is : filter.listed ≡ Addresses sets)
+    (only : addresses_in filter line ≡ address ∷ []) where
+  inside : HasAddress sets address → IsVerdict filter line (verdicts.Inside None)
+  inside has = (
+    short,
+    subst (λ (l : List IpAddr). FirstListed filter l None) (sym only)
+        (inl (subst (λ (l : Listed). IsIn l address) (sym is) has, subst (λ (l : Listed). TellsBlock l address None) (sym is) refl)),
+  )
+
+  outside : ¬ (HasAddress sets address) → IsVerdict filter line verdicts.Outside
+  outside none = (
+    short,
+    subst (λ (l : List IpAddr). IsVerdictOfAddresses filter l verdicts.Outside) (sym only)
+        (omega arith, ((λ h. none (subst (λ (l : Listed). IsIn l address) is h)), tt)),
+  )
+
+  pub by_address : (is_in : Bool) → IsTrue is_in ↔ HasAddress sets address → IsSelectedByAddress filter line (not (beq is_in filter.inverts))
+  by_address true h = (verdicts.Inside None, inside (h.0 refl), refl, refl, unlike_true filter.inverts)
+  by_address false h = (verdicts.Outside, outside (λ a. true≢false (sym (h.1 a))), refl, refl, unlike_false filter.inverts)

@@ -1,0 +1,19 @@
+-- Lines that are copied into the output before it is known whether they are selected.
+use Rattle.std.specs.Prelude.{◌≡◌, ℕ, Bool, true, false, List, [], if◌then◌else◌}
+use Rattle.cidr_filter.specs.Addressed.{is_addressed_by}
+use Rattle.cidr_filter.specs.Filters.{IsVerdict, is_refused, is_selected, head_of, shown_of}
+use Rattle.cidr_filter.specs.declared.filter.Filter.{Filter}
+use Rattle.cidr_filter.specs.declared.filter.Verdict.{Verdict}
+
+-- of a selected line the line is printed, and nothing else
+abbrev pub PrintsAsRead : Filter → Type 0
+PrintsAsRead filter = (number : ℕ) → (verdict : Verdict) → (line text : List ℕ) → shown_of filter (head_of filter number) verdict line text ≡ text
+
+-- a line, given without its end, has an address, and is selected or not
+abbrev pub IsSelectedByAddress : Filter → List ℕ → Bool → Type 0
+IsSelectedByAddress filter line selected = (verdict : Verdict) × IsVerdict filter line verdict × (is_refused filter verdict ≡ false)
+    × (is_addressed_by verdict ≡ true) × (selected ≡ is_selected filter verdict)
+
+-- what is put of a line that is selected or not
+abbrev pub copied : Bool → List ℕ → List ℕ
+copied selected text = if selected then text else []
