@@ -15,6 +15,7 @@ use Rattle.cidr_filter.specs.declared.options.Letters.{Letters}
 use Rattle.cidr_filter.proofs.Examples.{ended, by}
 use Rattle.cidr_filter.proofs.OptionExamples.{letters}
 use Rattle.cidr_filter.proofs.Enough.{is_none}
+use Rattle.cidr_filter.proofs.RunExamples.{nothing_written}
 
 -- ---- what is asked
 
@@ -85,44 +86,18 @@ module _ (known : KnownLists) (inside : IsVerdict silent (codes "10.0.0.1") (ver
   -- the first log is left at its second line, and the other is not opened
   pub first_log_is_enough : known.may_open (codes "a") true → IsFirstOf known (codes "a") (codes "11.0.0.1\n10.0.0.1\nbad\n") → {W E : Type 0} (end : Ending W E)
       → HasWritten end [] → HasTold end [] → end.status ≡ 0 → EndsLogs silent known (codes "a" ∷ codes "b" ∷ []) end
-  first_log_is_enough opened first end written told status = inl (record {
-    output = [];
-    selected = 1;
-    texts = [];
-    missed = false;
-    filters = (
-      [],
-      [],
-      1,
-      0,
-      [],
-      [],
-      false,
-      false,
-      inr (
-          inl (
-            (
-              codes "11.0.0.1\n10.0.0.1\nbad\n",
-              ended (codes "11.0.0.1") ∷ ended (codes "10.0.0.1") ∷ [],
-              ended (codes "bad") ∷ [],
-              opened,
-              first,
-              refl,
-              (verdicts.Outside, [], 1, outside, refl, (verdicts.Inside None, [], 0, inside, refl, (refl, refl), refl, refl), refl, refl),
-              record { most = refl; last = inr (ended (codes "11.0.0.1") ∷ [], ended (codes "10.0.0.1"), verdicts.Inside None, refl, inl refl, inside, refl) },
-              refl,
-            ),
-            refl,
-          )
-          ),
-      (refl, refl, refl, refl),
-      refl,
-      refl,
-      refl,
-      refl,
-    );
-    ends = inl (written, told, status);
-  })
+  first_log_is_enough opened first end written told status =
+      nothing_written silent known (codes "a") (codes "b" ∷ []) [] 1 end (inr (
+        codes "11.0.0.1\n10.0.0.1\nbad\n",
+        ended (codes "11.0.0.1") ∷ ended (codes "10.0.0.1") ∷ [],
+        ended (codes "bad") ∷ [],
+        opened,
+        first,
+        refl,
+        (verdicts.Outside, [], 1, outside, refl, (verdicts.Inside None, [], 0, inside, refl, (refl, refl), refl, refl), refl, refl),
+        record { most = refl; last = inr (ended (codes "11.0.0.1") ∷ [], ended (codes "10.0.0.1"), verdicts.Inside None, refl, inl refl, inside, refl) },
+        refl,
+      )) (refl, refl, refl, refl) written told status
 
 -- behind a log that is enough nothing is told, and no log is missed
 pub nothing_told_behind : (goes : Type 0) (output told : List ℕ) (selected : ℕ) → GoesOn (is_enough shows.Nothing 1) goes output selected told true → ⊥

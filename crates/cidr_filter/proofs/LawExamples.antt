@@ -1,7 +1,7 @@
 -- What the laws let one conclude, where a weaker law would not.
 use Rattle.std.proofs.Common.{◌≡◌, ℕ, ◌<◌, length, true, false, List, [], ◌∷◌, ◌++◌, inl, inr, refl, sym, ap, ◌∙◌, arith}
 use Rattle.std.specs.Prelude.{codes, Some, None, String}
-use Rattle.std.specs.List.{list_all, list_any}
+use Rattle.std.specs.List.{AllByRecursion, list_all, list_any}
 use Rattle.std.specs.String.{string_bytes}
 use Rattle.ipnetwork.specs.declared.ip_network.IpNetwork.TheVariants.{V4, V6}
 use Rattle.program.specs.declared.usage.Subject.TheVariants as subjects
@@ -108,18 +108,13 @@ long_line_is_not_lost law filter read rest line e long judges none =
 
 -- ---- words that are no options
 
--- a letter beside an option, a letter more, one less, and a letter of none, whatever follows
-pub no_other_letter : {Z : Type 0} (word : String Z) (others : List (String Z)) → OthersAreNoOptions filter_options is_option_word (word ∷ others) → string_bytes word ≡ codes "--longesu" → option_of filter_options (word ∷ others) ≡ None
-no_other_letter word others law w = law (ap is_option_word w)
+module _ {Z : Type 0} (word : String Z) (others : List (String Z)) (law : OthersAreNoOptions filter_options is_option_word (word ∷ others)) where
+  no_option : (text : List ℕ) → is_option_word text ≡ false → string_bytes word ≡ text → option_of filter_options (word ∷ others) ≡ None
+  no_option text none w = law (ap is_option_word w ∙ none)
 
-pub no_more_letters : {Z : Type 0} (word : String Z) (others : List (String Z)) → OthersAreNoOptions filter_options is_option_word (word ∷ others) → string_bytes word ≡ codes "-ff" → option_of filter_options (word ∷ others) ≡ None
-no_more_letters word others law w = law (ap is_option_word w)
-
-pub no_fewer_letters : {Z : Type 0} (word : String Z) (others : List (String Z)) → OthersAreNoOptions filter_options is_option_word (word ∷ others) → string_bytes word ≡ codes "--ba" → option_of filter_options (word ∷ others) ≡ None
-no_fewer_letters word others law w = law (ap is_option_word w)
-
-pub no_third_flag : {Z : Type 0} (word : String Z) (others : List (String Z)) → OthersAreNoOptions filter_options is_option_word (word ∷ others) → string_bytes word ≡ codes "-x" → option_of filter_options (word ∷ others) ≡ None
-no_third_flag word others law w = law (ap is_option_word w)
+  -- a letter beside an option, a letter more, one less, and a letter of none, whatever follows
+  pub no_options : AllByRecursion (λ text. string_bytes word ≡ text → option_of filter_options (word ∷ others) ≡ None) (codes "--longesu" ∷ codes "-ff" ∷ codes "--ba" ∷ codes "-x" ∷ [])
+  no_options = (no_option (codes "--longesu") refl, (no_option (codes "-ff") refl, (no_option (codes "--ba") refl, (no_option (codes "-x") refl, tt))))
 
 -- nor does such a word ask for something behind an option
 pub not_behind_an_option : {Z : Type 0} (flag word : String Z) (others : List (String Z)) → OthersAskForNothing filter_options is_option_word (flag ∷ word ∷ others) → string_bytes flag ≡ codes "-v" → string_bytes word ≡ codes "--longesu"

@@ -1,5 +1,5 @@
 -- Runs at which a misreading of the definitions would show.
-use Rattle.std.proofs.Common.{◌≡◌, ℕ, List, [], ◌∷◌, true, false, inl, inr, refl, drop, sym, ◌∙◌, ◌⊎◌, true≢false}
+use Rattle.std.proofs.Common.{◌≡◌, ℕ, List, [], ◌∷◌, true, false, inl, inr, refl, drop, append-nil, sym, ◌∙◌, ◌⊎◌, true≢false, arith}
 use Rattle.std.specs.Prelude.{codes, String, Some, None}
 use Rattle.std.specs.Fmt.{digits}
 use Rattle.std.specs.String.{string_bytes}
@@ -9,13 +9,14 @@ use Rattle.line_addresses.specs.Addresses.{address_of}
 use Rattle.lists.specs.Lists.{ReadLists, at_list, TakesLines}
 use Rattle.lists.specs.KnownLists.{KnownLists}
 use Rattle.program.specs.Told.{was_refused}
-use Rattle.cidr_filter.specs.Filters.{IsVerdict}
+use Rattle.cidr_filter.specs.Filters.{IsVerdict, is_count}
 use Rattle.program.specs.LogFaults.{log_fault_text, Wrote}
 use Rattle.program.specs.Logs.{logs_of, HaltsBy, IsAllOf, IsFirstOf}
-use Rattle.cidr_filter.specs.Logs.{EndsRunBy, FiltersLogs, is_short}
+use Rattle.cidr_filter.specs.Logs.{EndsRunBy, FiltersLogs, GoesOn, LeavesLog, ReadsLog, is_enough, is_short}
 use Rattle.cidr_filter.specs.Reading.{ReadsOptions, HoldsRead}
 use Rattle.program.specs.Endings.{Ending, Refuses, HasTold, HasWritten}
-use Rattle.cidr_filter.specs.Runs.{total_text, EndsLogs, EndsFiltering, filter_of}
+use Rattle.cidr_filter.specs.Runs.{total_text, EndsLogs, EndsFiltering, filter_of, status_by}
+use Rattle.cidr_filter.specs.declared.filter.Filter.{Filter}
 use Rattle.cidr_filter.specs.declared.filter.WithoutAddress.TheVariants as without
 use Rattle.cidr_filter.specs.declared.filter.Verdict.TheVariants as verdicts
 use Rattle.cidr_filter.specs.declared.command_line.Request.{Request}
@@ -57,6 +58,19 @@ standard_input Z = refl
 
 pub files_in_their_order : {Z : Type 0} (one two : String Z) → logs_of (one ∷ two ∷ []) ≡ string_bytes one ∷ string_bytes two ∷ []
 files_in_their_order one two = refl
+
+-- nothing was written of the first log, and nothing more comes of those behind it
+pub nothing_written : {W E : Type 0} (filter : Filter) (known : KnownLists) (name : List ℕ) (names : List (List ℕ)) (text : List ℕ) (selected : ℕ) (end : Ending W E)
+    → ReadsLog filter known name [] selected text ⊎ LeavesLog filter known name [] selected text → GoesOn (is_enough filter.shows selected) (FiltersLogs filter known names [] 0 [] false) [] 0 [] false
+    → HasWritten end (total_text (is_count filter.shows) selected) → HasTold end text → end.status ≡ status_by (is_enough filter.shows selected) false selected → EndsLogs filter known (name ∷ names) end
+nothing_written filter known name names text selected end one goes written told status = inl (record {
+  output = [];
+  selected = selected;
+  texts = text;
+  missed = false;
+  filters = ([], [], selected, 0, text, [], false, false, elim one [ inl read ↦ inl (read, refl) | inr left ↦ inr (inl (left, refl)) ], goes, refl, omega arith, sym (append-nil text), refl);
+  ends = inl (written, told, status);
+})
 
 -- a list, and then an `-e`: each is taken at the place of its value
 pub lists_in_their_order : {Z : Type 0} (known : KnownLists) (file list text value : String Z) (before mid after : ReadLists) → string_bytes list ≡ codes "a" → string_bytes value ≡ codes "x"
@@ -216,54 +230,14 @@ module _ (known : KnownLists) (inside : IsVerdict (by false without.Stop) (codes
   pub nothing_selected : IsAllOf known (codes "-") (codes "11.0.0.1\n") → {W E : Type 0} (end : Ending W E) → HasWritten end [] → HasTold end [] → end.status ≡ 1
       → EndsLogs (by false without.Stop) known (codes "-" ∷ []) end
   unfolding address_of digits v6_of gap_below
-  nothing_selected a end written told status = inl (record {
-    output = [];
-    selected = 0;
-    texts = [];
-    missed = false;
-    filters = (
-      [],
-      [],
-      0,
-      0,
-      [],
-      [],
-      false,
-      false,
-      inl ((codes "11.0.0.1\n", a, (verdicts.Outside, [], 0, outside, refl, (refl, refl), refl, refl), refl, refl), refl),
-      (refl, refl, refl, refl),
-      refl,
-      refl,
-      refl,
-      refl,
-    );
-    ends = inl (written, told, status);
-  })
+  nothing_selected a end written told status =
+      nothing_written (by false without.Stop) known (codes "-") [] [] 0 end (inl (codes "11.0.0.1\n", a, (verdicts.Outside, [], 0, outside, refl, (refl, refl), refl, refl), refl, refl))
+      (refl, refl, refl, refl) written told status
 
   -- no line of a log has an address
   pub nothing_found : IsVerdict (by false without.Drop) (codes "x") verdicts.NoAddress → IsAllOf known (codes "a") (codes "x\n") → {W E : Type 0} (end : Ending W E) → HasWritten end []
       → HasTold end (codes "cidr_filter: a: no line has an address in field 1\n") → end.status ≡ 1 → EndsLogs (by false without.Drop) known (codes "a" ∷ []) end
   unfolding address_of digits v6_of gap_below
-  nothing_found none a end written told status = inl (record {
-    output = [];
-    selected = 0;
-    texts = codes "cidr_filter: a: no line has an address in field 1\n";
-    missed = false;
-    filters = (
-      [],
-      [],
-      0,
-      0,
-      codes "cidr_filter: a: no line has an address in field 1\n",
-      [],
-      false,
-      false,
-      inl ((codes "x\n", a, (verdicts.NoAddress, [], 0, none, refl, (refl, refl), refl, refl), refl, refl), refl),
-      (refl, refl, refl, refl),
-      refl,
-      refl,
-      refl,
-      refl,
-    );
-    ends = inl (written, told, status);
-  })
+  nothing_found none a end written told status =
+      nothing_written (by false without.Drop) known (codes "a") [] (codes "cidr_filter: a: no line has an address in field 1\n") 0 end
+      (inl (codes "x\n", a, (verdicts.NoAddress, [], 0, none, refl, (refl, refl), refl, refl), refl, refl)) (refl, refl, refl, refl) written told status

@@ -19,7 +19,7 @@ use Rattle.program.specs.Counts.{Counts}
 use Rattle.program.specs.LogFaults.{log_fault_text, IfWrite, Wrote, HandsOn, StopsBy}
 use Rattle.program.specs.Logs.{logs_of, HaltsBy}
 use Rattle.cidr_filter.specs.Reading.{Stops, HoldsRead}
-use Rattle.cidr_filter.specs.Runs.{StopsAtLog, total_text, status_by, FiltersAll, EndsLogs, filter_of, EndsRequest}
+use Rattle.cidr_filter.specs.Runs.{StopsAtLog, total_text, status_by, EndsWith, FiltersAll, EndsLogs, filter_of, EndsRequest}
 use Rattle.cidr_filter.specs.Stands.{Stand, stand}
 use Rattle.cidr_filter.specs.Stops.{FiltersLines, WritesBeginning}
 use Rattle.program.specs.Told.{was_refused, fault_text, refusals_text}
@@ -65,28 +65,8 @@ module _ {W E : Type 0} (filter : Filter) (known : KnownLists) (name : List ℕ)
   at_log : (fault : LogFault) (added : List ℕ) (more : ℕ) → Filters (filter_for filter name) 0 lines added more → is_short fault filter.most more ≡ true
       → HaltsBy (EndsRunBy (filter_for filter name)) known name lines fault → Wrote fault end ([] ++ added)
       → HasTold end (log_fault_text name (length lines) fault) → StopsAtLog filter known (name ∷ []) end
-  at_log fault added more filters short halts wrote told = record {
-    before = [];
-    name = name;
-    behind = [];
-    output = [];
-    selected = 0;
-    texts = [];
-    missed = false;
-    lines = lines;
-    added = added;
-    more = more;
-    fault = fault;
-    logs = refl;
-    filters = (refl, refl, refl, refl);
-    few = none_few (is_silent filter.shows);
-    first = filters;
-    short = short;
-    halts = halts_same filter known name lines fault halts;
-    wrote = wrote;
-    told = told;
-    status = two;
-  }
+  at_log fault added more filters short halts wrote told =
+      record { before = []; name = name; behind = []; output = []; selected = 0; texts = []; missed = false; lines = lines; added = added; more = more; fault = fault; logs = refl; filters = (refl, refl, refl, refl); few = none_few (is_silent filter.shows); first = filters; short = short; halts = halts_same filter known name lines fault halts; wrote = wrote; told = told; status = two }
 
   -- their output was put, and then what waited was written or not
   handed : (fault : LogFault) → HaltsBy (EndsRunBy (filter_for filter name)) known name lines fault → ((text : List ℕ) → HasWritten end text → Wrote fault end text)
@@ -204,45 +184,44 @@ total_same true told count e =
 total_same false told count e = refl
 
 module _ {W E T F : Type 0} (filter : Filter) (known : KnownLists) (names : List (List ℕ)) (missed : Bool) (end : Ending W E) (mid : Written W) (between : Written E) (told : ℕ) where
+  -- what waits was written, or the writer failed
+  ended : (written : Result T F) (status : ℕ) (output : List ℕ) (count : ℕ) (texts : List ℕ) → told ≡ min count (2 ^ 64 - 1)
+      → Puts end.output.holds end.output.waits mid.holds mid.waits output → Tells end.errors between texts
+      → OnOk written (Writes mid end.output_after (total_text (is_count filter.shows) told))
+      → OnErr written (FailsIn mid end.output_after (total_text (is_count filter.shows) told))
+      → end.output_after.failed ≡ (mid.failed || is_err written) → status ≡ status_by (is_enough filter.shows told) missed told → end.status ≡ status_of written status
+      → Tells between end.errors_after (end_text written) → EndsWith filter output count texts missed end
+  ended (Ok done) status output count texts counted puts tells ok err failed st two last = inl (
+    puts_then_all _ _ _ _ _ output (total_text (is_count filter.shows) count) puts
+        (subst (λ t. Writes mid end.output_after t) (total_same (is_count filter.shows) told count counted) ok),
+    tells_same end.errors end.errors_after (texts ++ []) texts (append-nil texts) (tells_more end.errors between end.errors_after texts [] tells last),
+    two ∙ st ∙ ap (λ (b : Bool). if is_silent filter.shows && b then 0 else if missed then 2 else if b then 0 else 1) (same_test told count counted),
+  )
+  ended (Err fault) status output count texts counted puts tells ok err failed st two last = inr (
+    (
+      failed_now end.output_after.failed mid.failed failed,
+      begins_after_puts _ _ _ _ _ output (total_text (is_count filter.shows) count) puts
+          (subst (λ t. FailsIn mid end.output_after t) (total_same (is_count filter.shows) told count counted) err),
+    ),
+    tells_more end.errors between end.errors_after texts (codes "write error\n") tells last,
+    two,
+  )
+
   all_ended : (written : Result T F) (status : ℕ) (old now : Tally) → old.selected ≡ 0 → now.selected ≡ told
       → FiltersNames filter known names missed (stand end.output old) (stand mid now) end.errors between
       → OnOk written (Writes mid end.output_after (total_text (is_count filter.shows) told))
       → OnErr written (FailsIn mid end.output_after (total_text (is_count filter.shows) told))
       → end.output_after.failed ≡ (mid.failed || is_err written) → status ≡ status_by (is_enough filter.shows told) missed told → end.status ≡ status_of written status
       → Tells between end.errors_after (end_text written) → FiltersAll filter known names end
-  all_ended (Ok done) status old now none same f ok err failed st two tells =
-      let counted = counts_from_none old.selected told f.count none (subst (λ n. Counts old.selected n f.count) same f.counted) in
-      record {
-        output = f.output;
-        selected = f.count;
-        texts = f.text;
-        missed = missed;
-        filters = f.filters;
-        ends = inl (
-          puts_then_all _ _ _ _ _ f.output (total_text (is_count filter.shows) f.count) f.puts
-              (subst (λ t. Writes mid end.output_after t) (total_same (is_count filter.shows) told f.count counted) ok),
-          tells_same end.errors end.errors_after (f.text ++ []) f.text (append-nil f.text) (tells_more end.errors between end.errors_after f.text [] f.tells tells),
-          two ∙ st ∙ ap (λ (b : Bool). if is_silent filter.shows && b then 0 else if missed then 2 else if b then 0 else 1) (same_test told f.count counted),
-        );
-      }
-  all_ended (Err fault) status old now none same f ok err failed st two tells =
-      let counted = counts_from_none old.selected told f.count none (subst (λ n. Counts old.selected n f.count) same f.counted) in
-      record {
-        output = f.output;
-        selected = f.count;
-        texts = f.text;
-        missed = missed;
-        filters = f.filters;
-        ends = inr (
-          (
-            failed_now end.output_after.failed mid.failed failed,
-            begins_after_puts _ _ _ _ _ f.output (total_text (is_count filter.shows) f.count) f.puts
-                (subst (λ t. FailsIn mid end.output_after t) (total_same (is_count filter.shows) told f.count counted) err),
-          ),
-          tells_more end.errors between end.errors_after f.text (codes "write error\n") f.tells tells,
-          two,
-        );
-      }
+  all_ended written status old now none same f ok err failed st two tells = record {
+    output = f.output;
+    selected = f.count;
+    texts = f.text;
+    missed = missed;
+    filters = f.filters;
+    ends = ended written status f.output f.count f.text (counts_from_none old.selected told f.count none (subst (λ n. Counts old.selected n f.count) same f.counted))
+        f.puts f.tells ok err failed st two tells;
+  }
 
 -- the number of selected lines was put, and then what waits was written
 pub number_then_ok : {T F : Type 0} (result : Result T F) (held mid holds : Option (List ℕ)) (waited between text other : List ℕ) → text ≡ other → Puts held waited mid between text

@@ -1,14 +1,17 @@
 -- Command lines that are refused, at which a misreading of the definitions would show.
-use Rattle.std.proofs.Common.{◌≡◌, [], ◌∷◌, map, true, false, inl, inr, refl}
+use Rattle.std.proofs.Common.{◌≡◌, List, [], ◌∷◌, map, true, false, inl, inr, refl}
 use Rattle.std.specs.Prelude.{codes, String, Some, None}
 use Rattle.std.specs.String.{string_bytes}
 use Rattle.program.specs.declared.usage.Subject.TheVariants as subjects
 use Rattle.cidr_filter.specs.Usage.{value_problem, word_problem}
 use Rattle.log_programs.specs.declared.shared.Shared.TheVariants as common
+use Rattle.cidr_filter.specs.declared.options.Choice.{Choice}
 use Rattle.cidr_filter.specs.declared.options.Choice.TheVariants as choices
+use Rattle.log_programs.specs.declared.usage.Problem.{Problem}
 use Rattle.log_programs.specs.declared.usage.Problem.TheVariants as problems
 use Rattle.cidr_filter.proofs.OptionExamples.{letters}
-use Rattle.log_programs.specs.Usage.{HasFault, about, option_fault, rest_fault, together_by}
+use Rattle.log_programs.specs.CommandLines.{Begin, said_by}
+use Rattle.log_programs.specs.Usage.{HasFault, about, option_fault, rest_fault, together_by, together_problem}
 use Rattle.cidr_filter.specs.CommandLines.{filter_options}
 
 -- ---- a word by itself
@@ -80,15 +83,14 @@ a_zero flag name value f n v = record {
   is_fault = inl (rw n);
 }
 
+-- right words that are wrong together
+wrong_together : {Z : Type 0} (words : List (String Z)) (said : List Choice) (problem : Problem) → Begin filter_options words said [] → together_problem {Z = Z} filter_options (said_by filter_options said) [] ≡ Some problem
+    → HasFault filter_options words (about subjects.CommandLine problem)
+wrong_together words said problem begin wrong = record { choices = said; rest = []; begin = begin; no_more = refl; is_fault = inr ([], problem, refl, wrong, refl) }
+
 -- nothing is asked for
 pub no_words : (Z : Type 0) → HasFault {Z = Z} filter_options [] (about subjects.CommandLine problems.NoList)
-no_words Z = record {
-  choices = [];
-  rest = [];
-  begin = refl;
-  no_more = refl;
-  is_fault = inr ([], problems.NoList, refl, refl, refl);
-}
+no_words Z = wrong_together {Z = Z} [] [] problems.NoList refl refl
 
 -- the list and the log are standard input
 pub list_and_log : {Z : Type 0} (name dash : String Z) → string_bytes name ≡ codes "-f" → string_bytes dash ≡ codes "-" → HasFault filter_options (name ∷ dash ∷ []) (about subjects.CommandLine problems.InputTwice)
@@ -101,47 +103,17 @@ list_and_log name dash n d = record {
 }
 
 pub longest_and_v : {Z : Type 0} (one two : String Z) → string_bytes one ≡ codes "--longest" → string_bytes two ≡ codes "-v" → HasFault filter_options (one ∷ two ∷ []) (about subjects.CommandLine problems.Crossed)
-longest_and_v one two o t = record {
-  choices = choices.Longest ∷ choices.Letters (letters true false false false) ∷ [];
-  rest = [];
-  begin = (rw o, (rw (o, t), rw (o, t)));
-  no_more = refl;
-  is_fault = inr ([], problems.Crossed, refl, refl, refl);
-}
+longest_and_v one two o t = wrong_together (one ∷ two ∷ []) (choices.Longest ∷ choices.Letters (letters true false false false) ∷ []) problems.Crossed (rw o, (rw (o, t), rw (o, t))) refl
 
 pub anywhere_and_a_field : {Z : Type 0} (one two : String Z) → string_bytes one ≡ codes "-a" → string_bytes two ≡ codes "-k1" → HasFault filter_options (one ∷ two ∷ []) (about subjects.CommandLine problems.Anywhere)
-anywhere_and_a_field one two o t = record {
-  choices = choices.Letters (letters false false true false) ∷ choices.Shared (common.Field 1) ∷ [];
-  rest = [];
-  begin = (rw o, (rw (o, t), rw (o, t)));
-  no_more = refl;
-  is_fault = inr ([], problems.Anywhere, refl, refl, refl);
-}
+anywhere_and_a_field one two o t = wrong_together (one ∷ two ∷ []) (choices.Letters (letters false false true false) ∷ choices.Shared (common.Field 1) ∷ []) problems.Anywhere (rw o, (rw (o, t), rw (o, t))) refl
 
 pub words_and_a_separator : {Z : Type 0} (one two : String Z) → string_bytes one ≡ codes "-w" → string_bytes two ≡ codes "-d," → HasFault filter_options (one ∷ two ∷ []) (about subjects.CommandLine problems.Words)
-words_and_a_separator one two o t = record {
-  choices = choices.Letters (letters false false false true) ∷ choices.Shared (common.Separator 44) ∷ [];
-  rest = [];
-  begin = (rw o, (rw (o, t), rw (o, t)));
-  no_more = refl;
-  is_fault = inr ([], problems.Words, refl, refl, refl);
-}
+words_and_a_separator one two o t = wrong_together (one ∷ two ∷ []) (choices.Letters (letters false false false true) ∷ choices.Shared (common.Separator 44) ∷ []) problems.Words (rw o, (rw (o, t), rw (o, t))) refl
 
 pub addresses_and_v : {Z : Type 0} (one : String Z) → string_bytes one ≡ codes "-ov" → HasFault filter_options (one ∷ []) (about subjects.CommandLine problems.Only)
-addresses_and_v one o = record {
-  choices = choices.Letters (record (letters true false false false) { only = true }) ∷ [];
-  rest = [];
-  begin = (rw o, rw o);
-  no_more = refl;
-  is_fault = inr ([], problems.Only, refl, refl, refl);
-}
+addresses_and_v one o = wrong_together (one ∷ []) (choices.Letters (record (letters true false false false) { only = true }) ∷ []) problems.Only (rw o, rw o) refl
 
 pub after_and_anywhere : {Z : Type 0} (name value flag : String Z) → string_bytes name ≡ codes "--after" → string_bytes value ≡ codes "x" → string_bytes flag ≡ codes "-a"
     → HasFault filter_options (name ∷ value ∷ flag ∷ []) (about subjects.CommandLine problems.After)
-after_and_anywhere name value flag n v f = record {
-  choices = choices.Shared common.After ∷ choices.Letters (letters false false true false) ∷ [];
-  rest = [];
-  begin = (rw (n, v), (rw (n, f), rw (n, f)));
-  no_more = refl;
-  is_fault = inr ([], problems.After, refl, refl, refl);
-}
+after_and_anywhere name value flag n v f = wrong_together (name ∷ value ∷ flag ∷ []) (choices.Shared common.After ∷ choices.Letters (letters false false true false) ∷ []) problems.After (rw (n, v), (rw (n, f), rw (n, f))) refl

@@ -86,23 +86,10 @@ IsVerdict filter line verdicts.Outside = (length line ≤ 1048576) × IsVerdictO
 IsVerdict filter line verdicts.NoAddress = (length line ≤ 1048576) × IsVerdictOfAddresses filter (addresses_in filter line) verdicts.NoAddress
 IsVerdict filter line verdicts.TooLong = 1048576 < length line
 
--- lines without an address are not selected
-abbrev pub is_dropped : WithoutAddress → Bool
-is_dropped without.Drop = true
-is_dropped without.Keep = false
-is_dropped without.Stop = false
-
 -- lines without an address are selected
 abbrev pub is_kept : WithoutAddress → Bool
-is_kept without.Drop = false
 is_kept without.Keep = true
-is_kept without.Stop = false
-
--- a line without an address ends the run
-abbrev pub is_stopped : WithoutAddress → Bool
-is_stopped without.Drop = false
-is_stopped without.Keep = false
-is_stopped without.Stop = true
+is_kept other = false
 
 -- the lines inside are selected, or those outside, and of the lines without an address those that are kept
 abbrev pub is_selected : Filter → Verdict → Bool
@@ -110,6 +97,16 @@ is_selected filter (verdicts.Inside told) = not filter.inverts
 is_selected filter verdicts.Outside = filter.inverts
 is_selected filter verdicts.NoAddress = is_kept filter.bad
 is_selected filter verdicts.TooLong = false
+
+-- a line without an address ends the run
+abbrev pub is_stopped : WithoutAddress → Bool
+is_stopped without.Stop = true
+is_stopped other = false
+
+-- lines without an address are not selected
+abbrev pub is_dropped : WithoutAddress → Bool
+is_dropped without.Drop = true
+is_dropped other = false
 
 -- a line without an address ends the run if the option says so, and so does one that is too long and is not dropped
 abbrev pub is_refused : Filter → Verdict → Bool
@@ -162,19 +159,8 @@ texts_of filter head found = flat_map (λ one. text_of filter head one.address o
 
 -- lines are only counted
 abbrev pub is_count : Shown → Bool
-is_count shows.Lines = false
-is_count shows.Addresses = false
 is_count shows.Count = true
-is_count shows.Names = false
-is_count shows.Nothing = false
-
--- nothing is printed, and the run ends at the first selected line
-abbrev pub is_silent : Shown → Bool
-is_silent shows.Lines = false
-is_silent shows.Addresses = false
-is_silent shows.Count = false
-is_silent shows.Names = false
-is_silent shows.Nothing = true
+is_count other = false
 
 -- what is printed of a selected line, which is given without its end, and as it is written: its
 -- mark and the line, or with `-o` those of its addresses that are in the lists, what stands first
@@ -192,6 +178,11 @@ shown_of filter head verdict line text = shown_by filter.shows filter head verdi
 -- what is written for the line of this number: that, if it is selected
 abbrev pub output_of : Filter → ℕ → Verdict → LogLine → List ℕ
 output_of filter number verdict line = if is_selected filter verdict then shown_of filter (head_of filter number) verdict (content line) (printed line) else []
+
+-- nothing is printed, and the run ends at the first selected line
+abbrev pub is_silent : Shown → Bool
+is_silent shows.Nothing = true
+is_silent other = false
 
 -- fewer lines are selected than may be, or as many at the most
 abbrev pub is_below : Option ℕ → ℕ → Bool

@@ -1,5 +1,5 @@
 -- What an option of the command line says.
-use Rattle.std.specs.Prelude.{ℕ, ◌-◌, ◌^◌, min, ◌==◌, ◌||◌, ◌&&◌, Bool, true, false, List, Option, None, Some, drop, length, nat_lt, if◌then◌else◌, codes, bytes_eq, String}
+use Rattle.std.specs.Prelude.{ℕ, ◌-◌, ◌^◌, min, ◌==◌, ◌||◌, ◌&&◌, Bool, true, false, List, [], Option, None, Some, drop, length, nat_lt, if◌then◌else◌, codes, bytes_eq, String}
 use Rattle.std.specs.Option.{option_or}
 use Rattle.std.specs.List.{list_all, list_any}
 use Rattle.std.specs.String.{string_bytes}
@@ -123,25 +123,7 @@ with_option request choices.Text = record request { shared = record (request.sha
 
 -- without options bad lines are dropped, and all lines may be selected
 abbrev pub no_options : Request
-no_options = record {
-  letters = record {
-    inverts = false;
-    counts = false;
-    anywhere = false;
-    words = false;
-    only = false;
-    named = false;
-    unnamed = false;
-    numbered = false;
-    names = false;
-    quiet = false;
-  };
-  shared = shared.no_options;
-  most = None;
-  longest = false;
-  bad = without.Drop;
-  files = 0;
-}
+no_options = record { letters = letters_in []; shared = shared.no_options; most = None; longest = false; bad = without.Drop; files = 0 }
 
 -- the text of the last `--after` among options, or an empty one
 abbrev pub text_after : {Z : Type 0} → List (String Z) → List ℕ
@@ -149,14 +131,7 @@ text_after words = value_of syntax_of_options (codes "--after") words
 
 -- whether an option is a list
 abbrev pub is_list : Choice → Bool
-is_list (choices.Letters letters) = false
-is_list (choices.Shared (common.Field number)) = false
-is_list (choices.Shared (common.Separator byte)) = false
-is_list (choices.Shared common.Mapped) = false
-is_list (choices.Shared common.After) = false
 is_list (choices.Shared common.File) = true
 is_list (choices.Shared common.Input) = true
-is_list (choices.Most most) = false
-is_list (choices.WithoutAddress bad) = false
-is_list choices.Longest = false
 is_list choices.Text = true
+is_list other = false

@@ -61,6 +61,14 @@ total_text counts selected = if counts then decimal (min selected (2 ^ 64 - 1)) 
 abbrev pub status_by : Bool → Bool → ℕ → ℕ
 status_by enough missed selected = if enough then 0 else if missed then 2 else if nat_lt 0 selected then 0 else 1
 
+-- the output was written, with their number where lines are counted, and what there is to report was reported; or the
+-- writer failed, and that was reported after it
+abbrev pub EndsWith : {W E : Type 0} → Filter → List ℕ → ℕ → List ℕ → Bool → Ending W E → Type 0
+EndsWith filter output selected texts missed end =
+    (HasWritten end (output ++ total_text (is_count filter.shows) selected) × HasTold end texts
+    × (end.status ≡ status_by (is_enough filter.shows selected) missed selected))
+    ⊎ (FailsWriting end (output ++ total_text (is_count filter.shows) selected) × HasTold end (texts ++ codes "write error\n") × (end.status ≡ 2))
+
 -- all logs were filtered to their ends, or left, but those that could not be opened
 pub record FiltersAll {W E : Type 0} (filter : Filter) (known : KnownLists) (names : List (List ℕ)) (end : Ending W E) : Type 0 where
   pub output : List ℕ
@@ -68,11 +76,7 @@ pub record FiltersAll {W E : Type 0} (filter : Filter) (known : KnownLists) (nam
   pub texts : List ℕ
   pub missed : Bool
   pub filters : FiltersLogs filter known names output selected texts missed
-  -- their output was written, and what there is to report of them was reported; or the writer failed, and that was
-  -- reported after it
-  pub ends : (HasWritten end (output ++ total_text (is_count filter.shows) selected) × HasTold end texts
-      × (end.status ≡ status_by (is_enough filter.shows selected) missed selected))
-      ⊎ (FailsWriting end (output ++ total_text (is_count filter.shows) selected) × HasTold end (texts ++ codes "write error\n") × (end.status ≡ 2))
+  pub ends : EndsWith filter output selected texts missed end
 
 -- the logs were filtered, in turn
 abbrev pub EndsLogs : {W E : Type 0} → Filter → KnownLists → List (List ℕ) → Ending W E → Type 0
@@ -145,7 +149,5 @@ abbrev pub DoesRequest : {Z W E : Type 0} → KnownLists → Ending W E → List
 DoesRequest known end words request files = EndsRequest known words (record request { files = files }) end
 
 -- how a run ends of a program of this name, help, version and usage
-abbrev pub EndsAs : {Z W E : Type 0} → List ℕ → List ℕ → List ℕ → List ℕ → KnownLists
-    → List (String Z) → Ending W E → Type 0
-EndsAs program help version usage known words end =
-    runs.EndsAs filter_options program help version usage words (DoesRequest known end) end
+abbrev pub EndsAs : {Z W E : Type 0} → List ℕ → List ℕ → List ℕ → List ℕ → KnownLists → List (String Z) → Ending W E → Type 0
+EndsAs program help version usage known words end = runs.EndsAs filter_options program help version usage words (DoesRequest known end) end

@@ -5,7 +5,7 @@ ghost use Rattle.cidr_filter.specs.Usage.{own_problem};
 
 use crate::filter::WithoutAddress;
 use crate::options::{
-    Choice, Letters, bad_choice, either, is_letter, letters_choice, most_choice, shared_choice,
+    Choice, Letters, bad_choice, either, is_letter, letters_choice, letters_in, most_choice,
     text_choice,
 };
 use log_programs::grammar::Grammar;
@@ -70,21 +70,24 @@ impl Grammar for FilterOptions {
             return Some(Choice::Longest);
         }
         match word.strip_prefix(b"-".as_slice()) {
-            Some(letters) => shared_choice(shared::choice_in(word)).or(letters_choice(letters)),
+            Some(letters) => shared::choice_in(word)
+                .map(Choice::Shared)
+                .or(letters_choice(letters)),
             None => None,
         }
     }
 
     fn choice_with(name: &String, value: &[u8]) -> Option<Choice> {
         if is(name, "-e") {
-            text_choice(value)
-        } else if is(name, "-m") {
-            most_choice(value)
-        } else if is(name, "--bad") {
-            bad_choice(value)
-        } else {
-            shared_choice(shared::choice_with(name, value))
+            return text_choice(value);
         }
+        if is(name, "-m") {
+            return most_choice(value);
+        }
+        if is(name, "--bad") {
+            return bad_choice(value);
+        }
+        shared::choice_with(name, value).map(Choice::Shared)
     }
 
     fn word_problem(word: &[u8]) -> Problem {
@@ -93,30 +96,20 @@ impl Grammar for FilterOptions {
 
     fn value_problem(name: &String) -> Problem {
         if is(name, "-e") {
-            Problem::Text
-        } else if is(name, "-m") {
-            Problem::Most
-        } else if is(name, "--bad") {
-            Problem::WithoutAddress
-        } else {
-            shared::value_problem(name)
+            return Problem::Text;
         }
+        if is(name, "-m") {
+            return Problem::Most;
+        }
+        if is(name, "--bad") {
+            return Problem::WithoutAddress;
+        }
+        shared::value_problem(name)
     }
 
     fn no_options() -> Request {
         Request {
-            letters: Letters {
-                inverts: false,
-                counts: false,
-                anywhere: false,
-                words: false,
-                only: false,
-                named: false,
-                unnamed: false,
-                numbered: false,
-                names: false,
-                quiet: false,
-            },
+            letters: letters_in(b"".as_slice()),
             shared: shared::no_options(),
             most: None,
             longest: false,
@@ -125,33 +118,16 @@ impl Grammar for FilterOptions {
         }
     }
 
-    fn with_choice(request: Request, choice: Choice) -> Request {
+    fn with_choice(mut request: Request, choice: Choice) -> Request {
         match choice {
-            Choice::Letters(letters) => Request {
-                letters: either(request.letters, letters),
-                ..request
-            },
-            Choice::Shared(choice) => Request {
-                shared: shared::with_choice(request.shared, choice),
-                ..request
-            },
-            Choice::Most(most) => Request {
-                most: Some(most),
-                ..request
-            },
-            Choice::WithoutAddress(bad) => Request { bad, ..request },
-            Choice::Longest => Request {
-                longest: true,
-                ..request
-            },
-            Choice::Text => Request {
-                shared: Said {
-                    has_list: true,
-                    ..request.shared
-                },
-                ..request
-            },
+            Choice::Letters(letters) => request.letters = either(request.letters, letters),
+            Choice::Shared(choice) => request.shared = shared::with_choice(request.shared, choice),
+            Choice::Most(most) => request.most = Some(most),
+            Choice::WithoutAddress(bad) => request.bad = bad,
+            Choice::Longest => request.longest = true,
+            Choice::Text => request.shared.has_list = true,
         }
+        request
     }
 
     fn inputs(request: Request) -> usize {

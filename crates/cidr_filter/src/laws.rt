@@ -29,18 +29,18 @@ pub fn lines_that_end_runs_are_whole()
     ensures { LinesThatEndRunsAreWhole }
 {}
 
+/// Of the words of a command line at most one fault is reported.
+pub fn words_have_one_fault(words: &[String])
+    ensures { WordsHaveOneFault filter_options words.now }
+{
+    let _words = words;
+}
+
 /// A word other than those of the options is none of them, whatever follows it. If it begins with a
 /// `-`, and is neither `-` nor `--`, then the words ask for nothing where it stands behind options.
 pub fn other_words_are_no_options(words: &[String])
     ensures option { OthersAreNoOptions filter_options is_option_word words.now }
     ensures command { OthersAskForNothing filter_options is_option_word words.now }
-{
-    let _words = words;
-}
-
-/// Of the words of a command line at most one fault is reported.
-pub fn words_have_one_fault(words: &[String])
-    ensures { WordsHaveOneFault filter_options words.now }
 {
     let _words = words;
 }

@@ -37,13 +37,13 @@ const NONE_SELECTED: u8 = 1;
 /// returns the exit status.
 pub(crate) fn filter_logs<'a, L: OpenLists, W: Write, E: Write>(
     filter: &mut Filter<'a>,
-    files: &'a [String],
     lists: &L,
+    files: &'a [String],
     buffer: &mut [u8],
     output: &mut Output<'_, W>,
     errors: &mut Output<'_, E>,
 ) -> u8
-    requires { 1048578 ≤ length buffer.old }
+    requires room { 1048578 ≤ length buffer.old }
     ensures { EndsLogs filter.old (L.known lists.now) (logs_of files.now)
         (ending output.old output.new errors.old errors.new result) }
 {
@@ -54,7 +54,7 @@ pub(crate) fn filter_logs<'a, L: OpenLists, W: Write, E: Write>(
     };
     let counts = filter.counts();
     let is_silent = filter.is_silent();
-    match filter_each(filter, files, lists, buffer, output, &mut tally, errors) {
+    match filter_each(filter, &mut tally, lists, files, buffer, output, errors) {
         Some(missed) => {
             let written = write_end(counts, tally.selected, output);
             let is_enough = is_enough(is_silent, tally.selected);
@@ -69,11 +69,11 @@ pub(crate) fn filter_logs<'a, L: OpenLists, W: Write, E: Write>(
 // that was opened, it is reported, and there is no answer.
 fn filter_each<'a, L: OpenLists, W: Write, E: Write>(
     filter: &mut Filter<'a>,
-    files: &'a [String],
+    tally: &mut Tally,
     lists: &L,
+    files: &'a [String],
     buffer: &mut [u8],
     output: &mut Output<'_, W>,
-    tally: &mut Tally,
     errors: &mut Output<'_, E>,
 ) -> Option<bool>
     requires room { 1048578 ≤ length buffer.old }
@@ -87,13 +87,13 @@ fn filter_each<'a, L: OpenLists, W: Write, E: Write>(
 {
     if files.is_empty() {
         let input = "-";
-        return filter_one(filter, input, lists, buffer, output, tally, errors);
+        return filter_one(filter, tally, lists, input, buffer, output, errors);
     }
     let is_silent = filter.is_silent();
     let mut missed = false;
     for file in files {
         let name = file.as_str();
-        let Some(more) = filter_one(filter, name, lists, buffer, output, tally, errors) else {
+        let Some(more) = filter_one(filter, tally, lists, name, buffer, output, errors) else {
             return None;
         };
         missed = either(missed, more);
@@ -122,11 +122,11 @@ fn either(first: bool, second: bool) -> bool
 // `filter_each` does.
 fn filter_one<'a, L: OpenLists, W: Write, E: Write>(
     filter: &mut Filter<'a>,
-    name: &'a str,
+    tally: &mut Tally,
     lists: &L,
+    name: &'a str,
     buffer: &mut [u8],
     output: &mut Output<'_, W>,
-    tally: &mut Tally,
     errors: &mut Output<'_, E>,
 ) -> Option<bool>
     requires { 1048578 ≤ length buffer.old }

@@ -1,7 +1,7 @@
 //! The options of a command line, one at a time.
 ghost use Rattle.std.specs.Prelude.{◌≡◌, ◌==◌, ◌||◌};
 ghost use Rattle.std.specs.List.{list_all, list_any};
-ghost use Rattle.cidr_filter.specs.Options.{is_letter, is_list, letters_option, letters_in, text_option, most_option, bad_option, either, shared_option};
+ghost use Rattle.cidr_filter.specs.Options.{is_letter, is_list, letters_option, letters_in, text_option, most_option, bad_option, either};
 
 use crate::filter::WithoutAddress;
 use log_programs::numbers::{is_number, number_of};
@@ -49,16 +49,6 @@ pub enum Choice {
     Text,
 }
 
-/// This option, if there is one.
-pub(crate) fn shared_choice(option: Option<Shared>) -> Option<Choice>
-    ensures { result ≡ shared_option option }
-{
-    match option {
-        Some(shared) => Some(Choice::Shared(shared)),
-        None => None,
-    }
-}
-
 /// Options by their letters.
 pub(crate) fn letters_choice(letters: &[u8]) -> Option<Choice>
     ensures { result ≡ letters_option letters.now }
@@ -69,8 +59,8 @@ pub(crate) fn letters_choice(letters: &[u8]) -> Option<Choice>
     Some(Choice::Letters(letters_in(letters)))
 }
 
-// Which letters are among these.
-fn letters_in(letters: &[u8]) -> Letters
+/// Which letters are among these.
+pub(crate) fn letters_in(letters: &[u8]) -> Letters
     ensures { result ≡ letters_in letters.now }
 {
     Letters {

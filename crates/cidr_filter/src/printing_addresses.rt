@@ -26,104 +26,100 @@ pub(crate) fn print_addresses<W: Write>(
         (texts_of filter.now (head_of filter.now line_number)
         (spelled_at filter.now.place line.now)) }
 {
+    let of_line = OfLine {
+        filter,
+        number: line_number,
+    };
     match &filter.place {
         Place::Field { number, separator } => match field_of(line, *number, *separator) {
-            Some(field) => print_part(filter, line_number, field, output),
+            Some(field) => of_line.print_part(field, output),
             None => Ok(()),
         },
         Place::Word(number) => match word_of(line, *number) {
-            Some(word) => print_part(filter, line_number, word, output),
+            Some(word) => of_line.print_part(word, output),
             None => Ok(()),
         },
-        Place::Anywhere => print_anywhere(filter, line_number, line, output),
+        Place::Anywhere => of_line.print_all(line, output),
         Place::After(text) => match following(line, text.bytes()) {
-            Some(rest) => print_first(filter, line_number, rest, output),
+            Some(rest) => of_line.print_first(rest, output),
             None => Ok(()),
         },
     }
 }
 
-// Writes a part of a line, if it is an address in the list.
-fn print_part<W: Write>(
-    filter: &Filter,
+// What prints the addresses of the line of a number.
+#[derive(Clone, Copy)]
+struct OfLine<'f> {
+    filter: &'f Filter<'f>,
     number: u64,
-    part: &[u8],
-    output: &mut Output<'_, W>,
-) -> Result<(), RunFault>
-    ensures { PutsOrFails result output.old output.new
-        (texts_of filter.now (head_of filter.now number) (of_part (Some part.now))) }
-{
-    match address_of(part) {
-        Some(address) => print_found(filter, number, address, part, output),
-        None => Ok(()),
-    }
 }
 
-// Writes the first address of this rest of a line, if it is in the list.
-fn print_first<W: Write>(
-    filter: &Filter,
-    number: u64,
-    rest: &[u8],
-    output: &mut Output<'_, W>,
-) -> Result<(), RunFault>
-    ensures { PutsOrFails result output.old output.new
-        (texts_of filter.now (head_of filter.now number) (of_rest (Some rest.now))) }
-{
-    match next_address(rest, 0) {
-        Some(found) => {
-            let text = &rest[found.start..found.end];
-            print_found(filter, number, found.address, text, output)
+impl OfLine<'_> {
+    // Writes a part of a line, if it is an address in the list.
+    fn print_part<W: Write>(&self, part: &[u8], output: &mut Output<'_, W>) -> Result<(), RunFault>
+        ensures { PutsOrFails result output.old output.new
+            (texts_of self.now.filter.now (head_of self.now.filter.now self.now.number)
+            (of_part (Some part.now))) }
+    {
+        match address_of(part) {
+            Some(address) => self.print_found(address, part, output),
+            None => Ok(()),
         }
-        None => Ok(()),
     }
-}
 
-// Writes the addresses that stand anywhere in a line and are in the list.
-fn print_anywhere<W: Write>(
-    filter: &Filter,
-    number: u64,
-    line: &[u8],
-    output: &mut Output<'_, W>,
-) -> Result<(), RunFault>
-    ensures { PutsOrFails result output.old output.new
-        (texts_of filter.now (head_of filter.now number) (addresses_of line.now)) }
-{
-    let mut at = 0;
-    'addresses: while let Some(found) = next_address(line, at) {
-        let text = &line[found.start..found.end];
-        print_found(filter, number, found.address, text, output)?;
-        at = found.next;
+    // Writes the first address of this rest of a line, if it is in the list.
+    fn print_first<W: Write>(&self, rest: &[u8], output: &mut Output<'_, W>) -> Result<(), RunFault>
+        ensures { PutsOrFails result output.old output.new
+            (texts_of self.now.filter.now (head_of self.now.filter.now self.now.number)
+            (of_rest (Some rest.now))) }
+    {
+        match next_address(rest, 0) {
+            Some(found) => {
+                let text = &rest[found.start..found.end];
+                self.print_found(found.address, text, output)
+            }
+            None => Ok(()),
+        }
     }
-    Ok(())
-}
 
-// Writes the text of an address and a line feed, if it is in the list.
-fn print_found<W: Write>(
-    filter: &Filter,
-    number: u64,
-    address: IpAddr,
-    text: &[u8],
-    output: &mut Output<'_, W>,
-) -> Result<(), RunFault>
-    ensures { PutsOrFails result output.old output.new
-        (text_of filter.now (head_of filter.now number) address text.now) }
-{
-    if !filter.prints(address) {
-        return Ok(());
+    // Writes the addresses that stand anywhere in a line and are in the list.
+    fn print_all<W: Write>(&self, line: &[u8], output: &mut Output<'_, W>) -> Result<(), RunFault>
+        ensures { PutsOrFails result output.old output.new
+            (texts_of self.now.filter.now (head_of self.now.filter.now self.now.number)
+            (addresses_of line.now)) }
+    {
+        let mut at = 0;
+        'addresses: while let Some(found) = next_address(line, at) {
+            let text = &line[found.start..found.end];
+            self.print_found(found.address, text, output)?;
+            at = found.next;
+        }
+        Ok(())
     }
-    print_named(filter, number, text, output)
-}
 
-// Writes what stands first, and then a text and a line feed.
-fn print_named<W: Write>(
-    filter: &Filter,
-    number: u64,
-    text: &[u8],
-    output: &mut Output<'_, W>,
-) -> Result<(), RunFault>
-    ensures { PutsOrFails result output.old output.new
-        (head_of filter.now number ++ (text.now ++ 10 ∷ [])) }
-{
-    put_head(filter, number, output)?;
-    put_both(text, b"\n", output)
+    // Writes the text of an address and a line feed, if it is in the list.
+    fn print_found<W: Write>(
+        &self,
+        address: IpAddr,
+        text: &[u8],
+        output: &mut Output<'_, W>,
+    ) -> Result<(), RunFault>
+        ensures { PutsOrFails result output.old output.new
+            (text_of self.now.filter.now (head_of self.now.filter.now self.now.number)
+            address text.now) }
+    {
+        if !self.filter.prints(address) {
+            return Ok(());
+        }
+        self.print_text(text, output)
+    }
+
+    // Writes what stands first, and then a text and a line feed.
+    fn print_text<W: Write>(&self, text: &[u8], output: &mut Output<'_, W>) -> Result<(), RunFault>
+        ensures { PutsOrFails result output.old output.new
+            (head_of self.now.filter.now self.now.number ++ (text.now ++ 10 ∷ [])) }
+    {
+        put_head(self.filter, self.number, output)?;
+        put_both(text, b"\n", output)
+    }
 }

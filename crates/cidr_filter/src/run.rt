@@ -46,7 +46,7 @@ pub(crate) fn run<L: OpenLists, W: Write, E: Write>(
                 files: asked.2,
                 ..asked.1
             };
-            filter(alloc, request, asked.0.as_slice(), lists, output, errors)
+            filter(alloc, asked.0.as_slice(), request, lists, output, errors)
         }
         Err(status) => status,
     }
@@ -56,8 +56,8 @@ pub(crate) fn run<L: OpenLists, W: Write, E: Write>(
 // memory ran out.
 fn filter<L: OpenLists, W: Write, E: Write>(
     alloc: Global,
-    request: Request,
     words: &[String],
+    request: Request,
     lists: &L,
     output: &mut Output<'_, W>,
     errors: &mut Output<'_, E>,
@@ -95,7 +95,7 @@ fn filter<L: OpenLists, W: Write, E: Write>(
         name: no_name(),
     };
     let buffer = buffer.as_mut_slice();
-    filter_logs(&mut filter, files, lists, buffer, output, errors)
+    filter_logs(&mut filter, lists, files, buffer, output, errors)
 }
 
 // How many lines of a log are selected at the most, if the option for that says this.

@@ -1,5 +1,5 @@
 -- Definitions at values at which a misreading of them would show.
-use Rattle.std.proofs.Common.{◌≡◌, ◌^◌, ◌+◌, ◌∷◌, [], map, true, false, refl}
+use Rattle.std.proofs.Common.{◌≡◌, ℕ, ◌^◌, ◌+◌, ◌∷◌, [], map, Bool, true, false, refl}
 use Rattle.std.specs.Prelude.{◌++◌, decimal, codes, None, Some}
 use Rattle.ipnetwork_addr.specs.declared.ip.IpAddr.TheVariants as addresses
 use Rattle.ipnetwork.specs.declared.ip_network.IpNetwork.TheVariants as families
@@ -18,18 +18,13 @@ none_in_a_field = refl
 pub none_in_a_word : lacking_by (places.Word 10) (codes "-") 7 false ≡ codes "cidr_join: -: no line has an address in word " ++ decimal 10 ++ codes "\n"
 none_in_a_word = refl
 
-pub none_anywhere : lacking_by places.Anywhere (codes "log") 2 false ≡ codes "cidr_join: log: no line has an address anywhere in it\n"
-none_anywhere = refl
-
-pub none_after_a_text : lacking_by (places.After (codes "SRC=")) (codes "log") 2 false ≡ codes "cidr_join: log: no line has an address after SRC=\n"
-none_after_a_text = refl
+pub none_anywhere_or_after_a_text : map (λ place. lacking_by place (codes "log") 2 false) (places.Anywhere ∷ places.After (codes "SRC=") ∷ [])
+    ≡ codes "cidr_join: log: no line has an address anywhere in it\n" ∷ codes "cidr_join: log: no line has an address after SRC=\n" ∷ []
+none_anywhere_or_after_a_text = refl
 
 -- a log without lines, and one of whose lines one has an address, are not told
-pub no_lines : lacking_by places.Anywhere (codes "log") 0 false ≡ []
-no_lines = refl
-
-pub one_address : lacking_by places.Anywhere (codes "log") 2 true ≡ []
-one_address = refl
+pub no_lines_or_one_address : map (λ (log : ℕ × Bool). lacking_by places.Anywhere (codes "log") log.0 log.1) ((0, false) ∷ (2, true) ∷ []) ≡ [] ∷ [] ∷ []
+no_lines_or_one_address = refl
 
 -- ---- joined words
 

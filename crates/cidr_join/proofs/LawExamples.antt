@@ -1,7 +1,7 @@
 -- What the laws let one conclude, where a weaker law would not.
-use Rattle.std.proofs.Common.{◌≡◌, ℕ, length, Bool, true, false, List, [], ◌∷◌, refl, ap, arith}
+use Rattle.std.proofs.Common.{◌≡◌, ℕ, length, Bool, true, false, List, [], ◌∷◌, refl, ap, ◌∙◌, arith}
 use Rattle.std.specs.Prelude.{codes, None, String}
-use Rattle.std.specs.List.{list_all, list_any}
+use Rattle.std.specs.List.{AllByRecursion, list_all, list_any}
 use Rattle.std.specs.String.{string_bytes}
 use Rattle.program.specs.declared.usage.Subject.TheVariants as subjects
 use Rattle.log_programs.specs.CommandLines.{AsksNothing, option_of}
@@ -44,18 +44,13 @@ three_of_two_and_one law join a b whole p q r two one = omega (arith, law join (
 
 -- ---- words that are no options
 
--- a letter beside an option, a letter more, one less, and a letter of none, whatever follows
-pub no_other_letter : {Z : Type 0} (word : String Z) (others : List (String Z)) → OthersAreNoOptions join_options is_option_word (word ∷ others) → string_bytes word ≡ codes "--networl" → option_of join_options (word ∷ others) ≡ None
-no_other_letter word others law w = law (ap is_option_word w)
+module _ {Z : Type 0} (word : String Z) (others : List (String Z)) (law : OthersAreNoOptions join_options is_option_word (word ∷ others)) where
+  no_option : (text : List ℕ) → is_option_word text ≡ false → string_bytes word ≡ text → option_of join_options (word ∷ others) ≡ None
+  no_option text none w = law (ap is_option_word w ∙ none)
 
-pub no_more_letters : {Z : Type 0} (word : String Z) (others : List (String Z)) → OthersAreNoOptions join_options is_option_word (word ∷ others) → string_bytes word ≡ codes "-ff" → option_of join_options (word ∷ others) ≡ None
-no_more_letters word others law w = law (ap is_option_word w)
-
-pub no_fewer_letters : {Z : Type 0} (word : String Z) (others : List (String Z)) → OthersAreNoOptions join_options is_option_word (word ∷ others) → string_bytes word ≡ codes "--las" → option_of join_options (word ∷ others) ≡ None
-no_fewer_letters word others law w = law (ap is_option_word w)
-
-pub no_third_flag : {Z : Type 0} (word : String Z) (others : List (String Z)) → OthersAreNoOptions join_options is_option_word (word ∷ others) → string_bytes word ≡ codes "-x" → option_of join_options (word ∷ others) ≡ None
-no_third_flag word others law w = law (ap is_option_word w)
+  -- a letter beside an option, a letter more, one less, and a letter of none, whatever follows
+  pub no_options : AllByRecursion (λ text. string_bytes word ≡ text → option_of join_options (word ∷ others) ≡ None) (codes "--networl" ∷ codes "-ff" ∷ codes "--las" ∷ codes "-x" ∷ [])
+  no_options = (no_option (codes "--networl") refl, (no_option (codes "-ff") refl, (no_option (codes "--las") refl, (no_option (codes "-x") refl, tt))))
 
 abbrev letters : Bool → Bool → Letters
 letters anywhere words = record { anywhere = anywhere; words = words }

@@ -168,21 +168,13 @@ stands w by table numbers founds IsSo a (Some found) h nothing is blocks nowhere
 module _ (routes : Routes) (numbered : Numbered) where
   pub stands_v4 : (network : Bool) (a : ℕ) (found : Option (Network × ℕ)) → NumbersRoutes network routes numbered → Answers 32 numbered.v4 a found → HasOnlyBlocks 32 numbered.v4
       → (f : Found) × (slice_get numbered.founds.items (number_or_none found) ≡ Some f) × FindsBy (answers_by network routes) (addresses.V4 a) f
-  stands_v4 true a found h is blocks =
-      stands 32 (found_by true (λ n. families.V4 n)) routes.v4 numbered.v4 numbered.founds.items (FindsBy (answers_by true routes) (addresses.V4 a)) a found h.v4 h.nothing is blocks
-      (λ none. none) (λ n v longest clear. (v, (longest, clear)))
-  stands_v4 false a found h is blocks =
-      stands 32 (found_by false (λ n. families.V4 n)) routes.v4 numbered.v4 numbered.founds.items (FindsBy (answers_by false routes) (addresses.V4 a)) a found h.v4 h.nothing is blocks
-      (λ none. none) (λ n v longest clear. (families.V4 n, (longest, clear)))
+  stands_v4 true a found h is blocks = stands 32 _ _ _ _ (FindsBy (answers_by true routes) (addresses.V4 a)) a found h.v4 h.nothing is blocks (λ none. none) (λ n v longest clear. (v, (longest, clear)))
+  stands_v4 false a found h is blocks = stands 32 _ _ _ _ (FindsBy (answers_by false routes) (addresses.V4 a)) a found h.v4 h.nothing is blocks (λ none. none) (λ n v longest clear. (families.V4 n, (longest, clear)))
 
   pub stands_v6 : (network : Bool) (a : ℕ) (found : Option (Network × ℕ)) → NumbersRoutes network routes numbered → Answers 128 numbered.v6 a found → HasOnlyBlocks 128 numbered.v6
       → (f : Found) × (slice_get numbered.founds.items (number_or_none found) ≡ Some f) × FindsBy (answers_by network routes) (addresses.V6 a) f
-  stands_v6 true a found h is blocks =
-      stands 128 (found_by true (λ n. families.V6 n)) routes.v6 numbered.v6 numbered.founds.items (FindsBy (answers_by true routes) (addresses.V6 a)) a found h.v6 h.nothing is blocks
-      (λ none. none) (λ n v longest clear. (v, (longest, clear)))
-  stands_v6 false a found h is blocks =
-      stands 128 (found_by false (λ n. families.V6 n)) routes.v6 numbered.v6 numbered.founds.items (FindsBy (answers_by false routes) (addresses.V6 a)) a found h.v6 h.nothing is blocks
-      (λ none. none) (λ n v longest clear. (families.V6 n, (longest, clear)))
+  stands_v6 true a found h is blocks = stands 128 _ _ _ _ (FindsBy (answers_by true routes) (addresses.V6 a)) a found h.v6 h.nothing is blocks (λ none. none) (λ n v longest clear. (v, (longest, clear)))
+  stands_v6 false a found h is blocks = stands 128 _ _ _ _ (FindsBy (answers_by false routes) (addresses.V6 a)) a found h.v6 h.nothing is blocks (λ none. none) (λ n v longest clear. (families.V6 n, (longest, clear)))
 
 pub not_empty : (numbered : Numbered) (empty : Bool) → empty ≡ (vec_len numbered.founds == 0) → empty ≡ false → ¬ (numbered.founds.items ≡ [])
 not_empty numbered empty is not none =

@@ -45,23 +45,8 @@ module _ {W E : Type 0} (join : Join) (known : KnownLists) (name : List ℕ) (en
   -- the first lines of a log were joined, and then it stopped
   at_log : (fault : LogFault) (added : List ℕ) → Joins join lines added → HaltsBy EndsRunBy known name lines fault → Wrote fault end ([] ++ added)
       → HasTold end (log_fault_text name (length lines) fault) → StopsAtLog join known (name ∷ []) end
-  at_log fault added joins halts wrote told = record {
-    before = [];
-    name = name;
-    behind = [];
-    output = [];
-    texts = [];
-    lines = lines;
-    added = added;
-    fault = fault;
-    logs = refl;
-    joins = (refl, refl);
-    first = joins;
-    halts = halts;
-    wrote = wrote;
-    told = told;
-    status = two;
-  }
+  at_log fault added joins halts wrote told =
+      record { before = []; name = name; behind = []; output = []; texts = []; lines = lines; added = added; fault = fault; logs = refl; joins = (refl, refl); first = joins; halts = halts; wrote = wrote; told = told; status = two }
 
   -- their output was put, and then what waited was written or not
   handed : (fault : LogFault) → HaltsBy EndsRunBy known name lines fault → ((text : List ℕ) → HasWritten end text → Wrote fault end text)

@@ -32,15 +32,7 @@ module _ (join : Join) (known : KnownLists) where
   -- memory ran out behind some logs
   pub ran_out : (before behind : List (List ℕ)) (marks : List (List ℕ)) (texts : List ℕ) → MarksLogs join known before marks texts
       → RunsOut join known (before ++ behind) (texts ++ codes "out of memory\n")
-  ran_out before behind marks texts are = record {
-    before = before;
-    behind = behind;
-    earlier = marks;
-    texts = texts;
-    logs = refl;
-    are = are;
-    is = refl;
-  }
+  ran_out before behind marks texts are = record { before = before; behind = behind; earlier = marks; texts = texts; logs = refl; are = are; is = refl }
 
   -- ---- one log
 

@@ -37,15 +37,4 @@ lacking_problem request = if has_source request then None else Some problems.NoS
 
 -- the options of the program, and what they say
 abbrev pub join_options : Options Choice Request
-join_options = record {
-  syntax = syntax_of_options;
-  in_one_word = in_one_word;
-  in_two_words = in_two_words;
-  word_problem = word_problem;
-  value_problem = value_problem;
-  no_options = no_options;
-  with_option = with_option;
-  inputs = λ (request : Request). request.shared.inputs;
-  crossed_problem = crossed_problem;
-  lacking_problem = lacking_problem;
-}
+join_options = record { syntax = syntax_of_options; in_one_word = in_one_word; in_two_words = in_two_words; word_problem = word_problem; value_problem = value_problem; no_options = no_options; with_option = with_option; inputs = λ (request : Request). request.shared.inputs; crossed_problem = crossed_problem; lacking_problem = lacking_problem }

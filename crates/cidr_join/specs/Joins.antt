@@ -1,5 +1,5 @@
 -- What is printed of the lines of a log.
-use Rattle.std.specs.Prelude.{◌≡◌, ℕ, ◌-◌, ◌≤◌, Bool, List, [], ◌∷◌, ◌++◌, Option, None, Some, length, drop, slice_get, codes, if◌then◌else◌}
+use Rattle.std.specs.Prelude.{◌≡◌, ℕ, ◌-◌, ◌≤◌, Bool, List, [], ◌∷◌, ◌++◌, Option, None, Some, length, drop, slice_get, codes, option_map, if◌then◌else◌}
 use Rattle.ipnetwork_addr.specs.declared.ip.IpAddr.{IpAddr}
 use Rattle.ipnetwork.specs.IpNetworkText.{ip_network_text}
 use Rattle.ipnetwork.specs.declared.ip_network.IpNetwork.{IpNetwork}
@@ -47,12 +47,8 @@ found_in places.Anywhere line = first_in line
 found_in (places.After text) line = of_rest (following text line)
 
 -- the address that counts: for an IPv4-mapped one its IPv4 one, if the option says so
-abbrev pub asked : Bool → IpAddr → IpAddr
-asked mapped address = if mapped then unmapped address else address
-
 abbrev pub asked_of : Bool → Option IpAddr → Option IpAddr
-asked_of mapped None = None
-asked_of mapped (Some address) = Some (asked mapped address)
+asked_of mapped found = if mapped then option_map unmapped found else found
 
 -- that of a line
 abbrev pub address_in : Join → List ℕ → Option IpAddr

@@ -1,5 +1,5 @@
 -- What an option of the command line says.
-use Rattle.std.specs.Prelude.{ℕ, ◌==◌, ◌||◌, ◌&&◌, Bool, true, false, List, Option, None, Some, drop, length, nat_lt, nat_le, if◌then◌else◌, codes, bytes_eq}
+use Rattle.std.specs.Prelude.{ℕ, ◌==◌, ◌||◌, ◌&&◌, Bool, true, false, List, [], Option, None, Some, drop, length, nat_lt, nat_le, if◌then◌else◌, codes, bytes_eq}
 use Rattle.std.specs.Option.{option_or}
 use Rattle.std.specs.List.{list_all, list_any}
 use Rattle.line_addresses.specs.Fields.{field_of}
@@ -82,10 +82,7 @@ in_one_word word =
 
 -- the letters that are among the first or the second
 abbrev pub either : Letters → Letters → Letters
-either first second = record {
-  anywhere = first.anywhere || second.anywhere;
-  words = first.words || second.words;
-}
+either first second = record { anywhere = first.anywhere || second.anywhere; words = first.words || second.words }
 
 -- the request with an option added: of each option the last is said, and letters stay
 abbrev pub with_option : Request → Choice → Request
@@ -99,13 +96,4 @@ with_option request (choices.Group lengths) = record request { group = Some leng
 
 -- without options values stand before lines
 abbrev pub no_options : Request
-no_options = record {
-  letters = record { anywhere = false; words = false };
-  shared = shared.no_options;
-  last = false;
-  last_wins = false;
-  network = false;
-  tally = false;
-  group = None;
-  files = 0;
-}
+no_options = record { letters = letters_in []; shared = shared.no_options; last = false; last_wins = false; network = false; tally = false; group = None; files = 0 }

@@ -124,7 +124,5 @@ abbrev pub DoesRequest : {Z W E : Type 0} → KnownLists → Ending W E → List
 DoesRequest known end words request files = EndsRequest known words (record request { files = files }) end
 
 -- how a run ends of a program of this name, help, version and usage
-abbrev pub EndsAs : {Z W E : Type 0} → List ℕ → List ℕ → List ℕ → List ℕ → KnownLists
-    → List (String Z) → Ending W E → Type 0
-EndsAs program help version usage known words end =
-    runs.EndsAs join_options program help version usage words (DoesRequest known end) end
+abbrev pub EndsAs : {Z W E : Type 0} → List ℕ → List ℕ → List ℕ → List ℕ → KnownLists → List (String Z) → Ending W E → Type 0
+EndsAs program help version usage known words end = runs.EndsAs join_options program help version usage words (DoesRequest known end) end

@@ -1,16 +1,19 @@
 //! What the options of a command line say.
 ghost use Rattle.std.specs.Prelude.{◌≡◌};
-ghost use Rattle.cidr_join.specs.CommandLines.{other_problem, asks_of_list, has_source};
+ghost use Rattle.cidr_join.specs.CommandLines.{join_options, other_problem, asks_of_list, has_source};
 
 use crate::lengths::Lengths;
 use crate::options::{
-    Choice, Letters, either, group_choice, is_letter, letters_choice, shared_choice,
+    Choice, Letters, either, group_choice, is_letter, letters_choice, letters_in,
 };
 use log_programs::grammar::Grammar;
 use log_programs::shared;
 use log_programs::shared::{Said, place_problem};
 use log_programs::usage::Problem;
 use program::words::is;
+
+/// The options of this program.
+pub struct JoinOptions;
 
 /// What a run is asked for. Its options are the words before `files`, and the FILEs those from there on.
 #[derive(Clone, Copy, Debug, PartialEq, Eq)]
@@ -33,24 +36,19 @@ pub struct Request {
     pub files: usize,
 }
 
-/// The options of this program.
-pub struct JoinOptions;
-
 impl Grammar for JoinOptions {
-    ghost use Rattle.cidr_join.specs.CommandLines.{join_options};
-
     type Choice = Choice;
 
     type Request = Request;
 
     ghost options = { join_options };
 
-    fn is_letter(letter: u8) -> bool {
-        is_letter(letter)
-    }
-
     fn takes_value(letter: u8) -> bool {
         shared::takes_value(letter)
+    }
+
+    fn is_letter(letter: u8) -> bool {
+        is_letter(letter)
     }
 
     fn takes_rest(letter: u8) -> bool {
@@ -74,17 +72,19 @@ impl Grammar for JoinOptions {
         if word == b"--tally".as_slice() {
             return Some(Choice::Tally);
         }
-        match word.strip_prefix(b"-".as_slice()) {
-            Some(letters) => shared_choice(shared::choice_in(word)).or(letters_choice(letters)),
-            None => None,
-        }
+        let Some(letters) = word.strip_prefix(b"-".as_slice()) else {
+            return None;
+        };
+        shared::choice_in(word)
+            .map(Choice::Shared)
+            .or(letters_choice(letters))
     }
 
     fn choice_with(name: &String, value: &[u8]) -> Option<Choice> {
         if is(name, "--group") {
             group_choice(value)
         } else {
-            shared_choice(shared::choice_with(name, value))
+            shared::choice_with(name, value).map(Choice::Shared)
         }
     }
 
@@ -102,11 +102,8 @@ impl Grammar for JoinOptions {
 
     fn no_options() -> Request {
         Request {
-            letters: Letters {
-                anywhere: false,
-                words: false,
-            },
             shared: shared::no_options(),
+            letters: letters_in(b"".as_slice()),
             last: false,
             last_wins: false,
             network: false,
@@ -116,37 +113,17 @@ impl Grammar for JoinOptions {
         }
     }
 
-    fn with_choice(request: Request, choice: Choice) -> Request {
+    fn with_choice(mut request: Request, choice: Choice) -> Request {
         match choice {
-            Choice::Letters(letters) => Request {
-                letters: either(request.letters, letters),
-                ..request
-            },
-            Choice::Shared(choice) => Request {
-                shared: shared::with_choice(request.shared, choice),
-                ..request
-            },
-            Choice::Last => Request {
-                last: true,
-                ..request
-            },
-            Choice::LastWins => Request {
-                last_wins: true,
-                ..request
-            },
-            Choice::Network => Request {
-                network: true,
-                ..request
-            },
-            Choice::Tally => Request {
-                tally: true,
-                ..request
-            },
-            Choice::Group(lengths) => Request {
-                group: Some(lengths),
-                ..request
-            },
+            Choice::Letters(letters) => request.letters = either(request.letters, letters),
+            Choice::Shared(choice) => request.shared = shared::with_choice(request.shared, choice),
+            Choice::Last => request.last = true,
+            Choice::LastWins => request.last_wins = true,
+            Choice::Network => request.network = true,
+            Choice::Tally => request.tally = true,
+            Choice::Group(lengths) => request.group = Some(lengths),
         }
+        request
     }
 
     fn inputs(request: Request) -> usize {

@@ -1,14 +1,11 @@
 //! What a line is to the list.
 ghost use Rattle.std.specs.Prelude.{◌≡◌, None, Some};
-ghost use Rattle.cidr_join.specs.Joins.{Finds, asked, first_in, found_in, address_in};
+ghost use Rattle.cidr_join.specs.Joins.{Finds, first_in, found_in, address_in};
 
 use crate::answers::Answers;
 use crate::found::Found;
 use ipnetwork::IpAddr;
 use line_addresses::{Place, address_of, field_of, following, next_address, unmapped, word_of};
-
-/// The most bytes of a line, not counting its line end.
-pub(crate) const LINE_MAX: usize = 1_048_576;
 
 /// What decides what is printed of a line.
 #[derive(Drop)]
@@ -37,9 +34,13 @@ impl<'a> Join<'a> {
     pub(crate) fn address_in(&self, line: &[u8]) -> Option<IpAddr>
         ensures { result ≡ address_in self.now line.now }
     {
-        match self.found_in(line) {
-            Some(address) => Some(self.asked(address)),
-            None => None,
+        let Some(address) = self.found_in(line) else {
+            return None;
+        };
+        if self.mapped {
+            Some(unmapped(address))
+        } else {
+            Some(address)
         }
     }
 
@@ -61,17 +62,6 @@ impl<'a> Join<'a> {
                 Some(rest) => first_in(rest),
                 None => None,
             },
-        }
-    }
-
-    // The address that counts as an address of a line.
-    fn asked(&self, address: IpAddr) -> IpAddr
-        ensures { result ≡ asked self.now.mapped address }
-    {
-        if self.mapped {
-            unmapped(address)
-        } else {
-            address
         }
     }
 }

@@ -2,46 +2,24 @@
 ghost use Rattle.std.specs.Prelude.{◌≡◌, ◌≤◌, ◌∷◌, [], true, false, length};
 ghost use Rattle.program.specs.Logs.{logs_of};
 ghost use Rattle.program.specs.Endings.{ending};
-ghost use Rattle.cidr_join.specs.Runs.{EndsLogs, StopsAtLog};
+ghost use Rattle.cidr_join.specs.Runs.{StopsAtLog};
 ghost use Rattle.cidr_join.specs.Private.Runs.{JoinsNames};
 
-use crate::help::PROGRAM;
 use crate::join::Join;
 use crate::log::join_log;
 use crate::seen::Seen;
+use crate::telling::tell_unaddressed;
 use lines::output::Output;
 use lists::{OpenLists, open_list};
-use log_programs::telling::tell_lacking;
-use program::ending::{FAILED, end};
 use program::log_fault::{LogFault, stop};
 use std::io::Write;
 
-/// Joins the logs of these names in their order, or standard input if there is no name, and returns the exit status.
+/// Joins the logs of these names in their order, or standard input if there is no name, and returns whether all came to
+/// their ends. If not, the cause is reported. So is each log in which no line has an address.
 pub(crate) fn join_logs<L: OpenLists, W: Write, E: Write>(
     join: &Join<'_>,
-    files: &[String],
     lists: &L,
-    buffer: &mut [u8],
-    output: &mut Output<'_, W>,
-    errors: &mut Output<'_, E>,
-) -> u8
-    requires { 1048578 ≤ length buffer.old }
-    ensures { EndsLogs join.now (L.known lists.now) (logs_of files.now)
-        (ending output.old output.new errors.old errors.new result) }
-{
-    if !join_each(join, files, lists, buffer, output, errors) {
-        return FAILED;
-    }
-    let written = output.finish();
-    end(written, 0, errors)
-}
-
-// Joins the logs of these names, or standard input, and returns whether all came to their ends. If not, the cause is
-// reported. So is each log in which no line has an address.
-fn join_each<L: OpenLists, W: Write, E: Write>(
-    join: &Join<'_>,
     files: &[String],
-    lists: &L,
     buffer: &mut [u8],
     output: &mut Output<'_, W>,
     errors: &mut Output<'_, E>,
@@ -55,11 +33,11 @@ fn join_each<L: OpenLists, W: Write, E: Write>(
 {
     if files.is_empty() {
         let input = "-";
-        return join_one(join, input, lists, buffer, output, errors);
+        return join_one(join, lists, input, buffer, output, errors);
     }
     for file in files {
         let name = file.as_str();
-        if !join_one(join, name, lists, buffer, output, errors) {
+        if !join_one(join, lists, name, buffer, output, errors) {
             return false;
         }
     }
@@ -70,8 +48,8 @@ fn join_each<L: OpenLists, W: Write, E: Write>(
 // the cause is reported, and else it is if no line has an address.
 fn join_one<L: OpenLists, W: Write, E: Write>(
     join: &Join<'_>,
-    name: &str,
     lists: &L,
+    name: &str,
     buffer: &mut [u8],
     output: &mut Output<'_, W>,
     errors: &mut Output<'_, E>,
@@ -83,29 +61,22 @@ fn join_one<L: OpenLists, W: Write, E: Write>(
         → StopsAtLog join.now (L.known lists.now) (name.now ∷ [])
         (ending output.old output.new errors.old errors.new 2) }
 {
-    let mut seen = Seen {
-        lines: 0,
-        is_addressed: false,
-    };
     let mut log = match open_list(lists, name) {
         Ok(log) => log,
         Err(cause) => {
-            stop(name, LogFault::Open(cause), seen.lines, output, errors);
+            stop(name, LogFault::Open(cause), 0, output, errors);
             return false;
         }
+    };
+    let mut seen = Seen {
+        lines: 0,
+        is_addressed: false,
     };
     let end = join_log(join, buffer, &mut log, output, &mut seen);
     lists.close(name, log);
     match end {
         Ok(()) => {
-            tell_lacking(
-                PROGRAM,
-                &join.place,
-                name,
-                seen.lines,
-                seen.is_addressed,
-                errors,
-            );
+            tell_unaddressed(join, name, &seen, errors);
             true
         }
         Err(fault) => {

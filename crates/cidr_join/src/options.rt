@@ -1,7 +1,7 @@
 //! The options of a command line, one at a time.
 ghost use Rattle.std.specs.Prelude.{◌≡◌};
 ghost use Rattle.std.specs.List.{list_all};
-ghost use Rattle.cidr_join.specs.Options.{is_letter, letters_option, letters_in, group_option, length_of, lengths_by, either, shared_option};
+ghost use Rattle.cidr_join.specs.Options.{is_letter, letters_option, letters_in, group_option, length_of, lengths_by, either};
 
 use crate::lengths::Lengths;
 use line_addresses::field_of;
@@ -36,16 +36,6 @@ pub enum Choice {
     Group(Lengths),
 }
 
-/// This option, if there is one.
-pub(crate) fn shared_choice(option: Option<Shared>) -> Option<Choice>
-    ensures { result ≡ shared_option option }
-{
-    match option {
-        Some(shared) => Some(Choice::Shared(shared)),
-        None => None,
-    }
-}
-
 /// Options by their letters.
 pub(crate) fn letters_choice(letters: &[u8]) -> Option<Choice>
     ensures { result ≡ letters_option letters.now }
@@ -56,21 +46,21 @@ pub(crate) fn letters_choice(letters: &[u8]) -> Option<Choice>
     Some(Choice::Letters(letters_in(letters)))
 }
 
-// Which letters are among these.
-fn letters_in(letters: &[u8]) -> Letters
+// Whether there are only letters of options.
+fn are_letters(letters: &[u8]) -> bool
+    ensures { result ≡ list_all is_letter letters.now }
+{
+    letters.iter().all(|letter| is_letter(*letter))
+}
+
+/// Which letters are among these.
+pub(crate) fn letters_in(letters: &[u8]) -> Letters
     ensures { result ≡ letters_in letters.now }
 {
     Letters {
         anywhere: letters.contains(&b'a'),
         words: letters.contains(&b'w'),
     }
-}
-
-// Whether there are only letters of options.
-fn are_letters(letters: &[u8]) -> bool
-    ensures { result ≡ list_all is_letter letters.now }
-{
-    letters.iter().all(|letter| is_letter(*letter))
 }
 
 /// Whether this is the letter of an option.

@@ -31,27 +31,21 @@ pub(crate) fn print_line<W: Write>(
     match found {
         Found::Network(network) => {
             let text = network.canonical();
-            print_with(
-                join.last,
-                text.as_str().as_bytes(),
-                line,
-                whole,
-                end,
-                output,
-            )
+            let mark = text.as_str().as_bytes();
+            print_with(line, whole, end, join.last, mark, output)
         }
-        Found::Value(value) => print_with(join.last, value.bytes(), line, whole, end, output),
-        Found::Nothing => print_with(join.last, b"-", line, whole, end, output),
+        Found::Value(value) => print_with(line, whole, end, join.last, value.bytes(), output),
+        Found::Nothing => print_with(line, whole, end, join.last, b"-", output),
     }
 }
 
 // Writes a line, and this before it, or behind it if `last`.
 fn print_with<W: Write>(
-    last: bool,
-    mark: &[u8],
     line: &[u8],
     whole: &[u8],
     end: LineEnd,
+    last: bool,
+    mark: &[u8],
     output: &mut Output<'_, W>,
 ) -> Result<(), RunFault>
     requires { length line.now ≤ length whole.now }
@@ -77,19 +71,6 @@ fn put_parts<W: Write>(
         ((first.now ++ 9 ∷ []) ++ ((second.now ++ third.now) ++ feed_behind end)) }
 {
     put_both(first, b"\t", output)?;
-    put_rest(second, third, end, output)
-}
-
-// Writes two texts, and a line feed if none ended the line.
-fn put_rest<W: Write>(
-    first: &[u8],
-    second: &[u8],
-    end: LineEnd,
-    output: &mut Output<'_, W>,
-) -> Result<(), RunFault>
-    ensures { PutsOrFails result output.old output.new
-        ((first.now ++ second.now) ++ feed_behind end) }
-{
-    put_both(first, second, output)?;
+    put_both(second, third, output)?;
     put_feed(end, output)
 }

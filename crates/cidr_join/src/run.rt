@@ -1,8 +1,7 @@
 //! The run that the program makes.
 ghost use Rattle.std.specs.Prelude.{◌≡◌, ◌≤◌, length, take};
 ghost use Rattle.program.specs.Endings.{ending};
-ghost use Rattle.program.specs.Logs.{logs_of};
-ghost use Rattle.cidr_join.specs.Runs.{EndsRequest, EndsAs, EndsAsked, EndsFinding, EndsJoining, answers_by, place_of, list_name};
+ghost use Rattle.cidr_join.specs.Runs.{EndsRequest, EndsAs, EndsFinding, EndsJoining, answers_by, place_of, list_name};
 
 use crate::answers::Answers;
 use crate::command_line::{JoinOptions, Request};
@@ -20,7 +19,7 @@ use lists::OpenLists;
 use log_programs::asking::{About, asked};
 use log_programs::options::value_of;
 use log_programs::shared;
-use program::ending::FAILED;
+use program::ending::{FAILED, end};
 use program::log_reader::BUFFER_LEN;
 use program::memory::refuse_memory;
 use std::alloc::Global;
@@ -49,7 +48,7 @@ pub(crate) fn run<L: OpenLists, W: Write, E: Write>(
                 files: asked.2,
                 ..asked.1
             };
-            join(alloc, request, asked.0.as_slice(), lists, output, errors)
+            join(alloc, asked.0.as_slice(), request, lists, output, errors)
         }
         Err(status) => status,
     }
@@ -58,8 +57,8 @@ pub(crate) fn run<L: OpenLists, W: Write, E: Write>(
 // Reads the list, and then joins the logs to it, if their lines are not grouped in blocks.
 fn join<L: OpenLists, W: Write, E: Write>(
     alloc: Global,
-    request: Request,
     words: &[String],
+    request: Request,
     lists: &L,
     output: &mut Output<'_, W>,
     errors: &mut Output<'_, E>,
@@ -156,37 +155,14 @@ fn join_by<'a, L: OpenLists, W: Write, E: Write>(
     };
     let files = &words[request.files..];
     let buffer = buffer.as_mut_slice();
-    run_logs(
-        alloc,
-        request.tally,
-        &join,
-        files,
-        lists,
-        buffer,
-        output,
-        errors,
-    )
-}
-
-// Counts what the list gives the lines of the logs, or joins them to it.
-fn run_logs<L: OpenLists, W: Write, E: Write>(
-    alloc: Global,
-    tally: bool,
-    join: &Join<'_>,
-    files: &[String],
-    lists: &L,
-    buffer: &mut [u8],
-    output: &mut Output<'_, W>,
-    errors: &mut Output<'_, E>,
-) -> u8
-    requires { 1048578 ≤ length buffer.old }
-    ensures { EndsAsked tally join.now (L.known lists.now) (logs_of files.now)
-        (ending output.old output.new errors.old errors.new result) }
-{
-    if tally {
-        return tally_logs(alloc, join, files, lists, buffer, output, errors);
+    if request.tally {
+        return tally_logs(alloc, &join, lists, buffer, files, output, errors);
     }
-    join_logs(join, files, lists, buffer, output, errors)
+    if !join_logs(&join, lists, files, buffer, output, errors) {
+        return FAILED;
+    }
+    let written = output.finish();
+    end(written, 0, errors)
 }
 
 // Where a request looks for the address of a line.

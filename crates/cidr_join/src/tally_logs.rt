@@ -12,18 +12,18 @@ ghost use Rattle.cidr_join.specs.Private.TallyProgress.{CountsNames, TellsStop, 
 ghost use Rattle.program.specs.Putting.{PutsOrFails};
 
 use crate::counts::Counts;
-use crate::help::PROGRAM;
 use crate::join::Join;
 use crate::numbered::Numbered;
 use crate::seen::Seen;
 use crate::tally::Row;
 use crate::tally_log::{TallyFault, tally_log};
+use crate::telling::tell_unaddressed;
 use lines::fault::RunFault;
 use lines::output::Output;
 use lists::{OpenLists, open_list};
-use log_programs::telling::tell_lacking;
 use program::ending::{FAILED, end};
 use program::log_fault::{LogFault, tell_log_fault};
+use program::memory::refuse_memory;
 use program::messages::{number_text, tell};
 use program::putting::put_both;
 use std::alloc::Global;
@@ -34,9 +34,9 @@ use std::io::Write;
 pub(crate) fn tally_logs<L: OpenLists, W: Write, E: Write>(
     alloc: Global,
     join: &Join<'_>,
-    files: &[String],
     lists: &L,
     buffer: &mut [u8],
+    files: &[String],
     output: &mut Output<'_, W>,
     errors: &mut Output<'_, E>,
 ) -> u8
@@ -45,20 +45,18 @@ pub(crate) fn tally_logs<L: OpenLists, W: Write, E: Write>(
         (ending output.old output.new errors.old errors.new result) }
 {
     let Ok(numbered) = Numbered::of(alloc, &join.answers) else {
-        tell("out of memory\n", errors);
-        return FAILED;
+        return refuse_memory(errors);
     };
     let founds = numbered.founds();
     let Ok(mut counts) = Counts::new(alloc, founds.len()) else {
-        tell("out of memory\n", errors);
-        return FAILED;
+        return refuse_memory(errors);
     };
     if !tally_each(
         alloc,
         join,
         &numbered,
-        files,
         lists,
+        files,
         buffer,
         &mut counts,
         errors,
@@ -66,8 +64,7 @@ pub(crate) fn tally_logs<L: OpenLists, W: Write, E: Write>(
         return FAILED;
     }
     let Ok(rows) = counts.into_rows(alloc, founds) else {
-        tell("out of memory\n", errors);
-        return FAILED;
+        return refuse_memory(errors);
     };
     let written = write_rows(rows.as_slice(), output);
     end(written, 0, errors)
@@ -79,8 +76,8 @@ fn tally_each<L: OpenLists, E: Write>(
     alloc: Global,
     join: &Join<'_>,
     numbered: &Numbered<'_>,
-    files: &[String],
     lists: &L,
+    files: &[String],
     buffer: &mut [u8],
     counts: &mut Counts,
     errors: &mut Output<'_, E>,
@@ -94,11 +91,11 @@ fn tally_each<L: OpenLists, E: Write>(
 {
     if files.is_empty() {
         let input = "-";
-        return tally_one(alloc, join, numbered, input, lists, buffer, counts, errors);
+        return tally_one(alloc, join, numbered, lists, input, buffer, counts, errors);
     }
     for file in files {
         let name = file.as_str();
-        if !tally_one(alloc, join, numbered, name, lists, buffer, counts, errors) {
+        if !tally_one(alloc, join, numbered, lists, name, buffer, counts, errors) {
             return false;
         }
     }
@@ -111,48 +108,41 @@ fn tally_one<L: OpenLists, E: Write>(
     alloc: Global,
     join: &Join<'_>,
     numbered: &Numbered<'_>,
-    name: &str,
     lists: &L,
+    name: &str,
     buffer: &mut [u8],
     counts: &mut Counts,
     errors: &mut Output<'_, E>,
 ) -> bool
-    requires room { 1048578 ≤ length buffer.old }
     requires numbered { IsNumbering join.now.answers numbered.now }
+    requires room { 1048578 ≤ length buffer.old }
     ensures all { result ≡ true → CountsNames numbered.now.founds.items join.now
         (L.known lists.now) (name.now ∷ []) counts.old counts.new errors.old errors.new }
     ensures stopped { result ≡ false
         → TellsStop join.now (L.known lists.now) (name.now ∷ []) errors.old errors.new }
 {
-    let mut seen = Seen {
-        lines: 0,
-        is_addressed: false,
-    };
     let mut log = match open_list(lists, name) {
         Ok(log) => log,
         Err(cause) => {
             let fault = TallyFault::Log(LogFault::Open(cause));
-            tell_stop(name, fault, seen.lines, errors);
+            tell_stop(name, fault, 0, errors);
             return false;
         }
+    };
+    let mut seen = Seen {
+        lines: 0,
+        is_addressed: false,
     };
     let end = tally_log(alloc, join, numbered, buffer, &mut log, counts, &mut seen);
     lists.close(name, log);
     match end {
-        Ok(()) => {
-            tell_lacking(
-                PROGRAM,
-                &join.place,
-                name,
-                seen.lines,
-                seen.is_addressed,
-                errors,
-            );
-            true
-        }
         Err(fault) => {
             tell_stop(name, fault, seen.lines, errors);
             false
+        }
+        Ok(()) => {
+            tell_unaddressed(join, name, &seen, errors);
+            true
         }
     }
 }

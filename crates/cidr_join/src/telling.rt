@@ -1,11 +1,16 @@
 //! Messages on the error writer. If a write of one fails, nothing else changes.
 ghost use Rattle.program.specs.Messages.{Tells};
+ghost use Rattle.cidr_join.specs.Addressed.{lacking_by};
 ghost use Rattle.cidr_join.specs.Told.{text_fault_text, take_fault_text};
 
+use crate::help::PROGRAM;
+use crate::join::Join;
 use crate::list::TakeFault;
 use crate::routes::RouteFault;
+use crate::seen::Seen;
 use crate::text::TextFault;
 use lines::output::Output;
+use log_programs::telling::tell_lacking;
 use program::log_fault::{tell_line, tell_of};
 use program::messages::tell;
 use std::io::Write;
@@ -20,6 +25,20 @@ pub(crate) fn tell_text_fault<E: Write>(name: &str, fault: TextFault, errors: &m
         TextFault::Length => tell_of(name, ": too long\n", errors),
         TextFault::OutOfMemory => tell("out of memory\n", errors),
     }
+}
+
+/// Reports that the log of this name has lines, and none of them an address where it is looked for, if that is so.
+pub(crate) fn tell_unaddressed<E: Write>(
+    join: &Join<'_>,
+    name: &str,
+    seen: &Seen,
+    errors: &mut Output<'_, E>,
+)
+    ensures { Tells errors.old errors.new
+        (lacking_by join.now.place name.now seen.now.lines seen.now.is_addressed) }
+{
+    let (lines, is_addressed) = (seen.lines, seen.is_addressed);
+    tell_lacking(PROGRAM, &join.place, name, lines, is_addressed, errors);
 }
 
 /// Reports why the lines of the list of this name were not taken to its end.

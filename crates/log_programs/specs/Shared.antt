@@ -76,15 +76,7 @@ word_problem word =
 
 -- without options no place of the address is said, and no list
 abbrev pub no_options : Said
-no_options = record {
-  field = None;
-  separator = None;
-  after = false;
-  mapped = false;
-  has_list = false;
-  has_lists = false;
-  inputs = 0;
-}
+no_options = record { field = None; separator = None; after = false; mapped = false; has_list = false; has_lists = false; inputs = 0 }
 
 -- what is said with an option added: of each option the last
 abbrev pub with_option : Said → Shared → Said

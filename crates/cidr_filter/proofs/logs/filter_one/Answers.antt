@@ -27,12 +27,8 @@ filter_log-end-requires-clause-hurries g c = c.new-lines.ensures.hurries ∙ c.r
 
 pub returns-in-Ok-End-clause-logs : goal.returns-in-Ok-End-clause-logs
 returns-in-Ok-End-clause-logs g c =
-    let known = g.L.OpenLists.known c.args.lists.now in
     let remaining = g.L.List.Read.remaining in
-    name_ended c.args.filter.now known c.args.name.now
-    (remaining (device_of c.in-Ok.log)) (remaining (device_of c.filter_log-end.new.reader))
-    c.in-Ok.ensures.bytes c.in-Ok.ensures.opened
-    (stand c.args.output.now c.args.tally.now) (stand c.filter_log-end.new.output c.filter_log-end.new.tally)
+    name_ended c.args.filter.now (g.L.OpenLists.known c.args.lists.now) c.args.name.now _ _ c.in-Ok.ensures.bytes c.in-Ok.ensures.opened _ _
     c.args.errors.now c.tell_lacking.new.errors
     (subst (λ (f : Filter). Ends f (remaining (device_of c.in-Ok.log)) (remaining (device_of c.filter_log-end.new.reader))
     (record (stand c.args.output.now c.args.tally.now) { lines = 0; addressed = false }) (stand c.filter_log-end.new.output c.filter_log-end.new.tally)) (ap (λ (n : List ℕ). record c.args.filter.now { name = n }) (c.replace-before.ensures.after ∙ c.new.ensures ∙ c.label_of-label.ensures))
@@ -40,12 +36,8 @@ returns-in-Ok-End-clause-logs g c =
 
 pub returns-in-Ok-Last-clause-logs : goal.returns-in-Ok-Last-clause-logs
 returns-in-Ok-Last-clause-logs g c =
-    let known = g.L.OpenLists.known c.args.lists.now in
     let remaining = g.L.List.Read.remaining in
-    name_left c.args.filter.now known c.args.name.now
-    (remaining (device_of c.in-Ok.log)) (remaining (device_of c.filter_log-end.new.reader))
-    c.in-Ok.ensures.bytes c.in-Ok.ensures.opened
-    (stand c.args.output.now c.args.tally.now) (stand c.filter_log-end.new.output c.filter_log-end.new.tally)
+    name_left c.args.filter.now (g.L.OpenLists.known c.args.lists.now) c.args.name.now _ _ c.in-Ok.ensures.bytes c.in-Ok.ensures.opened _ _
     c.args.errors.now c.filter_log-end.new.log
     (subst (λ (f : Filter). Leaves f c.filter_log-end.new.log (remaining (device_of c.in-Ok.log)) (remaining (device_of c.filter_log-end.new.reader))
     (record (stand c.args.output.now c.args.tally.now) { lines = 0; addressed = false }) (stand c.filter_log-end.new.output c.filter_log-end.new.tally)) (ap (λ (n : List ℕ). record c.args.filter.now { name = n }) (c.replace-before.ensures.after ∙ c.new.ensures ∙ c.label_of-label.ensures))

@@ -18,7 +18,7 @@ pub returns-in-None-word_of : goal.returns-in-None-word_of
 returns-in-None-word_of g c = puts_none tt c.args.output.now _ (of_word c.args.filter.now (head_of c.args.filter.now c.args.line_number) c.args.line.now c.in-Word.number None c.in-Word.is c.in-None-word_of.ensures)
 
 pub returns-in-Anywhere : goal.returns-in-Anywhere
-returns-in-Anywhere g c = puts_it c.print_anywhere.result c.args.output.now c.print_anywhere.new.output _ _ (of_all c.args.filter.now (head_of c.args.filter.now c.args.line_number) c.args.line.now c.in-Anywhere.is) c.print_anywhere.ensures
+returns-in-Anywhere g c = puts_it c.print_all.result c.args.output.now c.print_all.new.output _ _ (of_all c.args.filter.now (head_of c.args.filter.now c.args.line_number) c.args.line.now c.in-Anywhere.is) c.print_all.ensures
 
 pub returns-in-Some-following : goal.returns-in-Some-following
 returns-in-Some-following g c =

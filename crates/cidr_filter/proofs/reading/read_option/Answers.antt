@@ -11,43 +11,30 @@ returns-then-not-is_list-clause-read g c =
 pub bounds-words-at : goal.bounds-words-at
 bounds-words-at g c = value_within c.args.words.now c.args.at c.args.choice c.requires.within c.requires.option (sym c.is_list.ensures ∙ c.if-not-is_list.false)
 
-pub returns-in-Text-clause-read : goal.returns-in-Text-clause-read
-returns-in-Text-clause-read g c =
+pub returns-in-Text : goal.returns-in-Text
+returns-in-Text g c =
     let words = c.args.words.now in
     let at = c.args.at in
     let value = c.index-words-at.result in
     let within = value_within words at c.args.choice c.requires.within c.requires.option (sym c.is_list.ensures ∙ c.if-not-is_list.false) in
-    reads_text c.read_text.result (g.L.OpenLists.known c.args.lists.now) (at + 1) c.args.choice (name_at (drop at words) 1) c.as_str.result.now c.args.reader.now
-    c.read_text.new.reader c.in-Text.is (value_is words at value within c.index-words-at.is ∙ sym c.as_str.ensures.value) c.read_text.ensures.read
+    let known = g.L.OpenLists.known c.args.lists.now in
+    let is = value_is words at value within c.index-words-at.is ∙ sym c.as_str.ensures.value in
+    record {
+      read = reads_text c.read_text.result known (at + 1) c.args.choice (name_at (drop at words) 1) c.as_str.result.now c.args.reader.now c.read_text.new.reader c.in-Text.is is c.read_text.ensures.read;
+      memory = c.read_text.ensures.memory;
+      stopped = text_stops c.read_text.result known (at + 1) c.args.choice (name_at (drop at words) 1) c.as_str.result.now c.args.reader.now _ c.in-Text.is is c.read_text.ensures.stopped;
+    }
 
-pub returns-in_default-clause-read : goal.returns-in_default-clause-read
-returns-in_default-clause-read g c =
+pub returns-in_default : goal.returns-in_default
+returns-in_default g c =
     let words = c.args.words.now in
     let at = c.args.at in
     let value = c.index-words-at.result in
     let list = sym c.is_list.ensures ∙ c.if-not-is_list.false in
-    let within = value_within words at c.args.choice c.requires.within c.requires.option list in
-    reads_file c.read_named.result (g.L.OpenLists.known c.args.lists.now) (at + 1) c.args.choice (name_at (drop at words) 1) c.as_str-in_default.result.now c.args.reader.now
-    c.read_named.new.reader list c.in_default.not-Text (value_is words at value within c.index-words-at.is ∙ sym c.as_str-in_default.ensures.value) c.read_named.ensures.read
-
-pub returns-in_default-clause-memory : goal.returns-in_default-clause-memory
-returns-in_default-clause-memory g c = c.read_named.ensures.memory
-
-pub returns-in-Text-clause-stopped : goal.returns-in-Text-clause-stopped
-returns-in-Text-clause-stopped g c =
-    let words = c.args.words.now in
-    let at = c.args.at in
-    let value = c.index-words-at.result in
-    let within = value_within words at c.args.choice c.requires.within c.requires.option (sym c.is_list.ensures ∙ c.if-not-is_list.false) in
-    text_stops c.read_text.result (g.L.OpenLists.known c.args.lists.now) (at + 1) c.args.choice (name_at (drop at words) 1) c.as_str.result.now c.args.reader.now
-    _ c.in-Text.is (value_is words at value within c.index-words-at.is ∙ sym c.as_str.ensures.value) c.read_text.ensures.stopped
-
-pub returns-in_default-clause-stopped : goal.returns-in_default-clause-stopped
-returns-in_default-clause-stopped g c =
-    let words = c.args.words.now in
-    let at = c.args.at in
-    let value = c.index-words-at.result in
-    let list = sym c.is_list.ensures ∙ c.if-not-is_list.false in
-    let within = value_within words at c.args.choice c.requires.within c.requires.option list in
-    file_stops c.read_named.result (g.L.OpenLists.known c.args.lists.now) (at + 1) c.args.choice (name_at (drop at words) 1) c.as_str-in_default.result.now c.args.reader.now
-    _ list c.in_default.not-Text (value_is words at value within c.index-words-at.is ∙ sym c.as_str-in_default.ensures.value) c.read_named.ensures.stopped
+    let known = g.L.OpenLists.known c.args.lists.now in
+    let is = value_is words at value (value_within words at c.args.choice c.requires.within c.requires.option list) c.index-words-at.is ∙ sym c.as_str-in_default.ensures.value in
+    record {
+      read = reads_file c.read_named.result known (at + 1) c.args.choice (name_at (drop at words) 1) c.as_str-in_default.result.now c.args.reader.now c.read_named.new.reader list c.in_default.not-Text is c.read_named.ensures.read;
+      memory = c.read_named.ensures.memory;
+      stopped = file_stops c.read_named.result known (at + 1) c.args.choice (name_at (drop at words) 1) c.as_str-in_default.result.now c.args.reader.now _ list c.in_default.not-Text is c.read_named.ensures.stopped;
+    }

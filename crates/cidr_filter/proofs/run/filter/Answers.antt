@@ -1,63 +1,28 @@
 use Rattle.std.proofs.Common.{refl}
 use Rattle.std.proofs.lemmas.List.{take_rest}
 use Rattle.program.proofs.Told.{tells_nothing}
-use Rattle.program.specs.Endings.{ending}
 use Rattle.cidr_filter.proofs.Runs.{reading_stopped, line_refused, memory_ran_out, logs_filtered}
 use Rattle.cidr_filter.proofs.run.filter.Goals as goal
 
 pub returns-in-Err : goal.returns-in-Err
 returns-in-Err g c =
-    let r = c.read_listed-listed.result in
-    let output = c.args.output.now in
-    reading_stopped (g.L.OpenLists.known c.args.lists.now) c.args.words.now c.args.request r.1
-    (ending output output c.args.errors.now
-    c.tell_fault.new.errors 2)
-    c.tell_refusals.new.errors c.tell_refusals.ensures r.2 c.in-Err.fault c.in-Err.is
-    c.read_listed-listed.ensures.stopped ((refl, refl), c.tell_fault.ensures)
+    reading_stopped (g.L.OpenLists.known c.args.lists.now) c.args.words.now c.args.request c.read_listed-listed.result.1 _ c.tell_refusals.new.errors c.tell_refusals.ensures c.read_listed-listed.result.2 c.in-Err.fault c.in-Err.is c.read_listed-listed.ensures.stopped ((refl, refl), c.tell_fault.ensures)
 
 pub returns-then-not-is_empty : goal.returns-then-not-is_empty
 returns-then-not-is_empty g c =
-    let r = c.read_listed-listed.result in
-    let output = c.args.output.now in
-    line_refused (g.L.OpenLists.known c.args.lists.now) c.args.words.now c.args.request r.1
-    (ending output output c.args.errors.now
-    c.tell_refusals.new.errors 2)
-    c.tell_refusals.new.errors c.tell_refusals.ensures r.2 c.in_default.field-0 r.0 c.in_default.is
-    c.read_listed-listed.ensures.read c.is_empty.result c.is_empty.ensures c.if-not-is_empty.true
-    ((refl, refl), tells_nothing c.tell_refusals.new.errors)
+    line_refused (g.L.OpenLists.known c.args.lists.now) c.args.words.now c.args.request c.read_listed-listed.result.1 _ c.tell_refusals.new.errors c.tell_refusals.ensures c.read_listed-listed.result.2
+    c.in_default.field-0 c.read_listed-listed.result.0 c.in_default.is c.read_listed-listed.ensures.read c.is_empty.result c.is_empty.ensures c.if-not-is_empty.true ((refl, refl), tells_nothing c.tell_refusals.new.errors)
 
 pub returns-in_default-listed : goal.returns-in_default-listed
 returns-in_default-listed g c =
-    let r = c.read_listed-listed.result in
-    let output = c.args.output.now in
-    memory_ran_out (g.L.OpenLists.known c.args.lists.now) c.args.words.now c.args.request r.1
-    (ending output output c.args.errors.now
-    c.refuse_memory.new.errors
-    c.refuse_memory.result)
-    c.tell_refusals.new.errors c.tell_refusals.ensures r.2 c.in_default.field-0 r.0 c.in_default.is
-    c.read_listed-listed.ensures.read c.is_empty.result c.is_empty.ensures c.if-not-is_empty.false
-    ((refl, c.refuse_memory.ensures.status), c.refuse_memory.ensures.told)
+    memory_ran_out (g.L.OpenLists.known c.args.lists.now) c.args.words.now c.args.request c.read_listed-listed.result.1 _ c.tell_refusals.new.errors c.tell_refusals.ensures c.read_listed-listed.result.2 c.in_default.field-0 c.read_listed-listed.result.0 c.in_default.is c.read_listed-listed.ensures.read c.is_empty.result c.is_empty.ensures c.if-not-is_empty.false ((refl, c.refuse_memory.ensures.status), c.refuse_memory.ensures.told)
 
 pub returns-in_default-vec : goal.returns-in_default-vec
 returns-in_default-vec g c =
-    let r = c.read_listed-listed.result in
-    let output = c.args.output.now in
-    memory_ran_out (g.L.OpenLists.known c.args.lists.now) c.args.words.now c.args.request r.1
-    (ending output output c.args.errors.now
-    c.refuse_memory-in_default-vec.new.errors c.refuse_memory-in_default-vec.result)
-    c.tell_refusals.new.errors c.tell_refusals.ensures r.2 c.in_default.field-0 r.0 c.in_default.is
-    c.read_listed-listed.ensures.read c.is_empty.result c.is_empty.ensures c.if-not-is_empty.false (
-      (refl, c.refuse_memory-in_default-vec.ensures.status),
-      c.refuse_memory-in_default-vec.ensures.told,
-    )
+    memory_ran_out (g.L.OpenLists.known c.args.lists.now) c.args.words.now c.args.request c.read_listed-listed.result.1 _ c.tell_refusals.new.errors c.tell_refusals.ensures c.read_listed-listed.result.2 c.in_default.field-0 c.read_listed-listed.result.0 c.in_default.is c.read_listed-listed.ensures.read c.is_empty.result c.is_empty.ensures c.if-not-is_empty.false ((refl, c.refuse_memory-in_default-vec.ensures.status), c.refuse_memory-in_default-vec.ensures.told)
 
 pub returns : goal.returns
 returns g c =
-    let r = c.read_listed-listed.result in
-    logs_filtered (g.L.OpenLists.known c.args.lists.now) c.args.words.now c.args.request r.1
-    (ending c.args.output.now c.filter_logs.new.output
-    c.args.errors.now
-    c.filter_logs.new.errors c.filter_logs.result)
-    c.tell_refusals.new.errors c.tell_refusals.ensures r.2 c.in_default.field-0 r.0 c.in_default.is
-    c.read_listed-listed.ensures.read c.is_empty.result c.is_empty.ensures c.if-not-is_empty.false
+    logs_filtered (g.L.OpenLists.known c.args.lists.now) c.args.words.now c.args.request c.read_listed-listed.result.1 _ c.tell_refusals.new.errors c.tell_refusals.ensures c.read_listed-listed.result.2
+    c.in_default.field-0 c.read_listed-listed.result.0 c.in_default.is c.read_listed-listed.ensures.read c.is_empty.result c.is_empty.ensures c.if-not-is_empty.false
     c.in-Ok.listed c.in-Ok.is (rw (take_rest, c.place_of.ensures, c.most_of.ensures, c.shows_of.ensures, c.is_named.ensures, c.no_name.ensures) at c.filter_logs.ensures)

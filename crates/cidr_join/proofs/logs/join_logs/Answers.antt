@@ -1,13 +1,48 @@
-use Rattle.std.proofs.Common.{inl, inr}
+use Rattle.std.proofs.Common.{◌∙◌, sym, arith}
+use Rattle.lines.proofs.Putting.{puts_nothing, puts_more}
+use Rattle.lines.specs.Outputs.{Prints}
+use Rattle.program.proofs.LogNames.{names_more}
 use Rattle.program.specs.Endings.{ending}
-use Rattle.cidr_join.proofs.Runs.{all_by}
+use Rattle.cidr_join.specs.Joins.{Joins}
+use Rattle.cidr_join.specs.Private.Runs.{JoinsNames}
+use Rattle.cidr_join.specs.Runs.{StopsAtLog}
+use Rattle.cidr_join.proofs.LogsInTurn.{names_none, one_more, of_input, of_all}
+use Rattle.cidr_join.proofs.Runs.{one_stops}
 use Rattle.cidr_join.proofs.logs.join_logs.Goals as goal
 
-pub returns-then-not-join_each : goal.returns-then-not-join_each
-returns-then-not-join_each g c = inr (c.join_each.ensures.stopped c.if-not-join_each.true)
+pub returns-then-is_empty-clause-all : goal.returns-then-is_empty-clause-all
+returns-then-is_empty-clause-all g c = λ yes.
+    of_input c.args.files.now (λ names. JoinsNames c.args.join.now (g.L.OpenLists.known c.args.lists.now) names c.args.output.now c.join_one.new.output c.args.errors.now c.join_one.new.errors)
+    (sym c.is_empty.ensures ∙ c.if-is_empty.true) (c.join_one.ensures.all yes)
 
-pub returns : goal.returns
-returns g c =
-    inl (all_by c.args.join.now (g.L.OpenLists.known c.args.lists.now) _ (ending c.args.output.now c.finish-written.new.self c.args.errors.now c.end.new.errors c.end.result)
-    c.join_each.new.output c.join_each.new.errors c.finish-written.result (c.join_each.ensures.all c.if-not-join_each.false)
-    c.finish-written.ensures.ok c.finish-written.ensures.err c.finish-written.ensures.failed c.end.ensures.status c.end.ensures.told)
+pub returns-then-is_empty-clause-stopped : goal.returns-then-is_empty-clause-stopped
+returns-then-is_empty-clause-stopped g c = λ no.
+    of_input c.args.files.now (λ names. StopsAtLog c.args.join.now (g.L.OpenLists.known c.args.lists.now) names (ending c.args.output.now c.join_one.new.output c.args.errors.now c.join_one.new.errors 2))
+    (sym c.is_empty.ensures ∙ c.if-is_empty.true) (c.join_one.ensures.stopped no)
+
+pub loop-file-init : goal.loop-file-init
+loop-file-init g c = record {
+  room = c.requires;
+  names = names_none (Joins c.args.join.now) Prints c.args.join.now (g.L.OpenLists.known c.args.lists.now) c.args.output.now c.args.errors.now (puts_nothing _ _);
+}
+
+pub loop-file-preserved : goal.loop-file-preserved
+loop-file-preserved g c = record {
+  room = omega (arith, c.loop-file.invariant.room, c.join_one-in-loop-file.auto.buffer);
+  names = one_more (Joins c.args.join.now) Prints c.args.join.now (g.L.OpenLists.known c.args.lists.now) (λ old mid new a b p q. puts_more _ _ _ _ _ _ a b p q) c.args.files.now c.loop-file.file-index c.as_str-name.result.now
+      c.args.output.now c.loop-file.output c.join_one-in-loop-file.new.output c.args.errors.now c.loop-file.errors c.join_one-in-loop-file.new.errors
+      (names_more c.args.files.now c.loop-file.file-index c.file-item.result c.as_str-name.result.now (omega arith) c.file-item.is c.as_str-name.ensures.value)
+      c.loop-file.invariant.names (c.join_one-in-loop-file.ensures.all c.if-not-join_one.false);
+}
+
+pub returns-then-not-join_one-clause-stopped : goal.returns-then-not-join_one-clause-stopped
+returns-then-not-join_one-clause-stopped g c = λ no.
+    one_stops c.args.join.now (g.L.OpenLists.known c.args.lists.now) c.args.files.now c.loop-file.file-index c.as_str-name.result.now c.args.output.now c.loop-file.output
+    c.join_one-in-loop-file.new.output c.args.errors.now c.loop-file.errors c.join_one-in-loop-file.new.errors
+    (sym c.is_empty.ensures ∙ c.if-is_empty.false) (names_more c.args.files.now c.loop-file.file-index c.file-item.result c.as_str-name.result.now (omega arith) c.file-item.is c.as_str-name.ensures.value)
+    c.loop-file.invariant.names (c.join_one-in-loop-file.ensures.stopped c.if-not-join_one.true)
+
+pub returns-clause-all : goal.returns-clause-all
+returns-clause-all g c = λ yes.
+    of_all c.args.files.now (λ names. JoinsNames c.args.join.now (g.L.OpenLists.known c.args.lists.now) names c.args.output.now c.loop-file.output c.args.errors.now c.loop-file.errors)
+    c.loop-file.file-index (sym c.is_empty.ensures ∙ c.if-is_empty.false) (omega arith) c.loop-file.invariant.names

@@ -34,8 +34,8 @@ returns-in-Ok-end-clause-all g c = λ yes.
     name_read (Joins c.args.join.now) Prints c.args.join.now (g.L.OpenLists.known c.args.lists.now) c.args.name.now
     (remaining (device_of c.in-Ok.log)) (remaining (device_of c.join_log-end.new.reader))
     c.in-Ok.ensures.bytes c.in-Ok.ensures.opened
-    c.args.output.now c.join_log-end.new.output c.args.errors.now c.tell_lacking.new.errors c.join_log-end.new.seen
-    ends.read ends.reads ends.end ends.is_done.added ends.is_done.joins ends.is_done.goes.0 ends.is_done.goes.1 c.tell_lacking.ensures
+    c.args.output.now c.join_log-end.new.output c.args.errors.now c.tell_unaddressed.new.errors c.join_log-end.new.seen
+    ends.read ends.reads ends.end ends.is_done.added ends.is_done.joins ends.is_done.goes.0 ends.is_done.goes.1 c.tell_unaddressed.ensures
 
 pub returns-in-Err-end-clause-stopped : goal.returns-in-Err-end-clause-stopped
 returns-in-Err-end-clause-stopped g c = λ no.

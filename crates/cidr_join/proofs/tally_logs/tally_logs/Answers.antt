@@ -11,11 +11,11 @@ use Rattle.cidr_join.proofs.tally_logs.tally_logs.Goals as goal
 
 pub returns-in_default : goal.returns-in_default
 returns-in_default g c =
-    inl (codes "out of memory\n", inr (ran_out c.args.join.now (g.L.OpenLists.known c.args.lists.now) [] (logs_of c.args.files.now) [] [] (refl, refl)), ((refl, refl), c.tell.ensures))
+    inl (codes "out of memory\n", inr (ran_out c.args.join.now (g.L.OpenLists.known c.args.lists.now) [] (logs_of c.args.files.now) [] [] (refl, refl)), ((refl, c.refuse_memory.ensures.status), c.refuse_memory.ensures.told))
 
 pub returns-in_default-new : goal.returns-in_default-new
 returns-in_default-new g c =
-    inl (codes "out of memory\n", inr (ran_out c.args.join.now (g.L.OpenLists.known c.args.lists.now) [] (logs_of c.args.files.now) [] [] (refl, refl)), ((refl, refl), c.tell-in_default-new.ensures))
+    inl (codes "out of memory\n", inr (ran_out c.args.join.now (g.L.OpenLists.known c.args.lists.now) [] (logs_of c.args.files.now) [] [] (refl, refl)), ((refl, c.refuse_memory-in_default-new.ensures.status), c.refuse_memory-in_default-new.ensures.told))
 
 pub returns-then-not-tally_each : goal.returns-then-not-tally_each
 returns-then-not-tally_each g c =
@@ -25,8 +25,8 @@ returns-then-not-tally_each g c =
 pub returns-in_default-into_rows : goal.returns-in_default-into_rows
 returns-in_default-into_rows g c =
     let all = c.tally_each.ensures.all c.if-not-tally_each.false in
-    let stops = rows_lack c.args.join.now (g.L.OpenLists.known c.args.lists.now) c.args.files.now c.in-Ok.numbered.founds.items c.in-Ok-new.counts c.tally_each.new.counts c.args.errors.now c.tally_each.new.errors c.tell-in_default-into_rows.new.errors all c.tell-in_default-into_rows.ensures in
-    inl (stops.0, stops.1, ((refl, refl), stops.2))
+    let stops = rows_lack c.args.join.now (g.L.OpenLists.known c.args.lists.now) c.args.files.now c.in-Ok.numbered.founds.items c.in-Ok-new.counts c.tally_each.new.counts c.args.errors.now c.tally_each.new.errors c.refuse_memory-in_default-into_rows.new.errors all c.refuse_memory-in_default-into_rows.ensures.told in
+    inl (stops.0, stops.1, ((refl, c.refuse_memory-in_default-into_rows.ensures.status), stops.2))
 
 pub returns : goal.returns
 returns g c =

@@ -27,8 +27,8 @@ returns-in-Ok-end-clause-all g c = λ yes.
     name_read (Marks c.args.join.now) (λ (old new : Counts) (marks : List (List ℕ)). CountsAll founds marks old new) c.args.join.now (g.L.OpenLists.known c.args.lists.now) c.args.name.now
     (remaining (device_of c.in-Ok.log)) (remaining (device_of c.tally_log-end.new.reader))
     c.in-Ok.ensures.bytes c.in-Ok.ensures.opened
-    c.args.counts.now c.tally_log-end.new.counts c.args.errors.now c.tell_lacking.new.errors c.tally_log-end.new.seen
-    ends.read ends.reads ends.end ends.is_done.0 ends.is_done.1 ends.is_done.2 ends.is_done.3 c.tell_lacking.ensures
+    c.args.counts.now c.tally_log-end.new.counts c.args.errors.now c.tell_unaddressed.new.errors c.tally_log-end.new.seen
+    ends.read ends.reads ends.end ends.is_done.0 ends.is_done.1 ends.is_done.2 ends.is_done.3 c.tell_unaddressed.ensures
 
 pub returns-in-Err-end-clause-stopped : goal.returns-in-Err-end-clause-stopped
 returns-in-Err-end-clause-stopped g c = λ no.

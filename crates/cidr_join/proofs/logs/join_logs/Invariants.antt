@@ -1,7 +1,7 @@
 use Rattle.std.proofs.Common.{◌≤◌, length, map, take}
 use Rattle.std.specs.String.{string_bytes}
 use Rattle.cidr_join.specs.Private.Runs.{JoinsNames}
-use Rattle.cidr_join.proofs.logs.join_each.Given as goal
+use Rattle.cidr_join.proofs.logs.join_logs.Given as goal
 
 abbrev pub invariant-loop-file : goal.invariant-loop-file
 invariant-loop-file g l = record {
