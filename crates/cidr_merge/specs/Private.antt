@@ -1,7 +1,7 @@
 -- What the private functions promise each other, and how contracts see private fields.
-pub mod Devices
 pub mod Entries
 pub mod Reported
 pub mod Sweeps
 pub mod Totals
+pub mod Unread
 pub mod Words

@@ -1,21 +1,17 @@
 -- The bytes of whole lists.
-use Rattle.std.specs.Prelude.{◌≡◌, ℕ, ◌+◌, true, false, List, [], ◌∷◌, ◌++◌, Some, length, String}
+use Rattle.std.specs.Prelude.{◌≡◌, ℕ, ◌+◌, true, false, List, [], ◌∷◌, ◌++◌, length, String}
 use Rattle.std.specs.String.{string_bytes}
+use Rattle.lists.specs.Bytes.{IsAllOf}
 use Rattle.lists.specs.KnownLists.{KnownLists}
 use Rattle.lists.specs.declared.named.ReadFault.{ReadFault}
 use Rattle.lists.specs.declared.named.ReadFault.TheVariants.{Open, Read, Length, NotJson}
 use Rattle.lists.specs.declared.named.ReadFault.TheVariants.{OutOfMemory}
 
--- the list of this name was opened, and these bytes are all of it, if its bytes are known
-abbrev pub IsTextOf : KnownLists → List ℕ → List ℕ → Type 0
-IsTextOf known name text =
-    known.may_open name true × ((input : List ℕ) → known.bytes_of name ≡ Some input → text ≡ input)
-
 -- those of the lists of these names are these, in their order
 abbrev pub AreTexts : {Z : Type 0} → KnownLists → List (String Z) → List (List ℕ) → Type 0
 AreTexts known [] [] = Unit {0}
 AreTexts known (name ∷ names) (text ∷ texts) =
-    IsTextOf known (string_bytes name) text × AreTexts known names texts
+    IsAllOf known (string_bytes name) text × AreTexts known names texts
 AreTexts known [] (text ∷ texts) = ⊥
 AreTexts known (name ∷ names) [] = ⊥
 

@@ -141,25 +141,16 @@ pub(crate) fn form_of(usual: Form, options: &[String]) -> Form
 pub(crate) fn form_called(text: &str) -> Option<Form>
     ensures { result ≡ form_called text.now }
 {
-    if text == "plain" {
-        Some(Form::Blocks)
-    } else if text == "range" {
-        Some(Form::Ranges)
-    } else if text == "netmask" {
-        Some(Form::Exported(Export::Netmask))
-    } else if text == "wildcard" {
-        Some(Form::Exported(Export::Wildcard))
-    } else if text == "csv" {
-        Some(Form::Exported(Export::Csv))
-    } else if text == "nft" {
-        Some(Form::Exported(Export::Nft))
-    } else if text == "ipset" {
-        Some(Form::Exported(Export::Ipset))
-    } else if text == "json" {
-        Some(Form::Exported(Export::Json))
-    } else if text == "addresses" {
-        Some(Form::Exported(Export::Addresses))
-    } else {
-        None
+    match text {
+        "plain" => Some(Form::Blocks),
+        "range" => Some(Form::Ranges),
+        "netmask" => Some(Form::Exported(Export::Netmask)),
+        "wildcard" => Some(Form::Exported(Export::Wildcard)),
+        "csv" => Some(Form::Exported(Export::Csv)),
+        "nft" => Some(Form::Exported(Export::Nft)),
+        "ipset" => Some(Form::Exported(Export::Ipset)),
+        "json" => Some(Form::Exported(Export::Json)),
+        "addresses" => Some(Form::Exported(Export::Addresses)),
+        _ => None,
     }
 }

@@ -17,6 +17,17 @@ pub(crate) const ELEMENT_CAPACITY: usize = 160;
 /// The text of a block.
 pub(crate) type Element = ArrayString<ELEMENT_CAPACITY>;
 
+/// Texts of a family in exports.
+#[derive(Clone, Copy, Debug)]
+struct FamilyTexts {
+    /// Its name.
+    family: &'static str,
+    /// The name of its set.
+    set: &'static str,
+    /// What adds all of its addresses to this set.
+    halves: &'static str,
+}
+
 /// The text of a block, unless each of its addresses is printed.
 pub(crate) fn element<A: Address>(export: Export, version: Version, block: Network<A>) -> Element
     requires { export ≢ Export.Addresses }
@@ -83,7 +94,7 @@ fn csv_line<A: Address>(version: Version, block: Network<A>) -> Element
     ensures { result.bytes ≡ csv_line version A.family block }
 {
     let mut text = ArrayString::new();
-    text.push_str(family_name(version));
+    text.push_str(texts(version).family);
     text.push(',');
     push_network(&mut text, block);
     text.push(',');
@@ -101,7 +112,7 @@ fn ipset_lines<A: Address>(version: Version, block: Network<A>) -> Element
 {
     if block.prefix() == 0 {
         let mut text = ArrayString::new();
-        text.push_str(halves(version));
+        text.push_str(texts(version).halves);
         return text;
     }
     ipset_line(version, block)
@@ -113,43 +124,33 @@ fn ipset_line<A: Address>(version: Version, block: Network<A>) -> Element
 {
     let mut text = ArrayString::new();
     text.push_str("add ");
-    text.push_str(set_name(version));
+    text.push_str(texts(version).set);
     text.push(' ');
     push_network(&mut text, block);
     text.push('\n');
     text
 }
 
-// The name of a family.
-fn family_name(version: Version) -> &'static str
-    ensures name { result.now ≡ family_name version }
-    ensures short { length result.now ≤ 4 }
+// The texts of a family.
+fn texts(version: Version) -> FamilyTexts
+    ensures family { result.family.now ≡ family_name version }
+    ensures set { result.set.now ≡ set_name version }
+    ensures halves { result.halves.now ≡ halves version }
+    ensures short_family { length result.family.now ≤ 4 }
+    ensures short_set { length result.set.now ≤ 15 }
+    ensures short_halves { length result.halves.now ≤ 160 }
 {
     match version {
-        Version::V4 => "IPv4",
-        Version::V6 => "IPv6",
-    }
-}
-
-// The name of the set of a family.
-fn set_name(version: Version) -> &'static str
-    ensures name { result.now ≡ set_name version }
-    ensures short { length result.now ≤ 15 }
-{
-    match version {
-        Version::V4 => "cidr_merge_ipv4",
-        Version::V6 => "cidr_merge_ipv6",
-    }
-}
-
-// What adds all addresses of a family to its set.
-fn halves(version: Version) -> &'static str
-    ensures lines { result.now ≡ halves version }
-    ensures short { length result.now ≤ 160 }
-{
-    match version {
-        Version::V4 => "add cidr_merge_ipv4 0.0.0.0/1\nadd cidr_merge_ipv4 128.0.0.0/1\n",
-        Version::V6 => "add cidr_merge_ipv6 ::/1\nadd cidr_merge_ipv6 8000::/1\n",
+        Version::V4 => FamilyTexts {
+            family: "IPv4",
+            set: "cidr_merge_ipv4",
+            halves: "add cidr_merge_ipv4 0.0.0.0/1\nadd cidr_merge_ipv4 128.0.0.0/1\n",
+        },
+        Version::V6 => FamilyTexts {
+            family: "IPv6",
+            set: "cidr_merge_ipv6",
+            halves: "add cidr_merge_ipv6 ::/1\nadd cidr_merge_ipv6 8000::/1\n",
+        },
     }
 }
 

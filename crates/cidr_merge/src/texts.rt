@@ -1,17 +1,11 @@
 //! Reads whole lists.
-ghost use Rattle.std.specs.Prelude.{◌≡◌, ◌+◌, ◌^◌, ◌<◌, ◌||◌, length, map, IfOk, IfErr};
-ghost use Rattle.lines.specs.Watched.{device_of, has_failed};
-ghost use Rattle.cidr_merge.specs.Texts.{IsTextOf, AreTexts, TextStops, TextsStop};
-ghost use Rattle.cidr_merge.specs.Private.Devices.{ReadsAll, StopsReading, ended_by_read};
+ghost use Rattle.std.specs.Prelude.{◌≡◌, ◌+◌, ◌^◌, ◌<◌, length, map, IfOk, IfErr};
+ghost use Rattle.lists.specs.Bytes.{IsAllOf};
+ghost use Rattle.cidr_merge.specs.Texts.{AreTexts, TextStops, TextsStop};
+ghost use Rattle.cidr_merge.specs.Private.Unread.{not_read};
 
 use crate::given::Given;
-use lines::watched::Watched;
-use lists::{OpenFault, OpenLists, ReadFault};
-use std::alloc::Global;
-use std::io::Read;
-
-/// How many bytes are read at once.
-const CHUNK_LEN: usize = 65536;
+use lists::{BytesFault, OpenLists, ReadFault, read_bytes};
 
 /// The names and the bytes of lists.
 #[derive(Drop)]
@@ -54,47 +48,22 @@ fn text_of<L: OpenLists>(
     name: &str,
     place: usize,
 ) -> Result<Vec<u8>, ReadFault>
-    ensures ok { IfOk result (λ text. IsTextOf (L.known given.now.lists.now) name.now text.items) }
+    ensures ok { IfOk result (λ text. IsAllOf (L.known given.now.lists.now) name.now text.items) }
     ensures err { IfErr result (TextStops (L.known given.now.lists.now) place name.now) }
 {
-    let lists = given.lists;
-    let list = match lists.open(name) {
-        Ok(list) => list,
-        Err(error) => return Err(ReadFault::Open(place, OpenFault::of(error.kind()))),
-    };
-    let mut list = Watched::new(list);
-    let text = read_all(given.alloc, &mut list, place);
-    lists.close(name, list);
-    text
+    match read_bytes(given.alloc, given.lists, name, usize::MAX) {
+        Ok(text) => Ok(text),
+        Err(fault) => Err(not_read(fault, place)),
+    }
 }
 
-// The bytes that a device has left, which is the list that the word at the index `place` names.
-fn read_all<R: Read>(
-    alloc: Global,
-    reader: &mut Watched<R>,
-    place: usize,
-) -> Result<Vec<u8>, ReadFault>
-    ensures ok { IfOk result (λ text. ReadsAll (R.remaining (device_of reader.old))
-        (R.remaining (device_of reader.new)) text.items) }
-    ensures err { IfErr result (StopsReading (has_failed reader.new) place) }
-    ensures failed { has_failed reader.new ≡ (has_failed reader.old || ended_by_read result) }
+// Why the list was not read that the word at this index names. None is too long.
+fn not_read(fault: BytesFault, place: usize) -> ReadFault
+    ensures { result ≡ not_read place fault }
 {
-    let mut text = Vec::new(alloc);
-    let mut chunk = [0u8; CHUNK_LEN];
-    let mut room = usize::MAX;
-    'reads: loop {
-        let Ok(count) = reader.read(&mut chunk) else {
-            return Err(ReadFault::Read(place));
-        };
-        if count == 0 {
-            return Ok(text);
-        }
-        if count > room {
-            return Err(ReadFault::OutOfMemory);
-        }
-        room -= count;
-        if text.extend_from_slice(&chunk[..count]).is_err() {
-            return Err(ReadFault::OutOfMemory);
-        }
+    match fault {
+        BytesFault::Open(cause) => ReadFault::Open(place, cause),
+        BytesFault::Read => ReadFault::Read(place),
+        BytesFault::Length | BytesFault::OutOfMemory => ReadFault::OutOfMemory,
     }
 }

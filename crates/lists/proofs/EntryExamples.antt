@@ -6,21 +6,15 @@ use Rattle.lists.specs.Lines.{is_blank, begins_comment}
 use Rattle.lists.specs.Entries.{entry_text}
 
 -- a space and a tab are blanks, and no other byte is
-pub a_space_is_blank : is_blank 32 ≡ true
-a_space_is_blank = refl
-
-pub a_tab_is_blank : is_blank 9 ≡ true
-a_tab_is_blank = refl
+pub a_space_and_a_tab_are_blank : (is_blank 32 ≡ true) × (is_blank 9 ≡ true)
+a_space_and_a_tab_are_blank = (refl, refl)
 
 pub no_other_blank : (byte : ℕ) → byte ≢ 32 → byte ≢ 9 → is_blank byte ≡ false
 no_other_blank byte space tab = rw (ne_eqb byte 32 space, ne_eqb byte 9 tab)
 
 -- a `#` and a `;` begin a comment, and no other byte does
-pub a_number_sign_begins_a_comment : begins_comment 35 ≡ true
-a_number_sign_begins_a_comment = refl
-
-pub a_semicolon_begins_a_comment : begins_comment 59 ≡ true
-a_semicolon_begins_a_comment = refl
+pub a_number_sign_and_a_semicolon_begin_a_comment : (begins_comment 35 ≡ true) × (begins_comment 59 ≡ true)
+a_number_sign_and_a_semicolon_begin_a_comment = (refl, refl)
 
 pub no_other_comment : (byte : ℕ) → byte ≢ 35 → byte ≢ 59 → begins_comment byte ≡ false
 no_other_comment byte sign semicolon = rw (ne_eqb byte 35 sign, ne_eqb byte 59 semicolon)

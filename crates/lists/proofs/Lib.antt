@@ -18,3 +18,4 @@ pub mod ReadingExamples
 pub mod Readings
 pub mod Taken
 pub mod Trims
+pub mod WholeLists

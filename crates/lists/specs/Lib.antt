@@ -1,5 +1,6 @@
 -- What the contracts of this crate cite.
 pub mod Added
+pub mod Bytes
 pub mod DocumentLaws
 pub mod Documents
 pub mod Entries

@@ -1,4 +1,5 @@
 -- What the private functions promise each other.
+pub mod Bytes
 pub mod Documents
 pub mod Parts
 pub mod Readings

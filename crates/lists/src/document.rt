@@ -1,20 +1,16 @@
 //! Reads a document of JSON as a list.
-ghost use Rattle.std.specs.Prelude.{◌≡◌, ◌≤◌, ◌||◌, false, length, IfOk, OnOk, IfErr};
-ghost use Rattle.lines.specs.Watched.{device_of, has_failed};
+ghost use Rattle.std.specs.Prelude.{◌≡◌, ◌≤◌, false, length, OnOk, IfErr};
 ghost use Rattle.lists.specs.Documents.{ReadsDocument, StopsAtDocument};
 ghost use Rattle.lists.specs.Lists.{at_list};
-ghost use Rattle.lists.specs.Private.Documents.{IsAllOf, ReadsAll, StopsReading, ended_by_read};
-ghost use Rattle.lists.specs.Private.Documents.{BytesStop, TakesBytes, FailsBytes};
+ghost use Rattle.lists.specs.Private.Documents.{TakesBytes, FailsBytes, not_read};
 
+use crate::bytes::{BytesFault, read_bytes};
 use crate::list_reader::ListReader;
 use crate::named::ReadFault;
 use crate::open_lists::OpenLists;
-use crate::opening::open_list;
 use crate::strings::take_value;
-use lines::watched::Watched;
 use serde_json::Value;
 use std::alloc::Global;
-use std::io::Read;
 
 /// The most bytes of a document.
 ///
@@ -22,9 +18,6 @@ use std::io::Read;
 /// assert_eq!(rt; lists::DOCUMENT_MAX, 1 << 30);
 /// ```
 pub const DOCUMENT_MAX: usize = 1_073_741_824;
-
-/// How many bytes are read at once.
-const CHUNK_LEN: usize = 65536;
 
 /// Opens the document of JSON (RFC 8259) of this name, which is the word at the index `place`,
 /// reads it, and closes it.
@@ -60,9 +53,9 @@ pub fn read_document<L: OpenLists>(
     ensures stopped { IfErr result (λ fault. StopsAtDocument (L.known lists.now) is_strict place
         name.now reader.old fault reader.new) }
 {
-    let bytes = match bytes_of(alloc, lists, name, place) {
+    let bytes = match read_bytes(alloc, lists, name, DOCUMENT_MAX) {
         Ok(bytes) => bytes,
-        Err(fault) => return Err(fault),
+        Err(fault) => return Err(not_read(fault, place)),
     };
     take_document(alloc, bytes.as_slice(), place, is_strict, reader)
 }
@@ -94,53 +87,14 @@ fn take_document(
     Ok(())
 }
 
-// The bytes of the document of this name, which is the word at the index `place`.
-fn bytes_of<L: OpenLists>(
-    alloc: Global,
-    lists: &L,
-    name: &str,
-    place: usize,
-) -> Result<Vec<u8>, ReadFault>
-    ensures ok { IfOk result (λ bytes. IsAllOf (L.known lists.now) name.now bytes.items) }
-    ensures err { IfErr result (BytesStop (L.known lists.now) place name.now) }
+// Why the document was not read that the word at this index names.
+fn not_read(fault: BytesFault, place: usize) -> ReadFault
+    ensures { result ≡ not_read place fault }
 {
-    let mut list = match open_list(lists, name) {
-        Ok(list) => list,
-        Err(cause) => return Err(ReadFault::Open(place, cause)),
-    };
-    let bytes = read_all(alloc, &mut list, place);
-    lists.close(name, list);
-    bytes
-}
-
-// The bytes that a device has left, which is the document that the word at the index `place` names.
-fn read_all<R: Read>(
-    alloc: Global,
-    reader: &mut Watched<R>,
-    place: usize,
-) -> Result<Vec<u8>, ReadFault>
-    ensures ok { IfOk result (λ bytes. ReadsAll (R.remaining (device_of reader.old))
-        (R.remaining (device_of reader.new)) bytes.items) }
-    ensures err { IfErr result (StopsReading (R.remaining (device_of reader.old))
-        (R.remaining (device_of reader.new)) (has_failed reader.new) place) }
-    ensures failed { has_failed reader.new ≡ (has_failed reader.old || ended_by_read result) }
-{
-    let mut bytes = Vec::new(alloc);
-    let mut chunk = [0u8; CHUNK_LEN];
-    let mut room = DOCUMENT_MAX;
-    'reads: loop {
-        let Ok(count) = reader.read(&mut chunk) else {
-            return Err(ReadFault::Read(place));
-        };
-        if count == 0 {
-            return Ok(bytes);
-        }
-        if count > room {
-            return Err(ReadFault::Length(place));
-        }
-        room -= count;
-        if bytes.extend_from_slice(&chunk[..count]).is_err() {
-            return Err(ReadFault::OutOfMemory);
-        }
+    match fault {
+        BytesFault::Open(cause) => ReadFault::Open(place, cause),
+        BytesFault::Read => ReadFault::Read(place),
+        BytesFault::Length => ReadFault::Length(place),
+        BytesFault::OutOfMemory => ReadFault::OutOfMemory,
     }
 }

@@ -4,6 +4,7 @@
 //! names take memory.
 #![tactic(auto)]
 
+mod bytes;
 mod comment;
 mod document;
 mod entry;
@@ -20,6 +21,7 @@ mod refusals;
 mod strings;
 mod trimming;
 
+pub use bytes::{BytesFault, read_bytes};
 pub use document::{DOCUMENT_MAX, read_document};
 pub use entry::{Entry, EntryFault, read_entry};
 pub use fault::LineFault;

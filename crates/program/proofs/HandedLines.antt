@@ -10,7 +10,7 @@ use Rattle.lines.specs.declared.line_end.LineEnd.TheVariants.{LineFeed, ReturnAn
 use Rattle.lines.proofs.BytesLemmas.{HasNo, HasNo-push}
 use Rattle.lines.proofs.Lines as engine
 use Rattle.lines.proofs.Lines.{newline_cases}
-use Rattle.program.specs.LogLines.{log_lines, content, printed, feed_behind, ended, unended, log_line}
+use Rattle.program.specs.LogLines.{LogLine, log_lines, content, printed, feed_behind, ended, unended, log_line}
 use Rattle.program.proofs.LogLines.{lines_line, lines_last}
 
 -- ---- the first line of a text has no line feed
@@ -88,6 +88,14 @@ module _ (raw line pending after : List ℕ) (none : HasNo 10 raw) (is : pending
   feed_lines : (more : List ℕ) → log_lines (pending ++ more) ≡ ended raw ∷ log_lines (after ++ more)
   feed_lines more = ap log_lines (cut more) ∙ lines_line raw (after ++ more) none
 
+  -- so it is the first line
+  feed_first : (end : LineEnd) → log_line line end ≡ ended raw → (all : Bool) → IsFirstOf all pending line after end
+  feed_first end e all = record {
+    is = ap content e ∙ feed_content;
+    lines = λ more _. feed_lines more ∙ ap (λ l. l ∷ log_lines (after ++ more)) (sym e);
+    whole = inl (ap (λ (l : LogLine). l.is_ended) e);
+  }
+
 -- where a line feed ends the line
 feed_none : (pending line behind after : List ℕ) → pending ≡ line ++ behind
     → ((rest : List ℕ) → lines (pending ++ rest) ≡ line ∷ lines (after ++ rest)) → HasNo 10 line
@@ -101,24 +109,14 @@ is_first : (ended : Bool) (pending line after : List ℕ) (end : LineEnd)
 is_first ended pending line after LineFeed is first =
     let at : pending ≡ line ++ 10 ∷ after = is ∙ append_assoc line (10 ∷ []) after in
     let none = feed_none pending line (10 ∷ after) after at first in
-    record {
-      is = feed_content line line pending after none at first;
-      lines = λ more e. feed_lines
-          line line pending after none at first more;
-      whole = inl refl;
-    }
+    feed_first line line pending after none at first LineFeed refl ended
 is_first ended pending line after ReturnAndLineFeed is first =
     let raw = line ++ 13 ∷ [] in
     let at : pending ≡ line ++ 13 ∷ 10 ∷ after = is ∙ append_assoc line (13 ∷ 10 ∷ []) after in
     let none : HasNo 10 raw = HasNo-push 10 line 13
     (feed_none pending line (13 ∷ 10 ∷ after) after at first) refl in
     let cut : pending ≡ raw ++ 10 ∷ after = at ∙ sym (append_assoc line (13 ∷ []) (10 ∷ after)) in
-    record {
-      is = feed_content raw line pending after none cut first;
-      lines = λ more e. feed_lines
-          raw line pending after none cut first more;
-      whole = inl refl;
-    }
+    feed_first raw line pending after none cut first ReturnAndLineFeed refl ended
 is_first ended pending line after EndOfInput is first =
     let at : pending ≡ line = is ∙ ap (λ a. (line ++ []) ++ a) first.1 ∙ append-nil (line ++ [])
     ∙ append-nil line in

@@ -23,6 +23,10 @@ tells_more old mid new first second p q = record {
   failed = λ h. q.failed (p.failed h);
 }
 
+-- the same, where the facts say which
+pub tells_on : {W : Type 0} {old mid new : Written W} {first second : List ℕ} → Tells old mid first → Tells mid new second → Tells old new (first ++ second)
+tells_on p q = tells_more _ _ _ _ _ p q
+
 pub tells_nothing : {W : Type 0} (old : Written W) → Tells old old []
 tells_nothing old = record {
   told = λ works. puts_nothing _ _;

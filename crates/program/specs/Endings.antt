@@ -24,13 +24,8 @@ pub record Ending (W E : Type 0) : Type 0 where
   pub status : ℕ
 
 abbrev pub ending : {W E : Type 0} → Written W → Written W → Written E → Written E → ℕ → Ending W E
-ending output output_after errors errors_after status = record {
-  output = output;
-  output_after = output_after;
-  errors = errors;
-  errors_after = errors_after;
-  status = status;
-}
+ending output output_after errors errors_after status =
+    record { output = output; output_after = output_after; errors = errors; errors_after = errors_after; status = status }
 
 -- nothing was written, and the status is 2
 abbrev pub IsSilent : {W E : Type 0} → Ending W E → Type 0

@@ -1,5 +1,5 @@
 -- Why a log is not read to its end, and what is reported then.
-use Rattle.std.specs.Prelude.{◌≡◌, ℕ, ◌+◌, ◌-◌, ◌^◌, ◌⊎◌, min, Bool, true, false, List, [], ◌++◌, codes, decimal, Result, Ok, Err}
+use Rattle.std.specs.Prelude.{◌≡◌, ℕ, ◌+◌, ◌-◌, ◌^◌, ◌⊎◌, min, Bool, true, false, List, [], ◌++◌, codes, decimal, Result, Err}
 use Rattle.lines.specs.Outputs.{FailsIn}
 use Rattle.lists.specs.Opening.{open_fault_text}
 use Rattle.program.specs.Endings.{Ending, HasTold, HasWritten}
@@ -8,23 +8,13 @@ use Rattle.program.specs.declared.log_fault.LogFault.TheVariants as faults
 
 -- whether a read ended it
 abbrev pub ended_by_read : {T : Type 0} → Result T LogFault → Bool
-ended_by_read (Ok done) = false
-ended_by_read (Err (faults.Open cause)) = false
 ended_by_read (Err faults.Read) = true
-ended_by_read (Err faults.Write) = false
-ended_by_read (Err faults.Address) = false
-ended_by_read (Err faults.Length) = false
-ended_by_read (Err faults.Endless) = false
+ended_by_read _ = false
 
 -- whether a write did
 abbrev pub ended_by_write : {T : Type 0} → Result T LogFault → Bool
-ended_by_write (Ok done) = false
-ended_by_write (Err (faults.Open cause)) = false
-ended_by_write (Err faults.Read) = false
 ended_by_write (Err faults.Write) = true
-ended_by_write (Err faults.Address) = false
-ended_by_write (Err faults.Length) = false
-ended_by_write (Err faults.Endless) = false
+ended_by_write _ = false
 
 -- what is reported about a refused line: the file, the number of the line, which comes after this many lines, and why
 abbrev pub line_text : List ℕ → ℕ → List ℕ → List ℕ
@@ -46,12 +36,8 @@ FailsWriting end text = (end.output_after.failed ≡ true)
 
 -- the first is true if a write ended the run, and else the second
 abbrev pub IfWrite : LogFault → Type 0 → Type 0 → Type 0
-IfWrite (faults.Open cause) First Second = Second
-IfWrite faults.Read First Second = Second
 IfWrite faults.Write First Second = First
-IfWrite faults.Address First Second = Second
-IfWrite faults.Length First Second = Second
-IfWrite faults.Endless First Second = Second
+IfWrite _ First Second = Second
 
 -- the text was written, unless it was a write that ended the run
 abbrev pub Wrote : {W E : Type 0} → LogFault → Ending W E → List ℕ → Type 0

@@ -1,6 +1,5 @@
 //! How a program ends: its exit status, and what it reports on the error writer.
-ghost use Rattle.std.specs.Prelude.{◌≡◌, ◌++◌, OnOk, is_err};
-ghost use Rattle.std.specs.Io.KnownBytes.{Appends};
+ghost use Rattle.std.specs.Prelude.{◌≡◌, OnOk, is_err};
 ghost use Rattle.lines.specs.Outputs.{Writes};
 ghost use Rattle.program.specs.Endings.{ending, status_of, end_text, EndsPrinting};
 ghost use Rattle.program.specs.Messages.{Tells};

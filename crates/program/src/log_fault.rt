@@ -1,5 +1,5 @@
 //! Why a log is not read to its end, and what is reported then.
-ghost use Rattle.std.specs.Prelude.{◌≡◌, ◌++◌};
+ghost use Rattle.std.specs.Prelude.{◌++◌};
 ghost use Rattle.program.specs.Endings.{ending};
 ghost use Rattle.program.specs.LogFaults.{line_text, log_fault_text, StopsBy};
 ghost use Rattle.program.specs.Messages.{Tells};

@@ -9,7 +9,7 @@ returns g c =
     ∙ ap (λ t. t ++ 10 ∷ []) c.push_network.ensures.bytes
     ∙ ap (λ t. t ++ network ++ 10 ∷ []) (c.push.ensures.ascii (omega arith))
     ∙ ap (λ t. t ++ 32 ∷ [] ++ network ++ 10 ∷ []) c.push_str-2.ensures.bytes
-    ∙ ap (λ t. t ++ c.set_name.result.now ++ 32 ∷ [] ++ network ++ 10 ∷ []) c.push_str.ensures.bytes
-    ∙ ap (λ t. t ++ codes "add " ++ c.set_name.result.now ++ 32 ∷ [] ++ network
+    ∙ ap (λ t. t ++ c.texts.result.set.now ++ 32 ∷ [] ++ network ++ 10 ∷ []) c.push_str.ensures.bytes
+    ∙ ap (λ t. t ++ codes "add " ++ c.texts.result.set.now ++ 32 ∷ [] ++ network
     ++ 10 ∷ []) c.new-text.ensures
-    ∙ ap (λ t. codes "add " ++ t ++ 32 ∷ [] ++ network ++ 10 ∷ []) c.set_name.ensures.name
+    ∙ ap (λ t. codes "add " ++ t ++ 32 ∷ [] ++ network ++ 10 ∷ []) c.texts.ensures.set

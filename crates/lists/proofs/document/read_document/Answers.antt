@@ -1,31 +1,24 @@
-use Rattle.std.proofs.Common.{ℕ, List, false, subst}
+use Rattle.std.proofs.Common.{List, ℕ, false, subst, sym}
 use Rattle.std.specs.Prelude.{OnOk, IfErr}
+use Rattle.lists.specs.Documents.{StopsAtDocument}
 use Rattle.lists.specs.Lists.{at_list}
 use Rattle.lists.specs.Private.Documents.{TakesBytes, FailsBytes}
-use Rattle.lists.proofs.Documents.{not_read, read_ok, memory_ok, read_err}
+use Rattle.lists.specs.declared.named.ReadFault.{ReadFault}
+use Rattle.lists.proofs.Documents.{stops_unread, document_ends}
 use Rattle.lists.proofs.document.read_document.Goals as goal
 
 pub returns-in-Err-clause-stopped : goal.returns-in-Err-clause-stopped
 returns-in-Err-clause-stopped g c =
-    not_read (g.L.OpenLists.known c.args.lists.now) c.args.is_strict c.args.name.now c.args.place c.args.reader.now c.in-Err.fault c.in-Err.ensures.err
+    let known = g.L.OpenLists.known c.args.lists.now in
+    subst (λ (fault : ReadFault). StopsAtDocument known c.args.is_strict c.args.place c.args.name.now c.args.reader.now fault c.args.reader.now) (sym c.not_read.ensures)
+    (stops_unread known c.args.is_strict c.args.name.now c.args.place c.args.reader.now c.in-Err.fault c.in-Err.ensures.err)
 
-pub returns-clause-read : goal.returns-clause-read
-returns-clause-read g c =
+pub returns : goal.returns
+returns g c =
     let result = c.take_document.result in
+    let before = c.args.reader.now in
     let after = c.take_document.new.reader in
-    read_ok (g.L.OpenLists.known c.args.lists.now) c.args.is_strict c.args.name.now c.args.place c.args.reader.now c.in-Ok.bytes.items after c.in-Ok.ensures.ok result
-    (subst (λ (bytes : List ℕ). OnOk result (TakesBytes c.args.is_strict (at_list c.args.reader.now c.args.place) bytes after false)) c.as_slice.ensures.value c.take_document.ensures.read)
-
-pub returns-clause-memory : goal.returns-clause-memory
-returns-clause-memory g c =
-    let result = c.take_document.result in
-    let after = c.take_document.new.reader in
-    memory_ok (g.L.OpenLists.known c.args.lists.now) c.args.is_strict c.args.name.now c.args.place c.args.reader.now c.in-Ok.bytes.items after c.in-Ok.ensures.ok result
-    (subst (λ (bytes : List ℕ). OnOk result (TakesBytes c.args.is_strict (at_list c.args.reader.now c.args.place) bytes after false)) c.as_slice.ensures.value c.take_document.ensures.read)
-
-pub returns-clause-stopped : goal.returns-clause-stopped
-returns-clause-stopped g c =
-    let result = c.take_document.result in
-    let after = c.take_document.new.reader in
-    read_err (g.L.OpenLists.known c.args.lists.now) c.args.is_strict c.args.name.now c.args.place c.args.reader.now c.in-Ok.bytes.items after c.in-Ok.ensures.ok result
-    (subst (λ (bytes : List ℕ). IfErr result (FailsBytes c.args.is_strict c.args.place bytes c.args.reader.now after)) c.as_slice.ensures.value c.take_document.ensures.stopped)
+    let ends = document_ends (g.L.OpenLists.known c.args.lists.now) c.args.is_strict c.args.name.now c.args.place before c.in-Ok.bytes.items after c.in-Ok.ensures.ok result
+    (subst (λ (bytes : List ℕ). OnOk result (TakesBytes c.args.is_strict (at_list before c.args.place) bytes after false)) c.as_slice.ensures.value c.take_document.ensures.read)
+    (subst (λ (bytes : List ℕ). IfErr result (FailsBytes c.args.is_strict c.args.place bytes before after)) c.as_slice.ensures.value c.take_document.ensures.stopped) in
+    record { read = ends.0; memory = ends.1; stopped = ends.2 }

@@ -1,13 +1,12 @@
 use Rattle.std.proofs.Common.{◌≡◌, ◌+◌, length}
 use Rattle.std.specs.Io.KnownBytes.{Consumes}
-use Rattle.lines.specs.Watched.{device_of, has_failed}
-use Rattle.lists.proofs.document.read_all.Given as goal
+use Rattle.lines.specs.Watched.{device_of}
+use Rattle.lists.proofs.bytes.read_all.Given as goal
 
 abbrev pub invariant-reads : goal.invariant-reads
 invariant-reads g l = record {
   reads : Consumes (g.R.Read.remaining (device_of l.initial.reader)) (g.R.Read.remaining (device_of l.reader)) l.bytes.items;
-  counted : length l.bytes.items + l.room ≡ 1073741824;
-  works : has_failed l.reader ≡ has_failed l.initial.reader;
+  counted : length l.bytes.items + l.room ≡ l.max;
 }
 
 abbrev pub decreases-reads : goal.decreases-reads
