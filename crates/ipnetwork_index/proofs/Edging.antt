@@ -1,5 +1,5 @@
 -- The edges of the blocks of a table.
-use Rattle.std.proofs.Common.{◌≡◌, ℕ, zero, suc, ◌+◌, ◌^◌, ◌<◌, ◌≤◌, ◌⊎◌, inl, inr, Bool, true, false, List, [], ◌∷◌, ◌++◌, map, arith, sym, refl, ap, subst, ◌∙◌, ⊎_elim, Option, None, Some, IsSome, is_some, slice_get, Ordering, true≢false}
+use Rattle.std.proofs.Common.{◌≡◌, ℕ, zero, suc, ◌+◌, ◌^◌, ◌<◌, ◌≤◌, ◌⊎◌, inl, inr, Bool, true, false, List, [], ◌∷◌, ◌++◌, map, arith, sym, refl, ap, subst, ◌∙◌, ⊎_elim, Option, None, Some, IsSome, is_some, slice_get, Ordering, true≢false, append_assoc, take}
 use Rattle.std.specs.declared.cmp.Ordering.TheVariants.{Less, Equal}
 use Rattle.std.specs.Cmp.{IsTotalOrder, IsEquivalence, ranked}
 use Rattle.std.specs.Ordering.{nat_cmp, eq_by_cmp}
@@ -7,19 +7,21 @@ use Rattle.std.specs.List.{AllByRecursion, Contains, dedup}
 use Rattle.std.specs.List.Sorted.{IsSorted, IsStrictlySortedBy, IsPermutation}
 use Rattle.std.specs.Option.{unwrap_or}
 use Rattle.std.specs.FinMap.{FinMap, get, entries}
+use Rattle.std.proofs.lemmas.List.{append-nil, map_push}
 use Rattle.std.proofs.lemmas.List.Kept.{Any-dedup, Contains-from_dedup, IsStrictlySortedBy-dedup}
 use Rattle.std.proofs.lemmas.List.Sorted.{Contains-permutation, IsPermutation-map, IsPermutation-sym}
 use Rattle.std.proofs.lemmas.List.Elements.{Contains-append_cases, Contains-append_left, Contains-append_right, Contains-push}
 use Rattle.ipnetwork_family.specs.Network.{Network, low, high, network_cmp}
 use Rattle.ipnetwork_table.specs.Laws.{ListedIsStored, StoredIsListed}
 use Rattle.ipnetwork_blocks.proofs.LeastLists.{contains_cons, contains_nil}
+use Rattle.ipnetwork_table.specs.Table.{by_pair}
 use Rattle.ipnetwork_table.proofs.Pairs.{tie_of}
 use Rattle.ipnetwork_index.specs.Private.Cuts.{before, cuts_of, Rises, Closes}
 use Rattle.ipnetwork_index.specs.Private.Edges.{edges_of, CutsOut}
 
 -- ---- each block has its edges
 
-nothing : {A : Type 0} (a : A) → None ≡ Some a → ⊥
+pub nothing : {A : Type 0} (a : A) → None ≡ Some a → ⊥
 nothing a e = let f : false ≡ true = ap is_some e in cc
 
 pub edge_in : {V : Type 0} (w : ℕ) (es : List (Network × V)) (i : ℕ) (e : Network × V) (y : ℕ)
@@ -104,7 +106,7 @@ closes_only w cuts lasts x h c small =
 -- ---- sorted, and each once
 
 -- what is read through a function
-contains_of_map : {A : Type 0} (f : A → ℕ) (xs : List A) (y : ℕ) → Contains (map f xs) y → (a : A)
+pub contains_of_map : {A B : Type 0} (f : A → B) (xs : List A) (y : B) → Contains (map f xs) y → (a : A)
     × Contains xs a × (f a ≡ y)
 contains_of_map f [] y c = let l = c.1 in absurd (omega arith)
 contains_of_map f (x ∷ xs) y (zero, l, e) = (x, (0, omega arith, refl), e)
@@ -112,7 +114,7 @@ contains_of_map f (x ∷ xs) y (suc k, l, e) =
     let rest = contains_of_map f xs y (k, omega arith, e) in
     (rest.0, (suc rest.1.0, omega (arith, rest.1.1), rest.1.2), rest.2)
 
-map_of_contains : {A : Type 0} (f : A → ℕ) (xs : List A) (a : A) → Contains xs a
+pub map_of_contains : {A B : Type 0} (f : A → B) (xs : List A) (a : A) → Contains xs a
     → Contains (map f xs) (f a)
 map_of_contains f [] a c = let l = c.1 in absurd (omega arith)
 map_of_contains f (x ∷ xs) a (zero, l, e) = (0, omega arith, ap f e)
@@ -190,3 +192,55 @@ module _ {A : Type 0} (R : A → A → Ordering) (E : A → A → Bool) (f : A �
             let r = edge_back w (entries t) x m in
             (r.1.0, ap is_some (stored t r.0 r.1.0 r.1.1 r.2), r.3);
       }
+
+-- the edges of one block more
+pub edges_more : {V : Type 0} (w : ℕ) (es : List (Network × V)) (e : Network × V)
+    → edges_of w (es ++ e ∷ []) ≡ edges_of w es ++ cuts_of (low w e.0, high w e.0)
+edges_more w [] e = append-nil (cuts_of (low w e.0, high w e.0))
+edges_more w (d ∷ es) e =
+    ap (λ xs. cuts_of (low w d.0, high w d.0) ++ xs) (edges_more w es e)
+    ∙ sym (append_assoc (cuts_of (low w d.0, high w d.0)) (edges_of w es)
+    (cuts_of (low w e.0, high w e.0)))
+
+-- what stands before a block, if anything does
+pub before_some : (first x : ℕ) → x + 1 ≡ first → before first ≡ x ∷ []
+before_some zero x e = absurd (omega arith)
+before_some (suc n) x e = let same : n ≡ x = omega arith in ap (λ y. y ∷ []) same
+
+pub before_none : (first : ℕ) → first ≡ 0 → before first ≡ []
+before_none zero e = refl
+before_none (suc n) e = absurd (omega arith)
+
+-- the edges of one entry more, which are put in two steps
+module _ {A N V : Type 0} (f : A → ℕ) (pair : N → Network) (w : ℕ) (es : List (N × V)) (i : ℕ)
+    (e : N × V) where
+  edges_taken : take (i + 1) es ≡ take i es ++ e ∷ []
+      → edges_of w (by_pair pair (take (i + 1) es))
+      ≡ edges_of w (by_pair pair (take i es)) ++ cuts_of (low w (pair e.0), high w (pair e.0))
+  edges_taken more =
+      ap (λ l. edges_of w (by_pair pair l)) more
+      ∙ ap (edges_of w) (map_push (λ d. (pair d.0, d.1)) (take i es) e)
+      ∙ edges_more w (by_pair pair (take i es)) (pair e.0, e.1)
+
+  pub edges_put : (old mid new : List A) (last : A) → take (i + 1) es ≡ take i es ++ e ∷ []
+      → map f old ≡ edges_of w (by_pair pair (take i es))
+      → map f mid ≡ map f old ++ before (low w (pair e.0)) → new ≡ mid ++ last ∷ []
+      → f last ≡ high w (pair e.0) → map f new ≡ edges_of w (by_pair pair (take (i + 1) es))
+  edges_put old mid new last more are first is end =
+      ap (map f) is ∙ map_push f mid last ∙ ap (λ xs. xs ++ f last ∷ []) first
+      ∙ append_assoc (map f old) (before (low w (pair e.0))) (f last ∷ [])
+      ∙ ap (λ x. map f old ++ (before (low w (pair e.0)) ++ x ∷ [])) end
+      ∙ ap (λ xs. xs ++ cuts_of (low w (pair e.0), high w (pair e.0))) are
+      ∙ sym (edges_taken more)
+
+  pub mid_some : (old mid : List A) (x : A) → mid ≡ old ++ x ∷ [] → f x + 1 ≡ low w (pair e.0)
+      → map f mid ≡ map f old ++ before (low w (pair e.0))
+  mid_some old mid x is first =
+      ap (map f) is ∙ map_push f old x
+      ∙ ap (λ xs. map f old ++ xs) (sym (before_some (low w (pair e.0)) (f x) first))
+
+  pub mid_none : (old mid : List A) → mid ≡ old → low w (pair e.0) ≡ 0
+      → map f mid ≡ map f old ++ before (low w (pair e.0))
+  mid_none old mid is none =
+      ap (map f) is ∙ sym (append-nil (map f old))
+      ∙ ap (λ xs. map f old ++ xs) (sym (before_none (low w (pair e.0)) none))

@@ -8,6 +8,7 @@ pub mod Halving
 pub mod Inside
 pub mod LastValues
 pub mod LawExamples
+pub mod ListedBlocks
 pub mod Lowering
 pub mod PartCounts
 pub mod RangeCounts

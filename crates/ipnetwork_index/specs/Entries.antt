@@ -1,5 +1,5 @@
 -- Entries of a list: networks with values. Of those with the same block the last counts.
-use Rattle.std.specs.Prelude.{◌≡◌, ℕ, List, ◌∷◌, ◌++◌, MatchOption}
+use Rattle.std.specs.Prelude.{◌≡◌, ◌↔◌, ℕ, List, ◌∷◌, ◌++◌, Some, IsSome, MatchOption}
 use Rattle.std.specs.FinMap.{FinMap, get}
 use Rattle.std.specs.List.{Contains}
 use Rattle.ipnetwork_family.specs.Network.{Network, block_of, network_cmp}
@@ -20,3 +20,11 @@ pub record IsLastValue {V : Type 0} (w : ℕ) (block : Network) (entries : List 
 -- the keys of a table are the blocks of the entries, and each has the value of its last entry
 abbrev pub HasLastValues : {V : Type 0} → ℕ → List (Network × V) → FinMap network_cmp V → Type 0
 HasLastValues w entries table = (block : Network) → MatchOption (get table block) (NoneHasBlock w block entries) (IsLastValue w block entries)
+
+-- the keys of a table are the blocks of these networks
+abbrev pub HasBlocksOf : {V : Type 0} → ℕ → List Network → FinMap network_cmp V → Type 0
+HasBlocksOf w networks table = (block : Network) → IsSome (get table block) ↔ ((network : Network) × Contains networks network × (block_of w network ≡ block))
+
+-- and each has this value
+abbrev pub HasValue : {V : Type 0} → V → FinMap network_cmp V → Type 0
+HasValue {V} value table = (block : Network) (own : V) → get table block ≡ Some own → own ≡ value

@@ -3,6 +3,7 @@ pub mod Answers
 pub mod Cuts
 pub mod Edges
 pub mod Halved
+pub mod Listings
 pub mod LowHalves
 pub mod Padded
 pub mod Partitions

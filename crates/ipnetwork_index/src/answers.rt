@@ -2,8 +2,9 @@
 ghost use Rattle.std.specs.Prelude.{◌≡◌, ◌<◌, IfOk, length, map, get_or};
 ghost use Rattle.std.specs.FinMap as finite_map;
 ghost use Rattle.ipnetwork_table.specs.Table.{HasOnlyBlocks, by_pair};
-ghost use Rattle.ipnetwork_index.specs.Private.Answers.{AreAnswers, IsMadeOf};
+ghost use Rattle.ipnetwork_index.specs.Private.Answers.{IsMadeOf};
 ghost use Rattle.ipnetwork_index.specs.Private.Partitions.{IsPartition};
+ghost use Rattle.ipnetwork_index.specs.Private.Sweeps.{AreAnswersOf, AreListed};
 
 use crate::indexed_network::IndexedNetwork;
 use crate::sweep::answers_by_sweep;
@@ -54,29 +55,29 @@ impl<V: Copy> Answers<V> {
     }
 }
 
-/// What the table finds for the last address of each range.
+/// What a table with these entries finds for the last address of each range.
 pub(crate) fn answers_of<N: IndexedNetwork, V: Copy>(
     alloc: Global,
-    table: &PrefixTable<N, V>,
+    entries: &[(N, V)],
     lasts: &[N::Addr],
 ) -> Result<Answers<V>, AllocError>
-    requires { IsPartition N.WIDTH (map N.number lasts.now) }
-    ensures { IfOk result (λ answers. AreAnswers N.WIDTH table.now (map N.number lasts.now)
-        answers.prefixes.items answers.values.items) }
+    requires listed { AreListed N.WIDTH (by_pair N.pair entries.now) }
+    requires partition { IsPartition N.WIDTH (map N.number lasts.now) }
+    ensures { IfOk result (λ answers. AreAnswersOf N.WIDTH (by_pair N.pair entries.now)
+        (map N.number lasts.now) answers.prefixes.items answers.values.items) }
 {
     laws::listing::<V>();
-    let entries = entries_of(alloc, table)?;
     if entries.is_empty() {
         return Ok(Answers {
             prefixes: Vec::new(alloc),
             values: Vec::new(alloc),
         });
     }
-    answers_by_sweep(alloc, entries.as_slice(), lasts)
+    answers_by_sweep(alloc, entries, lasts)
 }
 
-// The entries of the table, in their order.
-fn entries_of<N: IndexedNetwork, V: Copy>(
+/// The entries of the table, in their order.
+pub(crate) fn entries_of<N: IndexedNetwork, V: Copy>(
     alloc: Global,
     table: &PrefixTable<N, V>,
 ) -> Result<Vec<(N, V)>, AllocError>

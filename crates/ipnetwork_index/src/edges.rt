@@ -1,40 +1,40 @@
 //! Where the blocks of a table begin and end, as the last addresses of ranges.
 ghost use Rattle.std.specs.Prelude.{◌≡◌, IfOk, map};
-ghost use Rattle.std.specs.FinMap as finite_map;
-ghost use Rattle.ipnetwork_index.specs.Private.Edges.{edges_of, CutsOut};
+ghost use Rattle.ipnetwork_table.specs.Table.{by_pair};
+ghost use Rattle.ipnetwork_index.specs.Private.Edges.{edges_of, AreRangesOf};
 
 use crate::cuts::closed;
 use crate::indexed_network::IndexedNetwork;
-use ipnetwork_table::{PrefixTable, laws};
+use ipnetwork_table::laws;
 use std::alloc::{AllocError, Global};
 
-// The last addresses of ranges, each of which lies in a block of the table whole or not at all.
+// The last addresses of ranges, each of which lies in a block of the table with these entries whole
+// or not at all.
 pub(crate) fn ranges_of<N: IndexedNetwork, V: Copy>(
     alloc: Global,
-    table: &PrefixTable<N, V>,
+    entries: &[(N, V)],
 ) -> Result<Vec<N::Addr>, AllocError>
-    ensures { IfOk result (λ lasts. CutsOut N.WIDTH table.now (map N.number lasts.items)) }
+    ensures { IfOk result (λ lasts. AreRangesOf N.WIDTH (by_pair N.pair entries.now)
+        (map N.number lasts.items)) }
 {
     laws::listing::<V>();
-    let mut edges = edges_of(alloc, table)?;
+    let mut edges = edges_of(alloc, entries)?;
     edges.sort_unstable();
     edges.dedup();
     let lasts = closed::<N>(edges)?;
     Ok(lasts)
 }
 
-// For each block of the table, the last address before it, if there is one, and its own last
-// address.
+// For each block, the last address before it, if there is one, and its own last address.
 fn edges_of<N: IndexedNetwork, V: Copy>(
     alloc: Global,
-    table: &PrefixTable<N, V>,
+    entries: &[(N, V)],
 ) -> Result<Vec<N::Addr>, AllocError>
     ensures { IfOk result
-        (λ edges. map N.number edges.items ≡ edges_of N.WIDTH (finite_map.entries table.now)) }
+        (λ edges. map N.number edges.items ≡ edges_of N.WIDTH (by_pair N.pair entries.now)) }
 {
-    let mut edges = Vec::with_capacity(alloc, table.len().saturating_mul(2).saturating_add(1))?;
-    let mut entries = table.iter();
-    'edging: while let Some(entry) = entries.next() {
+    let mut edges = Vec::with_capacity(alloc, entries.len().saturating_mul(2).saturating_add(1))?;
+    for entry in entries {
         let block = entry.0;
         if let Some(before) = N::previous_address(block.network()) {
             edges.push(before)?;

@@ -2,12 +2,13 @@
 //! table of which only the longest block of an address is asked. A look-up takes a few reads in a
 //! row if the networks lie spread, and else about as many as a search that halves its list.
 //!
-//! Only what makes an index allocates. `place_of`, by which both indexes search, and `write_starts`,
+//! Only what makes an index allocates. `place_of`, by which all indexes search, and `write_starts`,
 //! which tells it where to begin, work on slices, in whatever memory these lie.
 #![tactic(auto)]
 
 mod address_index;
 mod answers;
+mod block_index;
 mod cuts;
 mod edges;
 mod entries;
@@ -16,6 +17,7 @@ mod halves;
 mod indexed_network;
 mod key;
 pub mod laws;
+mod listing;
 mod low_halves;
 mod partition;
 mod places;
@@ -25,6 +27,7 @@ mod starts;
 mod sweep;
 
 pub use address_index::AddressIndex;
+pub use block_index::BlockIndex;
 pub use indexed_network::IndexedNetwork;
 pub use key::Key;
 pub use route_index::RouteIndex;

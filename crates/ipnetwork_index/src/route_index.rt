@@ -5,12 +5,12 @@ ghost use Rattle.ipnetwork_index.specs.Columns.{AreFound};
 ghost use Rattle.ipnetwork_index.specs.Entries.{HasLastValues};
 ghost use Rattle.ipnetwork_index.specs.Turns.{CutByBlocks};
 
-use crate::answers::{Answers, answers_of};
+use crate::answers::{Answers, answers_of, entries_of};
 use crate::edges::ranges_of;
 use crate::entries::table_of;
 use crate::indexed_network::IndexedNetwork;
 use crate::places::Places;
-use ipnetwork_table::PrefixTable;
+use ipnetwork_table::{PrefixTable, laws};
 use std::alloc::{AllocError, Global};
 use std::marker::Model;
 
@@ -68,8 +68,10 @@ impl<N: IndexedNetwork, V: Copy> RouteIndex<N, V> {
     {
         // The clause `blocks` of this call says that the keys are blocks.
         let _ = table.len();
-        let lasts = ranges_of(alloc, &table)?;
-        let answers = answers_of(alloc, &table, lasts.as_slice())?;
+        laws::listing::<V>();
+        let entries = entries_of(alloc, &table)?;
+        let lasts = ranges_of(alloc, entries.as_slice())?;
+        let answers = answers_of(alloc, entries.as_slice(), lasts.as_slice())?;
         let places = Places::new(alloc, lasts.as_slice())?;
         Ok(RouteIndex {
             table,

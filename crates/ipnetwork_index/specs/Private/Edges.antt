@@ -1,7 +1,7 @@
 -- Where blocks cut the numbers of w bits.
 use Rattle.std.specs.Prelude.{◌≡◌, ℕ, ◌+◌, ◌^◌, ◌<◌, List, IsSome}
 use Rattle.std.specs.List.{Contains, flat_map}
-use Rattle.std.specs.FinMap.{FinMap, get}
+use Rattle.std.specs.FinMap.{FinMap, get, entries}
 use Rattle.ipnetwork_family.specs.Network.{Network, low, high, network_cmp}
 use Rattle.ipnetwork_index.specs.Turns.{HasEdge}
 use Rattle.ipnetwork_index.specs.Private.Partitions.{IsPartition}
@@ -21,3 +21,7 @@ pub record CutsOut {V : Type 0} (w : ℕ) (t : FinMap network_cmp V) (lasts : Li
   pub partition : IsPartition w lasts
   pub blocks : (n : Network) → IsSome (get t n) → IsCutOut w lasts n
   pub only : (x : ℕ) → Contains lasts x → x + 1 < 2 ^ w → HasEdge w t x
+
+-- so it is for each table with these entries
+abbrev pub AreRangesOf : {V : Type 0} → ℕ → List (Network × V) → List ℕ → Type 0
+AreRangesOf {V} w es lasts = (t : FinMap network_cmp V) → es ≡ entries t → CutsOut w t lasts

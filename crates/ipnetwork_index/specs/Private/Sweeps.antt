@@ -5,7 +5,7 @@ use Rattle.std.specs.List.{Contains}
 use Rattle.std.specs.FinMap.{FinMap, entries}
 use Rattle.ipnetwork_family.specs.Network.{Network, IsCidrBlock, IsNetworkBefore, Subnet, low, high, network_cmp}
 use Rattle.ipnetwork_table.specs.Table.{HasOnlyBlocks}
-use Rattle.ipnetwork_index.specs.Private.Answers.{AreAnswersUpTo}
+use Rattle.ipnetwork_index.specs.Private.Answers.{AreAnswers, AreAnswersUpTo}
 
 -- the entries of a table: each has a block, and they stand in the order of networks
 pub record AreListed {V : Type 0} (w : ℕ) (es : List (Network × V)) : Type 0 where
@@ -67,6 +67,11 @@ pub record IsInnermost {V : Type 0} (es : List (Network × V)) (opened : List �
 abbrev pub AreSwept : {V : Type 0} → ℕ → List (Network × V) → List ℕ → List ℕ → List V → ℕ → Type 0
 AreSwept {V} w es lasts prefixes values count = (t : FinMap network_cmp V) → HasOnlyBlocks w t
     → es ≡ entries t → AreAnswersUpTo w t lasts prefixes values count
+
+-- the same, or there are none since there are no entries
+abbrev pub AreAnswersOf : {V : Type 0} → ℕ → List (Network × V) → List ℕ → List ℕ → List V → Type 0
+AreAnswersOf {V} w es lasts prefixes values = (t : FinMap network_cmp V) → HasOnlyBlocks w t
+    → es ≡ entries t → AreAnswers w t lasts prefixes values
 
 -- and after `come` of the last numbers of ranges, so many blocks have begun at each number from
 -- these on

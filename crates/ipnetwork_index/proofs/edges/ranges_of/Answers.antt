@@ -11,12 +11,12 @@ closed-requires g c =
     g.met.N.Addr.Ord.total c.sort_unstable.new.self.items c.sort_unstable.ensures.sorted)
 
 pub returns : goal.returns
-returns g c =
+returns g c = λ t is.
     all_cut_out g.N.Addr.Ord.cmp g.N.Addr.PartialEq.eq g.N.CidrNetwork.number
     g.met.N.CidrNetwork.address_order g.met.N.Addr.Ord.matches_eq
-    g.N.CidrNetwork.WIDTH c.args.table.now c.in_ok-edges.edges.items c.sort_unstable.new.self.items
+    g.N.CidrNetwork.WIDTH t c.in_ok-edges.edges.items c.sort_unstable.new.self.items
     (map g.N.CidrNetwork.number c.in_ok-lasts.lasts.items)
     g.met.N.Addr.Eq.laws c.listing.ensures.listed c.listing.ensures.stored
-    c.in_ok-edges.ensures
+    (rw (← is) c.in_ok-edges.ensures)
     c.sort_unstable.ensures.permutation
     (rw (← (dedup_is g.N.Addr.PartialEq.eq _ _ c.dedup.ensures.filtered)) c.in_ok-lasts.ensures)

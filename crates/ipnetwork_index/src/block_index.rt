@@ -1,0 +1,94 @@
+//! The index over the blocks of a list.
+ghost use Rattle.std.specs.Prelude.{IfOk, map};
+ghost use Rattle.ipnetwork_table.specs.Table.{HasOnlyBlocks, Finds};
+ghost use Rattle.ipnetwork_index.specs.Entries.{HasBlocksOf, HasValue};
+
+use crate::answers::{Answers, answers_of};
+use crate::edges::ranges_of;
+use crate::indexed_network::IndexedNetwork;
+use crate::listing::entries_of_list;
+use crate::places::Places;
+use ipnetwork_table::laws;
+use std::alloc::{AllocError, Global};
+use std::marker::Model;
+
+/// The blocks of a list of networks, which is asked for the longest block of addresses and does not
+/// change: a `RouteIndex` that is made without a table.
+///
+/// ```
+/// let networks = ["10.1.9.32/16".parse::<Ipv4Network>()?, "10.0.0.0/8".parse()?];
+/// let index = BlockIndex::from_networks(rt.alloc(), &networks, 2)?;
+/// assert_eq!(rt; index.lookup(Ipv4Addr::new(10, 1, 9, 32)), Some(("10.1.0.0/16".parse()?, 2)));
+/// ```
+#[derive(Drop)]
+pub struct BlockIndex<N: IndexedNetwork, V: Copy> {
+    // The blocks in their order, each once.
+    entries: Vec<(N, V)>,
+    // The addresses, cut where a block begins or ends.
+    places: Places<N>,
+    // The longest block of the addresses of each range.
+    answers: Answers<V>,
+}
+
+// A contract sees the finite map from the blocks to values.
+impl<N: IndexedNetwork, V: Copy> Model for BlockIndex<N, V> {
+    ghost use Rattle.std.specs.FinMap as finite_map;
+    ghost use Rattle.ipnetwork_family.specs.Network.{network_cmp};
+    ghost use Rattle.ipnetwork_table.specs.Table.{by_pair, network_code};
+    ghost use Rattle.ipnetwork_index.specs.Private.Answers.{IsIndexed};
+
+    ghost Value = { finite_map.FinMap network_cmp V };
+
+    ghost coded = { finite_map.code network_code V.code };
+
+    ghost view = { λ i. finite_map.from_sorted (by_pair N.pair i.entries.items) };
+
+    ghost invariant = { λ i. IsIndexed N.WIDTH
+        (finite_map.from_sorted {R = network_cmp} (by_pair N.pair i.entries.items))
+        i.places.partition i.places.halves.lows.items i.places.halves.starts.items
+        i.places.halves.shift i.answers.prefixes.items i.answers.values.items };
+}
+
+impl<N: IndexedNetwork, V: Copy> BlockIndex<N, V> {
+    /// The index over the blocks of networks, which may have host bits and stand in any order, and
+    /// of which each has this value. Sorts the blocks, and where they begin and end.
+    ///
+    /// ```
+    /// let networks = ["2001:db8::1/32".parse::<Ipv6Network>()?];
+    /// let index = BlockIndex::from_networks(rt.alloc(), &networks, ())?;
+    /// assert_eq!(rt; index.lookup("2001:db9::".parse()?), None);
+    /// ```
+    pub fn from_networks(alloc: Global, networks: &[N], value: V) -> Result<Self, AllocError>
+        ensures blocks { IfOk result
+            (λ index. HasBlocksOf N.WIDTH (map N.pair networks.now) index) }
+        ensures value { IfOk result (λ index. HasValue value index) }
+    {
+        laws::listing::<V>();
+        let entries = entries_of_list(alloc, networks, value)?;
+        let lasts = ranges_of(alloc, entries.as_slice())?;
+        let answers = answers_of(alloc, entries.as_slice(), lasts.as_slice())?;
+        let places = Places::new(alloc, lasts.as_slice())?;
+        Ok(BlockIndex {
+            entries,
+            places,
+            answers,
+        })
+    }
+
+    /// The block of greatest prefix length whose set holds the address, with the value; `None` if
+    /// no block holds it.
+    ///
+    /// ```
+    /// let networks = ["10.0.0.0/8".parse::<Ipv4Network>()?];
+    /// let index = BlockIndex::from_networks(rt.alloc(), &networks, 2)?;
+    /// assert_eq!(rt; index.lookup(Ipv4Addr::new(10, 1, 9, 32)), Some(("10.0.0.0/8".parse()?, 2)));
+    /// assert_eq!(rt; index.lookup(Ipv4Addr::new(11, 0, 0, 0)), None);
+    /// ```
+    pub fn lookup(&self, addr: N::Addr) -> Option<(N, V)>
+        ensures answer { Finds N.pair N.WIDTH self.now (N.number addr) result }
+        ensures blocks { HasOnlyBlocks N.WIDTH self.now }
+    {
+        let place = self.places.place_of(addr);
+        self.answers.of(place, addr)
+    }
+}
