@@ -11,13 +11,14 @@ use Rattle.ipnetwork_addr.specs.Either.{IsAddrAtMost}
 use Rattle.ipnetwork_addr.specs.Computed.Reading.{answer_from}
 use Rattle.ipnetwork_addr.specs.declared.ip.IpAddr.{IpAddr}
 use Rattle.ipnetwork_addr.specs.declared.ip.IpAddr.TheVariants as addresses
-use Rattle.ipnetwork_family.specs.Laws.{HasEnds, EndsLaw as HaveEnds}
+use Rattle.ipnetwork_family.specs.Laws.{EndsLaw as HaveEnds}
 use Rattle.ipnetwork_family.specs.Network.{Network, IsNetwork, low, block_size, size_of, count_up, members}
 use Rattle.ipnetwork_family.specs.NetworkText.{slashes, before_slash, ReadsNetwork}
 use Rattle.ipnetwork_family.specs.Computed.NetworkText.{suffix_of, prefix_given, network_from, network_of}
 use Rattle.ipnetwork_family.specs.declared.error.CidrFault.{CidrFault}
 use Rattle.ipnetwork_family.specs.declared.error.CidrFault.TheVariants.{Format, Prefix}
-use Rattle.ipnetwork.specs.IpNetworks.{IsIpNetwork, IpMember, ip_low, ip_high, ip_mask_of}
+use Rattle.ipnetwork.specs.IpNetworks.{IsIpNetwork, IpMember, IsIpMask, address_of, prefix_of, width_of, ip_low, ip_high, ip_mask_of, ip_members, ip_size}
+use Rattle.ipnetwork.specs.Sizes.{size_number}
 use Rattle.ipnetwork.specs.IpNetworkText.{NamesIpNetwork}
 use Rattle.ipnetwork.specs.declared.ip_network.IpNetwork.{IpNetwork}
 use Rattle.ipnetwork.specs.declared.ip_network.IpNetwork.TheVariants.{V4, V6}
@@ -39,19 +40,19 @@ refuses (Err fault) none = (fault, refl)
 no_more : (n : ℕ) → n ≤ 1 → nat_le 2 n ≡ false
 no_more n few = elim (leb_tells 2 n) [ inl two ↦ absurd (omega (arith, few, two.1)) | inr fewer ↦ fewer.0 ]
 
-module _ (w : ℕ) (N S : List ℕ → ℕ → Type 0) (canonical : ℕ → List ℕ) (address_of length_of : List ℕ → Option ℕ) where
-  pub answers_read : SuffixIsRefused w N S → (line text : List ℕ) → ((r : Result Network CidrFault) → ReadsNetwork w N S text r ↔ (r ≡ network_of w address_of length_of text))
-      → ((t : List ℕ) (a : ℕ) → N t a ↔ (address_of t ≡ Some a)) → request_of line ≡ Plain (text_or_cause canonical (network_of w address_of length_of text))
+module _ (w : ℕ) (N S : List ℕ → ℕ → Type 0) (canonical : ℕ → List ℕ) (address_in length_of : List ℕ → Option ℕ) where
+  pub answers_read : SuffixIsRefused w N S → (line text : List ℕ) → ((r : Result Network CidrFault) → ReadsNetwork w N S text r ↔ (r ≡ network_of w address_in length_of text))
+      → ((t : List ℕ) (a : ℕ) → N t a ↔ (address_in t ≡ Some a)) → request_of line ≡ Plain (text_or_cause canonical (network_of w address_in length_of text))
       → AnswersRead w N S canonical line text
   answers_read refused line text reading addresses asks =
-      let parts = network_from (address_of (before_slash text)) (prefix_given w length_of (suffix_of text)) in
+      let parts = network_from (address_in (before_slash text)) (prefix_given w length_of (suffix_of text)) in
       record {
         network = λ n names. answered line _ (asks ∙ ap (λ r. Plain (text_or_cause canonical r)) (sym ((reading (Ok n)).0 names)));
         format = λ two. answered line _ (asks ∙ ap (λ b. Plain (text_or_cause canonical (cond b (Err Format) parts))) (le-leb 2 (slashes text) two));
         address = λ few none. answered line _ (
             asks ∙ ap (λ b. Plain (text_or_cause canonical (cond b (Err Format) parts))) (no_more (slashes text) few)
             ∙ ap (λ o. Plain (text_or_cause canonical (network_from o (prefix_given w length_of (suffix_of text)))))
-            (gives_none (address_of (before_slash text)) (λ a is. none a ((addresses (before_slash text) a).1 is))));
+            (gives_none (address_in (before_slash text)) (λ a is. none a ((addresses (before_slash text) a).1 is))));
         prefix = λ few a names none. answered line _ (asks ∙ ap (λ r. Plain (text_or_cause canonical r)) (sym ((reading (Err Prefix)).0 ((few, (a, names), refused text a names none), none))));
       }
 
@@ -85,51 +86,42 @@ all_members w n none =
     let more : 0 < 2 ^ w = pow_pos w in
     length-count_up (low w n) (block_size w n.prefix) ∙ omega (arith, all, more)
 
-least_v4 : (n : Network) → HasEnds 32 n → (x : IpAddr) → IpMember (V4 n) x → IsAddrAtMost (ip_low (V4 n)) x
-least_v4 n has (addresses.V4 x) member = (has.within x member).0
-least_v4 n has (addresses.V6 x) member = absurd member
+module _ (ends : HaveEnds) where
+  ends_are_members : (n : IpNetwork) → IsIpNetwork n → IpMember n (ip_low n) × IpMember n (ip_high n)
+  ends_are_members (V4 n) fits = let has = ends 32 n fits in (has.low_is_member, has.high_is_member)
+  ends_are_members (V6 n) fits = let has = ends 128 n fits in (has.low_is_member, has.high_is_member)
 
-greatest_v4 : (n : Network) → HasEnds 32 n → (x : IpAddr) → IpMember (V4 n) x → IsAddrAtMost x (ip_high (V4 n))
-greatest_v4 n has (addresses.V4 x) member = (has.within x member).1
-greatest_v4 n has (addresses.V6 x) member = absurd member
+  all_within : (n : IpNetwork) → IsIpNetwork n → (x : IpAddr) → IpMember n x → IsAddrAtMost (ip_low n) x × IsAddrAtMost x (ip_high n)
+  all_within (V4 n) fits (addresses.V4 x) member = (ends 32 n fits).within x member
+  all_within (V4 n) fits (addresses.V6 x) member = absurd member
+  all_within (V6 n) fits (addresses.V4 x) member = absurd member
+  all_within (V6 n) fits (addresses.V6 x) member = (ends 128 n fits).within x member
 
-least_v6 : (n : Network) → HasEnds 128 n → (x : IpAddr) → IpMember (V6 n) x → IsAddrAtMost (ip_low (V6 n)) x
-least_v6 n has (addresses.V4 x) member = absurd member
-least_v6 n has (addresses.V6 x) member = (has.within x member).0
+has_mask : (n : IpNetwork) → IsIpNetwork n → IsIpMask (ip_mask_of n) (prefix_of n) × (width_of (ip_mask_of n) ≡ width_of (address_of n))
+has_mask (V4 n) fits = ((fits.prefix_fits, refl), refl)
+has_mask (V6 n) fits = ((fits.prefix_fits, refl), refl)
 
-greatest_v6 : (n : Network) → HasEnds 128 n → (x : IpAddr) → IpMember (V6 n) x → IsAddrAtMost x (ip_high (V6 n))
-greatest_v6 n has (addresses.V4 x) member = absurd member
-greatest_v6 n has (addresses.V6 x) member = (has.within x member).1
+counted : (n : IpNetwork) → IsIpNetwork n → prefix_of n ≢ 0 → length (ip_members n) ≡ size_number (ip_size n)
+counted (V4 n) fits some = length-map (members 32 n) addresses.V4 ∙ some_members 32 n fits some
+counted (V6 n) fits some = length-map (members 128 n) addresses.V6 ∙ some_members 128 n fits some
+
+counted_all : (n : IpNetwork) → prefix_of n ≡ 0 → length (ip_members n) ≡ size_number (ip_size n) + 1
+counted_all (V4 n) none = length-map (members 32 n) addresses.V4 ∙ all_members 32 n none
+counted_all (V6 n) none = length-map (members 128 n) addresses.V6 ∙ all_members 128 n none
 
 pub tells_ends : HaveEnds → (n : IpNetwork) → IsIpNetwork n → TellsEnds n (ends_text n)
-tells_ends ends (V4 n) fits =
-    let has = ends 32 n fits in
-    record {
-      least = ip_low (V4 n);
-      greatest = ip_high (V4 n);
-      mask = ip_mask_of (V4 n);
-      number = size_of 32 n;
-      text = refl;
-      is_least = (has.low_is_member, λ x member. least_v4 n has x member);
-      is_greatest = (has.high_is_member, λ x member. greatest_v4 n has x member);
-      is_mask = ((fits.prefix_fits, refl), refl);
-      is_number = λ some. length-map (members 32 n) addresses.V4 ∙ some_members 32 n fits some;
-      is_one_less = λ none. length-map (members 32 n) addresses.V4 ∙ all_members 32 n none;
-    }
-tells_ends ends (V6 n) fits =
-    let has = ends 128 n fits in
-    record {
-      least = ip_low (V6 n);
-      greatest = ip_high (V6 n);
-      mask = ip_mask_of (V6 n);
-      number = size_of 128 n;
-      text = refl;
-      is_least = (has.low_is_member, λ x member. least_v6 n has x member);
-      is_greatest = (has.high_is_member, λ x member. greatest_v6 n has x member);
-      is_mask = ((fits.prefix_fits, refl), refl);
-      is_number = λ some. length-map (members 128 n) addresses.V6 ∙ some_members 128 n fits some;
-      is_one_less = λ none. length-map (members 128 n) addresses.V6 ∙ all_members 128 n none;
-    }
+tells_ends ends n fits = record {
+  least = ip_low n;
+  greatest = ip_high n;
+  mask = ip_mask_of n;
+  number = size_number (ip_size n);
+  text = refl;
+  is_least = ((ends_are_members ends n fits).0, λ x member. (all_within ends n fits x member).0);
+  is_greatest = ((ends_are_members ends n fits).1, λ x member. (all_within ends n fits x member).1);
+  is_mask = has_mask n fits;
+  is_number = counted n fits;
+  is_one_less = counted_all n;
+}
 
 -- ---- `has4` and `has`
 

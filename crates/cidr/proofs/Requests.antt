@@ -1,5 +1,5 @@
 -- What requests get, by the words that ask for them.
-use Rattle.std.proofs.Common.{◌≡◌, ◌↔◌, ℕ, ◌≤◌, Bool, false, cond, List, Option, None, Some, inl, inr, refl, sym, ap, subst, ◌∙◌}
+use Rattle.std.proofs.Common.{◌≡◌, ◌↔◌, ℕ, ◌≤◌, cond, List, Option, None, Some, inl, inr, refl, sym, ap, subst, ◌∙◌}
 use Rattle.std.proofs.lemmas.Bool.{le-leb}
 use Rattle.std.proofs.lemmas.Bool.Decides.{leb_tells}
 use Rattle.ipnetwork_family.specs.PrefixNumber.{IsPrefixNumber, IsNoPrefixNumber}
@@ -21,11 +21,6 @@ reply_with r s q old new answer gets adds = (answer, gets, adds)
 -- a request by another name
 pub replies_as : (r s : Routes) (p q : Request) (old new : Filled) → p ≡ q → RepliesTo r q old new s → RepliesTo r p old new s
 replies_as r s p q old new same replies = subst (λ (x : Request). RepliesTo r x old new s) (sym same) replies
-
--- the command is another
-pub other_reply : (r s : Routes) (x y : Request) (old new : Filled) (asked test : Bool) → test ≡ asked → test ≡ false
-    → RepliesTo r y old new s → RepliesTo r (cond asked x y) old new s
-other_reply r s x y old new asked test says fails replies = replies_as r s _ y old new (ap (λ b. cond b x y) (sym says ∙ fails)) replies
 
 -- ---- numbers
 

@@ -1,5 +1,5 @@
 -- What `add`, `drop` and `find` get, by networks and sets.
-use Rattle.std.proofs.Common.{◌≡◌, ◌≢◌, ℕ, ◌≤◌, ◌⊎◌, inl, inr, List, [], ◌∷◌, Option, None, Some, codes, is_some, refl, sym, ap, ◌∙◌, subst}
+use Rattle.std.proofs.Common.{◌≡◌, ◌≢◌, ℕ, ◌⊎◌, inl, inr, List, [], ◌∷◌, Option, None, Some, codes, is_some, refl, sym, ap, ◌∙◌, subst, arith}
 use Rattle.std.specs.Prelude.{IsSome}
 use Rattle.std.specs.FinMap.{FinMap, get, get-empty}
 use Rattle.std.specs.Str.Lines.{lines}
@@ -8,7 +8,7 @@ use Rattle.ipnetwork_addr.specs.declared.ip.IpAddr.{IpAddr}
 use Rattle.ipnetwork_addr.specs.declared.ip.IpAddr.TheVariants as addresses
 use Rattle.ipnetwork_family.specs.Laws.{SameSet, BlockHasSameSet}
 use Rattle.ipnetwork_family.specs.Network.{Network, IsNetwork, HostBitsAreZero, Subnet, Member, block_of, network_cmp}
-use Rattle.ipnetwork.specs.IpNetworks.{IsIpNetwork, IpMember, IpSubnet, AreApart, prefix_of}
+use Rattle.ipnetwork.specs.IpNetworks.{IsIpNetwork, IpMember, IpSubnet, AreApart, address_of, prefix_of, ip_low}
 use Rattle.ipnetwork.specs.declared.ip_network.IpNetwork.{IpNetwork}
 use Rattle.ipnetwork.specs.declared.ip_network.IpNetwork.TheVariants.{V4, V6}
 use Rattle.ipnetwork_table.specs.Laws.{InsertSetsOne, RemoveTakesOne}
@@ -138,49 +138,46 @@ own_block : (w : ℕ) (n : Network) → HostBitsAreZero w n → block_of w n ≡
 own_block w n block = λ i. record { address = sym block i; prefix = n.prefix }
 
 module _ (one_set : BlockHasSameSet) (routes : Routes) (a : ℕ) where
-  none_v4 : ((n : Network) → IsSome (get routes.v4 n) → ¬ (Member 32 n a)) → (m : IpNetwork) → IsSome (number_at routes m) → ¬ (IpMember m (addresses.V4 a))
-  none_v4 out (V4 m) some member = out (block_of 32 m) some ((one_set 32 m a).1 member)
-  none_v4 out (V6 m) some member = member
+  -- a network with a number that has the address, as its family's table has it: by its block
+  abbrev IsHeld : ℕ → FinMap network_cmp ℕ → IpNetwork → Type 0
+  IsHeld w table m = (n : Network) × IsSome (get table n) × Member w n a × (prefix_of m ≡ n.prefix)
 
-  none_v6 : ((n : Network) → IsSome (get routes.v6 n) → ¬ (Member 128 n a)) → (m : IpNetwork) → IsSome (number_at routes m) → ¬ (IpMember m (addresses.V6 a))
-  none_v6 out (V4 m) some member = member
-  none_v6 out (V6 m) some member = out (block_of 128 m) some ((one_set 128 m a).1 member)
+  held_v4 : (m : IpNetwork) → IsSome (number_at routes m) → IpMember m (addresses.V4 a) → IsHeld 32 routes.v4 m
+  held_v4 (V4 m) some member = (block_of 32 m, some, (one_set 32 m a).1 member, refl)
+  held_v4 (V6 m) some member = absurd member
 
-  longest_v4 : (p : ℕ) → ((n : Network) → IsSome (get routes.v4 n) → Member 32 n a → n.prefix ≤ p) → (m : IpNetwork) → IsSome (number_at routes m) → IpMember m (addresses.V4 a)
-      → prefix_of m ≤ p
-  longest_v4 p best (V4 m) some member = best (block_of 32 m) some ((one_set 32 m a).1 member)
-  longest_v4 p best (V6 m) some member = absurd member
+  held_v6 : (m : IpNetwork) → IsSome (number_at routes m) → IpMember m (addresses.V6 a) → IsHeld 128 routes.v6 m
+  held_v6 (V4 m) some member = absurd member
+  held_v6 (V6 m) some member = (block_of 128 m, some, (one_set 128 m a).1 member, refl)
 
-  longest_v6 : (p : ℕ) → ((n : Network) → IsSome (get routes.v6 n) → Member 128 n a → n.prefix ≤ p) → (m : IpNetwork) → IsSome (number_at routes m) → IpMember m (addresses.V6 a)
-      → prefix_of m ≤ p
-  longest_v6 p best (V4 m) some member = absurd member
-  longest_v6 p best (V6 m) some member = best (block_of 128 m) some ((one_set 128 m a).1 member)
-
-  found_v4 : (answer : List ℕ) → HasNoHostBits 32 routes.v4 → (block : Option (Network × ℕ)) → Answers 32 routes.v4 a block
-      → answer ≡ found_text (of_family V4 block) → GetsFind routes (addresses.V4 a) answer
-  found_v4 answer keys None none is = Nothing (none_v4 none) is
-  found_v4 answer keys (Some found) best is =
-      let block : HostBitsAreZero 32 found.0 = keys found.0 (ap is_some best.stored) in
-      Longest (V4 found.0) found.1 (ap (get routes.v4) (own_block 32 found.0 block) ∙ best.stored) (ap addresses.V4 block) best.holds
-      (longest_v4 found.0.prefix best.longest) is
-
-  found_v6 : (answer : List ℕ) → HasNoHostBits 128 routes.v6 → (block : Option (Network × ℕ)) → Answers 128 routes.v6 a block
-      → answer ≡ found_text (of_family V6 block) → GetsFind routes (addresses.V6 a) answer
-  found_v6 answer keys None none is = Nothing (none_v6 none) is
-  found_v6 answer keys (Some found) best is =
-      let block : HostBitsAreZero 128 found.0 = keys found.0 (ap is_some best.stored) in
-      Longest (V6 found.0) found.1 (ap (get routes.v6) (own_block 128 found.0 block) ∙ best.stored) (ap addresses.V6 block) best.holds
-      (longest_v6 found.0.prefix best.longest) is
+  found_in : (w : ℕ) (table : FinMap network_cmp ℕ) (family : Network → IpNetwork) (address : IpAddr)
+      → ((m : IpNetwork) → IsSome (number_at routes m) → IpMember m address → IsHeld w table m)
+      → ((n : Network) → (number_at routes (family n) ≡ get table (block_of w n)) × (HostBitsAreZero w n → address_of (family n) ≡ ip_low (family n))
+      × (Member w n a → IpMember (family n) address) × (prefix_of (family n) ≡ n.prefix))
+      → (answer : List ℕ) → HasNoHostBits w table → (block : Option (Network × ℕ)) → Answers w table a block → answer ≡ found_text (of_family family block)
+      → GetsFind routes address answer
+  found_in w table family address held kin answer keys None none is = Nothing (λ m some member. let h = held m some member in none h.0 h.1 h.2) is
+  found_in w table family address held kin answer keys (Some found) best is =
+      let block : HostBitsAreZero w found.0 = keys found.0 (ap is_some best.stored) in
+      let k = kin found.0 in
+      Longest (family found.0) found.1 (k.0 ∙ ap (get table) (own_block w found.0 block) ∙ best.stored) (k.1 block) (k.2 best.holds)
+      (λ m some member. let h = held m some member in omega (arith, h.3, k.3, best.longest h.0 h.1 h.2)) is
 
 pub finds_get : BlockHasSameSet → KeyLaws → FindsGet
 finds_get one_set laws before after (addresses.V4 a) answer left (inl gets) =
     let keys = left_keys laws no_routes before left.0 left.1 (no_keys laws) left.2 in
-    let found = gets.0.1 in
-    (found_v4 one_set before a answer keys.0 found.0 found.1 (gets.0.2 ∙ ap found_text found.2), gets.1)
+    let found = gets.0.1 in (
+      found_in one_set before a 32 before.v4 V4 (addresses.V4 a) (held_v4 one_set before a) (λ n. (refl, λ block. ap addresses.V4 block, λ member. member, refl))
+          answer keys.0 found.0 found.1 (gets.0.2 ∙ ap found_text found.2),
+      gets.1,
+    )
 finds_get one_set laws before after (addresses.V6 a) answer left (inl gets) =
     let keys = left_keys laws no_routes before left.0 left.1 (no_keys laws) left.2 in
-    let found = gets.0.1 in
-    (found_v6 one_set before a answer keys.1 found.0 found.1 (gets.0.2 ∙ ap found_text found.2), gets.1)
+    let found = gets.0.1 in (
+      found_in one_set before a 128 before.v6 V6 (addresses.V6 a) (held_v6 one_set before a) (λ n. (refl, λ block. ap addresses.V6 block, λ member. member, refl))
+          answer keys.1 found.0 found.1 (gets.0.2 ∙ ap found_text found.2),
+      gets.1,
+    )
 finds_get one_set laws before after a answer left (inr out) = absurd out
 
 -- ---- the first line

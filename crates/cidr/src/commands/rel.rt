@@ -16,15 +16,10 @@ pub(crate) fn rel(first: &[u8], second: &[u8], replies: &mut Buffer<'_>)
     requires { HasRoom replies.old }
     ensures { Adds replies.old replies.new (rel_answer first.now second.now) }
 {
-    let Ok(first) = network_of(first) else {
-        reply(replies, REFUSED);
-        return;
-    };
-    let Ok(second) = network_of(second) else {
-        reply(replies, REFUSED);
-        return;
-    };
-    reply(replies, relation(first, second));
+    match (network_of(first), network_of(second)) {
+        (Ok(first), Ok(second)) => reply(replies, relation(first, second)),
+        _ => reply(replies, REFUSED),
+    }
 }
 
 /// How the sets of two networks relate to each other.

@@ -64,11 +64,10 @@ pub(crate) fn drop(network: &[u8], routes: &mut RouteTables, replies: &mut Buffe
     ensures { RepliesTo (routes_of routes.old)
         (dropping (ip_network_of network.now)) replies.old replies.new (routes_of routes.new) }
 {
-    let Ok(network) = network_of(network) else {
-        reply(replies, REFUSED);
-        return;
-    };
-    reply(replies, remove(network, routes));
+    match network_of(network) {
+        Ok(network) => reply(replies, remove(network, routes)),
+        Err(_) => reply(replies, REFUSED),
+    }
 }
 
 /// Removes the block of a network, and returns the answer: whether it had a number.

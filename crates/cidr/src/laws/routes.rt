@@ -13,11 +13,11 @@ pub fn routes_by_sets()
     ensures drop { DropsGet }
     ensures find { FindsGet }
 {
+    table_laws::one_key_changes::<u32>();
+    table_laws::keys_without_host_bits::<u32>();
     laws::subnets();
     laws::blocks();
     laws::families_are_apart();
-    table_laws::one_key_changes::<u32>();
-    table_laws::keys_without_host_bits::<u32>();
 }
 
 /// A run begins with no routes: a `find` in the first line of an input finds nothing, a `drop` there drops nothing, and

@@ -4,7 +4,7 @@ use Rattle.cidr.specs.Requests.{dropping}
 use Rattle.cidr.proofs.Requests.{plain_reply, replies_as}
 use Rattle.cidr.proofs.commands.routing.drop.Goals as goal
 
-pub returns-in_default : goal.returns-in_default
-returns-in_default c =
-    replies_as (routes_of c.args.routes.now) (routes_of c.args.routes.now) _ _ _ _ (ap dropping (sym c.in_default.ensures))
-    (plain_reply (routes_of c.args.routes.now) _ _ _ c.reply.ensures)
+pub returns-in-Err : goal.returns-in-Err
+returns-in-Err c =
+    replies_as (routes_of c.args.routes.now) (routes_of c.args.routes.now) _ _ _ _ (ap dropping (sym c.in-Err.ensures))
+    (plain_reply (routes_of c.args.routes.now) _ _ _ c.reply-in-Err.ensures)
