@@ -135,8 +135,8 @@ fn first_fault<R: PrintsRow>(rows: &[R]) -> u32
     OK
 }
 
-// Prints each row into the texts, after the row before it, and writes the offsets.
-fn print_rows<R: PrintsRow>(
+/// Prints each row into the texts, after the row before it, and writes the offsets.
+pub(crate) fn print_rows<R: PrintsRow>(
     rows: &[R],
     texts: &mut [u8],
     offsets: &mut [u32],
@@ -195,72 +195,4 @@ fn put_at(text: &[u8], texts: &mut [u8], at: usize) -> usize
     let end = at + text.len();
     texts[at..end].copy_from_slice(text);
     end
-}
-
-/// Prints the IPv4 network of each row, as `ipnetwork_v4_canonical` does, to the front of `texts`, one text directly
-/// after the other, and writes how many bytes they have in all to `length`. Text i goes from offset i to offset i + 1,
-/// so that there is one offset more than rows. `PREFIX` if the prefix length of a row is greater than 32.
-/// `SHORT_BUFFER` if there is room for fewer bytes, or offsets, or if the texts have more than 2^31 - 1 bytes: then
-/// only their length is written.
-#[unsafe(no_mangle)]
-pub extern "C" fn ipnetwork_v4_print_column(
-    networks: &[Ipv4InC],
-    texts: &mut [u8],
-    offsets: &mut [u32],
-    length: &mut usize,
-) -> u32
-    ensures { PrintsColumn v4_fits v4_refused v4_text networks.now (
-      (texts.old, offsets.old),
-      length.old,
-    ) ((texts.new, offsets.new), length.new) result }
-{
-    print_rows(networks, texts, offsets, length)
-}
-
-/// The same for IPv6 networks, for prefix lengths up to 128.
-#[unsafe(no_mangle)]
-pub extern "C" fn ipnetwork_v6_print_column(
-    networks: &[Ipv6InC],
-    texts: &mut [u8],
-    offsets: &mut [u32],
-    length: &mut usize,
-) -> u32
-    ensures { PrintsColumn v6_fits v6_refused v6_text networks.now (
-      (texts.old, offsets.old),
-      length.old,
-    ) ((texts.new, offsets.new), length.new) result }
-{
-    print_rows(networks, texts, offsets, length)
-}
-
-/// The same of networks of either family, as `ipnetwork_canonical` prints them. If one is refused, the fault is that of
-/// the first: `NO_FAMILY` if the struct tells neither family, else `PREFIX`.
-#[unsafe(no_mangle)]
-pub extern "C" fn ipnetwork_print_column(
-    networks: &[IpInC],
-    texts: &mut [u8],
-    offsets: &mut [u32],
-    length: &mut usize,
-) -> u32
-    ensures { PrintsColumn ip_fits NoIpNetwork ip_text networks.now (
-      (texts.old, offsets.old),
-      length.old,
-    ) ((texts.new, offsets.new), length.new) result }
-{
-    print_rows(networks, texts, offsets, length)
-}
-
-/// The same of addresses of either family, as `ipnetwork_address_canonical` prints them. `NO_FAMILY` if a struct tells
-/// neither 4 nor 16 octets.
-#[unsafe(no_mangle)]
-pub extern "C" fn ipnetwork_address_print_column(
-    addresses: &[AddressInC],
-    texts: &mut [u8],
-    offsets: &mut [u32],
-    length: &mut usize,
-) -> u32
-    ensures { PrintsColumn address_fits NoAddress address_text addresses.now
-        ((texts.old, offsets.old), length.old) ((texts.new, offsets.new), length.new) result }
-{
-    print_rows(addresses, texts, offsets, length)
 }
