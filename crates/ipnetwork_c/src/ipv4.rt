@@ -10,9 +10,10 @@ ghost use Rattle.ipnetwork_c.specs.Held.{v4_in, HoldsV4, PrefixFits, number_of_o
 ghost use Rattle.ipnetwork_c.specs.Answers.{ReadsInto, IfFit, IsFlag, HasSize, PutsText, WritesPrefix, WritesMember};
 ghost use Rattle.ipnetwork_c.specs.Outcomes.{Writes};
 
-use crate::fault::{self, NO_MASK, NO_MEMBER, OK, PREFIX};
+use crate::fault::{NO_MASK, NO_MEMBER, OK, PREFIX};
 use crate::order::number_of_order;
 use crate::structs::Ipv4InC;
+use crate::text_columns::ReadsRow;
 use crate::{sizes, text};
 use ipnetwork::{Ipv4Addr, Ipv4Network};
 use ipnetwork_family::Address;
@@ -23,13 +24,7 @@ use ipnetwork_family::Address;
 pub extern "C" fn ipnetwork_v4_read(text: &[u8], network: &mut Ipv4InC) -> u32
     ensures { ReadsInto ReadsV4Network HoldsV4 text.now network.old network.new result }
 {
-    match Ipv4Network::read_bytes(text) {
-        Ok(read) => {
-            *network = Ipv4InC::of(&read);
-            OK
-        }
-        Err(cause) => fault::number_of(cause),
-    }
+    network.read_row(text)
 }
 
 /// The network of this address, host bits kept, and this prefix length; `PREFIX` if that is greater than 32.

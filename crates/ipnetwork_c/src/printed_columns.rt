@@ -2,12 +2,12 @@
 //! other, and the offsets at which each begins and the last ends.
 ghost use Rattle.std.specs.Prelude.{◌≡◌, ◌≢◌, ◌+◌, ◌^◌, ◌<◌, ◌≤◌, ◌++◌, length as len, take, drop, flat_map};
 ghost use Rattle.std.specs.List.{All};
-ghost use Rattle.ipnetwork_c.specs.PrintedColumns.{PrintsRows, FirstRefused, PrintsColumn, v4_fits, v4_refused, v4_text, v6_fits, v6_refused, v6_text, ip_fits, ip_text, address_fits, address_text};
+ghost use Rattle.ipnetwork_c.specs.PrintedColumns.{PrintsRows, FirstRefused, PrintsColumn, ip_fits, ip_text, address_fits, address_text};
 ghost use Rattle.ipnetwork_c.specs.Either.{NoIpNetwork, NoAddress};
 
 use crate::address::AddressInC;
-use crate::fault::{NO_FAMILY, OK, PREFIX, SHORT_BUFFER};
-use crate::structs::{IpInC, Ipv4InC, Ipv6InC, V4};
+use crate::fault::{NO_FAMILY, OK, SHORT_BUFFER};
+use crate::structs::{IpInC, V4};
 use crate::writing::to_usize;
 use arrayvec::ArrayString;
 use ipnetwork::NETWORK_TEXT_CAPACITY;
@@ -35,44 +35,6 @@ pub(crate) trait PrintsRow {
         requires { fits self.now }
         ensures bytes { result.bytes ≡ text self.now }
         ensures short { len result.bytes ≤ 43 };
-}
-
-impl PrintsRow for Ipv4InC {
-    ghost fits = { v4_fits };
-
-    ghost refused = { v4_refused };
-
-    ghost text = { v4_text };
-
-    fn row_fault(&self) -> u32 {
-        if self.prefix <= 32 { OK } else { PREFIX }
-    }
-
-    fn row_text(&self) -> ArrayString<NETWORK_TEXT_CAPACITY> {
-        match self.network() {
-            Some(network) => network.canonical(),
-            None => unreachable!(),
-        }
-    }
-}
-
-impl PrintsRow for Ipv6InC {
-    ghost fits = { v6_fits };
-
-    ghost refused = { v6_refused };
-
-    ghost text = { v6_text };
-
-    fn row_fault(&self) -> u32 {
-        if self.prefix <= 128 { OK } else { PREFIX }
-    }
-
-    fn row_text(&self) -> ArrayString<NETWORK_TEXT_CAPACITY> {
-        match self.network() {
-            Some(network) => network.canonical(),
-            None => unreachable!(),
-        }
-    }
 }
 
 impl PrintsRow for IpInC {

@@ -2,14 +2,12 @@
 //! offsets at which each begins and the last ends.
 ghost use Rattle.std.specs.Prelude.{◌↔◌, ◌<◌, IsTrue};
 ghost use Rattle.ipnetwork_c.specs.Either.{ReadsAddress};
-ghost use Rattle.ipnetwork_c.specs.TextColumns.{AreOffsets, ReadsColumn, v4_reads, v6_reads, ip_reads, ip_reads_with_cause};
+ghost use Rattle.ipnetwork_c.specs.TextColumns.{AreOffsets, ReadsColumn, ip_reads, ip_reads_with_cause};
 
 use crate::address::{AddressInC, ipnetwork_address_read};
 use crate::either::{ipnetwork_read, ipnetwork_read_with_cause};
 use crate::fault::{NO_OFFSETS, OK, SHORT_BUFFER};
-use crate::ipv4::ipnetwork_v4_read;
-use crate::ipv6::ipnetwork_v6_read;
-use crate::structs::{IpInC, IpWithCauseInC, Ipv4InC, Ipv6InC};
+use crate::structs::{IpInC, IpWithCauseInC};
 
 /// What a row is read into.
 pub(crate) trait ReadsRow {
@@ -22,22 +20,6 @@ pub(crate) trait ReadsRow {
     fn read_row(&mut self, text: &[u8]) -> u32
         ensures read { reads text.now self.old self.new result }
         ensures byte { result < 256 };
-}
-
-impl ReadsRow for Ipv4InC {
-    ghost reads = { v4_reads };
-
-    fn read_row(&mut self, text: &[u8]) -> u32 {
-        ipnetwork_v4_read(text, self)
-    }
-}
-
-impl ReadsRow for Ipv6InC {
-    ghost reads = { v6_reads };
-
-    fn read_row(&mut self, text: &[u8]) -> u32 {
-        ipnetwork_v6_read(text, self)
-    }
 }
 
 impl ReadsRow for IpInC {

@@ -1,6 +1,6 @@
 use Rattle.std.proofs.Common.{◌≡◌, ◌-◌, ◌/◌, ◌^◌, ◌<◌, ℕ, refl, sym, subst, ◌∙◌, arith}
 use Rattle.std.proofs.Math.Nat.{div-eq_of_lt}
-use Rattle.ipnetwork_c.proofs.numbered.Ipv6InCNumberedIpv6Network.has.Goals as goal
+use Rattle.ipnetwork_c.proofs.ipv6_in_c.Ipv6InCNumberedIpv6Network.has.Goals as goal
 
 pub returns-then-self-eq0 : goal.returns-then-self-eq0
 returns-then-self-eq0 c =
