@@ -174,11 +174,11 @@ pub extern "C" fn ipnetwork_v4_ranges_find_column(
 {
     find_each_in_ranges::<Ipv4Network, Ipv4InC>(
         addresses,
+        places,
+        faults,
         ranges,
         range_places,
         index,
-        places,
-        faults,
     )
 }
 
@@ -197,11 +197,11 @@ pub extern "C" fn ipnetwork_v6_ranges_find_column(
 {
     find_each_in_ranges::<Ipv6Network, Ipv6InC>(
         addresses,
+        places,
+        faults,
         ranges,
         range_places,
         index,
-        places,
-        faults,
     )
 }
 

@@ -15,7 +15,7 @@ use crate::order::number_of_order;
 use crate::structs::Ipv4InC;
 use crate::text_columns::ReadsRow;
 use crate::{sizes, text};
-use ipnetwork::{Ipv4Addr, Ipv4Network};
+use ipnetwork::Ipv4Addr;
 use ipnetwork_family::Address;
 
 /// Reads the network that a text names, as `Ipv4Network::read_bytes` does: `OK`, and the network is written. Else

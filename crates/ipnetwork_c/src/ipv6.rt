@@ -15,7 +15,7 @@ use crate::order::number_of_order;
 use crate::structs::{Ipv6InC, address_of};
 use crate::text_columns::ReadsRow;
 use crate::{sizes, text};
-use ipnetwork::{Ipv6Addr, Ipv6Network};
+use ipnetwork::Ipv6Addr;
 use ipnetwork_family::Address;
 
 /// Reads the network that a text names, as `Ipv6Network::read_bytes` does: `OK`, and the network is written. Else

@@ -187,7 +187,7 @@ pub extern "C" fn ipnetwork_v4_ranges_find(
     ensures { RangeQuery v4_in ranges.now places.now
         (number_of_octets address.now) place.old place.new result }
 {
-    ranges::find::<Ipv4Network, Ipv4InC>(ranges, places, index, address, place)
+    ranges::find::<Ipv4Network, Ipv4InC>(address, ranges, places, index, place)
 }
 
 /// The same for IPv6, of what `ipnetwork_v6_ranges_make` makes.
@@ -203,7 +203,7 @@ pub extern "C" fn ipnetwork_v6_ranges_find(
     ensures { RangeQuery v6_in ranges.now places.now
         (number_of_octets address.now) place.old place.new result }
 {
-    ranges::find::<Ipv6Network, Ipv6InC>(ranges, places, index, address, place)
+    ranges::find::<Ipv6Network, Ipv6InC>(address, ranges, places, index, place)
 }
 
 /// Writes the blocks of the addresses that are in one of two sets or in both, to the front of `blocks`: the fewest

@@ -67,10 +67,10 @@ impl PrintsRow for AddressInC {
     ghost text = { address_text };
 
     fn row_fault(&self) -> u32 {
-        match self.address() {
-            Some(_) => OK,
-            None => NO_FAMILY,
-        }
+        let Some(_) = self.address() else {
+            return NO_FAMILY;
+        };
+        OK
     }
 
     fn row_text(&self) -> ArrayString<NETWORK_TEXT_CAPACITY> {

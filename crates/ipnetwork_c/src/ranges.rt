@@ -15,10 +15,10 @@ use ipnetwork_blocks::AddressSpace;
 /// an index of the ranges, or by none.
 #[inline(always)]
 pub(crate) fn find<N: AddressSpace, H: Guessed<N>>(
+    address: &H::Octets,
     ranges: &[H],
     places: &[usize],
     index: &[u32],
-    address: &H::Octets,
     place: &mut usize,
 ) -> u32
     ensures { RangeQuery H.held ranges.now places.now (H.meant address.now) place.old place.new

@@ -92,23 +92,23 @@ fn find_in_table<N: AddressSpace, H: Guessed<N>>(
 #[inline(always)]
 pub(crate) fn find_each_in_ranges<N: AddressSpace, H: Guessed<N>>(
     addresses: &[H::Octets],
+    places: &mut [usize],
+    faults: &mut [u8],
     ranges: &[H],
     told: &[usize],
     index: &[u32],
-    places: &mut [usize],
-    faults: &mut [u8],
 ) -> u32
     ensures { AsksEach H.no_octets
         (λ octets. RangeQuery H.held ranges.now told.now (H.meant octets)) addresses.now
         (places.old, faults.old) (places.new, faults.new) result }
 {
+    let mut guesses = Guesses::new();
     if places.len() < addresses.len() || faults.len() < addresses.len() {
         return SHORT_BUFFER;
     }
-    let mut guesses = Guesses::new();
     for (row, address) in addresses.iter().enumerate() {
         let near = guesses.of_row::<N, H>(ranges, index, addresses, row);
-        faults[row] = find_in_ranges::<N, H>(address, near, ranges, told, index, &mut places[row]);
+        faults[row] = find_in_ranges::<N, H>(address, near, &mut places[row], ranges, told, index);
     }
     OK
 }
@@ -118,10 +118,10 @@ pub(crate) fn find_each_in_ranges<N: AddressSpace, H: Guessed<N>>(
 fn find_in_ranges<N: AddressSpace, H: Guessed<N>>(
     address: &H::Octets,
     guess: usize,
+    place: &mut usize,
     ranges: &[H],
     told: &[usize],
     index: &[u32],
-    place: &mut usize,
 ) -> u8
     ensures { RangeQuery H.held ranges.now told.now (H.meant address.now) place.old place.new
         result }
