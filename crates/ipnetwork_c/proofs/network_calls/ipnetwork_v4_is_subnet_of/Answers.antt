@@ -1,7 +1,7 @@
 use Rattle.std.proofs.Common.{refl}
 use Rattle.ipnetwork_c.specs.Outcomes.Unless.{On}
 use Rattle.ipnetwork_c.proofs.Truths.{says}
-use Rattle.ipnetwork_c.proofs.ipv6.ipnetwork_v6_is_subnet_of.Goals as goal
+use Rattle.ipnetwork_c.proofs.network_calls.ipnetwork_v4_is_subnet_of.Goals as goal
 
 pub returns-in-Some-Some : goal.returns-in-Some-Some
 returns-in-Some-Some c =
