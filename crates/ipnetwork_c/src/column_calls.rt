@@ -13,7 +13,7 @@ use crate::address::AddressInC;
 use crate::fault::{OK, SHORT_BUFFER};
 use crate::guesses::Guesses;
 use crate::printed_columns::print_rows;
-use crate::search_columns::{find_each_in_ranges, find_each_in_table, v4_contains, v6_contains};
+use crate::search_columns::{ranges_find_each, table_find_each, v4_contains, v6_contains};
 use crate::structs::{IpInC, IpWithCauseInC, Ipv4InC, Ipv6InC};
 use crate::text_columns::read_rows;
 use crate::{columns, halves};
@@ -106,7 +106,7 @@ pub extern "C" fn ipnetwork_v4_table_find_column(
     ensures { TableRows 32 v4_in blocks.now addresses.now (indexes.old, faults.old)
         (indexes.new, faults.new) result }
 {
-    find_each_in_table::<Ipv4Network, Ipv4InC>(blocks, &[], addresses, indexes, faults)
+    table_find_each::<Ipv4Network, Ipv4InC>(blocks, &[], addresses, indexes, faults)
 }
 
 /// The same of IPv6, as `ipnetwork_v6_table_find` finds blocks.
@@ -120,7 +120,7 @@ pub extern "C" fn ipnetwork_v6_table_find_column(
     ensures { TableRows 128 v6_in blocks.now addresses.now (indexes.old, faults.old)
         (indexes.new, faults.new) result }
 {
-    find_each_in_table::<Ipv6Network, Ipv6InC>(blocks, &[], addresses, indexes, faults)
+    table_find_each::<Ipv6Network, Ipv6InC>(blocks, &[], addresses, indexes, faults)
 }
 
 /// For each of these addresses the place of the longest block of a table that has it, by an index of the table: place i
@@ -138,7 +138,7 @@ pub extern "C" fn ipnetwork_v4_index_find_column(
     ensures { TableRows 32 v4_in blocks.now addresses.now (places.old, faults.old)
         (places.new, faults.new) result }
 {
-    find_each_in_table::<Ipv4Network, Ipv4InC>(blocks, index, addresses, places, faults)
+    table_find_each::<Ipv4Network, Ipv4InC>(blocks, index, addresses, places, faults)
 }
 
 /// The same of IPv6, as `ipnetwork_v6_index_find` finds blocks.
@@ -153,7 +153,7 @@ pub extern "C" fn ipnetwork_v6_index_find_column(
     ensures { TableRows 128 v6_in blocks.now addresses.now (places.old, faults.old)
         (places.new, faults.new) result }
 {
-    find_each_in_table::<Ipv6Network, Ipv6InC>(blocks, index, addresses, places, faults)
+    table_find_each::<Ipv6Network, Ipv6InC>(blocks, index, addresses, places, faults)
 }
 
 /// For each of these addresses the place that the ranges of a table tell: place i and fault i are
@@ -172,14 +172,7 @@ pub extern "C" fn ipnetwork_v4_ranges_find_column(
     ensures { RangeRows v4_in ranges.now range_places.now addresses.now (places.old, faults.old)
         (places.new, faults.new) result }
 {
-    find_each_in_ranges::<Ipv4Network, Ipv4InC>(
-        addresses,
-        places,
-        faults,
-        ranges,
-        range_places,
-        index,
-    )
+    ranges_find_each::<Ipv4Network, Ipv4InC>(addresses, places, faults, ranges, range_places, index)
 }
 
 /// The same of IPv6, as `ipnetwork_v6_ranges_find` finds places.
@@ -195,14 +188,7 @@ pub extern "C" fn ipnetwork_v6_ranges_find_column(
     ensures { RangeRows v6_in ranges.now range_places.now addresses.now (places.old, faults.old)
         (places.new, faults.new) result }
 {
-    find_each_in_ranges::<Ipv6Network, Ipv6InC>(
-        addresses,
-        places,
-        faults,
-        ranges,
-        range_places,
-        index,
-    )
+    ranges_find_each::<Ipv6Network, Ipv6InC>(addresses, places, faults, ranges, range_places, index)
 }
 
 /// Reads the IPv4 network of each text of a column: row i and fault i are what `ipnetwork_v4_read` writes and returns

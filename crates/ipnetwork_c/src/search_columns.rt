@@ -54,7 +54,7 @@ pub(crate) fn v6_contains(
 /// Puts for each address the place of the longest block that has it, and its fault, by an index of
 /// the blocks, or by none.
 #[inline(always)]
-pub(crate) fn find_each_in_table<N: AddressSpace, H: Guessed<N>>(
+pub(crate) fn table_find_each<N: AddressSpace, H: Guessed<N>>(
     blocks: &[H],
     index: &[u32],
     addresses: &[H::Octets],
@@ -69,14 +69,14 @@ pub(crate) fn find_each_in_table<N: AddressSpace, H: Guessed<N>>(
         return SHORT_BUFFER;
     }
     for (row, address) in addresses.iter().enumerate() {
-        faults[row] = find_in_table::<N, H>(blocks, index, address, &mut places[row]);
+        faults[row] = table_find_one::<N, H>(blocks, index, address, &mut places[row]);
     }
     OK
 }
 
 // The fault of the call for one address, as a byte.
 #[inline(always)]
-fn find_in_table<N: AddressSpace, H: Guessed<N>>(
+fn table_find_one<N: AddressSpace, H: Guessed<N>>(
     blocks: &[H],
     index: &[u32],
     address: &H::Octets,
@@ -90,7 +90,7 @@ fn find_in_table<N: AddressSpace, H: Guessed<N>>(
 
 /// Puts for each address the place that the ranges tell, and its fault.
 #[inline(always)]
-pub(crate) fn find_each_in_ranges<N: AddressSpace, H: Guessed<N>>(
+pub(crate) fn ranges_find_each<N: AddressSpace, H: Guessed<N>>(
     addresses: &[H::Octets],
     places: &mut [usize],
     faults: &mut [u8],
@@ -108,14 +108,14 @@ pub(crate) fn find_each_in_ranges<N: AddressSpace, H: Guessed<N>>(
     }
     for (row, address) in addresses.iter().enumerate() {
         let near = guesses.of_row::<N, H>(ranges, index, addresses, row);
-        faults[row] = find_in_ranges::<N, H>(address, near, &mut places[row], ranges, told, index);
+        faults[row] = ranges_find_one::<N, H>(address, near, &mut places[row], ranges, told, index);
     }
     OK
 }
 
 // The fault of the call for one address, as a byte.
 #[inline(always)]
-fn find_in_ranges<N: AddressSpace, H: Guessed<N>>(
+fn ranges_find_one<N: AddressSpace, H: Guessed<N>>(
     address: &H::Octets,
     guess: usize,
     place: &mut usize,

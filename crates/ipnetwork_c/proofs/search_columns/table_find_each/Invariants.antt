@@ -1,7 +1,7 @@
 use Rattle.std.proofs.Common.{get_or}
 use Rattle.ipnetwork_c.specs.Columns.{AnswersEach}
 use Rattle.ipnetwork_c.specs.Tables.{TableQuery}
-use Rattle.ipnetwork_c.proofs.search_columns.find_each_in_table.Given as goal
+use Rattle.ipnetwork_c.proofs.search_columns.table_find_each.Given as goal
 
 abbrev pub invariant-loop-row : goal.invariant-loop-row
 invariant-loop-row g l =

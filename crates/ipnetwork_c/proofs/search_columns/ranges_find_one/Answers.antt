@@ -1,7 +1,7 @@
 use Rattle.std.proofs.Common.{ℕ, subst, arith}
 use Rattle.ipnetwork_c.specs.Ranges.{RangeQuery}
 use Rattle.ipnetwork_c.proofs.Cutting.{range_fault_is_byte}
-use Rattle.ipnetwork_c.proofs.search_columns.find_in_ranges.Goals as goal
+use Rattle.ipnetwork_c.proofs.search_columns.ranges_find_one.Goals as goal
 
 pub overflow_cast-result : goal.overflow_cast-result
 overflow_cast-result g c = let small = range_fault_is_byte g.H.HoldsNetwork.held c.args.ranges.now c.args.told.now _ c.place_near.ensures in omega arith

@@ -1,7 +1,7 @@
 use Rattle.std.proofs.Common.{get_or}
 use Rattle.ipnetwork_c.specs.Columns.{AnswersEach}
 use Rattle.ipnetwork_c.specs.Ranges.{RangeQuery}
-use Rattle.ipnetwork_c.proofs.search_columns.find_each_in_ranges.Given as goal
+use Rattle.ipnetwork_c.proofs.search_columns.ranges_find_each.Given as goal
 
 abbrev pub invariant-loop-row : goal.invariant-loop-row
 invariant-loop-row g l =
