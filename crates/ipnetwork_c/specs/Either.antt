@@ -82,6 +82,18 @@ pub record StandsForIp (held : IpInC) (n : IpNetwork) : Type 0 where
 abbrev pub OfNetwork : {M : Type 0} → IpInC → (IpNetwork → M → M → ℕ → Type 0) → M → M → ℕ → Type 0
 OfNetwork held GoesOn = Finds (StandsForIp held) (NoIpNetwork held) GoesOn
 
+-- a call goes on with the networks that two structs stand for; the first one is checked first
+abbrev pub OfBoth : {M : Type 0} → IpInC → IpInC → (IpNetwork → IpNetwork → M → M → ℕ → Type 0) → M → M → ℕ → Type 0
+OfBoth one other GoesOn = OfNetwork one (λ a. OfNetwork other (GoesOn a))
+
+-- an address that a network tells, of the network that a struct stands for, is written
+abbrev pub TellsAddress : (IpNetwork → IpAddr) → IpInC → AddressInC → AddressInC → ℕ → Type 0
+TellsAddress told held = OfNetwork held (λ n. Writes (λ after. HoldsAddress after (told n)))
+
+-- whether this holds between the networks that two structs stand for is written, as 1 or 0
+abbrev pub TellsOfBoth : (IpNetwork → IpNetwork → Type 0) → IpInC → IpInC → ℕ → ℕ → ℕ → Type 0
+TellsOfBoth Holds one other = OfBoth one other (λ a b. Writes (IsFlag (Holds a b)))
+
 -- whether octets are an address of the set that a struct stands for; they are checked before the struct
 abbrev pub MemberQuery : IpInC → List ℕ → ℕ → ℕ → ℕ → Type 0
 MemberQuery held octets = Finds (λ a. address_in octets ≡ Some a) (IsFault no_family (address_in octets ≡ None)) (λ a. OfNetwork held (λ n. Writes (IsFlag (IpMember n a))))

@@ -34,7 +34,7 @@ pub(crate) fn guess_by_last<N: AddressSpace, H: Guessed<N>>(
     index: &[u32],
     number: H::Number,
 ) -> usize {
-    if list.len() < 2 || index.is_empty() {
+    if list.is_empty() || index.is_empty() {
         return 0;
     }
     let part = part_of::<N, H>(list, index, number);
@@ -86,8 +86,7 @@ pub(crate) fn begun_by_halves<N: AddressSpace, H: Numbered<N>>(
     index: &[u32],
     number: H::Number,
 ) -> usize
-    ensures within { result ≤ length list.now }
-    ensures stands { StandsAt (map H.held list.now) (H.value number) result }
+    ensures { StandsAt (map H.held list.now) (H.value number) result }
 {
     if list.is_empty() || index.is_empty() {
         return begun_between::<N, H>(list, 0, list.len(), number);
@@ -183,31 +182,23 @@ fn one_up_to<N: AddressSpace, H: Guessed<N>>(list: &[H], place: usize, number: H
 
 // Whether the struct after so many begins after the number, or there is none.
 #[inline(always)]
-fn next_is_after<N: AddressSpace, H: Numbered<N>>(
-    list: &[H],
-    place: usize,
-    number: H::Number,
-) -> bool
-    requires { place ≤ length list.now }
-    ensures { IsTrue result ↔ NextAfter (map H.held list.now) (H.value number) place }
+fn next_is_after<N: AddressSpace, H: Numbered<N>>(list: &[H], at: usize, number: H::Number) -> bool
+    requires { at ≤ length list.now }
+    ensures { IsTrue result ↔ NextAfter (map H.held list.now) (H.value number) at }
 {
-    if place >= list.len() {
+    if at >= list.len() {
         return true;
     }
-    !begins_up_to::<N, H>(list[place], number)
+    !begins_up_to::<N, H>(list[at], number)
 }
 
 // Whether the last of so many structs begins up to the number, or there is none.
 #[inline(always)]
-fn last_is_up_to<N: AddressSpace, H: Numbered<N>>(
-    list: &[H],
-    place: usize,
-    number: H::Number,
-) -> bool
-    requires { place ≤ length list.now }
-    ensures { IsTrue result ↔ LastUpTo (map H.held list.now) (H.value number) place }
+fn last_is_up_to<N: AddressSpace, H: Numbered<N>>(list: &[H], at: usize, number: H::Number) -> bool
+    requires { at ≤ length list.now }
+    ensures { IsTrue result ↔ LastUpTo (map H.held list.now) (H.value number) at }
 {
-    let last = place.wrapping_sub(1);
+    let last = at.wrapping_sub(1);
     if last >= list.len() {
         return true;
     }

@@ -4,13 +4,12 @@ ghost use Rattle.ipnetwork_c.specs.Blocks.{RangeOperation, WritesSubnet};
 ghost use Rattle.ipnetwork_c.specs.Held.{v4_in, v6_in, HoldsV4, HoldsV6, number_of_octets};
 
 use crate::fault::{NO_MEMBER, NO_RANGE, OK, PREFIX, SHORT_BUFFER};
-use crate::structs::{Ipv4InC, Ipv6InC, address_of, number_of};
+use crate::structs::{Ipv4InC, Ipv6InC, number_of};
 use crate::writing::{put_blocks, to_usize};
-use ipnetwork::{Ipv4Addr, Ipv4Network, Ipv6Network};
 use ipnetwork_blocks::{AddressSpace, HoldsNetwork, RangeBlocks, range_to_blocks, subnet_at};
 
-// Puts the blocks of a range in the front of `blocks`, and their number in `count`.
-fn range<N: AddressSpace, H: HoldsNetwork<N>>(
+/// Puts the blocks of a range in the front of `blocks`, and their number in `count`.
+pub(crate) fn range<N: AddressSpace, H: HoldsNetwork<N>>(
     first: N::Addr,
     last: N::Addr,
     blocks: &mut [H],
@@ -32,36 +31,6 @@ fn range<N: AddressSpace, H: HoldsNetwork<N>>(
     };
     put_blocks::<N, H, RangeBlocks<N>>(range, blocks);
     OK
-}
-
-/// Writes the blocks whose addresses are those from the first to the last, both included, to the front of `blocks`: the
-/// fewest possible, in ascending order, and at most 62. `count` is their number. `SHORT_BUFFER` if there is no room for
-/// them, and then only `count` is written. `NO_RANGE` if the first comes after the last.
-#[unsafe(no_mangle)]
-pub extern "C" fn ipnetwork_v4_range_to_blocks(
-    first: &[u8; 4],
-    last: &[u8; 4],
-    blocks: &mut [Ipv4InC],
-    count: &mut usize,
-) -> u32
-    ensures { RangeOperation 32 v4_in (number_of_octets first.now) (number_of_octets last.now)
-        (blocks.old, count.old) (blocks.new, count.new) result }
-{
-    range::<Ipv4Network, Ipv4InC>(Ipv4Addr::from(*first), Ipv4Addr::from(*last), blocks, count)
-}
-
-/// The same for IPv6, with at most 254 blocks.
-#[unsafe(no_mangle)]
-pub extern "C" fn ipnetwork_v6_range_to_blocks(
-    first: &[u8; 16],
-    last: &[u8; 16],
-    blocks: &mut [Ipv6InC],
-    count: &mut usize,
-) -> u32
-    ensures { RangeOperation 128 v6_in (number_of_octets first.now) (number_of_octets last.now)
-        (blocks.old, count.old) (blocks.new, count.new) result }
-{
-    range::<Ipv6Network, Ipv6InC>(address_of(first), address_of(last), blocks, count)
 }
 
 /// The block number `number` of this prefix length within the network, counted from 0 in ascending order. `PREFIX` if

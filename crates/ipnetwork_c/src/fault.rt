@@ -1,5 +1,5 @@
 //! The numbers of faults, as the header names them.
-ghost use Rattle.std.specs.Prelude.{◌≡◌};
+ghost use Rattle.std.specs.Prelude.{◌≡◌, ◌<◌};
 ghost use Rattle.ipnetwork_c.specs.Numbers.{fault_number, fault_text};
 ghost use Rattle.ipnetwork_c.specs.Answers.{PutsText};
 
@@ -30,7 +30,8 @@ pub(crate) const NO_SET: u32 = 10;
 
 /// The number of the cause for which a text is refused.
 pub(crate) fn number_of(fault: CidrFault) -> u32
-    ensures { result ≡ fault_number fault }
+    ensures number { result ≡ fault_number fault }
+    ensures byte { result < 256 }
 {
     match fault {
         CidrFault::Format => FORMAT,

@@ -3,8 +3,6 @@ ghost use Rattle.std.specs.Prelude.{◌≡◌, ◌↔◌, IsTrue};
 ghost use Rattle.std.specs.List.{All};
 ghost use Rattle.ipnetwork_c.specs.Held.{PrefixFits};
 
-use crate::structs::{Ipv4InC, Ipv6InC, address_of};
-use ipnetwork::{Ipv4Addr, Ipv4Network, Ipv6Addr, Ipv6Network};
 use ipnetwork_blocks::{AddressSpace, HoldsNetwork};
 
 /// A struct of C in a list.
@@ -26,28 +24,4 @@ pub(crate) fn all_fit<N: AddressSpace, H: Listed<N>>(list: &[H]) -> bool
     ensures { IsTrue result ↔ All H.holds list.now }
 {
     list.iter().all(|held| held.fits())
-}
-
-impl Listed<Ipv4Network> for Ipv4InC {
-    fn own_address(&self) -> Ipv4Addr {
-        Ipv4Addr::from(self.address)
-    }
-
-    fn fits(&self) -> bool {
-        self.prefix <= 32
-    }
-
-    ghost fitting = { λ _. ((λ h. h), (λ h. h)) };
-}
-
-impl Listed<Ipv6Network> for Ipv6InC {
-    fn own_address(&self) -> Ipv6Addr {
-        address_of(&self.address)
-    }
-
-    fn fits(&self) -> bool {
-        self.prefix <= 128
-    }
-
-    ghost fitting = { λ _. ((λ h. h), (λ h. h)) };
 }

@@ -2,12 +2,12 @@
 //! other, and the offsets at which each begins and the last ends.
 ghost use Rattle.std.specs.Prelude.{◌≡◌, ◌≢◌, ◌+◌, ◌^◌, ◌<◌, ◌≤◌, ◌++◌, length as len, take, drop, flat_map};
 ghost use Rattle.std.specs.List.{All};
-ghost use Rattle.ipnetwork_c.specs.PrintedColumns.{PrintsRows, FirstRefused, PrintsColumn, v4_fits, v4_refused, v4_text, v6_fits, v6_refused, v6_text, ip_fits, ip_text, address_fits, address_text};
+ghost use Rattle.ipnetwork_c.specs.PrintedColumns.{PrintsRows, FirstRefused, PrintsColumn, ip_fits, ip_text, address_fits, address_text};
 ghost use Rattle.ipnetwork_c.specs.Either.{NoIpNetwork, NoAddress};
 
 use crate::address::AddressInC;
-use crate::fault::{NO_FAMILY, OK, PREFIX, SHORT_BUFFER};
-use crate::structs::{IpInC, Ipv4InC, Ipv6InC, V4};
+use crate::fault::{NO_FAMILY, OK, SHORT_BUFFER};
+use crate::structs::{IpInC, V4};
 use crate::writing::to_usize;
 use arrayvec::ArrayString;
 use ipnetwork::NETWORK_TEXT_CAPACITY;
@@ -35,44 +35,6 @@ pub(crate) trait PrintsRow {
         requires { fits self.now }
         ensures bytes { result.bytes ≡ text self.now }
         ensures short { len result.bytes ≤ 43 };
-}
-
-impl PrintsRow for Ipv4InC {
-    ghost fits = { v4_fits };
-
-    ghost refused = { v4_refused };
-
-    ghost text = { v4_text };
-
-    fn row_fault(&self) -> u32 {
-        if self.prefix <= 32 { OK } else { PREFIX }
-    }
-
-    fn row_text(&self) -> ArrayString<NETWORK_TEXT_CAPACITY> {
-        match self.network() {
-            Some(network) => network.canonical(),
-            None => unreachable!(),
-        }
-    }
-}
-
-impl PrintsRow for Ipv6InC {
-    ghost fits = { v6_fits };
-
-    ghost refused = { v6_refused };
-
-    ghost text = { v6_text };
-
-    fn row_fault(&self) -> u32 {
-        if self.prefix <= 128 { OK } else { PREFIX }
-    }
-
-    fn row_text(&self) -> ArrayString<NETWORK_TEXT_CAPACITY> {
-        match self.network() {
-            Some(network) => network.canonical(),
-            None => unreachable!(),
-        }
-    }
 }
 
 impl PrintsRow for IpInC {
@@ -105,10 +67,10 @@ impl PrintsRow for AddressInC {
     ghost text = { address_text };
 
     fn row_fault(&self) -> u32 {
-        match self.address() {
-            Some(_) => OK,
-            None => NO_FAMILY,
-        }
+        let Some(_) = self.address() else {
+            return NO_FAMILY;
+        };
+        OK
     }
 
     fn row_text(&self) -> ArrayString<NETWORK_TEXT_CAPACITY> {
@@ -135,8 +97,8 @@ fn first_fault<R: PrintsRow>(rows: &[R]) -> u32
     OK
 }
 
-// Prints each row into the texts, after the row before it, and writes the offsets.
-fn print_rows<R: PrintsRow>(
+/// Prints each row into the texts, after the row before it, and writes the offsets.
+pub(crate) fn print_rows<R: PrintsRow>(
     rows: &[R],
     texts: &mut [u8],
     offsets: &mut [u32],
@@ -195,72 +157,4 @@ fn put_at(text: &[u8], texts: &mut [u8], at: usize) -> usize
     let end = at + text.len();
     texts[at..end].copy_from_slice(text);
     end
-}
-
-/// Prints the IPv4 network of each row, as `ipnetwork_v4_canonical` does, to the front of `texts`, one text directly
-/// after the other, and writes how many bytes they have in all to `length`. Text i goes from offset i to offset i + 1,
-/// so that there is one offset more than rows. `PREFIX` if the prefix length of a row is greater than 32.
-/// `SHORT_BUFFER` if there is room for fewer bytes, or offsets, or if the texts have more than 2^31 - 1 bytes: then
-/// only their length is written.
-#[unsafe(no_mangle)]
-pub extern "C" fn ipnetwork_v4_print_column(
-    networks: &[Ipv4InC],
-    texts: &mut [u8],
-    offsets: &mut [u32],
-    length: &mut usize,
-) -> u32
-    ensures { PrintsColumn v4_fits v4_refused v4_text networks.now (
-      (texts.old, offsets.old),
-      length.old,
-    ) ((texts.new, offsets.new), length.new) result }
-{
-    print_rows(networks, texts, offsets, length)
-}
-
-/// The same for IPv6 networks, for prefix lengths up to 128.
-#[unsafe(no_mangle)]
-pub extern "C" fn ipnetwork_v6_print_column(
-    networks: &[Ipv6InC],
-    texts: &mut [u8],
-    offsets: &mut [u32],
-    length: &mut usize,
-) -> u32
-    ensures { PrintsColumn v6_fits v6_refused v6_text networks.now (
-      (texts.old, offsets.old),
-      length.old,
-    ) ((texts.new, offsets.new), length.new) result }
-{
-    print_rows(networks, texts, offsets, length)
-}
-
-/// The same of networks of either family, as `ipnetwork_canonical` prints them. If one is refused, the fault is that of
-/// the first: `NO_FAMILY` if the struct tells neither family, else `PREFIX`.
-#[unsafe(no_mangle)]
-pub extern "C" fn ipnetwork_print_column(
-    networks: &[IpInC],
-    texts: &mut [u8],
-    offsets: &mut [u32],
-    length: &mut usize,
-) -> u32
-    ensures { PrintsColumn ip_fits NoIpNetwork ip_text networks.now (
-      (texts.old, offsets.old),
-      length.old,
-    ) ((texts.new, offsets.new), length.new) result }
-{
-    print_rows(networks, texts, offsets, length)
-}
-
-/// The same of addresses of either family, as `ipnetwork_address_canonical` prints them. `NO_FAMILY` if a struct tells
-/// neither 4 nor 16 octets.
-#[unsafe(no_mangle)]
-pub extern "C" fn ipnetwork_address_print_column(
-    addresses: &[AddressInC],
-    texts: &mut [u8],
-    offsets: &mut [u32],
-    length: &mut usize,
-) -> u32
-    ensures { PrintsColumn address_fits NoAddress address_text addresses.now
-        ((texts.old, offsets.old), length.old) ((texts.new, offsets.new), length.new) result }
-{
-    print_rows(addresses, texts, offsets, length)
 }

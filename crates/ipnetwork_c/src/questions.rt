@@ -5,8 +5,8 @@ ghost use Rattle.ipnetwork.specs.IpNetworkText.{ip_network_text};
 ghost use Rattle.ipnetwork.specs.IpNetworks.{ip_low, ip_high, ip_mask_of, IpSubnet, IpOverlap, ip_network_cmp};
 ghost use Rattle.ipnetwork_c.specs.Numbers.{order_number};
 ghost use Rattle.ipnetwork_c.specs.Outcomes.{Writes};
-ghost use Rattle.ipnetwork_c.specs.Answers.{IsFlag, PutsText};
-ghost use Rattle.ipnetwork_c.specs.Either.{OfNetwork, HoldsAddress};
+ghost use Rattle.ipnetwork_c.specs.Answers.{PutsText};
+ghost use Rattle.ipnetwork_c.specs.Either.{OfNetwork, OfBoth, TellsAddress, TellsOfBoth};
 
 use crate::address::AddressInC;
 use crate::fault::OK;
@@ -39,8 +39,7 @@ fn tell_both<T: Copy, F: FnOnce(IpNetwork, IpNetwork) -> T>(
     told: F,
 ) -> u32
     requires { F.IsAlwaysCallable told }
-    ensures { OfNetwork one.now
-        (λ a. OfNetwork other.now (λ b. Writes (F.post told a b))) place.old place.new result }
+    ensures { OfBoth one.now other.now (λ a b. Writes (F.post told a b)) place.old place.new result }
 {
     let one = match one.network() {
         Ok(network) => network,
@@ -72,8 +71,7 @@ pub extern "C" fn ipnetwork_canonical(network: &IpInC, buffer: &mut [u8], length
 /// The least member: the address with its host bits cleared.
 #[unsafe(no_mangle)]
 pub extern "C" fn ipnetwork_network(network: &IpInC, address: &mut AddressInC) -> u32
-    ensures { OfNetwork network.now
-        (λ n. Writes (λ held. HoldsAddress held (ip_low n))) address.old address.new result }
+    ensures { TellsAddress ip_low network.now address.old address.new result }
 {
     tell(network, address, |n| AddressInC::of(n.network()))
 }
@@ -81,8 +79,7 @@ pub extern "C" fn ipnetwork_network(network: &IpInC, address: &mut AddressInC) -
 /// The greatest member: the address with its host bits set.
 #[unsafe(no_mangle)]
 pub extern "C" fn ipnetwork_broadcast(network: &IpInC, address: &mut AddressInC) -> u32
-    ensures { OfNetwork network.now
-        (λ n. Writes (λ held. HoldsAddress held (ip_high n))) address.old address.new result }
+    ensures { TellsAddress ip_high network.now address.old address.new result }
 {
     tell(network, address, |n| AddressInC::of(n.broadcast()))
 }
@@ -90,8 +87,7 @@ pub extern "C" fn ipnetwork_broadcast(network: &IpInC, address: &mut AddressInC)
 /// The mask, in the network's family.
 #[unsafe(no_mangle)]
 pub extern "C" fn ipnetwork_mask(network: &IpInC, mask: &mut AddressInC) -> u32
-    ensures { OfNetwork network.now
-        (λ n. Writes (λ held. HoldsAddress held (ip_mask_of n))) mask.old mask.new result }
+    ensures { TellsAddress ip_mask_of network.now mask.old mask.new result }
 {
     tell(network, mask, |n| AddressInC::of(n.mask()))
 }
@@ -100,9 +96,7 @@ pub extern "C" fn ipnetwork_mask(network: &IpInC, mask: &mut AddressInC) -> u32
 /// Host bits are ignored. The first struct is checked first.
 #[unsafe(no_mangle)]
 pub extern "C" fn ipnetwork_is_subnet_of(inner: &IpInC, outer: &IpInC, answer: &mut u8) -> u32
-    ensures { OfNetwork inner.now
-        (λ a. OfNetwork outer.now
-        (λ b. Writes (IsFlag (IpSubnet a b)))) answer.old answer.new result }
+    ensures { TellsOfBoth IpSubnet inner.now outer.now answer.old answer.new result }
 {
     tell_both(inner, outer, answer, |a, b| u8::from(a.is_subnet_of(b)))
 }
@@ -110,9 +104,7 @@ pub extern "C" fn ipnetwork_is_subnet_of(inner: &IpInC, outer: &IpInC, answer: &
 /// Whether some address is a member of both, as 1 or 0. The first struct is checked first.
 #[unsafe(no_mangle)]
 pub extern "C" fn ipnetwork_overlaps(one: &IpInC, other: &IpInC, answer: &mut u8) -> u32
-    ensures { OfNetwork one.now
-        (λ a. OfNetwork other.now
-        (λ b. Writes (IsFlag (IpOverlap a b)))) answer.old answer.new result }
+    ensures { TellsOfBoth IpOverlap one.now other.now answer.old answer.new result }
 {
     tell_both(one, other, answer, |a, b| u8::from(a.overlaps(b)))
 }
@@ -121,9 +113,8 @@ pub extern "C" fn ipnetwork_overlaps(one: &IpInC, other: &IpInC, answer: &mut u8
 /// IPv6 network; in a family the address decides, then the prefix length. The first struct is checked first.
 #[unsafe(no_mangle)]
 pub extern "C" fn ipnetwork_compare(one: &IpInC, other: &IpInC, order: &mut i32) -> u32
-    ensures { OfNetwork one.now
-        (λ a. OfNetwork other.now
-        (λ b. Writes (λ told. told ≡ order_number (ip_network_cmp a b)))) order.old order.new
+    ensures { OfBoth one.now other.now
+        (λ a b. Writes (λ told. told ≡ order_number (ip_network_cmp a b))) order.old order.new
         result }
 {
     tell_both(one, other, order, |a, b| number_between(a, b))

@@ -2,57 +2,20 @@
 //! memory.
 ghost use Rattle.std.specs.Prelude.{◌≡◌, ◌+◌, ◌*◌, ◌<◌, ◌≤◌, ◌++◌, ◌∷◌, [], List, length, map, take};
 ghost use Rattle.std.specs.List.{All};
-ghost use Rattle.ipnetwork_c.specs.Held.{v4_in, v6_in};
 ghost use Rattle.ipnetwork_c.specs.Ranges.{IsLongestAt, MakesRanges};
 ghost use Rattle.ipnetwork_c.specs.Private.Cuts.{firsts, AreCutsOf, AreEndsOf, ArePlacesUpTo, IsAlone, IsWrittenUpTo};
 
 use crate::fault::{OK, PREFIX, SHORT_BUFFER};
 use crate::guessed::Guessed;
 use crate::listed::all_fit;
-use crate::structs::{Ipv4InC, Ipv6InC};
 use crate::tables::find;
-use ipnetwork::{Ipv4Network, Ipv6Network};
 use ipnetwork_blocks::AddressSpace;
 
 /// The place that stands for no block.
 pub(crate) const NO_PLACE: usize = usize::MAX;
 
-/// Cuts the addresses into ranges where the blocks of a table begin and after their ends, so that
-/// all addresses of one have the same longest block: to the front of `ranges` the first address of
-/// each, as the network of it alone, in ascending order, to the front of `places` the place of that
-/// block, or the greatest number if there is none, and how many they are to `count`. An address
-/// before all of them has no block. What comes after them stays as it is. `PREFIX` if the prefix
-/// length of a struct is greater than 32, else `SHORT_BUFFER` if there is room for fewer ranges or
-/// places than two of each block.
-#[unsafe(no_mangle)]
-pub extern "C" fn ipnetwork_v4_ranges_make(
-    blocks: &[Ipv4InC],
-    ranges: &mut [Ipv4InC],
-    places: &mut [usize],
-    count: &mut usize,
-) -> u32
-    ensures { MakesRanges 32 v4_in blocks.now ((ranges.old, places.old), count.old)
-        ((ranges.new, places.new), count.new) result }
-{
-    make::<Ipv4Network, Ipv4InC>(blocks, ranges, places, count)
-}
-
-/// The same of IPv6, for prefix lengths up to 128.
-#[unsafe(no_mangle)]
-pub extern "C" fn ipnetwork_v6_ranges_make(
-    blocks: &[Ipv6InC],
-    ranges: &mut [Ipv6InC],
-    places: &mut [usize],
-    count: &mut usize,
-) -> u32
-    ensures { MakesRanges 128 v6_in blocks.now ((ranges.old, places.old), count.old)
-        ((ranges.new, places.new), count.new) result }
-{
-    make::<Ipv6Network, Ipv6InC>(blocks, ranges, places, count)
-}
-
-// Sorts where the blocks begin and end, and asks the blocks for the first address of each range.
-fn make<N: AddressSpace, H: Guessed<N>>(
+/// Sorts where the blocks begin and end, and asks the blocks for the first address of each range.
+pub(crate) fn make<N: AddressSpace, H: Guessed<N>>(
     blocks: &[H],
     ranges: &mut [H],
     places: &mut [usize],

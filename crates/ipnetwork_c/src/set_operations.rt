@@ -1,16 +1,13 @@
 //! The union, the common part and the difference of two sets, as lists in the caller's memory.
 ghost use Rattle.std.specs.Prelude.{map};
-ghost use Rattle.ipnetwork_sets.specs.Sets.{HoldSet, InEither, InBoth, InFirstAlone};
-ghost use Rattle.ipnetwork_c.specs.Held.{v4_in, v6_in};
+ghost use Rattle.ipnetwork_sets.specs.Sets.{HoldSet};
 ghost use Rattle.ipnetwork_c.specs.Sets.{SetOperation};
 ghost use Rattle.ipnetwork_c.specs.Private.Kept.{kept_by};
 ghost use Rattle.ipnetwork_c.specs.Private.Writing.{PutsSet};
 
 use crate::fault::{NO_SET, OK, PREFIX, SHORT_BUFFER};
 use crate::listed::{Listed, all_fit};
-use crate::structs::{Ipv4InC, Ipv6InC};
 use crate::writing::{put_blocks, to_usize};
-use ipnetwork::{Ipv4Network, Ipv6Network};
 use ipnetwork_blocks::AddressSpace;
 use ipnetwork_sets::{Difference, Intersection, Union, is_address_set};
 
@@ -25,8 +22,8 @@ pub(crate) enum Operation {
     Difference,
 }
 
-// Puts the blocks of what an operation leaves of two sets in the front of `blocks`, and their number in `count`.
-fn operate<N: AddressSpace, H: Listed<N>>(
+/// Puts the blocks of what an operation leaves of two sets in the front of `blocks`, and their number in `count`.
+pub(crate) fn operate<N: AddressSpace, H: Listed<N>>(
     operation: Operation,
     first: &[H],
     second: &[H],
@@ -74,92 +71,4 @@ fn put_kept<N: AddressSpace, H: Listed<N>>(
             put_blocks::<N, H, Difference<'_, N, H>>(Difference::of(first, second), list)
         }
     }
-}
-
-/// Writes the blocks of the addresses that are in one of two sets or in both, to the front of `blocks`: the fewest
-/// possible, in ascending order. `count` is their number, at most that of both lists together. `SHORT_BUFFER` if there
-/// is no room for them, and then only `count` is written. `PREFIX` if a prefix length of one list is greater than 32,
-/// else `NO_SET` if one of the lists is not that of a set, as `ipnetwork_v4_aggregate` leaves it.
-#[unsafe(no_mangle)]
-pub extern "C" fn ipnetwork_v4_union(
-    first: &[Ipv4InC],
-    second: &[Ipv4InC],
-    blocks: &mut [Ipv4InC],
-    count: &mut usize,
-) -> u32
-    ensures { SetOperation 32 v4_in (InEither 32) first.now second.now (blocks.old, count.old)
-        (blocks.new, count.new) result }
-{
-    operate::<Ipv4Network, Ipv4InC>(Operation::Union, first, second, blocks, count)
-}
-
-/// The same for IPv6, for prefix lengths up to 128.
-#[unsafe(no_mangle)]
-pub extern "C" fn ipnetwork_v6_union(
-    first: &[Ipv6InC],
-    second: &[Ipv6InC],
-    blocks: &mut [Ipv6InC],
-    count: &mut usize,
-) -> u32
-    ensures { SetOperation 128 v6_in (InEither 128) first.now second.now (blocks.old, count.old)
-        (blocks.new, count.new) result }
-{
-    operate::<Ipv6Network, Ipv6InC>(Operation::Union, first, second, blocks, count)
-}
-
-/// Writes the blocks of the addresses that are in both sets, as `ipnetwork_v4_union` writes those of its own.
-#[unsafe(no_mangle)]
-pub extern "C" fn ipnetwork_v4_intersection(
-    first: &[Ipv4InC],
-    second: &[Ipv4InC],
-    blocks: &mut [Ipv4InC],
-    count: &mut usize,
-) -> u32
-    ensures { SetOperation 32 v4_in (InBoth 32) first.now second.now (blocks.old, count.old)
-        (blocks.new, count.new) result }
-{
-    operate::<Ipv4Network, Ipv4InC>(Operation::Intersection, first, second, blocks, count)
-}
-
-/// The same for IPv6, for prefix lengths up to 128.
-#[unsafe(no_mangle)]
-pub extern "C" fn ipnetwork_v6_intersection(
-    first: &[Ipv6InC],
-    second: &[Ipv6InC],
-    blocks: &mut [Ipv6InC],
-    count: &mut usize,
-) -> u32
-    ensures { SetOperation 128 v6_in (InBoth 128) first.now second.now (blocks.old, count.old)
-        (blocks.new, count.new) result }
-{
-    operate::<Ipv6Network, Ipv6InC>(Operation::Intersection, first, second, blocks, count)
-}
-
-/// Writes the blocks of the addresses that are in the first set and not in the second, as `ipnetwork_v4_union` writes
-/// those of its own. There may be more of them than both lists have together.
-#[unsafe(no_mangle)]
-pub extern "C" fn ipnetwork_v4_difference(
-    first: &[Ipv4InC],
-    second: &[Ipv4InC],
-    blocks: &mut [Ipv4InC],
-    count: &mut usize,
-) -> u32
-    ensures { SetOperation 32 v4_in (InFirstAlone 32) first.now second.now (blocks.old, count.old)
-        (blocks.new, count.new) result }
-{
-    operate::<Ipv4Network, Ipv4InC>(Operation::Difference, first, second, blocks, count)
-}
-
-/// The same for IPv6, for prefix lengths up to 128.
-#[unsafe(no_mangle)]
-pub extern "C" fn ipnetwork_v6_difference(
-    first: &[Ipv6InC],
-    second: &[Ipv6InC],
-    blocks: &mut [Ipv6InC],
-    count: &mut usize,
-) -> u32
-    ensures { SetOperation 128 v6_in (InFirstAlone 128) first.now second.now
-        (blocks.old, count.old) (blocks.new, count.new) result }
-{
-    operate::<Ipv6Network, Ipv6InC>(Operation::Difference, first, second, blocks, count)
 }

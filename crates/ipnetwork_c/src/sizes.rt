@@ -1,9 +1,13 @@
 //! How many members a network has, and which of them has a number, also of the network of all addresses.
 ghost use Rattle.std.specs.Prelude.{◌≡◌, ◌+◌, ◌^◌, ◌<◌, ◌≤◌, ◌++◌, ◌∷◌, [], length, MatchOption};
+ghost use Rattle.ipnetwork_addr.specs.Digits.{octets_of, octets_of_v6};
 ghost use Rattle.ipnetwork_family.specs.Network.{low, high, members};
-ghost use Rattle.ipnetwork_c.specs.Answers.{HasSize, IsNth};
-ghost use Rattle.ipnetwork_c.specs.Held.{number_of_octets};
+ghost use Rattle.ipnetwork_c.specs.Answers.{HasSize, IfFit, IsNth, WritesMember};
+ghost use Rattle.ipnetwork_c.specs.Held.{v4_in, v6_in, PrefixFits, number_of_octets};
+ghost use Rattle.ipnetwork_c.specs.Outcomes.{Writes};
 
+use crate::fault::{NO_MEMBER, OK, PREFIX};
+use crate::structs::{Ipv4InC, Ipv6InC, address_of};
 use ipnetwork::{Ipv4Addr, Ipv4Network, Ipv6Addr, Ipv6Network};
 use ipnetwork_family::{Address, Network};
 
@@ -60,9 +64,9 @@ fn last_index<A: Numbered>(network: &Network<A>) -> u128
     greatest - least
 }
 
-/// The member number `n`, counted from 0 in ascending order.
+// The member number `n`, counted from 0 in ascending order.
 #[tactic(auto, using(crate::proofs::MemberCounts::ends_apart))]
-pub(crate) fn nth<A: Numbered>(network: &Network<A>, n: u128) -> Option<A>
+fn nth<A: Numbered>(network: &Network<A>, n: u128) -> Option<A>
     ensures { MatchOption result (length (members A.WIDTH network.now) ≤ n)
         (λ member. IsNth A.WIDTH network.now n (A.number member)) }
 {
@@ -73,15 +77,15 @@ pub(crate) fn nth<A: Numbered>(network: &Network<A>, n: u128) -> Option<A>
     Some(A::from_number(least + n))
 }
 
-/// The number of members of an IPv4 network.
-pub(crate) fn v4_size(network: &Ipv4Network) -> u64
+// The number of members of an IPv4 network.
+fn v4_size(network: &Ipv4Network) -> u64
     ensures { HasSize 32 network.now result }
 {
     last_index(network) as u64 + 1
 }
 
-/// The number of members of an IPv6 network as 17 octets, the highest first.
-pub(crate) fn v6_size(network: &Ipv6Network) -> [u8; 17]
+// The number of members of an IPv6 network as 17 octets, the highest first.
+fn v6_size(network: &Ipv6Network) -> [u8; 17]
     ensures { HasSize 128 network.now (number_of_octets result) }
 {
     let last = last_index(network);
@@ -98,4 +102,68 @@ fn followed_by(front: [u8; 16], lowest: u8) -> [u8; 17]
     let mut octets = [lowest; 17];
     octets[..16].copy_from_slice(&front);
     octets
+}
+
+/// The number of members, 2^32 at prefix length 0. `PREFIX` if the prefix length is greater than 32.
+#[unsafe(no_mangle)]
+pub extern "C" fn ipnetwork_v4_size(network: &Ipv4InC, size: &mut u64) -> u32
+    ensures { IfFit (PrefixFits 32 (v4_in network.now))
+        (Writes (HasSize 32 (v4_in network.now))) size.old size.new result }
+{
+    let Some(v4) = network.network() else {
+        return PREFIX;
+    };
+    *size = v4_size(&v4);
+    OK
+}
+
+/// The number of members of an IPv6 network, 2^128 at prefix length 0, as 17 octets, the highest first. `PREFIX` if the
+/// prefix length is greater than 128.
+#[unsafe(no_mangle)]
+pub extern "C" fn ipnetwork_v6_size(network: &Ipv6InC, size: &mut [u8; 17]) -> u32
+    ensures { IfFit (PrefixFits 128 (v6_in network.now))
+        (Writes (λ octets. HasSize 128 (v6_in network.now) (number_of_octets octets))) size.old
+        size.new result }
+{
+    let Some(v6) = network.network() else {
+        return PREFIX;
+    };
+    *size = v6_size(&v6);
+    OK
+}
+
+/// The member number `n`, counted from 0 in ascending order; `NO_MEMBER` if the network has no more than `n` members.
+/// `PREFIX` if the prefix length is greater than 32.
+#[unsafe(no_mangle)]
+pub extern "C" fn ipnetwork_v4_nth(network: &Ipv4InC, n: u32, address: &mut [u8; 4]) -> u32
+    ensures { WritesMember 32 octets_of (v4_in network.now) n address.old address.new result }
+{
+    match network.network() {
+        Some(network) => match nth(&network, u128::from(n)) {
+            Some(member) => {
+                *address = member.octets();
+                OK
+            }
+            None => NO_MEMBER,
+        },
+        None => PREFIX,
+    }
+}
+
+/// The same for IPv6, for prefix lengths up to 128. The number is 16 octets, the highest first.
+#[unsafe(no_mangle)]
+pub extern "C" fn ipnetwork_v6_nth(network: &Ipv6InC, n: &[u8; 16], address: &mut [u8; 16]) -> u32
+    ensures { WritesMember 128 octets_of_v6 (v6_in network.now)
+        (number_of_octets n.now) address.old address.new result }
+{
+    match network.network() {
+        Some(network) => match nth(&network, u128::from(address_of(n))) {
+            Some(member) => {
+                *address = member.octets();
+                OK
+            }
+            None => NO_MEMBER,
+        },
+        None => PREFIX,
+    }
 }

@@ -1,14 +1,12 @@
 //! The structs of the header, and the networks that they stand for.
-ghost use Rattle.std.specs.Prelude.{◌≡◌, ◌↔◌, IsTrue, MatchOption};
+ghost use Rattle.std.specs.Prelude.{◌≡◌};
 ghost use Rattle.ipnetwork_addr.specs.Digits.{octets_of_v6};
-ghost use Rattle.ipnetwork_family.specs.Network.{Member};
-ghost use Rattle.std.specs.Option.{SomeIff};
-ghost use Rattle.ipnetwork_c.specs.Held.{v4_in, v6_in, PrefixFits, HoldsV4, HoldsV6, number_of_octets};
+ghost use Rattle.ipnetwork_c.specs.Held.{number_of_octets};
 ghost use Rattle.ipnetwork_c.specs.Either.{HoldsIp};
 ghost use Rattle.ipnetwork_c.specs.Private.Structs.{HeldNetwork};
 
 use crate::fault::{NO_FAMILY, PREFIX};
-use ipnetwork::{IpNetwork, Ipv4Addr, Ipv4Network, Ipv6Addr, Ipv6Network};
+use ipnetwork::{IpNetwork, Ipv6Addr, Ipv6Network};
 use std::simd::prelude::*;
 
 /// An IPv4 network as C holds it. Nothing is known of its prefix length.
@@ -21,25 +19,6 @@ pub struct Ipv4InC {
     pub prefix: u8,
 }
 
-impl Ipv4InC {
-    /// The struct that holds a network.
-    pub(crate) fn of(network: &Ipv4Network) -> Self
-        ensures { HoldsV4 result network.now }
-    {
-        Ipv4InC {
-            address: network.ip().octets(),
-            prefix: network.prefix(),
-        }
-    }
-
-    /// The network, if the prefix length is at most 32.
-    pub(crate) fn network(&self) -> Option<Ipv4Network>
-        ensures { SomeIff result (PrefixFits 32 (v4_in self.now)) (v4_in self.now) }
-    {
-        Ipv4Network::new_checked(Ipv4Addr::from(self.address), self.prefix)
-    }
-}
-
 /// An IPv6 network as C holds it. Nothing is known of its prefix length.
 #[repr(C)]
 #[derive(Clone, Copy)]
@@ -48,49 +27,6 @@ pub struct Ipv6InC {
     pub address: [u8; 16],
     /// The prefix length.
     pub prefix: u8,
-}
-
-impl Ipv6InC {
-    /// The struct that holds a network.
-    pub(crate) fn of(network: &Ipv6Network) -> Self
-        ensures { HoldsV6 result network.now }
-    {
-        Ipv6InC {
-            address: network.ip().octets(),
-            prefix: network.prefix(),
-        }
-    }
-
-    /// The network, if the prefix length is at most 128.
-    pub(crate) fn network(&self) -> Option<Ipv6Network>
-        ensures { SomeIff result (PrefixFits 128 (v6_in self.now)) (v6_in self.now) }
-    {
-        Ipv6Network::new_checked(address_of(&self.address), self.prefix)
-    }
-
-    /// Whether an address of 16 octets lies in the network's set, if the prefix length is at most 128.
-    pub(crate) fn contains(&self, address: &[u8; 16]) -> Option<bool>
-        ensures { MatchOption result (¬ (PrefixFits 128 (v6_in self.now)))
-            (λ answer. PrefixFits 128 (v6_in self.now)
-            × (IsTrue answer ↔ Member 128 (v6_in self.now) (number_of_octets address.now))) }
-    {
-        if self.prefix > 128 {
-            return None;
-        }
-        Some(self.has(address))
-    }
-
-    /// The same for a struct whose prefix length was checked.
-    #[inline(always)]
-    pub(crate) fn has(&self, address: &[u8; 16]) -> bool
-        requires { PrefixFits 128 (v6_in self.now) }
-        ensures { IsTrue result ↔ Member 128 (v6_in self.now) (number_of_octets address.now) }
-    {
-        match self.network() {
-            Some(network) => network.contains(address_of(address)),
-            None => unreachable!(),
-        }
-    }
 }
 
 /// The family of an `IpInC` whose network is an IPv4 network.

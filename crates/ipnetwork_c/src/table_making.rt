@@ -3,49 +3,16 @@ ghost use Rattle.std.specs.Prelude.{◌≡◌, ℕ, ◌<◌, length, map, slice_
 ghost use Rattle.std.specs.List.{All, range_with_len};
 ghost use Rattle.std.specs.List.Sorted.{IsPermutation, IsSorted};
 ghost use Rattle.ipnetwork_family.specs.Network.{Network, IsCidrBlock};
-ghost use Rattle.ipnetwork_c.specs.Held.{v4_in, v6_in};
 ghost use Rattle.ipnetwork_c.specs.Tables.{MakesTable, row_block};
 ghost use Rattle.ipnetwork_c.specs.Private.Tables.{place_cmp};
 
 use crate::fault::{OK, PREFIX, SHORT_BUFFER};
 use crate::listed::{Listed, all_fit};
-use crate::structs::{Ipv4InC, Ipv6InC};
-use ipnetwork::{Ipv4Network, Ipv6Network};
 use ipnetwork_blocks::AddressSpace;
 use std::cmp::Ordering;
 
-/// Makes a table of networks in any order, host bits or not: their blocks in ascending order to the front of `blocks`,
-/// and to the front of `places` the index in `networks` of each. Blocks that are equal come in the order of their
-/// networks, so that `ipnetwork_v4_table_find` finds that of the last one. What comes after them stays as it is.
-/// `PREFIX` if the prefix length of a network is greater than 32, else `SHORT_BUFFER` if there is room for fewer blocks
-/// or places than networks.
-#[unsafe(no_mangle)]
-pub extern "C" fn ipnetwork_v4_table_make(
-    networks: &[Ipv4InC],
-    blocks: &mut [Ipv4InC],
-    places: &mut [usize],
-) -> u32
-    ensures { MakesTable 32 v4_in networks.now (blocks.old, places.old)
-        (blocks.new, places.new) result }
-{
-    make::<Ipv4Network, Ipv4InC>(networks, blocks, places)
-}
-
-/// The same of IPv6, for prefix lengths up to 128.
-#[unsafe(no_mangle)]
-pub extern "C" fn ipnetwork_v6_table_make(
-    networks: &[Ipv6InC],
-    blocks: &mut [Ipv6InC],
-    places: &mut [usize],
-) -> u32
-    ensures { MakesTable 128 v6_in networks.now (blocks.old, places.old)
-        (blocks.new, places.new) result }
-{
-    make::<Ipv6Network, Ipv6InC>(networks, blocks, places)
-}
-
-// Sorts the places of the networks by their blocks, and puts these in that order.
-fn make<N: AddressSpace, H: Listed<N>>(
+/// Sorts the places of the networks by their blocks, and puts these in that order.
+pub(crate) fn make<N: AddressSpace, H: Listed<N>>(
     networks: &[H],
     blocks: &mut [H],
     places: &mut [usize],

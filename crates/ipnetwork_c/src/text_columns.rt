@@ -2,14 +2,12 @@
 //! offsets at which each begins and the last ends.
 ghost use Rattle.std.specs.Prelude.{◌↔◌, ◌<◌, IsTrue};
 ghost use Rattle.ipnetwork_c.specs.Either.{ReadsAddress};
-ghost use Rattle.ipnetwork_c.specs.TextColumns.{AreOffsets, ReadsColumn, v4_reads, v6_reads, ip_reads, ip_reads_with_cause};
+ghost use Rattle.ipnetwork_c.specs.TextColumns.{AreOffsets, ReadsColumn, ip_reads, ip_reads_with_cause};
 
 use crate::address::{AddressInC, ipnetwork_address_read};
 use crate::either::{ipnetwork_read, ipnetwork_read_with_cause};
 use crate::fault::{NO_OFFSETS, OK, SHORT_BUFFER};
-use crate::ipv4::ipnetwork_v4_read;
-use crate::ipv6::ipnetwork_v6_read;
-use crate::structs::{IpInC, IpWithCauseInC, Ipv4InC, Ipv6InC};
+use crate::structs::{IpInC, IpWithCauseInC};
 
 /// What a row is read into.
 pub(crate) trait ReadsRow {
@@ -22,22 +20,6 @@ pub(crate) trait ReadsRow {
     fn read_row(&mut self, text: &[u8]) -> u32
         ensures read { reads text.now self.old self.new result }
         ensures byte { result < 256 };
-}
-
-impl ReadsRow for Ipv4InC {
-    ghost reads = { v4_reads };
-
-    fn read_row(&mut self, text: &[u8]) -> u32 {
-        ipnetwork_v4_read(text, self)
-    }
-}
-
-impl ReadsRow for Ipv6InC {
-    ghost reads = { v6_reads };
-
-    fn read_row(&mut self, text: &[u8]) -> u32 {
-        ipnetwork_v6_read(text, self)
-    }
 }
 
 impl ReadsRow for IpInC {
@@ -84,7 +66,9 @@ fn are_offsets(texts: &[u8], offsets: &[u32]) -> bool
 }
 
 /// Reads each text into the row of its place, and its fault into the fault of that place.
-fn read_rows<R: ReadsRow>(texts: &[u8], offsets: &[u32], rows: &mut [R], faults: &mut [u8]) -> u32
+pub(crate) fn read_rows<R>(texts: &[u8], offsets: &[u32], rows: &mut [R], faults: &mut [u8]) -> u32
+where
+    R: ReadsRow,
     ensures { ReadsColumn R.reads texts.now offsets.now (rows.old, faults.old)
         (rows.new, faults.new) result }
 {
@@ -102,77 +86,4 @@ fn read_rows<R: ReadsRow>(texts: &[u8], offsets: &[u32], rows: &mut [R], faults:
         faults[row] = fault as u8;
     }
     OK
-}
-
-/// Reads the IPv4 network of each text of a column: row i and fault i are what `ipnetwork_v4_read` writes and returns
-/// for text i. A text that names no network does not stop the reading. There is one text less than offsets; text i goes
-/// from offset i to the next. `NO_OFFSETS` if an offset is less than the one before, or greater than the length of the
-/// texts; else `SHORT_BUFFER` if there are fewer rows or faults than texts.
-#[unsafe(no_mangle)]
-pub extern "C" fn ipnetwork_v4_read_column(
-    texts: &[u8],
-    offsets: &[u32],
-    networks: &mut [Ipv4InC],
-    faults: &mut [u8],
-) -> u32
-    ensures { ReadsColumn v4_reads texts.now offsets.now (networks.old, faults.old)
-        (networks.new, faults.new) result }
-{
-    read_rows(texts, offsets, networks, faults)
-}
-
-/// The same for IPv6 networks, as `ipnetwork_v6_read` reads them.
-#[unsafe(no_mangle)]
-pub extern "C" fn ipnetwork_v6_read_column(
-    texts: &[u8],
-    offsets: &[u32],
-    networks: &mut [Ipv6InC],
-    faults: &mut [u8],
-) -> u32
-    ensures { ReadsColumn v6_reads texts.now offsets.now (networks.old, faults.old)
-        (networks.new, faults.new) result }
-{
-    read_rows(texts, offsets, networks, faults)
-}
-
-/// The same for networks of either family, as `ipnetwork_read` reads them.
-#[unsafe(no_mangle)]
-pub extern "C" fn ipnetwork_read_column(
-    texts: &[u8],
-    offsets: &[u32],
-    networks: &mut [IpInC],
-    faults: &mut [u8],
-) -> u32
-    ensures { ReadsColumn ip_reads texts.now offsets.now (networks.old, faults.old)
-        (networks.new, faults.new) result }
-{
-    read_rows(texts, offsets, networks, faults)
-}
-
-/// The same for networks of either family, as `ipnetwork_read_with_cause` reads them.
-#[unsafe(no_mangle)]
-pub extern "C" fn ipnetwork_read_with_cause_column(
-    texts: &[u8],
-    offsets: &[u32],
-    networks: &mut [IpWithCauseInC],
-    faults: &mut [u8],
-) -> u32
-    ensures { ReadsColumn ip_reads_with_cause texts.now offsets.now (networks.old, faults.old)
-        (networks.new, faults.new) result }
-{
-    read_rows(texts, offsets, networks, faults)
-}
-
-/// The same for addresses of either family, as `ipnetwork_address_read` reads them.
-#[unsafe(no_mangle)]
-pub extern "C" fn ipnetwork_address_read_column(
-    texts: &[u8],
-    offsets: &[u32],
-    addresses: &mut [AddressInC],
-    faults: &mut [u8],
-) -> u32
-    ensures { ReadsColumn ReadsAddress texts.now offsets.now (addresses.old, faults.old)
-        (addresses.new, faults.new) result }
-{
-    read_rows(texts, offsets, addresses, faults)
 }

@@ -1,0 +1,131 @@
+//! Lists asked for many addresses in one call, a row for each.
+ghost use Rattle.ipnetwork_c.specs.Columns.{AsksEach};
+ghost use Rattle.ipnetwork_c.specs.Held.{v4_in, v6_in, number_of_octets};
+ghost use Rattle.ipnetwork_c.specs.Lists.{SetQuery};
+ghost use Rattle.ipnetwork_c.specs.Ranges.{RangeQuery};
+ghost use Rattle.ipnetwork_c.specs.Tables.{TableQuery};
+
+use crate::fault::{OK, SHORT_BUFFER};
+use crate::guessed::Guessed;
+use crate::guesses::Guesses;
+use crate::halves::{self, Parts};
+use crate::ranges::place_near;
+use crate::structs::{Ipv4InC, Ipv6InC, number_of_four};
+use crate::{sets, tables};
+use ipnetwork::{Ipv4Network, Ipv6Network};
+use ipnetwork_blocks::AddressSpace;
+
+/// The fault of the call that asks a set for one address, as a byte, with a guess of where the search ends.
+#[inline(always)]
+pub(crate) fn v4_contains(
+    blocks: &[Ipv4InC],
+    index: &[u32],
+    address: &[u8; 4],
+    guess: usize,
+    answer: &mut u8,
+) -> u8
+    ensures { SetQuery 32 v4_in blocks.now
+        (number_of_octets address.now) answer.old answer.new result }
+{
+    let number = number_of_four(address);
+    sets::contains_near::<Ipv4Network, Ipv4InC>(blocks, index, number, guess, answer) as u8
+}
+
+/// The same of IPv6; the high half of the address is asked first.
+pub(crate) fn v6_contains(
+    blocks: &[Ipv6InC],
+    index: &[u32],
+    parts: Option<Parts>,
+    address: &[u8; 16],
+    answer: &mut u8,
+) -> u8
+    ensures { SetQuery 128 v6_in blocks.now
+        (number_of_octets address.now) answer.old answer.new result }
+{
+    if let Some(parts) = parts {
+        if let Some(found) = halves::contains(blocks, index, parts, address) {
+            *answer = found;
+            return OK as u8;
+        }
+    }
+    sets::contains::<Ipv6Network, Ipv6InC>(blocks, index, address, answer) as u8
+}
+
+/// Puts for each address the place of the longest block that has it, and its fault, by an index of
+/// the blocks, or by none.
+#[inline(always)]
+pub(crate) fn table_find_each<N: AddressSpace, H: Guessed<N>>(
+    blocks: &[H],
+    index: &[u32],
+    addresses: &[H::Octets],
+    places: &mut [usize],
+    faults: &mut [u8],
+) -> u32
+    ensures { AsksEach H.no_octets
+        (λ octets. TableQuery N.WIDTH H.held blocks.now (H.meant octets)) addresses.now
+        (places.old, faults.old) (places.new, faults.new) result }
+{
+    if places.len() < addresses.len() || faults.len() < addresses.len() {
+        return SHORT_BUFFER;
+    }
+    for (row, address) in addresses.iter().enumerate() {
+        faults[row] = table_find_one::<N, H>(blocks, index, address, &mut places[row]);
+    }
+    OK
+}
+
+// The fault of the call for one address, as a byte.
+#[inline(always)]
+fn table_find_one<N: AddressSpace, H: Guessed<N>>(
+    blocks: &[H],
+    index: &[u32],
+    address: &H::Octets,
+    place: &mut usize,
+) -> u8
+    ensures { TableQuery N.WIDTH H.held blocks.now (H.meant address.now) place.old place.new
+        result }
+{
+    tables::find::<N, H>(blocks, index, H::address_in(address), place) as u8
+}
+
+/// Puts for each address the place that the ranges tell, and its fault.
+#[inline(always)]
+pub(crate) fn ranges_find_each<N: AddressSpace, H: Guessed<N>>(
+    addresses: &[H::Octets],
+    places: &mut [usize],
+    faults: &mut [u8],
+    ranges: &[H],
+    told: &[usize],
+    index: &[u32],
+) -> u32
+    ensures { AsksEach H.no_octets
+        (λ octets. RangeQuery H.held ranges.now told.now (H.meant octets)) addresses.now
+        (places.old, faults.old) (places.new, faults.new) result }
+{
+    let mut guesses = Guesses::new();
+    if places.len() < addresses.len() || faults.len() < addresses.len() {
+        return SHORT_BUFFER;
+    }
+    for (row, address) in addresses.iter().enumerate() {
+        let near = guesses.of_row::<N, H>(ranges, index, addresses, row);
+        faults[row] = ranges_find_one::<N, H>(address, near, &mut places[row], ranges, told, index);
+    }
+    OK
+}
+
+// The fault of the call for one address, as a byte.
+#[inline(always)]
+fn ranges_find_one<N: AddressSpace, H: Guessed<N>>(
+    address: &H::Octets,
+    guess: usize,
+    place: &mut usize,
+    ranges: &[H],
+    told: &[usize],
+    index: &[u32],
+) -> u8
+    ensures { RangeQuery H.held ranges.now told.now (H.meant address.now) place.old place.new
+        result }
+{
+    let number = H::number_in(address);
+    place_near::<N, H>(ranges, told, index, number, guess, place) as u8
+}
