@@ -123,7 +123,25 @@ with_option request choices.Text = record request { shared = record (request.sha
 
 -- without options bad lines are dropped, and all lines may be selected
 abbrev pub no_options : Request
-no_options = record { letters = letters_in []; shared = shared.no_options; most = None; longest = false; bad = without.Drop; files = 0 }
+no_options = record {
+  letters = record {
+    inverts = false;
+    counts = false;
+    anywhere = false;
+    words = false;
+    only = false;
+    named = false;
+    unnamed = false;
+    numbered = false;
+    names = false;
+    quiet = false;
+  };
+  shared = shared.no_options;
+  most = None;
+  longest = false;
+  bad = without.Drop;
+  files = 0;
+}
 
 -- the text of the last `--after` among options, or an empty one
 abbrev pub text_after : {Z : Type 0} → List (String Z) → List ℕ

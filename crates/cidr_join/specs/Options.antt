@@ -96,4 +96,13 @@ with_option request (choices.Group lengths) = record request { group = Some leng
 
 -- without options values stand before lines
 abbrev pub no_options : Request
-no_options = record { letters = letters_in []; shared = shared.no_options; last = false; last_wins = false; network = false; tally = false; group = None; files = 0 }
+no_options = record {
+  letters = record { anywhere = false; words = false };
+  shared = shared.no_options;
+  last = false;
+  last_wins = false;
+  network = false;
+  tally = false;
+  group = None;
+  files = 0;
+}

@@ -38,8 +38,8 @@ pub(crate) fn route_bits(ranges: usize) -> u32
 }
 
 // How large the parts are, as a power of two, in which numbers of 32 bits that end ranges are known
-// by their low halves: from 2^16 ranges on a part has one to eight of them, up to 2^23, and at least
-// two from 2^17 on.
+// by their low halves: a part has less than eight of them, up to 2^23, and at least two from 2^17
+// on.
 pub(crate) fn low_shift(ranges: usize) -> u32
     ensures least { 12 ≤ result }
     ensures most { result ≤ 16 }

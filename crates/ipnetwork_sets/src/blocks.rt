@@ -1,5 +1,5 @@
 //! The blocks of a set, one after the other.
-ghost use Rattle.std.specs.Prelude.{◌≡◌, List, MatchOption, [], ◌∷◌, map};
+ghost use Rattle.std.specs.Prelude.{◌≡◌, List, MatchOption, [], ◌∷◌};
 ghost use Rattle.std.specs.Iterator.{YieldsFirstBy, item_count};
 ghost use Rattle.ipnetwork_family.specs.Network.{Network};
 ghost use Rattle.ipnetwork_sets.specs.Sets.{IsAddressSet};
