@@ -13,6 +13,7 @@ use Rattle.lines.specs.Outputs.{Written}
 use Rattle.program.specs.Messages.{Tells}
 use Rattle.program.proofs.Told.{tells_more, tells_same, tells_nothing}
 use Rattle.cidr_merge.specs.Findings.{LineFindings, LinesFindings, ListsFindings, IsFound}
+use Rattle.cidr_merge.specs.Private.Reported.{TellsFound}
 use Rattle.cidr_merge.proofs.InTurn.{in_turn_more}
 use Rattle.cidr_merge.proofs.Places.{both_up_to_next, both_whole}
 
@@ -90,8 +91,8 @@ module _ (strictly : Bool) where
   pub told_more : {W : Type 0} (name text left after line : List ℕ) (old mid new : Written W)
       (number : ℕ) (found more both : Bool) → Told name text old mid number found left
       → lines left ≡ line ∷ lines after
-      → ((one : List (List ℕ)) × LineFindings strictly name (number + 1) line one
-      × Tells mid new (concat one) × IsFound one more) → both ≡ (found || more)
+      → TellsFound (LineFindings strictly name (number + 1) line) mid new more
+      → both ≡ (found || more)
       → Told name text old new (number + 1) both after
   told_more name text left after line old mid new number found more both h e k b = (
     h.0 ++ line ∷ [],
@@ -106,8 +107,7 @@ module _ (strictly : Bool) where
 
   pub all_told : {W : Type 0} (name text left : List ℕ) (old new : Written W) (number : ℕ)
       (found : Bool) → Told name text old new number found left → lines left ≡ []
-      → (findings : List (List ℕ)) × LinesFindings strictly name 1 (lines text) findings
-      × Tells old new (concat findings) × IsFound findings found
+      → TellsFound (LinesFindings strictly name 1 (lines text)) old new found
   all_told name text left old new number found h e = (
     h.1,
     subst (λ ls. LinesFindings strictly name 1 ls h.1)
@@ -122,14 +122,12 @@ module _ (strictly : Bool) where
       (old mid new : Written W) (found more both : Bool)
       → place < length names → length texts ≡ length names → name ≡ get_or names place name
       → text ≡ get_or texts place text → word ≡ string_bytes name → bytes ≡ items text
-      → ((findings : List (List ℕ)) × ListsFindings strictly (take place names)
-      (take place (map items texts)) findings × Tells old mid (concat findings)
-      × IsFound findings found)
-      → ((findings : List (List ℕ)) × LinesFindings strictly word 1 (lines bytes) findings
-      × Tells mid new (concat findings) × IsFound findings more) → both ≡ (found || more)
-      → (findings : List (List ℕ)) × ListsFindings strictly (take (place + 1) names)
-      (take (place + 1) (map items texts)) findings × Tells old new (concat findings)
-      × IsFound findings both
+      → TellsFound (ListsFindings strictly (take place names) (take place (map items texts)))
+      old mid found
+      → TellsFound (LinesFindings strictly word 1 (lines bytes)) mid new more
+      → both ≡ (found || more)
+      → TellsFound (ListsFindings strictly (take (place + 1) names)
+      (take (place + 1) (map items texts))) old new both
   lists_told_more items names texts place name text word bytes old mid new found more both l e is
       are w b h k both_is =
       let at : get_or (map items texts) place (items text) ≡ items (get_or texts place text) =
@@ -145,10 +143,8 @@ module _ (strictly : Bool) where
 
   pub all_lists_told : {Z W : Type 0} (names : List (String Z)) (texts : List (List ℕ)) (place : ℕ)
       (old new : Written W) (found : Bool) → length names ≤ place → length texts ≡ length names
-      → ((findings : List (List ℕ)) × ListsFindings strictly (take place names)
-      (take place texts) findings × Tells old new (concat findings) × IsFound findings found)
-      → (findings : List (List ℕ)) × ListsFindings strictly names texts findings
-      × Tells old new (concat findings) × IsFound findings found
+      → TellsFound (ListsFindings strictly (take place names) (take place texts)) old new found
+      → TellsFound (ListsFindings strictly names texts) old new found
   all_lists_told names texts place old new found l e h = (
     h.0,
     both_whole (λ ns ts. ListsFindings strictly ns ts h.0) names texts place l e h.1,

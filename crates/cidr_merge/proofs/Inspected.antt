@@ -23,6 +23,7 @@ use Rattle.cidr_merge.specs.InspectionRuns.{findings_status, EndsChecking, EndsF
 use Rattle.cidr_merge.specs.InspectionRuns.{EndsInspecting, WritesFindings}
 use Rattle.cidr_merge.specs.Inspections.{inspection_fault}
 use Rattle.cidr_merge.specs.Texts.{AreTexts, TextsStop}
+use Rattle.cidr_merge.specs.Private.Reported.{TellsFound}
 use Rattle.cidr_merge.specs.Problems.{problem_text}
 use Rattle.cidr_merge.specs.Writing.{FailsToWrite}
 use Rattle.cidr_merge.specs.declared.inspections.Inspection.{Inspection}
@@ -75,8 +76,7 @@ findings_written findings end mid (Err fault) found status tells f s wrote works
 
 pub checked : {Z W E T : Type 0} (names : List (String Z)) (texts : List (List ℕ))
     (end : Ending W E) (mid : Written W) (written : Result T RunFault) (found : Bool) (status : ℕ)
-    → ((findings : List (List ℕ)) × ListsFindings false names texts findings
-    × Tells end.output mid (concat findings) × IsFound findings found)
+    → TellsFound (ListsFindings false names texts) end.output mid found
     → status ≡ (if found then 1 else 0)
     → OnOk written (Appends mid.holds end.output_after.holds mid.waits)
     → OnOk written (IsFalse end.output_after.failed)

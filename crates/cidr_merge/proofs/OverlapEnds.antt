@@ -1,16 +1,16 @@
 -- How a run ends that tells what is found in entries in order.
 use Rattle.std.proofs.Common.{◌≡◌, ◌||◌, ◌∙◌, ℕ, Bool, List, ◌++◌, ap, inl, inr, map}
 use Rattle.std.specs.Prelude.{◌⊎◌, if◌then◌else◌, Result, OnOk, IsFalse, is_err, String}
-use Rattle.std.specs.List.{concat}
 use Rattle.std.specs.Io.KnownBytes.{Appends}
 use Rattle.lines.specs.Outputs.{Written}
 use Rattle.lines.specs.declared.fault.RunFault.{RunFault}
 use Rattle.program.specs.Endings.{Ending, status_of, end_text}
 use Rattle.program.specs.Messages.{Tells}
-use Rattle.cidr_merge.specs.Findings.{ListsFindings, IsFound}
+use Rattle.cidr_merge.specs.Findings.{ListsFindings}
 use Rattle.cidr_merge.specs.InspectionRuns.{WritesFindings, EndsOrdered}
 use Rattle.cidr_merge.specs.Overlaps.{Listed, ListsEntries, IsInOrder}
 use Rattle.cidr_merge.specs.Private.Entries.{listed_as}
+use Rattle.cidr_merge.specs.Private.Reported.{TellsFound}
 use Rattle.cidr_merge.specs.Repetitions.{found_among}
 use Rattle.cidr_merge.specs.Writing.{FailsToWrite}
 use Rattle.cidr_merge.specs.declared.placed.Placed.{Placed}
@@ -22,10 +22,9 @@ module _ {Z W E T : Type 0} (strictly : Bool) (names : List (String Z)) (texts :
     (before mid : Written W) (written : Result T RunFault) (wrong more found : Bool) (status : ℕ)
     (e : (listed : List Listed) × ListsEntries 0 texts listed
     × IsInOrder listed (map listed_as entries))
-    (h : (findings : List (List ℕ)) × ListsFindings strictly names texts findings
-    × Tells end.output before (concat findings) × IsFound findings wrong)
-    (k : (findings : List (List ℕ)) × (findings ≡ found_among strictly names (map listed_as held))
-    × Tells before mid (concat findings) × IsFound findings more)
+    (h : TellsFound (ListsFindings strictly names texts) end.output before wrong)
+    (k : TellsFound (λ findings. findings ≡ found_among strictly names (map listed_as held))
+    before mid more)
     (b : found ≡ (wrong || more)) where
   ends : (FailsToWrite end ⊎ WritesFindings (h.0 ++ k.0) end) → EndsOrdered strictly names texts end
   ends (inl fails) = inr (inl fails)

@@ -9,10 +9,10 @@ use Rattle.std.proofs.lemmas.List.{take_more, map_push, length-map, get_or_defau
 use Rattle.lines.specs.Outputs.{Written}
 use Rattle.program.specs.Messages.{Tells}
 use Rattle.program.proofs.Told.{tells_same}
-use Rattle.cidr_merge.specs.Findings.{IsFound}
 use Rattle.cidr_merge.specs.Overlaps.{Listed, reaches, pair_text, pairs_with, pairs_after}
 use Rattle.cidr_merge.specs.Overlaps.{listed_cmp}
 use Rattle.cidr_merge.specs.Private.Entries.{listed_as, overlaps, KeepsReaching}
+use Rattle.cidr_merge.specs.Private.Reported.{TellsFound}
 use Rattle.cidr_merge.specs.declared.placed.Placed.{Placed}
 use Rattle.cidr_merge.proofs.Places.{up_to_next}
 use Rattle.cidr_merge.proofs.Checks.{tells_findings, found_more}
@@ -84,8 +84,7 @@ pairs_with_next names later before index other old mid new l h k =
 abbrev pub PairsTold : {Z W : Type 0} → List (String Z) → List Placed → Written W → Written W → Bool
     → Type 0
 PairsTold names entries old new found =
-    (findings : List (List ℕ)) × (findings ≡ pairs_after names [] (map listed_as entries))
-    × Tells old new (concat findings) × IsFound findings found
+    TellsFound (λ findings. findings ≡ pairs_after names [] (map listed_as entries)) old new found
 
 pub pairs_told_more : {Z W : Type 0} (names : List (String Z))
     (entries now mid kept_ones : List Placed) (kept place count : ℕ) (later : Placed)

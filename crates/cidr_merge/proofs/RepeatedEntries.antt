@@ -2,12 +2,10 @@
 use Rattle.std.proofs.Common.{◌≡◌, ◌+◌, ◌||◌, ◌<◌, ◌≤◌, ◌∙◌, ℕ, Bool, List, ◌++◌, sym, ap, length}
 use Rattle.std.proofs.Common.{map, drop, get_or, append_assoc, append-nil}
 use Rattle.std.specs.Prelude.{String}
-use Rattle.std.specs.List.{concat}
 use Rattle.std.proofs.lemmas.List.{at_drop_more, at_drop_all}
 use Rattle.lines.specs.Outputs.{Written}
-use Rattle.program.specs.Messages.{Tells}
-use Rattle.cidr_merge.specs.Findings.{IsFound}
 use Rattle.cidr_merge.specs.Private.Entries.{listed_as}
+use Rattle.cidr_merge.specs.Private.Reported.{TellsFound}
 use Rattle.cidr_merge.specs.Repetitions.{further, other_of, overlap_with, repetitions_after}
 use Rattle.cidr_merge.specs.declared.placed.Placed.{Placed}
 use Rattle.cidr_merge.proofs.Checks.{tells_findings, found_more}
@@ -15,9 +13,9 @@ use Rattle.cidr_merge.proofs.Checks.{tells_findings, found_more}
 -- of entries, those findings were told that are not of these last ones
 abbrev pub RepetitionsTold : {Z W : Type 0} → List (String Z) → List (List ℕ) → Placed → Placed
     → List Placed → Written W → Written W → Bool → Type 0
-RepetitionsTold names all previous furthest others old new found = (findings : List (List ℕ))
-    × (all ≡ findings ++ repetitions_after names (listed_as previous) (listed_as furthest)
-    (map listed_as others)) × Tells old new (concat findings) × IsFound findings found
+RepetitionsTold names all previous furthest others old new found =
+    TellsFound (λ findings. all ≡ findings ++ repetitions_after names (listed_as previous)
+    (listed_as furthest) (map listed_as others)) old new found
 
 -- an entry more was told, if it overlaps another
 pub repetitions_told_more : {Z W : Type 0} (names : List (String Z)) (all : List (List ℕ))
@@ -27,9 +25,8 @@ pub repetitions_told_more : {Z W : Type 0} (names : List (String Z)) (all : List
     → RepetitionsTold names all previous furthest (drop place entries) old mid found
     → listed_as other ≡ other_of (listed_as previous) (listed_as furthest)
     (listed_as (get_or entries place d))
-    → ((findings : List (List ℕ)) × (findings ≡ overlap_with names
-    (listed_as (get_or entries place d)) (listed_as other)) × Tells mid new (concat findings)
-    × IsFound findings more)
+    → TellsFound (λ findings. findings ≡ overlap_with names (listed_as (get_or entries place d))
+    (listed_as other)) mid new more
     → both ≡ (found || more)
     → listed_as next ≡ further (listed_as furthest) (listed_as (get_or entries place d))
     → RepetitionsTold names all (get_or entries place d) next
@@ -61,8 +58,7 @@ pub repetitions_told_all : {Z W : Type 0} (names : List (String Z)) (all : List 
     (found : Bool)
     → length entries ≤ place
     → RepetitionsTold names all previous furthest (drop place entries) old new found
-    → (findings : List (List ℕ)) × (findings ≡ all) × Tells old new (concat findings)
-    × IsFound findings found
+    → TellsFound (λ findings. findings ≡ all) old new found
 repetitions_told_all names all previous furthest entries place old new found l h = (
   h.0,
   sym (h.1 ∙ at_drop_all (λ es. h.0 ++ repetitions_after names (listed_as previous)

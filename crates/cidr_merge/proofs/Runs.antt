@@ -2,15 +2,14 @@
 use Rattle.lines.specs.Outputs.{Written}
 use Rattle.std.proofs.Common.{◌≡◌, ◌==◌, ◌∙◌, ℕ, List, Bool, false, not, codes, sym, ap, subst, inl}
 use Rattle.std.proofs.Common.{inr, length}
-use Rattle.std.specs.Prelude.{if◌then◌else◌, Option, None, Some, Result, Ok, Err, OnOk, IfErr}
-use Rattle.std.specs.Prelude.{is_err, String, slice_range}
+use Rattle.std.specs.Prelude.{Option, None, Some, Result, Ok, Err, OnOk, IfErr, String, slice_range}
 use Rattle.lists.specs.Lists.{nothing_read}
 use Rattle.lists.specs.Refusals.{Refused, no_refusals}
-use Rattle.program.specs.Endings.{Ending, IsSilent}
+use Rattle.program.specs.Endings.{Ending}
 use Rattle.lists.specs.KnownLists.{KnownLists}
 use Rattle.program.specs.Messages.{Tells}
 use Rattle.program.specs.Runs.{text_asked}
-use Rattle.program.specs.Told.{fault_text, in_list, refusals_text}
+use Rattle.program.specs.Told.{in_list, refusals_text}
 use Rattle.program.proofs.Runs.{not_asked}
 use Rattle.cidr_merge.specs.CommandLines.{stands}
 use Rattle.cidr_merge.specs.Endings.{EndsAs}

@@ -1,10 +1,9 @@
 //! Tells the wrong entries of lists, and strictly those with host bits too.
-ghost use Rattle.std.specs.Prelude.{◌≡◌, ◌&&◌, ℕ, List as Texts, map};
-ghost use Rattle.std.specs.List.{concat};
+ghost use Rattle.std.specs.Prelude.{◌≡◌, ◌&&◌, map};
 ghost use Rattle.std.specs.Str.Lines.{lines};
-ghost use Rattle.program.specs.Messages.{Tells};
 ghost use Rattle.cidr_merge.specs.Findings.{LineFindings, LinesFindings, ListsFindings};
-ghost use Rattle.cidr_merge.specs.Findings.{IsFound, has_host_bits, host_findings};
+ghost use Rattle.cidr_merge.specs.Findings.{has_host_bits, host_findings};
+ghost use Rattle.cidr_merge.specs.Private.Reported.{TellsFound};
 
 use crate::findings::{Line, either, tell_host_bits, tell_wrong};
 use crate::named::entry_of;
@@ -22,10 +21,8 @@ pub(crate) fn check_lists<W: Write>(
     lists: &WholeLists<'_>,
     output: &mut Output<'_, W>,
 ) -> bool
-    ensures { (findings : Texts (Texts ℕ))
-        × ListsFindings strictly lists.now.names.now
-        (map (λ text. text.items) lists.now.texts.now) findings
-        × Tells output.old output.new (concat findings) × IsFound findings result }
+    ensures { TellsFound (ListsFindings strictly lists.now.names.now (map (λ text. text.items)
+        lists.now.texts.now)) output.old output.new result }
 {
     let mut found = false;
     for place in 0..lists.names.len() {
@@ -39,9 +36,8 @@ pub(crate) fn check_lists<W: Write>(
 
 // Tells what is found in the lines of a list, strictly or not, and returns whether anything is.
 fn check_list<W: Write>(strictly: bool, name: &str, text: &[u8], output: &mut Output<'_, W>) -> bool
-    ensures { (findings : Texts (Texts ℕ))
-        × LinesFindings strictly name.now 1 (lines text.now) findings
-        × Tells output.old output.new (concat findings) × IsFound findings result }
+    ensures { TellsFound (LinesFindings strictly name.now 1 (lines text.now))
+        output.old output.new result }
 {
     let mut found = false;
     let mut number = 0;
@@ -60,9 +56,8 @@ fn check_list<W: Write>(strictly: bool, name: &str, text: &[u8], output: &mut Ou
 
 // Tells what is found in a line, strictly or not, and returns whether anything is.
 fn check_line<W: Write>(strictly: bool, line: &Line<'_>, output: &mut Output<'_, W>) -> bool
-    ensures { (findings : Texts (Texts ℕ))
-        × LineFindings strictly line.now.name.now line.now.number line.now.text.now findings
-        × Tells output.old output.new (concat findings) × IsFound findings result }
+    ensures { TellsFound (LineFindings strictly line.now.name.now line.now.number line.now.text.now)
+        output.old output.new result }
 {
     match entry_of(line.text) {
         Ok(said) => tell_if_loose(is_loose(strictly, said), line, output),
@@ -75,9 +70,8 @@ fn check_line<W: Write>(strictly: bool, line: &Line<'_>, output: &mut Output<'_,
 
 // Tells a line if its entry has host bits that are to be told, and returns whether it has.
 fn tell_if_loose<W: Write>(is_loose: bool, line: &Line<'_>, output: &mut Output<'_, W>) -> bool
-    ensures { (findings : Texts (Texts ℕ))
-        × (findings ≡ host_findings is_loose line.now.name.now line.now.number line.now.text.now)
-        × Tells output.old output.new (concat findings) × IsFound findings result }
+    ensures { TellsFound (λ findings. findings ≡ host_findings is_loose line.now.name.now
+        line.now.number line.now.text.now) output.old output.new result }
 {
     if is_loose {
         tell_host_bits(line, output);

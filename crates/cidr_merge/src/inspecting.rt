@@ -1,13 +1,11 @@
 //! The run that looks lists over.
-ghost use Rattle.std.specs.Prelude.{◌≡◌, ◌<◌, ℕ, List as Texts, length, map, if◌then◌else◌};
-ghost use Rattle.std.specs.List.{concat};
+ghost use Rattle.std.specs.Prelude.{◌≡◌, ◌<◌, length, map, if◌then◌else◌};
 ghost use Rattle.std.specs.List.Sorted.{IsSorted};
 ghost use Rattle.program.specs.Endings.{ending};
-ghost use Rattle.program.specs.Messages.{Tells};
-ghost use Rattle.cidr_merge.specs.Findings.{IsFound};
 ghost use Rattle.cidr_merge.specs.InspectionRuns.{EndsChecking, EndsInspecting, EndsOrdered};
 ghost use Rattle.cidr_merge.specs.Overlaps.{listed_cmp};
 ghost use Rattle.cidr_merge.specs.Private.Entries.{listed_as};
+ghost use Rattle.cidr_merge.specs.Private.Reported.{TellsFound};
 ghost use Rattle.cidr_merge.specs.Repetitions.{found_among};
 
 use crate::checking::check_lists;
@@ -116,9 +114,8 @@ fn tell_ordered<W: Write>(
     output: &mut Output<'_, W>,
 ) -> bool
     requires { IsSorted listed_cmp (map listed_as entries.old) }
-    ensures { (findings : Texts (Texts ℕ))
-        × (findings ≡ found_among strictly names.now (map listed_as entries.old))
-        × Tells output.old output.new (concat findings) × IsFound findings result }
+    ensures { TellsFound (λ findings. findings ≡ found_among strictly names.now (map listed_as
+        entries.old)) output.old output.new result }
 {
     if strictly {
         tell_repetitions(names, entries, output)

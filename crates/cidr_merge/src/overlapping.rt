@@ -1,12 +1,12 @@
 //! Tells which entries of lists overlap.
-ghost use Rattle.std.specs.Prelude.{◌≡◌, ◌≤◌, ◌<◌, ◌==◌, ℕ, List as Texts, []};
+ghost use Rattle.std.specs.Prelude.{◌≡◌, ◌≤◌, ◌<◌, ◌==◌, []};
 ghost use Rattle.std.specs.Prelude.{not, length, map};
 ghost use Rattle.std.specs.List.{concat};
 ghost use Rattle.std.specs.List.Sorted.{IsSorted};
 ghost use Rattle.program.specs.Messages.{Tells};
-ghost use Rattle.cidr_merge.specs.Findings.{IsFound};
 ghost use Rattle.cidr_merge.specs.Overlaps.{is_up_to, relation, pair_text, pairs_after, listed_cmp};
 ghost use Rattle.cidr_merge.specs.Private.Entries.{address_of, listed_as, KeepsReaching, Overlaps};
+ghost use Rattle.cidr_merge.specs.Private.Reported.{TellsFound};
 
 use crate::findings::{either, tell_place};
 use crate::placed::{Key, Placed};
@@ -23,9 +23,8 @@ pub(crate) fn tell_pairs<W: Write>(
     output: &mut Output<'_, W>,
 ) -> bool
     requires { IsSorted listed_cmp (map listed_as entries.old) }
-    ensures { (findings : Texts (Texts ℕ))
-        × (findings ≡ pairs_after names.now [] (map listed_as entries.old))
-        × Tells output.old output.new (concat findings) × IsFound findings result }
+    ensures { TellsFound (λ findings. findings ≡ pairs_after names.now [] (map listed_as
+        entries.old)) output.old output.new result }
 {
     let mut found = false;
     // Those of the earlier entries that may overlap one to come stand first.

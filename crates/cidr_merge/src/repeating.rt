@@ -1,10 +1,8 @@
 //! Tells which entries of lists have addresses that another has.
-ghost use Rattle.std.specs.Prelude.{◌≡◌, ℕ, List as Texts, map};
-ghost use Rattle.std.specs.List.{concat};
-ghost use Rattle.program.specs.Messages.{Tells};
-ghost use Rattle.cidr_merge.specs.Findings.{IsFound};
+ghost use Rattle.std.specs.Prelude.{◌≡◌, map};
 ghost use Rattle.cidr_merge.specs.Overlaps.{reaches};
 ghost use Rattle.cidr_merge.specs.Private.Entries.{listed_as};
+ghost use Rattle.cidr_merge.specs.Private.Reported.{TellsFound};
 ghost use Rattle.cidr_merge.specs.Repetitions.{further, is_same, other_of};
 ghost use Rattle.cidr_merge.specs.Repetitions.{overlap_with, repetitions};
 
@@ -21,9 +19,8 @@ pub(crate) fn tell_repetitions<W: Write>(
     entries: &[Placed],
     output: &mut Output<'_, W>,
 ) -> bool
-    ensures { (findings : Texts (Texts ℕ))
-        × (findings ≡ repetitions names.now (map listed_as entries.now))
-        × Tells output.old output.new (concat findings) × IsFound findings result }
+    ensures { TellsFound (λ findings. findings ≡ repetitions names.now (map listed_as entries.now))
+        output.old output.new result }
 {
     let Some((first, others)) = entries.split_first() else {
         return false;
@@ -54,9 +51,8 @@ fn tell_overlap<W: Write>(
     earlier: &Placed,
     output: &mut Output<'_, W>,
 ) -> bool
-    ensures { (findings : Texts (Texts ℕ))
-        × (findings ≡ overlap_with names.now (listed_as later.now) (listed_as earlier.now))
-        × Tells output.old output.new (concat findings) × IsFound findings result }
+    ensures { TellsFound (λ findings. findings ≡ overlap_with names.now (listed_as later.now)
+        (listed_as earlier.now)) output.old output.new result }
 {
     if reaches(later, earlier) {
         tell_pair(names, later, earlier, output);

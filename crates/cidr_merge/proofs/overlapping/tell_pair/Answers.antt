@@ -1,5 +1,5 @@
 use Rattle.std.proofs.Common.{ℕ, List, ap}
-use Rattle.program.proofs.Told.{tells_more, tells_same}
+use Rattle.program.proofs.Told.{tells_on, tells_same}
 use Rattle.cidr_merge.specs.Findings.{place_text}
 use Rattle.cidr_merge.proofs.overlapping.tell_pair.Goals as goal
 
@@ -16,9 +16,5 @@ returns g c =
     (ap (λ (n : List ℕ). place_text n earlier.number) c.text_at-2.ensures) c.tell_place-2.ensures in
     let says =
     tells_same c.tell.new.errors c.tell-2.new.errors _ _ c.relation.ensures c.tell-2.ensures in
-    tells_more old c.tell_place-2.new.output c.tell-4.new.errors _ _
-    (tells_more old c.tell-3.new.errors c.tell_place-2.new.output _ _
-    (tells_more old c.tell-2.new.errors c.tell-3.new.errors _ _
-    (tells_more old c.tell.new.errors c.tell-2.new.errors _ _
-    (tells_more old c.tell_place.new.output c.tell.new.errors _ _ first c.tell.ensures) says)
-    c.tell-3.ensures) second) c.tell-4.ensures
+    tells_on (tells_on (tells_on (tells_on (tells_on first c.tell.ensures) says) c.tell-3.ensures)
+    second) c.tell-4.ensures
