@@ -1,9 +1,9 @@
 -- The cuts of the ranges of a set.
-use Rattle.std.proofs.Common.{◌≡◌, ◌↔◌, ℕ, zero, suc, ◌+◌, ◌-◌, ◌*◌, ◌/◌, ◌^◌, ◌<◌, ◌≤◌, Bool, true, false, List, [], ◌∷◌, ◌++◌, length, get_or, map, arith, inl, inr, sym, refl, ap, subst, ◌∙◌, ⊎_elim, length-append, ◌≢◌, true≢false}
+use Rattle.std.proofs.Common.{◌≡◌, ◌↔◌, ℕ, zero, suc, ◌+◌, ◌-◌, ◌*◌, ◌/◌, ◌^◌, ◌<◌, ◌≤◌, Bool, true, false, List, [], ◌∷◌, ◌++◌, length, get_or, arith, inl, inr, sym, refl, ap, subst, ◌∙◌, ⊎_elim, length-append, ◌≢◌, true≢false}
 use Rattle.std.specs.List.{All, AllPairs, flat_map}
 use Rattle.std.proofs.lemmas.Bool.{cases_eq, cases_lt}
 use Rattle.std.proofs.lemmas.Nat.{pow_pos}
-use Rattle.std.proofs.lemmas.List.{get_or_push, append-nil, length-map}
+use Rattle.std.proofs.lemmas.List.{get_or_push, append-nil}
 use Rattle.ipnetwork_family.specs.Network.{Network, low, high, block_size}
 use Rattle.ipnetwork_blocks.specs.Aggregate.{InUnion}
 use Rattle.ipnetwork_blocks.specs.Ranges.{FromTo}
@@ -17,7 +17,6 @@ use Rattle.ipnetwork_sets.proofs.WholeSpace.{whole, whole_quotient}
 use Rattle.ipnetwork_index.specs.Private.Partitions.{is_inside}
 use Rattle.ipnetwork_index.specs.Private.Cuts.{before, cuts_of, AreCutsOf, Rises, Closes, EndsWhole, EndsBefore}
 use Rattle.ipnetwork_index.proofs.Inside.{inside_within, inside_after}
-use Rattle.ipnetwork_index.proofs.Searching.{read_number}
 
 abbrev pub Range : Type 0
 Range = ℕ × ℕ
@@ -278,13 +277,3 @@ whole_high w n e =
     let first = whole_low w n e in
     let pos = pow_pos w in
     omega arith
-
--- what is read of the last of some addresses
-pub last_read : {A : Type 0} (f : A → ℕ) (xs : List A) (x : A) → 1 ≤ length xs
-    → x ≡ get_or xs (length xs - 1) x → (k : ℕ) → k + 1 ≡ length (map f xs)
-    → get_or (map f xs) k 0 ≡ f x
-last_read f xs x some e k q =
-    let size : length (map f xs) ≡ length xs = length-map xs f in
-    let at : length xs - 1 ≡ k = omega arith in
-    subst (λ (j : ℕ). get_or (map f xs) j 0 ≡ f x) at (read_number f xs (length xs - 1) x
-    (omega arith) e)

@@ -48,21 +48,21 @@ module _ (high : ℕ → ℕ) (up : (x y : ℕ) → x ≤ y → high x ≤ high 
       }
 
   -- the search among the high halves leads to a place that the search among the numbers may begin at,
-  pub come_by_high : (padded : List ℕ) (x at : ℕ) → IsWithin padded x
+  pub come_by_high : (padded : List ℕ) (x at : ℕ) → Ascends padded → IsWithin padded x
       → IsPlaceOf (map high padded) (high x) at → HasComeTo padded x at
-  come_by_high padded x at within p =
+  come_by_high padded x at up within p =
       let size : length (map high padded) ≡ length padded = length-map padded high in
       let room = p.room in
-      come padded x at within (λ k l.
+      come padded x at up within (λ k l.
       let r = high_at padded k (omega arith) in
       let less : get_or (map high padded) k 0 < high x = p.after k l in
       less_by_high (get_or padded k 0) x (omega arith))
 
   -- and to the place of the number, if each number is the last that has its high half
-  pub place_by_high : (padded : List ℕ) (x at : ℕ) → IsWithin padded x → AllAreLast high padded
+  pub place_by_high : (padded : List ℕ) (x at : ℕ) → Ascends padded → IsWithin padded x → AllAreLast high padded
       → IsPlaceOf (map high padded) (high x) at → IsPlaceOf padded x at
-  place_by_high padded x at within last p =
-      let h = come_by_high padded x at within p in
+  place_by_high padded x at up within last p =
+      let h = come_by_high padded x at up within p in
       let size : length (map high padded) ≡ length padded = length-map padded high in
       let room = p.room in
       let r = high_at padded at (omega arith) in

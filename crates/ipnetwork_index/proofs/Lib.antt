@@ -4,6 +4,7 @@ pub mod Counting
 pub mod Cutting
 pub mod Edging
 pub mod Eights
+pub mod Examples
 pub mod Halving
 pub mod Inside
 pub mod LastValues

@@ -69,11 +69,6 @@ module _ (w : ℕ) (lows starts : List ℕ) (shift : ℕ) (numbers : List ℕ)
       let within = own_start.within in
       let size = h.known.lows_are.room in omega arith
 
-  pub end_within : get_or starts (x / 2 ^ shift + 1) 0 + 8 ≤ length lows
-  end_within =
-      let within = next_start.within in
-      let size = h.known.lows_are.room in omega arith
-
   pub ordered : get_or starts (x / 2 ^ shift) 0 ≤ get_or starts (x / 2 ^ shift + 1) 0
   ordered =
       let start : ℕ = get_or starts (x / 2 ^ shift) 0 in

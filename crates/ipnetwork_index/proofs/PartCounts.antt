@@ -1,5 +1,5 @@
 -- How many parts there are for so many ranges.
-use Rattle.std.proofs.Common.{◌≡◌, ℕ, suc, ◌+◌, ◌-◌, ◌*◌, ◌/◌, ◌^◌, ◌<◌, ◌≤◌, arith, sym, subst, ⊎_elim, min}
+use Rattle.std.proofs.Common.{◌≡◌, ℕ, suc, ◌+◌, ◌-◌, ◌*◌, ◌^◌, ◌<◌, ◌≤◌, arith, sym, subst, ⊎_elim, min}
 use Rattle.std.specs.Int.Count.{count_leading_zeros}
 use Rattle.std.proofs.lemmas.Bool.{cases_lt}
 use Rattle.std.proofs.lemmas.Nat.{leading_top, mul-le, pow-add, pow_pos}
@@ -76,11 +76,6 @@ capped least most bits more within = ⊎_elim
 
 pub one_to_two : (n bits : ℕ) → HasBits n bits → HasParts n (2 * n) (min bits 20)
 one_to_two n bits h = capped n (2 * n) bits h.to h.from
-
-pub half_to_one : (n bits : ℕ) → HasBits n bits → HasParts (n / 2) n (min (bits - 1) 20)
-half_to_one n bits h =
-    let twice = one_bit_less n bits h in
-    capped (n / 2) n (bits - 1) (omega (arith, twice, h.to)) (omega (arith, twice, h.from))
 
 -- ---- the numbers of 32 bits in one of them
 

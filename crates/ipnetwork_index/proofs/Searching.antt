@@ -29,12 +29,13 @@ is_before u v a b c l p r m = omega arith
 -- ---- where a search begins, and how it goes on
 
 -- where the keys before `at` are less than x, three more follow that of `at`
-pub come : (keys : List ℕ) (x at : ℕ) → IsWithin keys x
+pub come : (keys : List ℕ) (x at : ℕ) → Ascends keys → IsWithin keys x
     → ((k : ℕ) → k < at → get_or keys k 0 < x) → HasComeTo keys x at
-come keys x at i h =
+come keys x at up i h =
     let some = i.some in
     let most = i.most in
     record {
+      ascending = up;
       after = h;
       room = ⊎_elim
           (λ (over : length keys < at + 4).
@@ -58,7 +59,7 @@ begins keys starts base shift x part i within p =
     let some = i.starts_are.some in
     let own = p.within in
     let s = i.starts_are.all part (omega arith) in
-    come keys x (get_or starts part 0) within (λ k l.
+    come keys x (get_or starts part 0) i.ascending within (λ k l.
     let f = s.less k l in
     let less : get_or keys k 0 < base + part * 2 ^ shift = f.1 in
     let from : base + part * 2 ^ shift ≤ x = p.from f.0 in omega arith)
@@ -67,7 +68,7 @@ begins keys starts base shift x part i within p =
 goes_on : (keys : List ℕ) (x at below : ℕ) → HasComeTo keys x at → IsStep keys x at 0 below
     → HasComeTo keys x (at + below)
 goes_on keys x at below h s =
-    come keys x (at + below) (come_within keys x at h) (λ k l.
+    come keys x (at + below) h.ascending (come_within keys x at h) (λ k l.
     ⊎_elim (λ (b : k < at). h.after k b) (λ (f : at ≤ k). s.less k f (omega arith)) (cases_lt k at))
 
 pub goes_past : (keys : List ℕ) (x at below : ℕ) → HasComeTo keys x at → IsStep keys x at 0 below
@@ -91,11 +92,11 @@ found keys x at below h s few =
 
 -- ---- in steps that grow
 
-pub reaches_past : (keys : List ℕ) (x at end : ℕ) → Ascends keys → HasComeTo keys x at
+pub reaches_past : (keys : List ℕ) (x at end : ℕ) → HasComeTo keys x at
     → end < length keys → get_or keys end 0 < x → HasComeTo keys x (end + 1)
-reaches_past keys x at end up h own less =
-    come keys x (end + 1) (come_within keys x at h) (λ k l.
-    let o : get_or keys k 0 ≤ get_or keys end 0 = up.order k end (omega arith) own in omega arith)
+reaches_past keys x at end h own less =
+    come keys x (end + 1) h.ascending (come_within keys x at h) (λ k l.
+    let o : get_or keys k 0 ≤ get_or keys end 0 = h.ascending.order k end (omega arith) own in omega arith)
 
 -- ---- and then in steps that shrink
 

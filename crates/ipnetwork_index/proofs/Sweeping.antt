@@ -41,16 +41,6 @@ top_read opened seen copied last j same read is some =
 module _ {V : Type 0} (w : ℕ) (es : List (Network × V)) where
   -- ---- the steps of the sweep
 
-  pub none_open : (x : ℕ) → AreOpen w es 0 x []
-  none_open x = record {
-    within = omega arith;
-    begun = λ j e l g. absurd (omega arith);
-    each = λ k l. absurd (omega arith);
-    ascending = λ k m l n. absurd (omega arith);
-    kept = λ j e l g f. absurd (omega arith);
-    nested = λ k m d e l n q r. absurd (omega arith);
-  }
-
   pub open_later : (count x y : ℕ) (opened : List ℕ) → AreOpen w es count x opened → x ≤ y
       → AreOpen w es count y opened
   open_later count x y opened h l = record {

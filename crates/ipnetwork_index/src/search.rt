@@ -36,7 +36,6 @@ pub fn place_of<K: Key>(keys: &[K], starts: &[u32], base: K, shift: u32, key: K)
 #[inline(always)]
 fn place_from_start<K: Key>(keys: &[K], starts: &[u32], part: usize, start: usize, key: K) -> usize
     requires part { part < length starts.now }
-    requires ascending { Ascends (map K.value keys.now) }
     requires come { HasComeTo (map K.value keys.now) (K.value key) start }
     ensures { IsPlaceOf (map K.value keys.now) (K.value key) result }
 {
@@ -53,7 +52,6 @@ fn place_from_start<K: Key>(keys: &[K], starts: &[u32], part: usize, start: usiz
 #[inline(never)]
 fn place_in_part<K: Key>(keys: &[K], starts: &[u32], part: usize, from: usize, key: K) -> usize
     requires part { part < length starts.now }
-    requires ascending { Ascends (map K.value keys.now) }
     requires come { HasComeTo (map K.value keys.now) (K.value key) from }
     ensures { IsPlaceOf (map K.value keys.now) (K.value key) result }
 {
@@ -80,8 +78,7 @@ fn end_of_part(starts: &[u32], part: usize, from: usize, last: usize) -> usize
 
 // The place of the key, from a place on that none of the keys is before.
 pub(crate) fn place_from<K: Key>(keys: &[K], from: usize, key: K) -> usize
-    requires ascending { Ascends (map K.value keys.now) }
-    requires come { HasComeTo (map K.value keys.now) (K.value key) from }
+    requires { HasComeTo (map K.value keys.now) (K.value key) from }
     ensures { IsPlaceOf (map K.value keys.now) (K.value key) result }
 {
     let below = below_of_four::<K>(keys, from, 0, key);
@@ -94,8 +91,7 @@ pub(crate) fn place_from<K: Key>(keys: &[K], from: usize, key: K) -> usize
 // The same, in more than one step.
 #[inline(never)]
 fn place_beyond<K: Key>(keys: &[K], from: usize, key: K) -> usize
-    requires ascending { Ascends (map K.value keys.now) }
-    requires come { HasComeTo (map K.value keys.now) (K.value key) from }
+    requires { HasComeTo (map K.value keys.now) (K.value key) from }
     ensures { IsPlaceOf (map K.value keys.now) (K.value key) result }
 {
     let reach = reached::<K>(keys, from, key);
@@ -104,8 +100,7 @@ fn place_beyond<K: Key>(keys: &[K], from: usize, key: K) -> usize
 
 // Two places that the place of the key is between, found from the first of them in steps that grow.
 fn reached<K: Key>(keys: &[K], from: usize, key: K) -> (usize, usize)
-    requires ascending { Ascends (map K.value keys.now) }
-    requires come { HasComeTo (map K.value keys.now) (K.value key) from }
+    requires { HasComeTo (map K.value keys.now) (K.value key) from }
     ensures { IsBetween (map K.value keys.now) (K.value key) result.0 result.1 }
 {
     let last = keys.len() - 4;

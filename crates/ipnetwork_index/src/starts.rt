@@ -30,11 +30,13 @@ pub(crate) fn route_bits(ranges: usize) -> u32
     ensures few { 1 ≤ ranges → ranges < 2 ^ 16 → HasParts (2 * ranges) (4 * ranges) result }
     ensures many { 2 ^ 16 ≤ ranges → HasParts (ranges / 2) ranges result }
 {
-    let bits = usize::BITS - ranges.leading_zeros();
-    if bits < 17 {
-        return bits + 1;
+    if ranges < 16_384 {
+        part_bits(ranges)
+    } else if ranges < 65_536 {
+        part_bits(2 * ranges)
+    } else {
+        part_bits(ranges / 2)
     }
-    (bits - 1).min(20)
 }
 
 // How large the parts are, as a power of two, in which numbers of 32 bits that end ranges are known

@@ -69,7 +69,11 @@ module _ {F : ℕ → List Network → List Network → ℕ → Type 0} {G : Lis
 
 -- ---- questions of two sets
 
-pub within_by_family : (a b : List IpNetwork) → (IsWithin 32 (filter_map as_v4 a) (filter_map as_v4 b) × IsWithin 128 (filter_map as_v6 a) (filter_map as_v6 b)) ↔ IsIpWithin a b
+-- a question of two sets of either family is that of each family
+pub record IsQuestion (F : ℕ → List Network → List Network → Type 0) (Q : List IpNetwork → List IpNetwork → Type 0) : Type 0 where
+  pub by_family : (a b : List IpNetwork) → (F 32 (filter_map as_v4 a) (filter_map as_v4 b) × F 128 (filter_map as_v6 a) (filter_map as_v6 b)) ↔ Q a b
+
+within_by_family : (a b : List IpNetwork) → (IsWithin 32 (filter_map as_v4 a) (filter_map as_v4 b) × IsWithin 128 (filter_map as_v6 a) (filter_map as_v6 b)) ↔ IsIpWithin a b
 within_by_family a b = (
   (λ h. go h.0 h.1),
   (λ h. ((λ x c. (in_v4 b x).1 (h (addresses.V4 x) ((in_v4 a x).0 c))), (λ x c. (in_v6 b x).1 (h (addresses.V6 x) ((in_v6 a x).0 c))))),
@@ -79,7 +83,10 @@ within_by_family a b = (
     go h k (addresses.V4 x) c = (in_v4 b x).0 (h x ((in_v4 a x).1 c))
     go h k (addresses.V6 x) c = (in_v6 b x).0 (k x ((in_v6 a x).1 c))
 
-pub disjoint_by_family : (a b : List IpNetwork)
+pub within : IsQuestion IsWithin IsIpWithin
+within = record { by_family = within_by_family }
+
+disjoint_by_family : (a b : List IpNetwork)
     → (AreDisjoint 32 (filter_map as_v4 a) (filter_map as_v4 b) × AreDisjoint 128 (filter_map as_v6 a) (filter_map as_v6 b)) ↔ AreIpDisjoint a b
 disjoint_by_family a b = (
   (λ h. go h.0 h.1),
@@ -89,6 +96,9 @@ disjoint_by_family a b = (
     go : AreDisjoint 32 (filter_map as_v4 a) (filter_map as_v4 b) → AreDisjoint 128 (filter_map as_v6 a) (filter_map as_v6 b) → AreIpDisjoint a b
     go h k (addresses.V4 x) c = h x ((both.v4 a b x).1 c)
     go h k (addresses.V6 x) c = k x ((both.v6 a b x).1 c)
+
+pub disjoint : IsQuestion AreDisjoint AreIpDisjoint
+disjoint = record { by_family = disjoint_by_family }
 
 -- ---- counts
 

@@ -7,12 +7,11 @@ use Rattle.ipnetwork.specs.declared.ip_network.IpNetwork.{IpNetwork}
 use Rattle.ipnetwork_blocks.specs.AggregateIp.{as_v4, as_v6}
 use Rattle.ipnetwork_blocks.specs.LeastList.{IsLeastList}
 use Rattle.ipnetwork_sets.specs.QuestionLaws as sets
-use Rattle.ipnetwork_sets.specs.Sets.{IsWithin, AreDisjoint}
 use Rattle.ipnetwork_sets.proofs.WholeSpace.{whole}
-use Rattle.ipnetwork_ip_sets.specs.IpSets.{IsIpLeastList, IsIpWithin, AreIpDisjoint}
+use Rattle.ipnetwork_ip_sets.specs.IpSets.{IsIpLeastList}
 use Rattle.ipnetwork_ip_sets.specs.QuestionLaws.{IpNetworkMeetsUnion, IpWithinIfNothingIsLeft, IpDisjointIfNothingIsCommon, IpComplementIsDisjoint, IpComplementMakesTheWhole}
 use Rattle.ipnetwork_ip_sets.proofs.Families.{both_equal}
-use Rattle.ipnetwork_ip_sets.proofs.FamilySets.{IsOperation, both, alone, rest, either, parts, within_by_family, disjoint_by_family}
+use Rattle.ipnetwork_ip_sets.proofs.FamilySets.{IsOperation, both, alone, rest, either, parts, IsQuestion, within, disjoint}
 
 pub ip_network_meets_union : IpNetworkMeetsUnion
 ip_network_meets_union n networks = (
@@ -22,27 +21,26 @@ ip_network_meets_union n networks = (
 
 -- a question that is answered yes exactly if an operation leaves nothing
 nothing_left : {F : ℕ → List Network → List Network → ℕ → Type 0} {G : List IpNetwork → List IpNetwork → IpAddr → Type 0} → IsOperation F G
-    → (P : ℕ → List Network → List Network → Type 0) (Q : List IpNetwork → List IpNetwork → Type 0)
-    → ((a b : List IpNetwork) → (P 32 (filter_map as_v4 a) (filter_map as_v4 b) × P 128 (filter_map as_v6 a) (filter_map as_v6 b)) ↔ Q a b)
+    → {P : ℕ → List Network → List Network → Type 0} {Q : List IpNetwork → List IpNetwork → Type 0} → IsQuestion P Q
     → ((w : ℕ) (a b r : List Network) → IsLeastList w (F w a b) r → P w a b ↔ (r ≡ [])) → (a b r : List IpNetwork) → IsIpLeastList (G a b) r → Q a b ↔ (r ≡ [])
-nothing_left op P Q by_family law a b r h =
+nothing_left op question law a b r h =
     let own = parts op a b r h in
     let front = law 32 (filter_map as_v4 a) (filter_map as_v4 b) (filter_map as_v4 r) own.0 in
     let back = law 128 (filter_map as_v6 a) (filter_map as_v6 b) (filter_map as_v6 r) own.1 in (
-      (λ yes. let by = (by_family a b).1 yes in both_equal r [] h.0 h.1 [] [] h.2 refl (front.0 by.0) (back.0 by.1)),
-      (λ e. (by_family a b).0 (front.1 (ap (filter_map as_v4) e), back.1 (ap (filter_map as_v6) e))),
+      (λ yes. let by = (question.by_family a b).1 yes in both_equal r [] h.0 h.1 [] [] h.2 refl (front.0 by.0) (back.0 by.1)),
+      (λ e. (question.by_family a b).0 (front.1 (ap (filter_map as_v4) e), back.1 (ap (filter_map as_v6) e))),
     )
 
 pub ip_within_if_nothing_is_left : sets.WithinIfNothingIsLeft → IpWithinIfNothingIsLeft
-ip_within_if_nothing_is_left law = nothing_left alone IsWithin IsIpWithin within_by_family law
+ip_within_if_nothing_is_left law = nothing_left alone within law
 
 pub ip_disjoint_if_nothing_is_common : sets.DisjointIfNothingIsCommon → IpDisjointIfNothingIsCommon
-ip_disjoint_if_nothing_is_common law = nothing_left both AreDisjoint AreIpDisjoint disjoint_by_family law
+ip_disjoint_if_nothing_is_common law = nothing_left both disjoint law
 
 pub ip_complement_is_disjoint : sets.ComplementIsDisjoint → IpComplementIsDisjoint
 ip_complement_is_disjoint law a r h =
     let own = parts rest a a r h in
-    (disjoint_by_family r a).0 (law 32 (filter_map as_v4 a) (filter_map as_v4 r) own.0, law 128 (filter_map as_v6 a) (filter_map as_v6 r) own.1)
+    (disjoint.by_family r a).0 (law 32 (filter_map as_v4 a) (filter_map as_v4 r) own.0, law 128 (filter_map as_v6 a) (filter_map as_v6 r) own.1)
 
 pub ip_complement_makes_the_whole : sets.ComplementMakesTheWhole → IpComplementMakesTheWhole
 ip_complement_makes_the_whole law a r all h k =

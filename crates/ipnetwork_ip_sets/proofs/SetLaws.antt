@@ -15,12 +15,12 @@ use Rattle.ipnetwork_sets.specs.Equality.{same_blocks, SameBlocksAreEqual}
 use Rattle.ipnetwork_sets.specs.Laws as sets
 use Rattle.ipnetwork_sets.specs.Sets.{IsAddressSet}
 use Rattle.ipnetwork_ip_sets.specs.IpSets.{v4_then_v6, IsIpLeastList, IsIpAddressSet}
-use Rattle.ipnetwork_ip_sets.specs.Laws.{EachFamilyKeepsItsAddresses, IpAggregateIsLeastList, IsIpShortest, IpCommonPartIsShortest, IpDifferenceIsShortest}
-use Rattle.ipnetwork_ip_sets.specs.Laws.{IpComplementIsShortest, IpUnionIsShortest, SameIpAddressesAreOneSet, SameIpBlocksAreEqual, IpCommonPartCommutes}
-use Rattle.ipnetwork_ip_sets.specs.Laws.{IpUnionCommutes, IpCommonPartOfOne, IpUnionOfOne, IpDifferenceIsDisjoint, IpPartsMakeTheWhole}
+use Rattle.ipnetwork_ip_sets.specs.Laws.{EachFamilyKeepsItsAddresses, IpAggregateIsLeastList, IsIpShortest}
+use Rattle.ipnetwork_ip_sets.specs.Laws.{IpComplementIsShortest, SameIpAddressesAreOneSet, SameIpBlocksAreEqual}
+use Rattle.ipnetwork_ip_sets.specs.Laws.{IpDifferenceIsDisjoint, IpPartsMakeTheWhole}
 use Rattle.ipnetwork_blocks.proofs.Families.{through, v4_of_both, v6_of_both, v4_family, v6_family, same_in_family, same_by_family}
 use Rattle.ipnetwork_ip_sets.proofs.Families.{in_v4, in_v6, v4_part, v6_part, both_equal}
-use Rattle.ipnetwork_ip_sets.proofs.FamilySets.{IsOperation, both, alone, rest, either, parts, disjoint_by_family}
+use Rattle.ipnetwork_ip_sets.proofs.FamilySets.{IsOperation, both, alone, rest, either, parts, disjoint}
 
 -- ---- each family
 
@@ -68,7 +68,7 @@ one_ip_list S r s h k =
     ∙ ap (λ l. v4_then_v6 k.0 l) (least_unique 128 (λ x. S (addresses.V6 x)) h.1 k.1 h.4 k.4) ∙ sym k.2
 
 module _ (is_apart : IpAggregateIsApart) (is_least : IpAggregateIsLeast) where
-  operation_is_shortest : {F : ℕ → List Network → List Network → ℕ → Type 0} {G : List IpNetwork → List IpNetwork → IpAddr → Type 0} → IsOperation F G
+  pub operation_is_shortest : {F : ℕ → List Network → List Network → ℕ → Type 0} {G : List IpNetwork → List IpNetwork → IpAddr → Type 0} → IsOperation F G
       → ((w : ℕ) (a b r : List Network) → IsLeastList w (F w a b) r → IsShortest w (F w a b) r) → (a b r : List IpNetwork) → IsIpLeastList (G a b) r → IsIpShortest (G a b) r
   operation_is_shortest {F} {G} op law a b r h = record {
     addresses = has;
@@ -95,15 +95,6 @@ module _ (is_apart : IpAggregateIsApart) (is_least : IpAggregateIsLeast) where
         least_of_same 32 (λ x. G a b (addresses.V4 x)) (λ x. InIpUnion r (addresses.V4 x)) h.0 (λ x. ((has (addresses.V4 x)).1, (has (addresses.V4 x)).0)) h.3,
         least_of_same 128 (λ x. G a b (addresses.V6 x)) (λ x. InIpUnion r (addresses.V6 x)) h.1 (λ x. ((has (addresses.V6 x)).1, (has (addresses.V6 x)).0)) h.4,
       )
-
-  pub ip_common_is_shortest : sets.CommonPartIsShortest → IpCommonPartIsShortest
-  ip_common_is_shortest law = operation_is_shortest both law
-
-  pub ip_difference_is_shortest : sets.DifferenceIsShortest → IpDifferenceIsShortest
-  ip_difference_is_shortest law = operation_is_shortest alone law
-
-  pub ip_union_is_shortest : sets.UnionIsShortest → IpUnionIsShortest
-  ip_union_is_shortest law = operation_is_shortest either law
 
   pub ip_complement_is_shortest : sets.ComplementIsShortest → IpComplementIsShortest
   ip_complement_is_shortest law a r h = operation_is_shortest rest (λ w m _ l. law w m l) a a r h
@@ -137,7 +128,7 @@ same_ip_blocks_are_equal law a b h k =
 -- ---- order and repetition
 
 module _ {F : ℕ → List Network → List Network → ℕ → Type 0} {G : List IpNetwork → List IpNetwork → IpAddr → Type 0} (op : IsOperation F G) where
-  operation_commutes : ((w : ℕ) (a b r s : List Network) → IsLeastList w (F w a b) r → IsLeastList w (F w b a) s → r ≡ s)
+  pub operation_commutes : ((w : ℕ) (a b r s : List Network) → IsLeastList w (F w a b) r → IsLeastList w (F w b a) s → r ≡ s)
       → (a b r s : List IpNetwork) → IsIpLeastList (G a b) r → IsIpLeastList (G b a) s → r ≡ s
   operation_commutes law a b r s h k =
       let first = parts op a b r h in
@@ -146,30 +137,18 @@ module _ {F : ℕ → List Network → List Network → ℕ → Type 0} {G : Lis
       (law 32 (filter_map as_v4 a) (filter_map as_v4 b) (filter_map as_v4 r) (filter_map as_v4 s) first.0 second.0)
       (law 128 (filter_map as_v6 a) (filter_map as_v6 b) (filter_map as_v6 r) (filter_map as_v6 s) first.1 second.1)
 
-  operation_of_one : ((w : ℕ) (a r : List Network) → IsAddressSet w a → IsLeastList w (F w a a) r → r ≡ a)
+  pub operation_of_one : ((w : ℕ) (a r : List Network) → IsAddressSet w a → IsLeastList w (F w a a) r → r ≡ a)
       → (a r : List IpNetwork) → IsIpAddressSet a → IsIpLeastList (G a a) r → r ≡ a
   operation_of_one law a r h k =
       let own = parts op a a r k in
       both_equal r a k.0 k.1 h.0 h.1 k.2 h.2 (law 32 (filter_map as_v4 a) (filter_map as_v4 r) (v4_set a h) own.0) (law 128 (filter_map as_v6 a) (filter_map as_v6 r) (v6_set a h) own.1)
-
-pub ip_common_commutes : sets.CommonPartCommutes → IpCommonPartCommutes
-ip_common_commutes law = operation_commutes both law
-
-pub ip_union_commutes : sets.UnionCommutes → IpUnionCommutes
-ip_union_commutes law = operation_commutes either law
-
-pub ip_common_of_one : sets.CommonPartOfOne → IpCommonPartOfOne
-ip_common_of_one law = operation_of_one both law
-
-pub ip_union_of_one : sets.UnionOfOne → IpUnionOfOne
-ip_union_of_one law = operation_of_one either law
 
 -- ---- a difference, and the common part
 
 pub ip_difference_is_disjoint : sets.DifferenceIsDisjoint → IpDifferenceIsDisjoint
 ip_difference_is_disjoint law a b r h =
     let own = parts alone a b r h in
-    (disjoint_by_family r b).0 (law 32 (filter_map as_v4 a) (filter_map as_v4 b) (filter_map as_v4 r) own.0, law 128 (filter_map as_v6 a) (filter_map as_v6 b) (filter_map as_v6 r) own.1)
+    (disjoint.by_family r b).0 (law 32 (filter_map as_v4 a) (filter_map as_v4 b) (filter_map as_v4 r) own.0, law 128 (filter_map as_v6 a) (filter_map as_v6 b) (filter_map as_v6 r) own.1)
 
 pub ip_parts_make_the_whole : sets.PartsMakeTheWhole → IpPartsMakeTheWhole
 ip_parts_make_the_whole law a b c d r h hc hd k =

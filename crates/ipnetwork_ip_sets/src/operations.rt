@@ -9,6 +9,13 @@ use ipnetwork::{Ipv4Network, Ipv6Network};
 use ipnetwork_sets::{Difference, Intersection, Union};
 use std::alloc::AllocError;
 
+// The blocks of each operation on two sets, of IPv4 and of IPv6.
+type Common<'a> = IpBlocks<Intersection<'a, Ipv4Network>, Intersection<'a, Ipv6Network>>;
+
+type Left<'a> = IpBlocks<Difference<'a, Ipv4Network>, Difference<'a, Ipv6Network>>;
+
+type Either<'a> = IpBlocks<Union<'a, Ipv4Network>, Union<'a, Ipv6Network>>;
+
 impl IpAddressSet {
     /// The blocks of the addresses that are in both sets. Goes over the lists of both once, as the iterator advances.
     ///
@@ -19,10 +26,7 @@ impl IpAddressSet {
     /// let other = IpAddressSet::from_lists(v4, Vec::new(rt.alloc()));
     /// assert_eq!(rt; set.intersection(&other).next(), Some("192.0.2.0/26".parse()?));
     /// ```
-    pub fn intersection<'a>(
-        &'a self,
-        other: &'a IpAddressSet,
-    ) -> IpBlocks<Intersection<'a, Ipv4Network>, Intersection<'a, Ipv6Network>>
+    pub fn intersection<'a>(&'a self, other: &'a IpAddressSet) -> Common<'a>
         ensures { IsIpLeastList (InIpBoth self.now other.now) result }
     {
         IpBlocks::of(
@@ -41,10 +45,7 @@ impl IpAddressSet {
     /// let other = IpAddressSet::from_lists(v4, Vec::new(rt.alloc()));
     /// assert_eq!(rt; set.difference(&other).next(), Some("192.0.2.64/26".parse()?));
     /// ```
-    pub fn difference<'a>(
-        &'a self,
-        other: &'a IpAddressSet,
-    ) -> IpBlocks<Difference<'a, Ipv4Network>, Difference<'a, Ipv6Network>>
+    pub fn difference<'a>(&'a self, other: &'a IpAddressSet) -> Left<'a>
         ensures { IsIpLeastList (InIpFirstAlone self.now other.now) result }
     {
         IpBlocks::of(
@@ -61,7 +62,7 @@ impl IpAddressSet {
     /// let set = IpAddressSet::from_lists(v4, Vec::new(rt.alloc()));
     /// assert!(rt; set.complement().eq(["128.0.0.0/1".parse()?, "::/0".parse()?]));
     /// ```
-    pub fn complement(&self) -> IpBlocks<Difference<'_, Ipv4Network>, Difference<'_, Ipv6Network>>
+    pub fn complement(&self) -> Left<'_>
         ensures { IsIpLeastList (InIpComplement self.now) result }
     {
         IpBlocks::of(self.v4().complement(), self.v6().complement())
@@ -77,10 +78,7 @@ impl IpAddressSet {
     /// let other = IpAddressSet::from_lists(v4, Vec::new(rt.alloc()));
     /// assert_eq!(rt; set.union_blocks(&other).next(), Some("192.0.2.0/24".parse()?));
     /// ```
-    pub fn union_blocks<'a>(
-        &'a self,
-        other: &'a IpAddressSet,
-    ) -> IpBlocks<Union<'a, Ipv4Network>, Union<'a, Ipv6Network>>
+    pub fn union_blocks<'a>(&'a self, other: &'a IpAddressSet) -> Either<'a>
         ensures { IsIpLeastList (InIpEither self.now other.now) result }
     {
         IpBlocks::of(

@@ -1,7 +1,7 @@
 -- The steps of a search.
 use Rattle.std.specs.Prelude.{◌≡◌, ℕ, ◌+◌, ◌-◌, ◌*◌, ◌<◌, ◌≤◌, List, length}
 use Rattle.std.proofs.Common.{get_or}
-use Rattle.ipnetwork_index.specs.Searches.{IsStart}
+use Rattle.ipnetwork_index.specs.Searches.{Ascends, IsStart}
 
 -- the first is less than the second, and then this is 1; else it is 0
 pub record IsOneIfLess (a b one : ℕ) : Type 0 where
@@ -16,9 +16,10 @@ pub record IsStep (keys : List ℕ) (x at step below : ℕ) : Type 0 where
   pub less : (k : ℕ) → at ≤ k → k < at + below * (step + 1) → get_or keys k 0 < x
   pub not : below < 4 → x ≤ get_or keys (at + below * (step + 1) + step) 0
 
--- the search for x has come to `at`: the keys before it are less than x, at least three follow it,
--- and x is not greater than the last four keys
+-- the search for x has come to `at`: the keys ascend, those before it are less than x, at least three
+-- follow it, and x is not greater than the last four keys
 pub record HasComeTo (keys : List ℕ) (x at : ℕ) : Type 0 where
+  pub ascending : Ascends keys
   pub after : (k : ℕ) → k < at → get_or keys k 0 < x
   pub room : at + 4 ≤ length keys
   pub most : x ≤ get_or keys (length keys - 4) 0

@@ -16,5 +16,5 @@ reaching-preserved g c =
     let here : get_or xs end 0 ≡ f c.index-keys-end.result
     = read_number f keys end c.index-keys-end.result own c.index-keys-end.is in
     let less : f c.index-keys-end.result < x = c.is_less.ensures.0 c.if-not-is_less.false in
-    reaches_past xs x c.reaching.at end c.requires.ascending c.reaching.invariant (omega arith)
+    reaches_past xs x c.reaching.at end c.reaching.invariant (omega arith)
     (subst (λ (n : ℕ). n < x) (sym here) less)

@@ -1,13 +1,10 @@
-use Rattle.ipnetwork_sets.specs.Sets.{IsWithin}
-use Rattle.ipnetwork_ip_sets.specs.IpSets.{IsIpWithin}
-use Rattle.ipnetwork_ip_sets.proofs.FamilySets.{within_by_family}
+use Rattle.ipnetwork_ip_sets.proofs.FamilySets.{within}
 use Rattle.ipnetwork_ip_sets.proofs.Questions.{asked_of_both, refused_by_v4}
 use Rattle.ipnetwork_ip_sets.proofs.ip_address_set.IpAddressSet.is_subset_of.Goals as goal
 
 pub returns-then-is_subset_of : goal.returns-then-is_subset_of
 returns-then-is_subset_of c =
-    asked_of_both IsWithin IsIpWithin within_by_family c.args.self.now c.args.other.now _ _ _ _ _ _ c.v4.ensures.blocks c.v4-2.ensures.blocks c.v6.ensures.blocks
-    c.v6-then-is_subset_of.ensures.blocks c.is_subset_of.ensures c.if-is_subset_of.true c.is_subset_of-then-is_subset_of.ensures
+    asked_of_both within c.v4.ensures.blocks c.v4-2.ensures.blocks c.v6.ensures.blocks c.v6-then-is_subset_of.ensures.blocks c.is_subset_of.ensures c.if-is_subset_of.true c.is_subset_of-then-is_subset_of.ensures
 
 pub returns-else-is_subset_of : goal.returns-else-is_subset_of
-returns-else-is_subset_of c = refused_by_v4 IsWithin IsIpWithin within_by_family c.args.self.now c.args.other.now _ _ _ c.v4.ensures.blocks c.v4-2.ensures.blocks c.is_subset_of.ensures c.if-is_subset_of.false
+returns-else-is_subset_of c = refused_by_v4 within c.v4.ensures.blocks c.v4-2.ensures.blocks c.is_subset_of.ensures c.if-is_subset_of.false
