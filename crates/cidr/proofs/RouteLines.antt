@@ -165,17 +165,15 @@ module _ (one_set : BlockHasSameSet) (routes : Routes) (a : ℕ) where
 
 pub finds_get : BlockHasSameSet → KeyLaws → FindsGet
 finds_get one_set laws before after (addresses.V4 a) answer left (inl gets) =
-    let keys = left_keys laws no_routes before left.0 left.1 (no_keys laws) left.2 in
     let found = gets.0.1 in (
       found_in one_set before a 32 before.v4 V4 (addresses.V4 a) (held_v4 one_set before a) (λ n. (refl, λ block. ap addresses.V4 block, λ member. member, refl))
-          answer keys.0 found.0 found.1 (gets.0.2 ∙ ap found_text found.2),
+          answer (left_keys laws no_routes before left.0 left.1 (no_keys laws) left.2).0 found.0 found.1 (gets.0.2 ∙ ap found_text found.2),
       gets.1,
     )
 finds_get one_set laws before after (addresses.V6 a) answer left (inl gets) =
-    let keys = left_keys laws no_routes before left.0 left.1 (no_keys laws) left.2 in
     let found = gets.0.1 in (
       found_in one_set before a 128 before.v6 V6 (addresses.V6 a) (held_v6 one_set before a) (λ n. (refl, λ block. ap addresses.V6 block, λ member. member, refl))
-          answer keys.1 found.0 found.1 (gets.0.2 ∙ ap found_text found.2),
+          answer (left_keys laws no_routes before left.0 left.1 (no_keys laws) left.2).1 found.0 found.1 (gets.0.2 ∙ ap found_text found.2),
       gets.1,
     )
 finds_get one_set laws before after a answer left (inr out) = absurd out

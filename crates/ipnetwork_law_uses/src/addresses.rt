@@ -41,18 +41,18 @@ fn v6_is_one_order(a: Ipv6Addr, b: Ipv6Addr) -> bool
     )
 }
 
+fn ip_is_equal(a: IpAddr, b: IpAddr) -> bool
+    ensures { IsTrue result ↔ (a ≡ b) }
+{
+    ip_equality(a, b)
+}
+
 fn ip_compares(a: IpAddr, b: IpAddr) -> (bool, bool, Ordering)
     ensures less { IsTrue result.0 ↔ IsAddrBefore a b }
     ensures at_most { IsTrue result.1 ↔ IsAddrAtMost a b }
     ensures compare { result.2 ≡ ip_cmp a b }
 {
     ip_order(a, b)
-}
-
-fn ip_is_equal(a: IpAddr, b: IpAddr) -> bool
-    ensures { IsTrue result ↔ (a ≡ b) }
-{
-    ip_equality(a, b)
 }
 
 fn v4_feeds_all<H: Hasher>(a: Ipv4Addr, first: &mut H, second: &mut H)

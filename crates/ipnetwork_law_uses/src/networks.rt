@@ -30,22 +30,20 @@ fn network_is_equal<A: Address>(a: Network<A>, b: Network<A>) -> bool
     network_equality(a, b)
 }
 
-fn v4_network_feeds_all<H: Hasher>(a: &Ipv4Network, one: &mut H, other: &mut H)
+fn v4_network_feeds_all<H: Hasher>(a: &Ipv4Network, one: &mut H, two: &mut H)
     ensures first { one.new ≡ fold H.write one.old (fed.u32 a.now.address ++ fed.u8 a.now.prefix) }
-    ensures second { other.new
-        ≡ fold H.write other.old (fed.u32 a.now.address ++ fed.u8 a.now.prefix) }
-    ensures alike { one.old ≡ other.old → one.new ≡ other.new }
+    ensures other { two.new ≡ fold H.write two.old (fed.u32 a.now.address ++ fed.u8 a.now.prefix) }
+    ensures alike { one.old ≡ two.old → one.new ≡ two.new }
 {
-    network_hash(a, a, one, other);
+    network_hash(a, a, one, two);
 }
 
-fn v6_network_feeds_all<H: Hasher>(a: &Ipv6Network, one: &mut H, other: &mut H)
+fn v6_network_feeds_all<H: Hasher>(a: &Ipv6Network, one: &mut H, two: &mut H)
     ensures first { one.new ≡ fold H.write one.old (fed.u128 a.now.address ++ fed.u8 a.now.prefix) }
-    ensures second { other.new
-        ≡ fold H.write other.old (fed.u128 a.now.address ++ fed.u8 a.now.prefix) }
-    ensures alike { one.old ≡ other.old → one.new ≡ other.new }
+    ensures other { two.new ≡ fold H.write two.old (fed.u128 a.now.address ++ fed.u8 a.now.prefix) }
+    ensures alike { one.old ≡ two.old → one.new ≡ two.new }
 {
-    network_hash(a, a, one, other);
+    network_hash(a, a, one, two);
 }
 
 fn network_copy<A: Address>(a: Network<A>) -> Result<Network<A>, AllocError>

@@ -2,6 +2,7 @@
 -- and of texts that are refused.
 use Rattle.std.proofs.Common.{◌≡◌, ℕ, ◌^◌, ◌-◌, ◌<◌, List, [], ◌∷◌, Some, None, Option, Result, refl, ap, sym, ◌∙◌, arith, lit<}
 use Rattle.std.specs.Prelude.{◌↔◌, codes, Ok, Err}
+use Rattle.std.proofs.lemmas.Option.{none-some}
 use Rattle.std.specs.Fmt.{digits}
 use Rattle.std.specs.Net.Addr.{ipv4_octets, ipv6_segments}
 use Rattle.std.specs.Net.Grammar.{Parses, IsIpv4Text, IsIpv6Text, IsIpText}
@@ -28,10 +29,6 @@ use Rattle.ipnetwork_witness.specs.Agreement.{Agree, SameV4, SameV6, SameIp}
 abbrev number : Option ℕ → ℕ
 number (Some address) = address
 number None = 0
-
-abbrev is_some : Option ℕ → ℕ
-is_some (Some address) = 1
-is_some None = 0
 
 -- ---- texts
 
@@ -87,8 +84,7 @@ pub std_takes_no_leading_zero
     → (theirs : Ipv4Addr) → ¬ (IsIpv4Text (codes "192.0.2.01") theirs)
 unfolding digits
 std_takes_no_leading_zero law theirs spelled =
-    let shared = law (codes "192.0.2.01") theirs spelled in
-    let e : 0 ≡ 1 = ap is_some ((v4_computed (codes "192.0.2.01") shared.0).0 shared.2) in omega (arith, e)
+    let shared = law (codes "192.0.2.01") theirs spelled in none-some shared.0 ((v4_computed (codes "192.0.2.01") shared.0).0 shared.2)
 
 pub std_takes_no_second_gap
     : ((text : List ℕ) (theirs : Ipv6Addr) → IsIpv6Text text theirs
@@ -96,8 +92,7 @@ pub std_takes_no_second_gap
     → (theirs : Ipv6Addr) → ¬ (IsIpv6Text (codes "1::2::3") theirs)
 unfolding digits v6_of gap_below
 std_takes_no_second_gap law theirs spelled =
-    let shared = law (codes "1::2::3") theirs spelled in
-    let e : 0 ≡ 1 = ap is_some ((v6_computed (codes "1::2::3") shared.0).0 shared.2) in omega (arith, e)
+    let shared = law (codes "1::2::3") theirs spelled in none-some shared.0 ((v6_computed (codes "1::2::3") shared.0).0 shared.2)
 
 -- and each text that names an address here
 pub std_has_the_address
