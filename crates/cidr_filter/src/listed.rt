@@ -1,12 +1,11 @@
 //! The networks of the lists, and what they say about an address.
-ghost use Rattle.std.specs.Prelude.{◌≡◌, ◌↔◌, IsTrue, map, IfOk, MatchOption};
+ghost use Rattle.std.specs.Prelude.{◌≡◌, ◌↔◌, IsTrue, IfOk, MatchOption};
 ghost use Rattle.cidr_filter.specs.Listed.{HasAddress, has_address, HasBlocksOf, IsLongestBlock, NoBlockHolds};
 
 use ipnetwork::{IpAddr, IpNetwork, Ipv4Network, Ipv6Network};
-use ipnetwork_family::{CidrNetwork, laws};
-use ipnetwork_index::{AddressIndex, IndexedNetwork, RouteIndex};
+use ipnetwork_family::laws;
+use ipnetwork_index::{AddressIndex, BlockIndex};
 use ipnetwork_sets::AddressSet;
-use ipnetwork_table::PrefixTable;
 use std::alloc::{AllocError, Global};
 
 /// The networks of lists.
@@ -28,8 +27,8 @@ pub struct Sets {
 /// The blocks of networks, by family.
 #[derive(Drop)]
 pub struct Tables {
-    pub(crate) v4: RouteIndex<Ipv4Network, ()>,
-    pub(crate) v6: RouteIndex<Ipv6Network, ()>,
+    pub(crate) v4: BlockIndex<Ipv4Network, ()>,
+    pub(crate) v6: BlockIndex<Ipv6Network, ()>,
 }
 
 impl Sets {
@@ -81,8 +80,8 @@ impl Tables {
         ensures v6 { IfOk result (λ tables. HasBlocksOf 128 v6.now tables.v6) }
     {
         Ok(Tables {
-            v4: index_of(alloc, v4)?,
-            v6: index_of(alloc, v6)?,
+            v4: BlockIndex::from_networks(alloc, v4, ())?,
+            v6: BlockIndex::from_networks(alloc, v6, ())?,
         })
     }
 
@@ -102,27 +101,4 @@ impl Tables {
             },
         }
     }
-}
-
-// The index over the blocks of networks of one family.
-fn index_of<N: IndexedNetwork>(
-    alloc: Global,
-    networks: &[N],
-) -> Result<RouteIndex<N, ()>, AllocError>
-    ensures { IfOk result (λ index. HasBlocksOf N.WIDTH (map N.pair networks.now) index) }
-{
-    let table = table_of(alloc, networks)?;
-    let index = RouteIndex::from_table(alloc, table)?;
-    Ok(index)
-}
-
-// The blocks of networks of one family.
-fn table_of<N: CidrNetwork>(alloc: Global, networks: &[N]) -> Result<PrefixTable<N, ()>, AllocError>
-    ensures { IfOk result (λ table. HasBlocksOf N.WIDTH (map N.pair networks.now) table) }
-{
-    let mut table = PrefixTable::new(alloc);
-    for network in networks {
-        table.insert(*network, ())?;
-    }
-    Ok(table)
 }
