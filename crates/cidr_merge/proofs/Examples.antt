@@ -26,21 +26,12 @@ use Rattle.cidr_merge.specs.declared.sides.Side.TheVariants.{First, Second}
 
 -- ---- what is printed
 
--- 10.0.0.0/8, 10.1.0.0/16 and 11.0.0.0/8
+-- 10.0.0.0/8
 abbrev pub ten : Network
 ten = record { address = 167772160; prefix = 8 }
 
-abbrev pub part : Network
-part = record { address = 167837696; prefix = 16 }
-
-abbrev pub eleven : Network
-eleven = record { address = 184549376; prefix = 8 }
-
-pub block_of_a_union : block_line Union v4_family (record {
-  side = First;
-  part =
-      ten;
-}) ≡ codes "10.0.0.0/8\n"
+pub block_of_a_union : block_line Union v4_family
+    (record { side = First; part = ten }) ≡ codes "10.0.0.0/8\n"
 unfolding digits
 block_of_a_union = refl
 
@@ -50,43 +41,32 @@ unfolding digits
 block_of_the_first_alone = refl
 
 pub range_of_the_second_alone : range_line Differ v4_family
-    (record {
-      side = Second;
-      part = (
-        167772160,
-        184549375,
-      );
-    }) ≡ codes "> 10.0.0.0 - 10.255.255.255\n"
+    (record { side = Second; part = (167772160, 184549375) })
+    ≡ codes "> 10.0.0.0 - 10.255.255.255\n"
 unfolding digits
 range_of_the_second_alone = refl
 
-pub range_of_a_difference : range_line Minus v4_family (record {
-  side = First;
-  part = (
-    0,
-    4294967295,
-  );
-}) ≡ codes "0.0.0.0 - 255.255.255.255\n"
+pub range_of_a_difference : range_line Minus v4_family
+    (record { side = First; part = (0, 4294967295) }) ≡ codes "0.0.0.0 - 255.255.255.255\n"
 unfolding digits
 range_of_a_difference = refl
 
+-- 10.1.0.0/16 and 11.0.0.0/8
+abbrev pub part : Network
+part = record { address = 167837696; prefix = 16 }
+
+abbrev pub eleven : Network
+eleven = record { address = 184549376; prefix = 8 }
+
 -- in ascending order, whichever side has them
 pub sides_in_order : merged (part ∷ []) (ten ∷ eleven ∷ [])
-    ≡ record { side = Second; part = ten } ∷ record { side = First; part = part } ∷ record {
-      side =
-          Second;
-      part = eleven;
-    } ∷ []
+    ≡ record { side = Second; part = ten } ∷ record { side = First; part = part }
+    ∷ record { side = Second; part = eleven } ∷ []
 sides_in_order = refl
 
 pub ranges_in_order : merged_ranges ((0, 1) ∷ (4, 5) ∷ []) ((2, 3) ∷ [])
-    ≡ record { side = First; part = (0, 1) } ∷ record {
-      side = Second;
-      part = (
-        2,
-        3,
-      );
-    } ∷ record { side = First; part = (4, 5) } ∷ []
+    ≡ record { side = First; part = (0, 1) } ∷ record { side = Second; part = (2, 3) }
+    ∷ record { side = First; part = (4, 5) } ∷ []
 ranges_in_order = refl
 
 -- ---- what an operation leaves

@@ -1,6 +1,6 @@
 -- Merges in parts.
-use Rattle.std.proofs.Common.{◌≡◌, ◌↔◌, inr, ⊎_elim, ℕ, List, [], ◌∷◌, ◌++◌, refl, sym, ap, ap₂}
-use Rattle.std.proofs.Common.{subst, ◌∙◌}
+use Rattle.std.proofs.Common.{◌≡◌, ◌↔◌, ◌⊎◌, inl, inr, ⊎_elim, ℕ, List, [], ◌∷◌, ◌++◌, refl, sym}
+use Rattle.std.proofs.Common.{ap, ap₂, subst, ◌∙◌}
 use Rattle.std.specs.Prelude.{map}
 use Rattle.std.specs.List.{Contains, flat_map}
 use Rattle.std.specs.Str.Lines.{lines}
@@ -136,35 +136,39 @@ is_printed list text b =
 
 -- ---- what is printed names what the list does
 
+-- a network of both is that of a block of one family
+abbrev OneOf : (Network → IpNetwork) → List Network → IpNetwork → Type 0
+OneOf network blocks n = (m : Network) × Contains blocks m × (network m ≡ n)
+
+one_of : (v4 v6 : List Network) (n : IpNetwork) → Contains (of_both v4 v6) n
+    → OneOf (λ m. networks.V4 m) v4 n ⊎ OneOf (λ m. networks.V6 m) v6 n
+one_of v4 v6 n c =
+    ⊎_elim
+    (λ (d : Contains (map (λ m. networks.V4 m) v4) n).
+    inl (contains_map (λ m. networks.V4 m) v4 n d))
+    (λ (d : Contains (map (λ m. networks.V6 m) v6) n).
+    inr (contains_map (λ m. networks.V6 m) v6 n d))
+    (Contains-append_cases (map (λ m. networks.V4 m) v4) (map (λ m. networks.V6 m) v6) n c)
+
 are_networks : (list : List (List ℕ)) (text : List ℕ) (b : Both list text) (n : IpNetwork)
     → Contains (of_both b.v4.blocks b.v6.blocks) n → IsIpNetwork n
-are_networks list text b n c =
-    ⊎_elim
-    (λ (d : Contains (map (λ m. networks.V4 m) b.v4.blocks) n).
-    let m = contains_map (λ k. networks.V4 k) b.v4.blocks n d in
-    subst IsIpNetwork m.2 ((b.v4.least.maximal m.0).0 m.1).network)
-    (λ (d : Contains (map (λ m. networks.V6 m) b.v6.blocks) n).
-    let m = contains_map (λ k. networks.V6 k) b.v6.blocks n d in
-    subst IsIpNetwork m.2 ((b.v6.least.maximal m.0).0 m.1).network)
-    (Contains-append_cases (map (λ m. networks.V4 m) b.v4.blocks)
-    (map (λ m. networks.V6 m) b.v6.blocks) n c)
+are_networks list text b n c = elim (one_of b.v4.blocks b.v6.blocks n c) [
+  | inl m ↦ subst IsIpNetwork m.2 ((b.v4.least.maximal m.0).0 m.1).network
+  | inr m ↦ subst IsIpNetwork m.2 ((b.v6.least.maximal m.0).0 m.1).network
+]
 
 v4_members : (v4 v6 : List Network) (x : ℕ)
     → ((n : IpNetwork) × Contains (of_both v4 v6) n × IpMember n (addresses.V4 x)) ↔ InUnion 32 v4 x
 v4_members v4 v6 x = (
-  (λ h. ⊎_elim
-      (λ (d : Contains (map (λ n. networks.V4 n) v4) h.0).
-      let m = contains_map (λ n. networks.V4 n) v4 h.0 d in
-      (m.0, m.1, subst (λ (n : IpNetwork). IpMember n (addresses.V4 x)) (sym m.2) h.2))
-      (λ (d : Contains (map (λ n. networks.V6 n) v6) h.0).
-      let m = contains_map (λ n. networks.V6 n) v6 h.0 d in
-      absurd (subst (λ (n : IpNetwork). IpMember n (addresses.V4 x)) (sym m.2) h.2))
-      (Contains-append_cases (map (λ n. networks.V4 n) v4) (map (λ n. networks.V6 n) v6) h.0 h.1)),
+  (λ h. elim (one_of v4 v6 h.0 h.1) [
+    | inl m ↦ (m.0, m.1, subst (λ (n : IpNetwork). IpMember n (addresses.V4 x)) (sym m.2) h.2)
+    | inr m ↦ absurd (subst (λ (n : IpNetwork). IpMember n (addresses.V4 x)) (sym m.2) h.2)
+  ]),
   (λ i. (
     networks.V4 i.0,
     Contains-append_left (map (λ n. networks.V4 n) v4)
-        (map (λ n. networks.V6 n) v6) (networks.V4 i.0) (map_contains
-        (λ n. networks.V4 n) v4 i.0 i.1),
+        (map (λ n. networks.V6 n) v6) (networks.V4 i.0)
+        (map_contains (λ n. networks.V4 n) v4 i.0 i.1),
     i.2,
   )),
 )
@@ -173,19 +177,15 @@ v6_members : (v4 v6 : List Network) (x : ℕ)
     → ((n : IpNetwork) × Contains (of_both v4 v6) n × IpMember n
     (addresses.V6 x)) ↔ InUnion 128 v6 x
 v6_members v4 v6 x = (
-  (λ h. ⊎_elim
-      (λ (d : Contains (map (λ n. networks.V4 n) v4) h.0).
-      let m = contains_map (λ n. networks.V4 n) v4 h.0 d in
-      absurd (subst (λ (n : IpNetwork). IpMember n (addresses.V6 x)) (sym m.2) h.2))
-      (λ (d : Contains (map (λ n. networks.V6 n) v6) h.0).
-      let m = contains_map (λ n. networks.V6 n) v6 h.0 d in
-      (m.0, m.1, subst (λ (n : IpNetwork). IpMember n (addresses.V6 x)) (sym m.2) h.2))
-      (Contains-append_cases (map (λ n. networks.V4 n) v4) (map (λ n. networks.V6 n) v6) h.0 h.1)),
+  (λ h. elim (one_of v4 v6 h.0 h.1) [
+    | inl m ↦ absurd (subst (λ (n : IpNetwork). IpMember n (addresses.V6 x)) (sym m.2) h.2)
+    | inr m ↦ (m.0, m.1, subst (λ (n : IpNetwork). IpMember n (addresses.V6 x)) (sym m.2) h.2)
+  ]),
   (λ i. (
     networks.V6 i.0,
     Contains-append_right (map (λ n. networks.V4 n) v4)
-        (map (λ n. networks.V6 n) v6) (networks.V6 i.0) (map_contains
-        (λ n. networks.V6 n) v6 i.0 i.1),
+        (map (λ n. networks.V6 n) v6) (networks.V6 i.0)
+        (map_contains (λ n. networks.V6 n) v6 i.0 i.1),
     i.2,
   )),
 )

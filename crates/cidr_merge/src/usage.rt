@@ -1,5 +1,8 @@
 //! What is wrong with words that are not a command.
 ghost use Rattle.std.specs.Prelude.{◌≡◌, ◌+◌, ◌^◌, ◌<◌, false, length, IfSome};
+ghost use Rattle.program.specs.Messages.{Tells};
+ghost use Rattle.program.specs.Told.{name_at};
+ghost use Rattle.program.specs.Usage.{usage_text};
 ghost use Rattle.cidr_merge.specs.CommandLines.{is_option, is_name, names_form, is_exported};
 ghost use Rattle.cidr_merge.specs.CommandLines.{named_twice, is_strict_alone};
 ghost use Rattle.cidr_merge.specs.Usage.{no_operation, at_word, first_not, word_problem};
@@ -7,9 +10,6 @@ ghost use Rattle.cidr_merge.specs.Usage.{wrong_option, options_fault, form_fault
 ghost use Rattle.cidr_merge.specs.Usage.{name_problem, union_fault, no_second_side, sides_fault};
 ghost use Rattle.cidr_merge.specs.Usage.{fault_among, first_of};
 ghost use Rattle.cidr_merge.specs.Problems.{problem_text};
-ghost use Rattle.program.specs.Messages.{Tells};
-ghost use Rattle.program.specs.Told.{name_at};
-ghost use Rattle.program.specs.Usage.{usage_text};
 
 use crate::command_line::{Form, Operation, form_called, form_of};
 use crate::help::{PROGRAM, USAGE};
