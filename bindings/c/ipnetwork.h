@@ -396,7 +396,7 @@ IPNETWORK_CHECKED_AT(7) ipnetwork_fault ipnetwork_v6_ranges_make(const ipnetwork
 /* What ipnetwork_v4_table_find and ipnetwork_v6_table_find find in a table, by its ranges and their places, as the calls
  * above make them, and an index of the ranges, as ipnetwork_v4_index_make and ipnetwork_v6_index_make make it:
  * *place is the place beside the last range that begins at the address or before it. IPNETWORK_NO_MEMBER if there is none,
- * or if IPNETWORK_NO_PLACE, or nothing, stands beside it: then *place is as it was. The index only says where the search
+ * or if IPNETWORK_NO_PLACE, or nothing, stands beside it: then *place is not written. The index only says where the search
  * begins: whatever it holds, the answer is that of the ranges and places. These are not checked: of others *place is what
  * the places say, of ranges in another order maybe that beside another one. If the table changes, make them again. */
 IPNETWORK_CHECKED_AT(7, 8) ipnetwork_fault ipnetwork_v4_ranges_find(const ipnetwork_v4 *ranges, size_t range_count,
