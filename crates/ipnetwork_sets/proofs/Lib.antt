@@ -10,6 +10,15 @@ pub mod Examples
 pub mod FewerBlocks
 pub mod FreeBlocks
 pub mod FromRanges
+pub mod IpChanges
+pub mod IpExamples
+pub mod IpFamilies
+pub mod IpFamilySets
+pub mod IpLawExamples
+pub mod IpQuestionLaws
+pub mod IpQuestions
+pub mod IpRooms
+pub mod IpSetLaws
 pub mod JoinedAround
 pub mod LawExamples
 pub mod LeastBlocks

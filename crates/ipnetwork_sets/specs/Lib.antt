@@ -5,6 +5,10 @@ pub mod Counts
 pub mod DifferenceLaws
 pub mod Equality
 pub mod FreeBlocks
+pub mod IpEquality
+pub mod IpLaws
+pub mod IpQuestionLaws
+pub mod IpSets
 pub mod Laws
 pub mod Private
 pub mod QuestionLaws

@@ -1,6 +1,6 @@
-//! Sets of IP addresses of one family, as lists of blocks, for both families.
+//! Sets of IP addresses, as lists of blocks: of one family, for both families, and of either family.
 //!
-//! Only the calls that return an `AllocError` allocate: they grow the list that the caller gives, or the set's own.
+//! Only the calls that return an `AllocError` allocate: they grow the lists that the caller gives, or the set's own.
 #![tactic(auto)]
 
 mod address_count;
@@ -18,6 +18,7 @@ mod equality;
 mod free_block;
 mod from_ranges;
 mod held;
+pub mod ip_sets;
 mod joining;
 pub mod laws;
 mod operations;
@@ -39,5 +40,6 @@ pub use collecting::collected;
 pub use common::Intersection;
 pub use difference::Difference;
 pub use from_ranges::push_range;
+pub use ip_sets::{IpAddressSet, IpBlocks};
 pub use ranges::Ranges;
 pub use union::Union;

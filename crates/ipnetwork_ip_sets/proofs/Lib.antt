@@ -1,9 +1,0 @@
-pub mod Changes
-pub mod Examples
-pub mod Families
-pub mod FamilySets
-pub mod LawExamples
-pub mod QuestionLaws
-pub mod Questions
-pub mod Rooms
-pub mod SetLaws

@@ -1,6 +1,0 @@
-use Rattle.std.proofs.Common.{sym}
-use Rattle.ipnetwork_blocks.proofs.Families.{v6_own}
-use Rattle.ipnetwork_ip_sets.proofs.ip_address_set.IpAddressSet.v6.Goals as goal
-
-pub returns-clause-blocks : goal.returns-clause-blocks
-returns-clause-blocks c = v6_own c.args.self.now c.self.inside.v4 c.self.inside.v6 (sym c.self.view_is)

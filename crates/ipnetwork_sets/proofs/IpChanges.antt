@@ -1,0 +1,100 @@
+-- A network that is added to the set of its family, or taken from it.
+use Rattle.std.proofs.Common.{◌≡◌, ◌↔◌, ℕ, ◌<◌, inl, ⊎_elim, sym, refl, ap, subst, ◌∙◌, arith, Bool, IsTrue, List, [], ◌∷◌, length, Result, OnErr, OnOk, IfOk}
+use Rattle.std.proofs.lemmas.Result.{on_ok_weaker, on_err_weaker, IfOk-weaker}
+use Rattle.std.specs.List.{filter_map}
+use Rattle.ipnetwork_addr.specs.declared.ip.IpAddr.{IpAddr}
+use Rattle.ipnetwork_family.specs.Network.{Network}
+use Rattle.ipnetwork.specs.declared.ip_network.IpNetwork.{IpNetwork}
+use Rattle.ipnetwork.specs.declared.ip_network.IpNetwork.TheVariants.{V4, V6}
+use Rattle.ipnetwork_blocks.specs.Aggregate.{InUnion, LiesInUnion}
+use Rattle.ipnetwork_blocks.specs.AggregateIp.{as_v4, as_v6}
+use Rattle.ipnetwork_blocks.specs.AggregateIpLaws.{LiesInIpUnion}
+use Rattle.ipnetwork_blocks.specs.LeastList.{IsLeastList}
+use Rattle.ipnetwork_blocks.proofs.LeastLists.{contains_nil, least_of_same, least_unique}
+use Rattle.ipnetwork_sets.specs.Sets.{IsAddressSet, MeetsUnion, InEither, InFirstAlone}
+use Rattle.ipnetwork_sets.specs.IpSets.{v4_then_v6, IsIpLeastList, MeetsIpUnion, InIpEither, InIpFirstAlone}
+use Rattle.ipnetwork_blocks.proofs.Families.{through, v4_own, v6_own, v4_family, v6_family, lies_in_family}
+use Rattle.ipnetwork_sets.proofs.IpFamilies.{meets_in_family}
+use Rattle.ipnetwork_sets.proofs.IpFamilySets.{not_iff, IsOperation, either, alone, least_of_families, parts}
+use Rattle.ipnetwork_sets.proofs.IpQuestions.{length_by_family}
+
+-- ---- the changes
+
+-- with no network, and without one, a set is as it was
+either_none : (w : ℕ) (bs : List Network) → IsAddressSet w bs → IsLeastList w (InEither w bs []) bs
+either_none w bs h =
+    least_of_same w (InUnion w bs) (InEither w bs []) bs
+    (λ x. ((λ c. inl c), (λ o. ⊎_elim (λ (c : InUnion w bs x). c) (λ (c : InUnion w [] x). absurd (contains_nil c.0 c.1)) o)))
+    h
+
+alone_none : (w : ℕ) (bs : List Network) → IsAddressSet w bs → IsLeastList w (InFirstAlone w bs []) bs
+alone_none w bs h =
+    least_of_same w (InUnion w bs) (InFirstAlone w bs []) bs
+    (λ x. ((λ c. (c, λ d. contains_nil d.0 d.1)), (λ p. p.0)))
+    h
+
+-- an operation on a set of one family and one network, the same of either family, and what is told of the network
+pub record IsChange (F : ℕ → List Network → List Network → ℕ → Type 0) (G : List IpNetwork → List IpNetwork → IpAddr → Type 0)
+    (P : ℕ → Network → List Network → Type 0) (Q : IpNetwork → List IpNetwork → Type 0) : Type 0 where
+  operation : IsOperation F G
+  none : (w : ℕ) (bs : List Network) → IsAddressSet w bs → IsLeastList w (F w bs []) bs
+  v4_told : (ns : List IpNetwork) (n : Network) → P 32 n (filter_map as_v4 ns) ↔ Q (V4 n) ns
+  v6_told : (ns : List IpNetwork) (n : Network) → P 128 n (filter_map as_v6 ns) ↔ Q (V6 n) ns
+
+pub adding : IsChange InEither InIpEither (λ w n l. ¬ (LiesInUnion w n l)) (λ n ns. ¬ (LiesInIpUnion n ns))
+adding = record {
+  operation = either;
+  none = either_none;
+  v4_told = λ ns n. not_iff (lies_in_family v4_family ns n);
+  v6_told = λ ns n. not_iff (lies_in_family v6_family ns n);
+}
+
+pub taking : IsChange InFirstAlone InIpFirstAlone MeetsUnion MeetsIpUnion
+taking = record { operation = alone; none = alone_none; v4_told = meets_in_family v4_family; v6_told = meets_in_family v6_family }
+
+-- what a change makes of a set, and returns
+pub record IsChanged (G : List IpNetwork → List IpNetwork → IpAddr → Type 0) (Q : IpNetwork → List IpNetwork → Type 0) (old new : List IpNetwork) (a : IpNetwork)
+    {E : Type 0} (result : Result Bool E) : Type 0 where
+  pub set : OnOk result (IsIpLeastList (G old (a ∷ [])) new)
+  pub told : IfOk result (λ told. IsTrue told ↔ Q a old)
+  pub room : (blocks : List IpNetwork) → IsIpLeastList (G old (a ∷ [])) blocks → OnErr result (length old < length blocks)
+  pub unchanged : OnErr result (new ≡ old)
+
+-- ---- a network of one family, and the set of these two
+
+module _ {F : ℕ → List Network → List Network → ℕ → Type 0} {G : List IpNetwork → List IpNetwork → IpAddr → Type 0}
+    {P : ℕ → Network → List Network → Type 0} {Q : IpNetwork → List IpNetwork → Type 0} (change : IsChange F G P Q)
+    (old : List IpNetwork) (v4 v6 : List Network) (a : IpNetwork) (n : Network) (was : old ≡ v4_then_v6 v4 v6) (h : IsAddressSet 32 v4) (k : IsAddressSet 128 v6) where
+  own_v4 : v4 ≡ filter_map as_v4 old
+  own_v4 = v4_own old v4 v6 was
+
+  own_v6 : v6 ≡ filter_map as_v6 old
+  own_v6 = v6_own old v4 v6 was
+
+  pub changed_v4 : {E : Type 0} (result : Result Bool E) (r : List Network) → a ≡ V4 n → OnOk result (IsLeastList 32 (F 32 v4 (n ∷ [])) r) → IfOk result (λ told. IsTrue told ↔ P 32 n v4)
+      → ((blocks : List Network) → IsLeastList 32 (F 32 v4 (n ∷ [])) blocks → OnErr result (length v4 < length blocks)) → OnErr result (r ≡ v4) → IsChanged G Q old (v4_then_v6 r v6) a result
+  changed_v4 {E} result r is set told room unchanged = subst (λ (y : IpNetwork). IsChanged G Q old (v4_then_v6 r v6) y result) (sym is) (record {
+    set = on_ok_weaker result
+        (λ (made : IsLeastList 32 (F 32 v4 (n ∷ [])) r). least_of_families change.operation old (V4 n ∷ []) v4 (n ∷ []) v6 [] r v6 (v4_then_v6 r v6) own_v4 refl own_v6 refl made (change.none 128 v6 k) refl) set;
+    told = IfOk-weaker result (λ t. IsTrue t ↔ P 32 n v4) (λ t. IsTrue t ↔ Q (V4 n) old) (λ t p. through (rw own_v4 at p) (change.v4_told old n)) told;
+    room = λ blocks all.
+        let own = parts change.operation old (V4 n ∷ []) blocks all in
+        let same : filter_map as_v6 blocks ≡ v6 = least_unique 128 (F 128 v6 []) (filter_map as_v6 blocks) v6 (rw own_v6 own.1) (change.none 128 v6 k) in
+        on_err_weaker {Q = length old < length blocks} result (λ (l : length v4 < length (filter_map as_v4 blocks)). omega (arith, l, ap length same, ap length own_v4, ap length own_v6, length_by_family blocks, length_by_family old))
+        (room (filter_map as_v4 blocks) (rw own_v4 own.0));
+    unchanged = on_err_weaker result (λ (e : r ≡ v4). ap (λ l. v4_then_v6 l v6) e ∙ sym was) unchanged;
+  })
+
+  pub changed_v6 : {E : Type 0} (result : Result Bool E) (r : List Network) → a ≡ V6 n → OnOk result (IsLeastList 128 (F 128 v6 (n ∷ [])) r) → IfOk result (λ told. IsTrue told ↔ P 128 n v6)
+      → ((blocks : List Network) → IsLeastList 128 (F 128 v6 (n ∷ [])) blocks → OnErr result (length v6 < length blocks)) → OnErr result (r ≡ v6) → IsChanged G Q old (v4_then_v6 v4 r) a result
+  changed_v6 {E} result r is set told room unchanged = subst (λ (y : IpNetwork). IsChanged G Q old (v4_then_v6 v4 r) y result) (sym is) (record {
+    set = on_ok_weaker result
+        (λ (made : IsLeastList 128 (F 128 v6 (n ∷ [])) r). least_of_families change.operation old (V6 n ∷ []) v4 [] v6 (n ∷ []) v4 r (v4_then_v6 v4 r) own_v4 refl own_v6 refl (change.none 32 v4 h) made refl) set;
+    told = IfOk-weaker result (λ t. IsTrue t ↔ P 128 n v6) (λ t. IsTrue t ↔ Q (V6 n) old) (λ t p. through (rw own_v6 at p) (change.v6_told old n)) told;
+    room = λ blocks all.
+        let own = parts change.operation old (V6 n ∷ []) blocks all in
+        let same : filter_map as_v4 blocks ≡ v4 = least_unique 32 (F 32 v4 []) (filter_map as_v4 blocks) v4 (rw own_v4 own.0) (change.none 32 v4 h) in
+        on_err_weaker {Q = length old < length blocks} result (λ (l : length v6 < length (filter_map as_v6 blocks)). omega (arith, l, ap length same, ap length own_v4, ap length own_v6, length_by_family blocks, length_by_family old))
+        (room (filter_map as_v6 blocks) (rw own_v6 own.1));
+    unchanged = on_err_weaker result (λ (e : r ≡ v6). ap (λ l. v4_then_v6 v4 l) e ∙ sym was) unchanged;
+  })

@@ -1,0 +1,12 @@
+//! Sets of addresses of either family: of each family one set.
+
+mod blocks;
+mod collecting;
+mod counting;
+mod equality;
+mod ip_address_set;
+pub mod laws;
+mod operations;
+
+pub use blocks::IpBlocks;
+pub use ip_address_set::IpAddressSet;
