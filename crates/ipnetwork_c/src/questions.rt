@@ -39,7 +39,8 @@ fn tell_both<T: Copy, F: FnOnce(IpNetwork, IpNetwork) -> T>(
     told: F,
 ) -> u32
     requires { F.IsAlwaysCallable told }
-    ensures { OfBoth one.now other.now (λ a b. Writes (F.post told a b)) place.old place.new result }
+    ensures { OfBoth one.now other.now (λ a b. Writes (F.post told a b))
+        place.old place.new result }
 {
     let one = match one.network() {
         Ok(network) => network,
