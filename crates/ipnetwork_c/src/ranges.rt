@@ -1,6 +1,6 @@
 //! Ranges in the caller's memory, asked for the longest block with an address: one search, whatever
 //! lies in what.
-ghost use Rattle.std.specs.Prelude.{◌≡◌, ◌↔◌, ◌<◌, IsTrue};
+ghost use Rattle.std.specs.Prelude.{◌≡◌, ◌<◌};
 ghost use Rattle.ipnetwork_c.specs.Ranges.{RangeQuery, no_place, place_before};
 ghost use Rattle.ipnetwork_c.specs.Numbers.{no_member};
 ghost use Rattle.ipnetwork_c.specs.Outcomes.{IsFault, Unless, Writes};
