@@ -26,39 +26,32 @@ use lists::{OpenLists, ReadFault, Refusals};
 use program::ending::{FAILED, end, print_text};
 use program::start::text_asked;
 use program::telling::{InLists, tell_refusals};
-use std::alloc::Global;
 use std::io::Write;
 
 /// Does what the words after the program's name ask for, and returns the exit status.
 pub(crate) fn run<L: OpenLists, W: Write, E: Write>(
-    alloc: Global,
-    words: &[String],
-    lists: &L,
+    given: &Given<'_, L>,
     output: &mut Output<'_, W>,
     errors: &mut Output<'_, E>,
 ) -> u8
-    ensures { EndsAs PROGRAM.now HELP.now VERSION.now USAGE.now (L.known lists.now) words.now
-        (ending output.old output.new errors.old errors.new result) }
+    ensures { EndsAs PROGRAM.now HELP.now VERSION.now USAGE.now (L.known given.now.lists.now)
+        given.now.words.now (ending output.old output.new errors.old errors.new result) }
 {
+    let words = given.words;
     if let Some(text) = text_asked(HELP, VERSION, words) {
         return print_text(text, output, errors);
     }
-    let given = Given {
-        alloc,
-        words,
-        lists,
-    };
     if stands(words, 0, "split") {
-        return split(&given, output, errors);
+        return split(given, output, errors);
     }
     if stands(words, 0, "find") {
-        return find(&given, output, errors);
+        return find(given, output, errors);
     }
     if let Some(inspection) = inspection_of(words) {
-        return inspect(inspection, &given, output, errors);
+        return inspect(inspection, given, output, errors);
     }
     match request_of(words) {
-        Ok(request) => merge(request, &given, output, errors),
+        Ok(request) => merge(request, given, output, errors),
         Err(fault) => refuse(words, fault, errors),
     }
 }
