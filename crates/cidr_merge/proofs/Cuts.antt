@@ -9,8 +9,14 @@ use Rattle.std.proofs.Math.Pow.{pow_mono}
 use Rattle.std.proofs.lemmas.Nat.{mod_low}
 use Rattle.ipnetwork_family.specs.Network.{Network, block_size, low, count_up}
 use Rattle.ipnetwork_family.proofs.Members.{length-count_up}
-use Rattle.ipnetwork_blocks.specs.Subnets.{block_number}
-use Rattle.cidr_merge.specs.Pieces.{piece_count}
+use Rattle.ipnetwork_blocks.specs.Subnets.{block_number, subnets_of}
+use Rattle.cidr_merge.specs.Pieces.{pieces, piece_count}
+
+-- into which
+pub cut_into : (w number : ℕ) (block : Network) → block.prefix ≤ number → number ≤ w
+    → pieces w number block ≡ subnets_of w block number
+cut_into w number block p l =
+    rw (and_from (nat_le block.prefix number) (nat_le number w) (le-leb _ _ p) (le-leb _ _ l)) refl
 
 -- one that is longer, or not of a family with such networks, stays whole
 pub stays_whole : (w number : ℕ) (block : Network)

@@ -30,39 +30,24 @@ puts_three held first second holds waited after_first after_second waits x y z f
     (puts_more held second holds waited after_second waits (x ++ y) z
     (puts_more held first second waited after_first after_second x y p q) r)
 
-pub puts_four : (held first second third holds : Option (List ℕ))
-    (waited after_first after_second after_third waits x y z u front back : List ℕ) → x ≡ front
-    → u ≡ back
+pub put_four_ok : {T E : Type 0} (result : Result T E) (held first second third holds : Option
+    (List ℕ)) (waited after_first after_second after_third waits x y z u front back text : List ℕ)
+    → x ≡ front → u ≡ back → front ++ y ++ z ++ back ≡ text
     → Puts held waited first after_first x → Puts first after_first second after_second y
     → Puts second after_second third after_third z
-    → Puts third after_third holds waits u → Puts held waited holds waits (front ++ y ++ z ++ back)
-puts_four held first second third holds waited after_first after_second after_third waits x y z u
-    front back e f p q r s =
+    → OnOk result (Puts third after_third holds waits u)
+    → OnOk result (Puts held waited holds waits text)
+put_four_ok
+    (Ok done) held first second third holds waited after_first after_second after_third waits x y z
+    u front back text e f is p q r s =
     subst (Puts held waited holds waits) (ap (λ l. l ++ y ++ z ++ u) e
-    ∙ ap (λ l. front ++ y ++ z ++ l) f)
+    ∙ ap (λ l. front ++ y ++ z ++ l) f ∙ is)
     (puts_more held third holds waited after_third waits (x ++ y ++ z) u
     (puts_more held second third waited after_second after_third (x ++ y) z
     (puts_more held first second waited after_first after_second x y p q) r) s)
-
-pub put_both_ok : {T E : Type 0} (result : Result T E) (P : List ℕ → Type 0)
-    (held first second third holds : Option (List ℕ))
-    (waited after_first after_second after_third waits x y z u front back : List ℕ) → x ≡ front
-    → u ≡ back
-    → Puts held waited first after_first x → Puts first after_first second after_second y
-    → Puts second after_second third after_third z
-    → OnOk result (Puts third after_third holds waits u) → P (front ++ y ++ z ++ back)
-    → OnOk result ((text : List ℕ) × P text × Puts held waited holds waits text)
-put_both_ok
-    (Ok done) P held first second third holds waited after_first after_second after_third waits x y
-    z u front back e f p q r s is = (
-      front ++ y ++ z ++ back,
-      is,
-      puts_four held first second third holds waited after_first after_second after_third waits x y
-          z u front back e f p q r s,
-    )
-put_both_ok
-    (Err fault) P held first second third holds waited after_first after_second after_third waits x
-    y z u front back e f p q r s is = tt
+put_four_ok
+    (Err fault) held first second third holds waited after_first after_second after_third waits x y
+    z u front back text e f is p q r s = tt
 
 -- whether there was a block
 pub there_is_one : {X : Type 0} (follows : Bool) (all rest : List X) (x : X) → all ≡ x ∷ rest

@@ -150,18 +150,17 @@ module _ {Z : Type 0} (words : List (String Z)) (count : ℕ)
         ))
 
     -- all were
-    pub read : {X : Type 0} (texts held : List X) (items : X → List ℕ) (kind : Inspection)
-        → inspection ≡ kind → held ≡ texts → result ≡ None
-        → AreTexts known (names_from count words) (map items texts)
-        → EndsFinding kind (names_from count words) (map items held) end
+    pub read : {X : Type 0} (texts held : List X) (items : X → List ℕ) → held ≡ texts
+        → result ≡ None → AreTexts known (names_from count words) (map items texts)
+        → EndsFinding inspection (names_from count words) (map items held) end
         → EndsInspecting program usage known words inspection end
-    read texts held items kind k t e are h =
+    read texts held items t e are h =
         subst (λ f. EndsUnless program usage known words inspection f end)
         (sym e ∙ r ∙ sym (fault_is inspection))
         (inr (
           map items texts,
           subst (λ ns. AreTexts known ns (map items texts)) names_are are,
           subst (λ ns. EndsFinding inspection ns (map items texts) end) names_are
-              (subst (λ i. EndsFinding i (names_from count words) (map items texts) end) (sym k)
-              (subst (λ ts. EndsFinding kind (names_from count words) (map items ts) end) t h)),
+              (subst (λ ts. EndsFinding inspection (names_from count words)
+              (map items ts) end) t h),
         ))

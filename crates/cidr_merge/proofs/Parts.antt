@@ -157,38 +157,46 @@ are_networks list text b n c = elim (one_of b.v4.blocks b.v6.blocks n c) [
   | inr m ↦ subst IsIpNetwork m.2 ((b.v6.least.maximal m.0).0 m.1).network
 ]
 
+-- those of both that have a property are those of either family
+abbrev Having : (Network → IpNetwork) → List Network → (IpNetwork → Type 0) → Type 0
+Having network blocks P = (m : Network) × Contains blocks m × P (network m)
+
+of_either : (v4 v6 : List Network) (P : IpNetwork → Type 0)
+    → ((n : IpNetwork) × Contains (of_both v4 v6) n × P n)
+    ↔ (Having (λ m. networks.V4 m) v4 P ⊎ Having (λ m. networks.V6 m) v6 P)
+of_either v4 v6 P =
+    let v4s = map (λ n. networks.V4 n) v4 in
+    let v6s = map (λ n. networks.V6 n) v6 in (
+      (λ h. elim (one_of v4 v6 h.0 h.1) [
+        | inl m ↦ inl (m.0, m.1, subst P (sym m.2) h.2)
+        | inr m ↦ inr (m.0, m.1, subst P (sym m.2) h.2)
+      ]),
+      (λ e. elim e [
+        | inl m ↦ (
+          _,
+          Contains-append_left v4s v6s _ (map_contains (λ n. networks.V4 n) v4 m.0 m.1),
+          m.2,
+        )
+        | inr m ↦ (
+          _,
+          Contains-append_right v4s v6s _ (map_contains (λ n. networks.V6 n) v6 m.0 m.1),
+          m.2,
+        )
+      ]),
+    )
+
 v4_members : (v4 v6 : List Network) (x : ℕ)
     → ((n : IpNetwork) × Contains (of_both v4 v6) n × IpMember n (addresses.V4 x)) ↔ InUnion 32 v4 x
-v4_members v4 v6 x = (
-  (λ h. elim (one_of v4 v6 h.0 h.1) [
-    | inl m ↦ (m.0, m.1, subst (λ (n : IpNetwork). IpMember n (addresses.V4 x)) (sym m.2) h.2)
-    | inr m ↦ absurd (subst (λ (n : IpNetwork). IpMember n (addresses.V4 x)) (sym m.2) h.2)
-  ]),
-  (λ i. (
-    networks.V4 i.0,
-    Contains-append_left (map (λ n. networks.V4 n) v4)
-        (map (λ n. networks.V6 n) v6) (networks.V4 i.0)
-        (map_contains (λ n. networks.V4 n) v4 i.0 i.1),
-    i.2,
-  )),
-)
+v4_members v4 v6 x =
+    let either = of_either v4 v6 (λ n. IpMember n (addresses.V4 x)) in
+    ((λ h. elim (either.0 h) [ inl m ↦ m | inr m ↦ absurd m.2 ]), (λ m. either.1 (inl m)))
 
 v6_members : (v4 v6 : List Network) (x : ℕ)
     → ((n : IpNetwork) × Contains (of_both v4 v6) n × IpMember n
     (addresses.V6 x)) ↔ InUnion 128 v6 x
-v6_members v4 v6 x = (
-  (λ h. elim (one_of v4 v6 h.0 h.1) [
-    | inl m ↦ absurd (subst (λ (n : IpNetwork). IpMember n (addresses.V6 x)) (sym m.2) h.2)
-    | inr m ↦ (m.0, m.1, subst (λ (n : IpNetwork). IpMember n (addresses.V6 x)) (sym m.2) h.2)
-  ]),
-  (λ i. (
-    networks.V6 i.0,
-    Contains-append_right (map (λ n. networks.V4 n) v4)
-        (map (λ n. networks.V6 n) v6) (networks.V6 i.0)
-        (map_contains (λ n. networks.V6 n) v6 i.0 i.1),
-    i.2,
-  )),
-)
+v6_members v4 v6 x =
+    let either = of_either v4 v6 (λ n. IpMember n (addresses.V6 x)) in
+    ((λ h. elim (either.0 h) [ inl m ↦ absurd m.2 | inr m ↦ m ]), (λ m. either.1 (inr m)))
 
 members : (list : List (List ℕ)) (text : List ℕ) (b : Both list text) (a : IpAddr)
     → ((n : IpNetwork) × Contains (of_both b.v4.blocks b.v6.blocks) n

@@ -7,6 +7,7 @@ use Rattle.cidr_merge.specs.CommandLines.{operation_named, AreFor}
 use Rattle.cidr_merge.specs.Problems.{problem_text}
 use Rattle.cidr_merge.specs.Usage.{at_word, fault_in}
 use Rattle.cidr_merge.specs.declared.command_line.Operation.{Operation}
+use Rattle.cidr_merge.specs.declared.problems.Problem.{Problem}
 use Rattle.cidr_merge.specs.declared.problems.Problem.TheVariants.{NotAnOperation, NotAnOption}
 use Rattle.cidr_merge.specs.declared.problems.Problem.TheVariants.{NotAlone, QuietBehind, NotAForm}
 use Rattle.cidr_merge.specs.declared.problems.Problem.TheVariants.{RangesAndCount, AnotherForm}
@@ -33,76 +34,62 @@ pub no_operation_before_all : {Z : Type 0} (word : String Z) (others : List (Str
 no_operation_before_all word others e = rw e
 
 -- words of these bytes, behind others, have this fault
-abbrev Finds : (Z : Type 0) → List (String Z) → List (List ℕ) → UsageFault → Type 0
-Finds Z words [] fault = fault_in words ≡ Some fault
-Finds Z words (text ∷ texts) fault =
-    (word : String Z) → string_bytes word ≡ text → Finds Z (words ++ word ∷ []) texts fault
+abbrev Behind : (Z : Type 0) → List (String Z) → List (List ℕ) → UsageFault → Type 0
+Behind Z words [] fault = fault_in words ≡ Some fault
+Behind Z words (text ∷ texts) fault =
+    (word : String Z) → string_bytes word ≡ text → Behind Z (words ++ word ∷ []) texts fault
 
-pub an_option_before_a_name : {Z : Type 0}
-    → Finds Z [] (codes "union" ∷ codes "--count" ∷ codes "-x" ∷ [] ∷ []) (at_word 2 NotAnOption)
-an_option_before_a_name _ o _ a _ b _ c = simp (o, a, b, c)
+-- words of these bytes have this problem, with the word at a place
+abbrev Have : (Z : Type 0) → List (List ℕ) → ℕ → Problem → Type 0
+Have Z texts place problem = Behind Z [] texts (at_word place problem)
 
-pub no_option_before_two_of_them : {Z : Type 0}
-    → Finds Z [] (codes "union" ∷ codes "--count" ∷ codes "--ranges" ∷ codes "--x" ∷ [])
-    (at_word 3 NotAnOption)
-no_option_before_two_of_them _ o _ a _ b _ c = simp (o, a, b, c)
+-- of options the first that is none, before what they are together, and both before the lists
+pub options_first : {Z : Type 0}
+    → Have Z (codes "union" ∷ codes "--count" ∷ codes "-x" ∷ [] ∷ []) 2 NotAnOption
+    × Have Z (codes "union" ∷ codes "--count" ∷ codes "--ranges" ∷ codes "--x" ∷ []) 3 NotAnOption
+    × Have Z (codes "minus" ∷ codes "--count" ∷ codes "--ranges" ∷ [] ∷ []) 2 RangesAndCount
+    × Have Z (codes "union" ∷ codes "--format" ∷ codes "--format" ∷ codes "csv" ∷ []) 2 NotAForm
+    × Have Z (codes "union" ∷ codes "--ranges" ∷ codes "--format" ∷ codes "csv" ∷ []) 2 AnotherForm
+    × Have Z (codes "differ" ∷ codes "--format" ∷ codes "csv" ∷ []) 1 FormOfDiffer
+    × Have Z (codes "common" ∷ codes "--" ∷ codes "a" ∷ []) 1 EmptyFirstSide
+options_first = (
+  (λ _ o _ a _ b _ c. simp (o, a, b, c)),
+  (λ _ o _ a _ b _ c. simp (o, a, b, c)),
+  (λ _ o _ a _ b _ c. simp (o, a, b, c)),
+  (λ _ o _ a _ b _ c. simp (o, a, b, c)),
+  (λ _ o _ a _ b _ c. simp (o, a, b, c)),
+  (λ _ o _ a _ b. simp (o, a, b)),
+  (λ _ o _ a _ b. simp (o, a, b)),
+)
 
-pub two_ways_before_a_name : {Z : Type 0}
-    → Finds Z [] (codes "minus" ∷ codes "--count" ∷ codes "--ranges" ∷ [] ∷ [])
-    (at_word 2 RangesAndCount)
-two_ways_before_a_name _ o _ a _ b _ c = simp (o, a, b, c)
+-- of lists the first name that is none, then standard input, and then the sides
+pub names_before_sides : {Z : Type 0}
+    → Have Z (codes "union" ∷ codes "-" ∷ codes "-" ∷ [] ∷ []) 3 EmptyName
+    × Have Z (codes "union" ∷ codes "--count" ∷ codes "a" ∷ codes "--count" ∷ []) 3 OptionAmongLists
+    × Have Z (codes "union" ∷ codes "a" ∷ codes "-" ∷ codes "--" ∷ codes "-" ∷ []) 2 InputTwice
+    × Have Z (codes "union" ∷ codes "a" ∷ codes "--" ∷ codes "b" ∷ []) 2 SecondSideOfUnion
+    × Have Z (codes "differ" ∷ codes "a" ∷ codes "--" ∷ codes "--" ∷ []) 2 ThirdSide
+    × Have Z (codes "union" ∷ codes "--ranges" ∷ []) 0 NoList
+    × Have Z (codes "minus" ∷ codes "a" ∷ []) 0 OneSide
+    × Have Z (codes "minus" ∷ codes "a" ∷ codes "--" ∷ []) 2 EmptySecondSide
+names_before_sides = (
+  (λ _ o _ a _ b _ c. simp (o, a, b, c)),
+  (λ _ o _ a _ b _ c. simp (o, a, b, c)),
+  (λ _ o _ a _ b _ c _ d. simp (o, a, b, c, d)),
+  (λ _ o _ a _ b _ c. simp (o, a, b, c)),
+  (λ _ o _ a _ b _ c. simp (o, a, b, c)),
+  (λ _ o _ a. simp (o, a)),
+  (λ _ o _ a. simp (o, a)),
+  (λ _ o _ a _ b. simp (o, a, b)),
+)
 
-pub no_form : {Z : Type 0}
-    → Finds Z [] (codes "union" ∷ codes "--format" ∷ codes "--format" ∷ codes "csv" ∷ [])
-    (at_word 2 NotAForm)
-no_form _ o _ a _ b _ c = simp (o, a, b, c)
-
-pub a_form_and_ranges : {Z : Type 0}
-    → Finds Z [] (codes "union" ∷ codes "--ranges" ∷ codes "--format" ∷ codes "csv" ∷ [])
-    (at_word 2 AnotherForm)
-a_form_and_ranges _ o _ a _ b _ c = simp (o, a, b, c)
-
-pub a_form_of_differ : {Z : Type 0}
-    → Finds Z [] (codes "differ" ∷ codes "--format" ∷ codes "csv" ∷ []) (at_word 1 FormOfDiffer)
-a_form_of_differ _ o _ a _ b = simp (o, a, b)
-
-pub dashes_among_the_options : {Z : Type 0}
-    → Finds Z [] (codes "common" ∷ codes "--" ∷ codes "a" ∷ []) (at_word 1 EmptyFirstSide)
-dashes_among_the_options _ o _ a _ b = simp (o, a, b)
-
-pub a_name_before_standard_input : {Z : Type 0}
-    → Finds Z [] (codes "union" ∷ codes "-" ∷ codes "-" ∷ [] ∷ []) (at_word 3 EmptyName)
-a_name_before_standard_input _ o _ a _ b _ c = simp (o, a, b, c)
-
-pub an_option_behind_a_list : {Z : Type 0}
-    → Finds Z [] (codes "union" ∷ codes "--count" ∷ codes "a" ∷ codes "--count" ∷ [])
-    (at_word 3 OptionAmongLists)
-an_option_behind_a_list _ o _ a _ b _ c = simp (o, a, b, c)
-
-pub standard_input_before_the_sides : {Z : Type 0}
-    → Finds Z [] (codes "union" ∷ codes "a" ∷ codes "-" ∷ codes "--" ∷ codes "-" ∷ [])
-    (at_word 2 InputTwice)
-standard_input_before_the_sides _ o _ a _ b _ c _ d = simp (o, a, b, c, d)
-
-pub a_second_side_of_the_union : {Z : Type 0}
-    → Finds Z [] (codes "union" ∷ codes "a" ∷ codes "--" ∷ codes "b" ∷ [])
-    (at_word 2 SecondSideOfUnion)
-a_second_side_of_the_union _ o _ a _ b _ c = simp (o, a, b, c)
-
-pub three_sides : {Z : Type 0}
-    → Finds Z [] (codes "differ" ∷ codes "a" ∷ codes "--" ∷ codes "--" ∷ []) (at_word 2 ThirdSide)
-three_sides _ o _ a _ b _ c = simp (o, a, b, c)
-
-pub a_union_of_nothing : {Z : Type 0}
-    → Finds Z [] (codes "union" ∷ codes "--ranges" ∷ []) (at_word 0 NoList)
-a_union_of_nothing _ o _ a = simp (o, a)
-
-pub one_side : {Z : Type 0} → Finds Z [] (codes "minus" ∷ codes "a" ∷ []) (at_word 0 OneSide)
-one_side _ o _ a = simp (o, a)
-
-pub nothing_behind_the_dashes : {Z : Type 0}
-    → Finds Z [] (codes "minus" ∷ codes "a" ∷ codes "--" ∷ []) (at_word 2 EmptySecondSide)
-nothing_behind_the_dashes _ o _ a _ b = simp (o, a, b)
+-- an option of another operation, and words that have places of their own
+pub words_of_other_places : {Z : Type 0}
+    → Have Z (codes "union" ∷ codes "--prefix" ∷ []) 1 NotAnOption
+    × Have Z (codes "common" ∷ codes "--quiet" ∷ []) 1 QuietBehind
+    × Have Z (codes "union" ∷ codes "a" ∷ codes "--help" ∷ []) 2 NotAlone
+words_of_other_places =
+    ((λ _ o _ a. simp (o, a)), (λ _ o _ a. simp (o, a)), (λ _ o _ a _ b. simp (o, a, b)))
 
 pub what_is_told : {Z : Type 0} (operation first : String Z)
     → string_bytes operation ≡ codes "overlaps" → string_bytes first ≡ codes "-x"
@@ -110,16 +97,3 @@ pub what_is_told : {Z : Type 0} (operation first : String Z)
     (at_word 1 NotAnOption).subject (problem_text (string_bytes operation) NotAnOption)
     ≡ codes "cidr_merge: -x: not an option; overlaps takes none\nusage: cidr_merge\n"
 what_is_told operation first o a = rw (o, a)
-
--- an option of another operation, and words that have places of their own
-pub an_option_of_split : {Z : Type 0}
-    → Finds Z [] (codes "union" ∷ codes "--prefix" ∷ []) (at_word 1 NotAnOption)
-an_option_of_split _ o _ a = simp (o, a)
-
-pub quiet_behind_an_operation : {Z : Type 0}
-    → Finds Z [] (codes "common" ∷ codes "--quiet" ∷ []) (at_word 1 QuietBehind)
-quiet_behind_an_operation _ o _ a = simp (o, a)
-
-pub help_behind_a_list : {Z : Type 0}
-    → Finds Z [] (codes "union" ∷ codes "a" ∷ codes "--help" ∷ []) (at_word 2 NotAlone)
-help_behind_a_list _ o _ a _ b = simp (o, a, b)

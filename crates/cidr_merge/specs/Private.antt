@@ -1,5 +1,6 @@
 -- What the private functions promise each other, and how contracts see private fields.
 pub mod Entries
+pub mod Printing
 pub mod Reported
 pub mod Sweeps
 pub mod Totals

@@ -8,7 +8,7 @@ ghost use Rattle.cidr_merge.specs.Pieces.{too_many_text};
 use arrayvec::ArrayString;
 use ipnetwork::{Address, CidrNetwork, Network};
 use ipnetwork_addr::decimal::push_number;
-use ipnetwork_blocks::{AddressSpace, SubnetIterator, subnets};
+use ipnetwork_blocks::{AddressSpace, subnets};
 use ipnetwork_sets::AddressSet;
 use lines::fault::RunFault;
 use lines::output::Output;
@@ -33,6 +33,7 @@ pub(crate) fn print_pieces<A: Address, W: Write>(
 }
 
 // Prints the pieces of a block.
+#[tactic(auto, using(crate::proofs::Printed::none_printed, crate::proofs::Printed::all_printed, crate::proofs::Merging::shorter))]
 fn print_block<A: Address, W: Write>(
     length: u8,
     block: Network<A>,
@@ -41,24 +42,11 @@ fn print_block<A: Address, W: Write>(
     ensures text { OnOk result (Prints output.old output.new (pieces_text A.family length block)) }
     ensures failed { output.new.failed ≡ (output.old.failed || is_err result) }
 {
-    match subnets(block, length) {
-        Some(pieces) => print_networks(pieces, output),
-        None => put_network(block, output),
-    }
-}
-
-// Prints networks, each on a line.
-#[tactic(auto, using(crate::proofs::Printed::none_printed, crate::proofs::Printed::all_printed, crate::proofs::Merging::shorter))]
-fn print_networks<A: Address, W: Write>(
-    mut networks: SubnetIterator<Network<A>>,
-    output: &mut Output<'_, W>,
-) -> Result<(), RunFault>
-    ensures text { OnOk result (Prints output.old output.new
-        (flat_map (network_line A.family) networks)) }
-    ensures failed { output.new.failed ≡ (output.old.failed || is_err result) }
-{
-    while let Some(network) = networks.next() {
-        put_network(network, output)?;
+    let Some(mut pieces) = subnets(block, length) else {
+        return put_network(block, output);
+    };
+    while let Some(piece) = pieces.next() {
+        put_network(piece, output)?;
     }
     Ok(())
 }

@@ -1,44 +1,37 @@
 //! Prints an export.
-ghost use Rattle.std.specs.Prelude.{◌≡◌, ◌++◌, ◌||◌, ℕ, List, OnOk, IfOk, is_err};
+ghost use Rattle.std.specs.Prelude.{◌≡◌, ◌++◌, ◌||◌, OnOk, IfOk, is_err};
 ghost use Rattle.std.specs.List.{flat_map};
 ghost use Rattle.lines.specs.Outputs.{Prints};
-ghost use Rattle.cidr_merge.specs.Exports.{element, following, listed, family_text, is_any};
-ghost use Rattle.cidr_merge.specs.Answers.{IsExport};
+ghost use Rattle.cidr_merge.specs.Exports.{element, following, listed, family_text, export_text};
+ghost use Rattle.cidr_merge.specs.Private.Printing.{PrintsBlocks};
 ghost use Rattle.cidr_merge.specs.Private.Sweeps.{blocks_left};
 
 use crate::addresses::print_addresses;
-use crate::command_line::Operation;
 use crate::elements;
-use crate::exports::{
-    Export, Version, closing, family_foot, family_head, foot, head, opening, separator,
-};
-use crate::reading::Sets;
+use crate::exports::{Export, Version, around, around_blocks, around_family};
 use crate::sweep::Sweep;
-use ipnetwork::{Address, Network};
+use ipnetwork::{Address, Ipv4Network, Ipv6Network, Network};
 use ipnetwork_sets::SetBlocks;
 use lines::fault::RunFault;
 use lines::output::Output;
 use std::io::Write;
 
-/// Prints what the operation leaves of the first side.
+/// Prints an export of the blocks of both families.
 pub(crate) fn print_export<W: Write>(
-    operation: Operation,
     export: Export,
-    first: &Sets,
-    second: &Sets,
+    v4: Sweep<'_, Ipv4Network>,
+    v6: Sweep<'_, Ipv6Network>,
     output: &mut Output<'_, W>,
 ) -> Result<(), RunFault>
-    ensures text { OnOk result ((text : List ℕ)
-        × IsExport operation export first.now second.now text
-        × Prints output.old output.new text) }
+    ensures text { OnOk result (Prints output.old output.new
+        (export_text export (blocks_left v4.entry) (blocks_left v6.entry))) }
     ensures failed { output.new.failed ≡ (output.old.failed || is_err result) }
 {
-    let v4 = Sweep::of(operation, &first.v4, &second.v4);
-    let v6 = Sweep::of(operation, &first.v6, &second.v6);
-    output.put(head(export).as_bytes())?;
+    let (head, foot) = around(export);
+    output.put(head.as_bytes())?;
     let follows = print_family(export, Version::V4, false, v4, output)?;
     print_family(export, Version::V6, follows, v6, output)?;
-    output.put(foot(export).as_bytes())
+    output.put(foot.as_bytes())
 }
 
 // Prints the blocks of a family, which may follow blocks of the other, and tells whether any was
@@ -50,14 +43,14 @@ fn print_family<A: Address, W: Write>(
     blocks: Sweep<'_, Network<A>>,
     output: &mut Output<'_, W>,
 ) -> Result<bool, RunFault>
-    ensures text { OnOk result (Prints output.old output.new
-        (family_text export version A.family follows (blocks_left blocks.entry))) }
-    ensures any { IfOk result (λ any. any ≡ (follows || is_any (blocks_left blocks.entry))) }
+    ensures printed { IfOk result (PrintsBlocks (family_text export version A.family follows)
+        follows (blocks_left blocks.entry) output.old output.new) }
     ensures failed { output.new.failed ≡ (output.old.failed || is_err result) }
 {
-    output.put(family_head(export, version).as_bytes())?;
+    let (head, foot) = around_family(export, version);
+    output.put(head.as_bytes())?;
     let any = print_listed(export, version, follows, blocks, output)?;
-    output.put(family_foot(export).as_bytes())?;
+    output.put(foot.as_bytes())?;
     Ok(any)
 }
 
@@ -69,17 +62,17 @@ fn print_listed<A: Address, W: Write>(
     mut blocks: Sweep<'_, Network<A>>,
     output: &mut Output<'_, W>,
 ) -> Result<bool, RunFault>
-    ensures text { OnOk result (Prints output.old output.new
-        (listed export version A.family follows (blocks_left blocks.entry))) }
-    ensures any { IfOk result (λ any. any ≡ (follows || is_any (blocks_left blocks.entry))) }
+    ensures printed { IfOk result (PrintsBlocks (listed export version A.family follows) follows
+        (blocks_left blocks.entry) output.old output.new) }
     ensures failed { output.new.failed ≡ (output.old.failed || is_err result) }
 {
     let Some(block) = blocks.next_block() else {
         return Ok(follows);
     };
-    print_after(opening(export, follows), export, version, block, output)?;
+    let (opening, _, closing) = around_blocks(export, follows);
+    print_after(opening, export, version, block, output)?;
     print_following(export, version, blocks, output)?;
-    output.put(closing(export).as_bytes())?;
+    output.put(closing.as_bytes())?;
     Ok(true)
 }
 
@@ -95,8 +88,9 @@ fn print_following<A: Address, W: Write>(
         (flat_map (following export version A.family) (blocks_left blocks.entry))) }
     ensures failed { output.new.failed ≡ (output.old.failed || is_err result) }
 {
+    let (_, separator, _) = around_blocks(export, true);
     while let Some(block) = blocks.next_block() {
-        print_after(separator(export), export, version, block, output)?;
+        print_after(separator, export, version, block, output)?;
     }
     Ok(())
 }

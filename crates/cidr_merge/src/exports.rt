@@ -31,84 +31,68 @@ pub enum Version {
     V6,
 }
 
-/// What stands before everything else.
-pub(crate) fn head(export: Export) -> &'static str
-    ensures { result.now ≡ head export }
+/// What stands before and after everything else.
+pub(crate) fn around(export: Export) -> (&'static str, &'static str)
+    ensures before { result.0.now ≡ head export }
+    ensures after { result.1.now ≡ foot export }
 {
     match export {
-        Export::Csv => "family,network,first,last\n",
-        Export::Nft => "table inet cidr_merge {\n",
-        Export::Json => "[",
-        _ => "",
+        Export::Csv => ("family,network,first,last\n", ""),
+        Export::Nft => ("table inet cidr_merge {\n", "}\n"),
+        Export::Json => ("[", "\n]\n"),
+        _ => ("", ""),
     }
 }
 
-/// What stands after everything else.
-pub(crate) fn foot(export: Export) -> &'static str
-    ensures { result.now ≡ foot export }
-{
-    match export {
-        Export::Nft => "}\n",
-        Export::Json => "\n]\n",
-        _ => "",
-    }
-}
-
-/// What stands before the blocks of a family, even if there is none.
-pub(crate) fn family_head(export: Export, version: Version) -> &'static str
-    ensures { result.now ≡ family_head export version }
+/// What stands before and after the blocks of a family, even if there is none.
+pub(crate) fn around_family(export: Export, version: Version) -> (&'static str, &'static str)
+    ensures before { result.0.now ≡ family_head export version }
+    ensures after { result.1.now ≡ family_foot export }
 {
     match export {
         Export::Nft => match version {
-            Version::V4 => "\tset ipv4 {\n\t\ttype ipv4_addr\n\t\tflags interval\n",
-            Version::V6 => "\tset ipv6 {\n\t\ttype ipv6_addr\n\t\tflags interval\n",
+            Version::V4 => (
+                "\tset ipv4 {\n\t\ttype ipv4_addr\n\t\tflags interval\n",
+                "\t}\n",
+            ),
+            Version::V6 => (
+                "\tset ipv6 {\n\t\ttype ipv6_addr\n\t\tflags interval\n",
+                "\t}\n",
+            ),
         },
         Export::Ipset => match version {
-            Version::V4 => "create cidr_merge_ipv4 hash:net family inet maxelem 4294967295\n",
-            Version::V6 => "create cidr_merge_ipv6 hash:net family inet6 maxelem 4294967295\n",
+            Version::V4 => (
+                "create cidr_merge_ipv4 hash:net family inet maxelem 4294967295\n",
+                "",
+            ),
+            Version::V6 => (
+                "create cidr_merge_ipv6 hash:net family inet6 maxelem 4294967295\n",
+                "",
+            ),
         },
-        _ => "",
+        _ => ("", ""),
     }
 }
 
-/// What stands after the blocks of a family, even if there is none.
-pub(crate) fn family_foot(export: Export) -> &'static str
-    ensures { result.now ≡ family_foot export }
+/// What stands before, between and after the blocks of a family, which may follow blocks of the
+/// other.
+pub(crate) fn around_blocks(
+    export: Export,
+    follows: bool,
+) -> (&'static str, &'static str, &'static str)
+    ensures before { result.0.now ≡ opening export follows }
+    ensures between { result.1.now ≡ separator export }
+    ensures after { result.2.now ≡ closing export }
 {
     match export {
-        Export::Nft => "\t}\n",
-        _ => "",
-    }
-}
-
-/// What stands before the first block of a family, which may follow blocks of the other.
-pub(crate) fn opening(export: Export, follows: bool) -> &'static str
-    ensures { result.now ≡ opening export follows }
-{
-    match export {
-        Export::Nft => "\t\telements = {\n\t\t\t",
-        Export::Json => { if follows { ",\n" } else { "\n" } }
-        _ => "",
-    }
-}
-
-/// What stands between two blocks of a family.
-pub(crate) fn separator(export: Export) -> &'static str
-    ensures { result.now ≡ separator export }
-{
-    match export {
-        Export::Nft => ",\n\t\t\t",
-        Export::Json => ",\n",
-        _ => "",
-    }
-}
-
-/// What stands after the last block of a family.
-pub(crate) fn closing(export: Export) -> &'static str
-    ensures { result.now ≡ closing export }
-{
-    match export {
-        Export::Nft => "\n\t\t}\n",
-        _ => "",
+        Export::Nft => ("\t\telements = {\n\t\t\t", ",\n\t\t\t", "\n\t\t}\n"),
+        Export::Json => {
+            if follows {
+                (",\n", ",\n", "")
+            } else {
+                ("\n", ",\n", "")
+            }
+        }
+        _ => ("", "", ""),
     }
 }

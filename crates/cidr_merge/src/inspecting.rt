@@ -2,7 +2,8 @@
 ghost use Rattle.std.specs.Prelude.{◌≡◌, ◌<◌, length, map, if◌then◌else◌};
 ghost use Rattle.std.specs.List.Sorted.{IsSorted};
 ghost use Rattle.program.specs.Endings.{ending};
-ghost use Rattle.cidr_merge.specs.InspectionRuns.{EndsChecking, EndsInspecting, EndsOrdered};
+ghost use Rattle.cidr_merge.specs.InspectionRuns.{EndsChecking, EndsFinding, EndsInspecting};
+ghost use Rattle.cidr_merge.specs.InspectionRuns.{EndsOrdered};
 ghost use Rattle.cidr_merge.specs.Overlaps.{listed_cmp};
 ghost use Rattle.cidr_merge.specs.Private.Entries.{listed_as};
 ghost use Rattle.cidr_merge.specs.Private.Reported.{TellsFound};
@@ -12,7 +13,7 @@ use crate::checking::check_lists;
 use crate::findings::either;
 use crate::given::Given;
 use crate::help::{PROGRAM, USAGE};
-use crate::inspections::{Inspection, inspection_fault};
+use crate::inspections::Inspection;
 use crate::overlapping::tell_pairs;
 use crate::placed::{Placed, entries_of};
 use crate::reading::refuse_lists;
@@ -47,21 +48,35 @@ pub(crate) fn inspect<L: OpenLists, W: Write, E: Write>(
     let others = &given.words[1..];
     let count = options_count(others);
     let names = &others[count..];
-    if let Some(fault) = inspection_fault(inspection, &others[..count], names) {
+    if let Some(fault) = inspection.fault(&others[..count], names) {
         return refuse(given.words, fault, errors);
     }
     let texts = match texts_of(given, names, 1 + count) {
         Ok(texts) => texts,
         Err(fault) => return refuse_lists(given.words, fault, errors),
     };
-    let lists = WholeLists {
-        names,
-        texts: texts.as_slice(),
-    };
+    let texts = texts.as_slice();
+    look_over(inspection, given.alloc, names, texts, output, errors)
+}
+
+// Looks over the lists of these names and bytes, and returns the exit status.
+fn look_over<W: Write, E: Write>(
+    inspection: Inspection,
+    alloc: Global,
+    names: &[String],
+    texts: &[Vec<u8>],
+    output: &mut Output<'_, W>,
+    errors: &mut Output<'_, E>,
+) -> u8
+    requires { length texts.now ≡ length names.now }
+    ensures { EndsFinding inspection names.now (map (λ text. text.items) texts.now)
+        (ending output.old output.new errors.old errors.new result) }
+{
+    let lists = WholeLists { names, texts };
     match inspection {
         Inspection::Check => check(&lists, output, errors),
-        Inspection::Strict => check_ordered(given.alloc, true, &lists, output, errors),
-        Inspection::Overlaps => check_ordered(given.alloc, false, &lists, output, errors),
+        Inspection::Strict => check_ordered(alloc, true, &lists, output, errors),
+        Inspection::Overlaps => check_ordered(alloc, false, &lists, output, errors),
     }
 }
 

@@ -20,6 +20,19 @@ pub enum Inspection {
     Overlaps,
 }
 
+impl Inspection {
+    /// What is wrong with the options and the names of lists, which are all words after the first.
+    pub(crate) fn fault(self, options: &[String], names: &[String]) -> Option<UsageFault>
+        requires { 1 + length options.now + length names.now < 2 ^ 64 }
+        ensures { result ≡ inspection_fault self options.now names.now }
+    {
+        if let Some(fault) = options_problem(options_taken(self), options) {
+            return Some(fault);
+        }
+        files_fault(names, 1 + options.len())
+    }
+}
+
 /// How the first words say to look lists over, if they do.
 pub(crate) fn inspection_of(words: &[String]) -> Option<Inspection>
     ensures asked { result ≡ inspection_of words.now }
@@ -53,21 +66,6 @@ fn check_of(strictly: bool) -> Inspection
     } else {
         Inspection::Check
     }
-}
-
-/// What is wrong with the options and the names of lists, which are all words after the first.
-pub(crate) fn inspection_fault(
-    inspection: Inspection,
-    options: &[String],
-    names: &[String],
-) -> Option<UsageFault>
-    requires { 1 + length options.now + length names.now < 2 ^ 64 }
-    ensures { result ≡ inspection_fault inspection options.now names.now }
-{
-    if let Some(fault) = options_problem(options_taken(inspection), options) {
-        return Some(fault);
-    }
-    files_fault(names, 1 + options.len())
 }
 
 // How many options an inspection takes.

@@ -38,6 +38,7 @@ mod texts;
 mod usage;
 mod words;
 
+use crate::given::Given;
 use crate::help::{PROGRAM, USAGE};
 use crate::run::run;
 use program::start::start;
@@ -45,6 +46,12 @@ use std::process::ExitCode;
 
 fn main(rt: HostRuntime) -> ExitCode {
     start(&rt, PROGRAM, USAGE, |words, lists, output, errors| {
-        run(rt.alloc(), words, lists, output, errors)
+        let alloc = rt.alloc();
+        let given = Given {
+            alloc,
+            words,
+            lists,
+        };
+        run(&given, output, errors)
     })
 }

@@ -1,12 +1,13 @@
 //! Prints the answer.
-ghost use Rattle.std.specs.Prelude.{◌≡◌, ◌≤◌, ◌++◌, ◌∷◌, ◌||◌, [], ℕ, List, OnOk, is_err};
+ghost use Rattle.std.specs.Prelude.{◌≡◌, ◌≤◌, ◌++◌, ◌∷◌, ◌||◌, [], OnOk, is_err};
 ghost use Rattle.std.specs.List.{flat_map};
 ghost use Rattle.cidr_merge.specs.Answers.{sign_of, merged_by};
 ghost use Rattle.cidr_merge.specs.Answers.{IsCountLine, AreCountsLeft, AreCounts, IsAnswer, IsLeft};
+ghost use Rattle.cidr_merge.specs.Private.Printing.{PrintsSome};
 ghost use Rattle.cidr_merge.specs.Private.Sweeps.{left_of_second, AreLines};
 ghost use Rattle.lines.specs.Outputs.{Prints};
 
-use crate::command_line::{Form, Operation};
+use crate::command_line::{Form, Operation, Request};
 use crate::counts::Counts;
 use crate::exporting::print_export;
 use crate::reading::Sets;
@@ -19,19 +20,31 @@ use lines::fault::RunFault;
 use lines::output::Output;
 use std::io::Write;
 
+/// A request, and what was read of the lists of its sides.
+#[derive(Drop)]
+pub(crate) struct Merging<'a> {
+    /// The request.
+    pub request: Request,
+    /// The addresses of the first side.
+    pub first: &'a Sets,
+    /// Those of the second.
+    pub second: &'a Sets,
+}
+
 /// Prints what the operation leaves of the sides.
 pub(crate) fn print<W: Write>(
-    operation: Operation,
-    form: Form,
-    first: &Sets,
-    second: &Sets,
+    merging: &Merging<'_>,
     output: &mut Output<'_, W>,
 ) -> Result<(), RunFault>
-    ensures text { OnOk result ((text : List ℕ) × IsAnswer operation form first.now second.now text
-        × Prints output.old output.new text) }
+    ensures text { let m = merging.now in OnOk result (PrintsSome
+        (IsAnswer m.request.operation m.request.form m.first.now m.second.now)
+        output.old output.new) }
     ensures failed { output.new.failed ≡ (output.old.failed || is_err result) }
 {
-    match form {
+    let operation = merging.request.operation;
+    let first = merging.first;
+    let second = merging.second;
+    match merging.request.form {
         Form::Blocks => {
             print_lines(false, operation, &first.v4, &second.v4, output)?;
             print_lines(false, operation, &first.v6, &second.v6, output)
@@ -40,8 +53,12 @@ pub(crate) fn print<W: Write>(
             print_lines(true, operation, &first.v4, &second.v4, output)?;
             print_lines(true, operation, &first.v6, &second.v6, output)
         }
-        Form::Counts => print_counts(operation, first, second, output),
-        Form::Exported(export) => print_export(operation, export, first, second, output),
+        Form::Counts => print_counts(merging, output),
+        Form::Exported(export) => {
+            let v4 = Sweep::of(operation, &first.v4, &second.v4);
+            let v6 = Sweep::of(operation, &first.v6, &second.v6);
+            print_export(export, v4, v6, output)
+        }
     }
 }
 
@@ -53,9 +70,8 @@ fn print_lines<A: Address, W: Write>(
     second: &AddressSet<Network<A>>,
     output: &mut Output<'_, W>,
 ) -> Result<(), RunFault>
-    ensures text { OnOk result ((text : List ℕ)
-        × AreLines in_ranges operation A.family first.now second.now text
-        × Prints output.old output.new text) }
+    ensures text { OnOk result (PrintsSome (AreLines in_ranges operation A.family first.now
+        second.now) output.old output.new) }
     ensures failed { output.new.failed ≡ (output.old.failed || is_err result) }
 {
     let firsts = Sweep::of(operation, first, second);
@@ -87,16 +103,14 @@ fn print_parts<P: Parts, W: Write>(
 }
 
 // Prints the counts of both families; of `differ` for each side.
-fn print_counts<W: Write>(
-    operation: Operation,
-    first: &Sets,
-    second: &Sets,
-    output: &mut Output<'_, W>,
-) -> Result<(), RunFault>
-    ensures text { OnOk result ((text : List ℕ) × AreCounts operation first.now second.now text
-        × Prints output.old output.new text) }
+fn print_counts<W: Write>(merging: &Merging<'_>, output: &mut Output<'_, W>) -> Result<(), RunFault>
+    ensures text { let m = merging.now in OnOk result (PrintsSome
+        (AreCounts m.request.operation m.first.now m.second.now) output.old output.new) }
     ensures failed { output.new.failed ≡ (output.old.failed || is_err result) }
 {
+    let operation = merging.request.operation;
+    let first = merging.first;
+    let second = merging.second;
     print_counts_left(operation, Side::First, first, second, output)?;
     match operation {
         Operation::Differ => { print_counts_left(operation, Side::Second, second, first, output) }
@@ -112,9 +126,8 @@ fn print_counts_left<W: Write>(
     second: &Sets,
     output: &mut Output<'_, W>,
 ) -> Result<(), RunFault>
-    ensures text { OnOk result ((text : List ℕ)
-        × AreCountsLeft operation (sign_of operation side) first.now second.now text
-        × Prints output.old output.new text) }
+    ensures text { OnOk result (PrintsSome (AreCountsLeft operation (sign_of operation side)
+        first.now second.now) output.old output.new) }
     ensures failed { output.new.failed ≡ (output.old.failed || is_err result) }
 {
     let sign = sign_of(operation, side);
@@ -133,10 +146,8 @@ fn print_count_line<A: Address, W: Write>(
 ) -> Result<(), RunFault>
     requires some { 1 ≤ A.WIDTH }
     requires bits { A.WIDTH ≤ 128 }
-    ensures text { OnOk result ((text : List ℕ)
-        × IsCountLine A.WIDTH (sign.now ++ family.now)
-        (IsLeft operation A.WIDTH first.now second.now) text
-        × Prints output.old output.new text) }
+    ensures text { OnOk result (PrintsSome (IsCountLine A.WIDTH (sign.now ++ family.now)
+        (IsLeft operation A.WIDTH first.now second.now)) output.old output.new) }
     ensures failed { output.new.failed ≡ (output.old.failed || is_err result) }
 {
     let counts = Counts::of(Sweep::of(operation, first, second));

@@ -2,8 +2,7 @@
 ghost use Rattle.std.specs.Prelude.{◌≡◌};
 ghost use Rattle.program.specs.Told.{name_at};
 ghost use Rattle.cidr_merge.specs.Problems.{is_alone, misplaced, option_problem, problem_text};
-ghost use Rattle.cidr_merge.specs.Problems.{no_operation_text, no_option_text, among_lists_text};
-ghost use Rattle.cidr_merge.specs.Problems.{first_side_text};
+ghost use Rattle.cidr_merge.specs.Problems.{no_operation_text, option_texts, first_side_text};
 
 use crate::words::begins_dashed;
 use program::words::text_at;
@@ -68,7 +67,7 @@ impl Problem {
         match self {
             Problem::NoOperation => "no operation",
             Problem::NotAnOperation => no_operation_text(operation),
-            Problem::NotAnOption => no_option_text(operation),
+            Problem::NotAnOption => option_texts(operation).0,
             Problem::NotAlone => "taken only alone",
             Problem::QuietBehind => "taken only once, as the first word",
             Problem::NotAForm => {
@@ -80,7 +79,7 @@ impl Problem {
             Problem::StrictAlone => "only together with --json",
             Problem::FormOfDiffer => "differ can be printed only as plain or range",
             Problem::EmptyName => "not the name of a file",
-            Problem::OptionAmongLists => among_lists_text(operation),
+            Problem::OptionAmongLists => option_texts(operation).1,
             Problem::InputTwice => "standard input can be read only once",
             Problem::SecondSideOfUnion => "only common, minus, differ and find take a --",
             Problem::ThirdSide => "only one -- is taken",
@@ -143,38 +142,40 @@ fn no_operation_text(word: &str) -> &'static str
     }
 }
 
-// What is reported of a word that is no option of the operation of this name.
-fn no_option_text(operation: &str) -> &'static str
-    ensures { result.now ≡ no_option_text operation.now }
+// What is reported of a word that is no option of the operation of this name, and of one that
+// begins with a `-` among its lists.
+fn option_texts(operation: &str) -> (&'static str, &'static str)
+    ensures before { result.0.now ≡ (option_texts operation.now).0 }
+    ensures among { result.1.now ≡ (option_texts operation.now).1 }
 {
     if operation == "check" {
-        "not an option; check takes one --strict"
+        (
+            "not an option; check takes one --strict",
+            "not a FILE; options stand before the first one",
+        )
     } else if operation == "overlaps" {
-        "not an option; overlaps takes none"
+        (
+            "not an option; overlaps takes none",
+            "not a FILE, and overlaps takes no option",
+        )
     } else if operation == "find" {
-        "not an option; find takes none"
+        (
+            "not an option; find takes none",
+            "not a FILE, and find takes no option",
+        )
     } else if operation == "split" {
-        "not an option here; split takes --prefix N, --skip-bad, --json and, behind it, --strict, \
-         in this order"
+        (
+            "not an option here; split takes --prefix N, --skip-bad, --json and, behind it, \
+             --strict, in this order",
+            "not a FILE; split takes --prefix N, --skip-bad, --json and, behind it, --strict, \
+             in this order, before the first one",
+        )
     } else {
-        "not an option; union, common, minus, differ and list take --ranges, --count, \
-         --format FORM, --skip-bad, --json and --strict"
-    }
-}
-
-// What is reported of a word that begins with a `-` among the lists of the operation of this name.
-fn among_lists_text(operation: &str) -> &'static str
-    ensures { result.now ≡ among_lists_text operation.now }
-{
-    if operation == "overlaps" {
-        "not a FILE, and overlaps takes no option"
-    } else if operation == "find" {
-        "not a FILE, and find takes no option"
-    } else if operation == "split" {
-        "not a FILE; split takes --prefix N, --skip-bad, --json and, behind it, --strict, \
-         in this order, before the first one"
-    } else {
-        "not a FILE; options stand before the first one"
+        (
+            "not an option; union, common, minus, differ and list take --ranges, --count, \
+             --format FORM, --skip-bad, --json and --strict",
+            "not a FILE; options stand before the first one",
+        )
     }
 }
 

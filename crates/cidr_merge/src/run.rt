@@ -1,13 +1,13 @@
 //! The run that the program makes.
 ghost use Rattle.std.specs.Prelude.{◌≡◌, ◌≤◌, ℕ, List, length, if◌then◌else◌, OnOk, IfErr, is_err};
 ghost use Rattle.lines.specs.Outputs.{Writes};
+ghost use Rattle.program.specs.Endings.{ending};
 ghost use Rattle.cidr_merge.specs.Answers.{IsAnswer};
 ghost use Rattle.cidr_merge.specs.Private.Words.{IsWithin};
 ghost use Rattle.cidr_merge.specs.Endings.{EndsAs};
 ghost use Rattle.cidr_merge.specs.Reading.{ReadsSides};
 ghost use Rattle.cidr_merge.specs.Runs.{answer_status, EndsAnswering, EndsMerging};
 ghost use Rattle.cidr_merge.specs.Stopping.{StopsInSides};
-ghost use Rattle.program.specs.Endings.{ending};
 
 use crate::command_line::{Operation, Request, request_of};
 use crate::find::find;
@@ -15,7 +15,7 @@ use crate::given::Given;
 use crate::help::{HELP, PROGRAM, USAGE, VERSION};
 use crate::inspecting::inspect;
 use crate::inspections::inspection_of;
-use crate::printing::print;
+use crate::printing::{Merging, print};
 use crate::reading::{Sets, read_side, refuse_lists};
 use crate::split::split;
 use crate::usage::refuse;
@@ -26,48 +26,32 @@ use lists::{OpenLists, ReadFault, Refusals};
 use program::ending::{FAILED, end, print_text};
 use program::start::text_asked;
 use program::telling::{InLists, tell_refusals};
-use std::alloc::Global;
 use std::io::Write;
-
-/// The exit status of an answer.
-const ANSWERED: u8 = 0;
-
-/// The exit status of `differ` if the sides are not equal.
-const UNEQUAL: u8 = 1;
-
-/// The exit status of an answer if lines were skipped.
-const SKIPPED: u8 = 3;
 
 /// Does what the words after the program's name ask for, and returns the exit status.
 pub(crate) fn run<L: OpenLists, W: Write, E: Write>(
-    alloc: Global,
-    words: &[String],
-    lists: &L,
+    given: &Given<'_, L>,
     output: &mut Output<'_, W>,
     errors: &mut Output<'_, E>,
 ) -> u8
-    ensures { EndsAs PROGRAM.now HELP.now VERSION.now USAGE.now (L.known lists.now) words.now
-        (ending output.old output.new errors.old errors.new result) }
+    ensures { EndsAs PROGRAM.now HELP.now VERSION.now USAGE.now (L.known given.now.lists.now)
+        given.now.words.now (ending output.old output.new errors.old errors.new result) }
 {
+    let words = given.words;
     if let Some(text) = text_asked(HELP, VERSION, words) {
         return print_text(text, output, errors);
     }
-    let given = Given {
-        alloc,
-        words,
-        lists,
-    };
     if stands(words, 0, "split") {
-        return split(&given, output, errors);
+        return split(given, output, errors);
     }
     if stands(words, 0, "find") {
-        return find(&given, output, errors);
+        return find(given, output, errors);
     }
     if let Some(inspection) = inspection_of(words) {
-        return inspect(inspection, &given, output, errors);
+        return inspect(inspection, given, output, errors);
     }
     match request_of(words) {
-        Ok(request) => merge(request, &given, output, errors),
+        Ok(request) => merge(request, given, output, errors),
         Err(fault) => refuse(words, fault, errors),
     }
 }
@@ -86,14 +70,14 @@ fn merge<L: OpenLists, W: Write, E: Write>(
     let (first, second, refusals, read) = read_sides(request, given);
     tell_refusals(given.words, &InLists, &refusals, errors);
     match read {
-        Ok(()) => answer(
-            request,
-            !refusals.is_empty(),
-            &first,
-            &second,
-            output,
-            errors,
-        ),
+        Ok(()) => {
+            let merging = Merging {
+                request,
+                first: &first,
+                second: &second,
+            };
+            answer(&merging, !refusals.is_empty(), output, errors)
+        }
         Err(fault) => refuse_lists(given.words, fault, errors),
     }
 }
@@ -135,39 +119,42 @@ fn end_of_second(read: &Result<(), ReadFault>, first: usize, count: usize) -> us
 // Prints what the operation leaves of the sides, unless lines were refused that are not to be
 // skipped.
 fn answer<W: Write, E: Write>(
-    request: Request,
+    merging: &Merging<'_>,
     skips: bool,
-    first: &Sets,
-    second: &Sets,
     output: &mut Output<'_, W>,
     errors: &mut Output<'_, E>,
 ) -> u8
-    ensures { EndsAnswering request skips first.now second.now
+    ensures { let m = merging.now in EndsAnswering m.request skips m.first.now m.second.now
         (ending output.old output.new errors.old errors.new result) }
 {
+    let request = merging.request;
     if skips && !request.skips_bad {
         return FAILED;
     }
-    let status = status(request.operation, skips, first, second);
-    let written = write_answer(request, first, second, output);
+    let status = status(request.operation, skips, merging.first, merging.second);
+    let written = write_answer(merging, output);
     end(written, status, errors)
 }
 
 // Writes what the operation leaves of the sides.
-fn write_answer<W: Write>(
-    request: Request,
-    first: &Sets,
-    second: &Sets,
-    output: &mut Output<'_, W>,
-) -> Result<(), RunFault>
-    ensures written { OnOk result ((text : List ℕ)
-        × IsAnswer request.operation request.form first.now second.now text
+fn write_answer<W: Write>(merging: &Merging<'_>, output: &mut Output<'_, W>) -> Result<(), RunFault>
+    ensures written { let m = merging.now in OnOk result ((text : List ℕ)
+        × IsAnswer m.request.operation m.request.form m.first.now m.second.now text
         × Writes output.old output.new text) }
     ensures failed { output.new.failed ≡ is_err result }
 {
-    print(request.operation, request.form, first, second, output)?;
+    print(merging, output)?;
     output.finish()
 }
+
+/// The exit status of an answer.
+const ANSWERED: u8 = 0;
+
+/// The exit status of `differ` if the sides are not equal.
+const UNEQUAL: u8 = 1;
+
+/// The exit status of an answer if lines were skipped.
+const SKIPPED: u8 = 3;
 
 // The exit status of an answer.
 fn status(operation: Operation, skips: bool, first: &Sets, second: &Sets) -> u8

@@ -1,9 +1,9 @@
 //! The run of a `split`.
 ghost use Rattle.std.specs.Prelude.{◌≡◌, min, ◌-◌, ◌^◌, OnOk, is_err};
 ghost use Rattle.lines.specs.Outputs.{Writes};
+ghost use Rattle.program.specs.Endings.{ending};
 ghost use Rattle.cidr_merge.specs.Pieces.{split_text, split_count};
 ghost use Rattle.cidr_merge.specs.Splits.{EndsSplit, EndsCutting};
-ghost use Rattle.program.specs.Endings.{ending};
 
 use crate::cutting::{count_pieces, print_pieces, too_many_text};
 use crate::given::Given;

@@ -4,29 +4,28 @@ use Rattle.lines.specs.Outputs.{Prints}
 use Rattle.cidr_merge.proofs.ExportTexts.{puts_three, puts_no_block, there_is_one, there_is_none}
 use Rattle.cidr_merge.proofs.exporting.print_listed.Goals as goal
 
-pub returns-in_default-clause-text : goal.returns-in_default-clause-text
-returns-in_default-clause-text g c =
-    puts_no_block c.args.export c.args.version g.A.Address.family c.args.follows _
-    c.args.output.now.holds c.args.output.now.waits c.in_default.ensures.step.0
+pub returns-in_default-clause-printed : goal.returns-in_default-clause-printed
+returns-in_default-clause-printed g c = (
+  puts_no_block c.args.export c.args.version g.A.Address.family c.args.follows _
+      c.args.output.now.holds c.args.output.now.waits c.in_default.ensures.step.0,
+  there_is_none c.args.follows _ c.in_default.ensures.step.0,
+)
 
-pub returns-in_default-clause-any : goal.returns-in_default-clause-any
-returns-in_default-clause-any g c = there_is_none c.args.follows _ c.in_default.ensures.step.0
-
-pub returns-clause-text : goal.returns-clause-text
-returns-clause-text g c =
+pub returns-clause-printed : goal.returns-clause-printed
+returns-clause-printed g c =
     let family = g.A.Address.family in
-    subst (λ blocks. Prints c.args.output.now c.put.new.self
-    (listed c.args.export c.args.version family c.args.follows blocks))
-    (sym c.in-Some.ensures.step)
-    (puts_three c.args.output.now.holds c.print_after.new.output.holds
-    c.print_following.new.output.holds c.put.new.self.holds
-    c.args.output.now.waits c.print_after.new.output.waits
-    c.print_following.new.output.waits c.put.new.self.waits
-    _ _ c.as_bytes.result.now _ (closing c.args.export)
-    (ap (λ (t : List ℕ). t ++ element c.args.export c.args.version family c.in-Some.block)
-    c.opening.ensures) (c.as_bytes.ensures.value ∙ c.closing.ensures)
-    c.in_ok-print_after.ensures.text c.in_ok-print_following.ensures.text
-    c.in_ok-put.ensures.ok)
-
-pub returns-clause-any : goal.returns-clause-any
-returns-clause-any g c = there_is_one c.args.follows _ _ _ c.in-Some.ensures.step
+    let around = c.around_blocks.ensures in (
+      subst (λ blocks. Prints c.args.output.now c.put.new.self
+          (listed c.args.export c.args.version family c.args.follows blocks))
+          (sym c.in-Some.ensures.step)
+          (puts_three c.args.output.now.holds c.print_after.new.output.holds
+          c.print_following.new.output.holds c.put.new.self.holds
+          c.args.output.now.waits c.print_after.new.output.waits
+          c.print_following.new.output.waits c.put.new.self.waits
+          _ _ c.as_bytes.result.now _ (closing c.args.export)
+          (ap (λ (t : List ℕ). t ++ element c.args.export c.args.version family c.in-Some.block)
+          around.before) (c.as_bytes.ensures.value ∙ around.after)
+          c.in_ok-print_after.ensures.text c.in_ok-print_following.ensures.text
+          c.in_ok-put.ensures.ok),
+      there_is_one c.args.follows _ _ _ c.in-Some.ensures.step,
+    )

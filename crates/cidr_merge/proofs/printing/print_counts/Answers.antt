@@ -8,9 +8,9 @@ returns-in-Differ-clause-text g c =
     let output = c.args.output.now in
     let between = c.print_counts_left.new.output in
     let after = c.print_counts_left-in-Differ.new.output in
-    let operation = c.args.operation in
-    let first = c.args.first.now in
-    let second = c.args.second.now in
+    let operation = c.args.merging.now.request.operation in
+    let first = c.args.merging.now.first.now in
+    let second = c.args.merging.now.second.now in
     then_ok c.print_counts_left-in-Differ.result (AreCountsLeft operation
     (sign_of operation First) first second) (AreCountsLeft operation
     (sign_of operation Second) second first)
@@ -21,9 +21,9 @@ returns-in-Differ-clause-text g c =
 
 pub returns-in_default-clause-text : goal.returns-in_default-clause-text
 returns-in_default-clause-text g c =
+    let m = c.args.merging.now in
     let h = c.in_ok-print_counts_left.ensures.text in (
       h.0,
-      counts_of_one c.args.operation c.in_default.not-Differ c.args.first.now c.args.second.now
-          h.0 h.1,
+      counts_of_one m.request.operation c.in_default.not-Differ m.first.now m.second.now h.0 h.1,
       h.2,
     )
