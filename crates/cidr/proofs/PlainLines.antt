@@ -72,7 +72,7 @@ plain_request : (line : List ℕ) → IsPlainLine line → IsPlain (request_of l
 unfolding request_of
 plain_request line h =
     one_of_plain (nat_lt 1024 (length line)) too_long (request_in (words line)) refl
-    (subst (λ (these : List (List ℕ)). IsPlain (request_in these)) (sym h.cut) (plain_words h.command h.others h.no_add h.no_drop h.no_find))
+    (subst (λ (these : List (List ℕ)). IsPlain (request_in these)) (sym h.asking.cut) (plain_words h.asking.command h.asking.others h.asking.no_add h.asking.no_drop h.no_find))
 
 pub plain_gets : (text answer : List ℕ) (before after : Routes) → MayGet before (Plain text) answer after → (answer ≡ text) × (after ≡ before)
 plain_gets text answer before after (inl gets) = gets
@@ -96,11 +96,7 @@ others_routing line routing =
         | false ↦ λ no_drop. elim (bytes_eq command (codes "find")) as (λ b. bytes_eq command (codes "find") ≡ b → Named line) [
           | true ↦ λ find. here 2 (omega arith) (sym ((bytes_eq-Decides command (codes "find")).0 find))
           | false ↦ λ no_find. absurd (routing (record {
-            command = command;
-            others = others;
-            cut = cut;
-            no_add = apart command (codes "add") no_add;
-            no_drop = apart command (codes "drop") no_drop;
+            asking = record { command = command; others = others; cut = cut; no_add = apart command (codes "add") no_add; no_drop = apart command (codes "drop") no_drop };
             no_find = apart command (codes "find") no_find;
           }))
         ] refl

@@ -1,10 +1,8 @@
 //! The run that the program makes, and what it promises.
-ghost use Rattle.std.specs.Prelude.{◌≡◌, ◌||◌, List, ℕ, Err, OnOk, IsOk, IsFalse, IsTrue, IfSome, Some, ◌≤◌, length};
-ghost use Rattle.std.specs.Io.KnownBytes.{Appends};
+ghost use Rattle.std.specs.Prelude.{◌≡◌, ◌||◌, IsFalse};
 ghost use Rattle.lines.specs.Faults.{ended_by_read, ended_by_write};
 ghost use Rattle.lines.specs.Watched.{device_of, has_failed};
-ghost use Rattle.cidr.specs.Output.{IsOutput};
-ghost use Rattle.cidr.specs.Run.{Ran};
+ghost use Rattle.cidr.specs.Run.{Ran, IsRun};
 
 use crate::answering::{Answering, LINE_MAX};
 use ipnetwork_table::laws;
@@ -29,26 +27,8 @@ pub fn run<R: Read, W: Write>(
     reader: &mut Watched<R>,
     writer: &mut Watched<W>,
 ) -> Result<(), RunFault>
-    ensures ran { Ran u32.MAX
-        (R.remaining (device_of reader.old)) (R.remaining (device_of reader.new))
-        (W.contents (device_of writer.old)) (W.contents (device_of writer.new)) result }
-    ensures reader_failed { has_failed reader.new
-        ≡ (has_failed reader.old || ended_by_read result) }
-    ensures writer_failed { has_failed writer.new
-        ≡ (has_failed writer.old || ended_by_write result) }
-    ensures reader_first { IsTrue (has_failed reader.old) → result ≡ Err RunFault.Read }
-    ensures writer_next { IsFalse (has_failed reader.old) → IsTrue (has_failed writer.old)
-        → result ≡ Err RunFault.Write }
-    ensures uncalled { IsTrue (has_failed reader.old || has_failed writer.old)
-        → (device_of reader.new ≡ device_of reader.old)
-        × (device_of writer.new ≡ device_of writer.old) }
-    ensures output { OnOk result
-        (IfSome (R.remaining (device_of reader.old)) (λ input. (output : List ℕ)
-        × IsOutput input output
-        × Appends (W.contents (device_of writer.old)) (W.contents (device_of writer.new)) output)) }
-    ensures succeeds { (input : List ℕ) → R.remaining (device_of reader.old) ≡ Some input
-        → length input ≤ u32.MAX
-        → IsFalse (has_failed reader.new) → IsFalse (has_failed writer.new) → IsOk result }
+    ensures { IsRun R.remaining W.contents u32.MAX reader.old reader.new writer.old writer.new
+        result }
 {
     run_limited(alloc, u32::MAX, reader, writer)
 }
@@ -78,41 +58,15 @@ pub fn run<R: Read, W: Write>(
 ///
 /// A run begins with no routes and frees them as it ends. Only an `add` of a new block allocates, from `alloc`; if
 /// memory runs out, its answer says so, the routes are unchanged, and the run goes on.
+#[tactic(auto, using(crate::proofs::Runs::reader_had_failed, crate::proofs::Runs::writer_had_failed))]
 pub fn run_limited<R: Read, W: Write>(
     alloc: Global,
     limit: u32,
     reader: &mut Watched<R>,
     writer: &mut Watched<W>,
 ) -> Result<(), RunFault>
-    // What was read and written, by how the run ended.
-    ensures ran { Ran limit
-        (R.remaining (device_of reader.old)) (R.remaining (device_of reader.new))
-        (W.contents (device_of writer.old)) (W.contents (device_of writer.new)) result }
-
-    // A device has failed exactly if it had failed before, or its failure ended the run.
-    ensures reader_failed { has_failed reader.new
-        ≡ (has_failed reader.old || ended_by_read result) }
-    ensures writer_failed { has_failed writer.new
-        ≡ (has_failed writer.old || ended_by_write result) }
-
-    // If the reader had failed before, it is `Read`, whatever the writer; else, if the writer had, it is `Write`; and
-    // no call is made if one of them had.
-    ensures reader_first { IsTrue (has_failed reader.old) → result ≡ Err RunFault.Read }
-    ensures writer_next { IsFalse (has_failed reader.old) → IsTrue (has_failed writer.old)
-        → result ≡ Err RunFault.Write }
-    ensures uncalled { IsTrue (has_failed reader.old || has_failed writer.old)
-        → (device_of reader.new ≡ device_of reader.old)
-        × (device_of writer.new ≡ device_of writer.old) }
-
-    // So `Ok` means that an output of the whole input was written, and the result is `Ok` if the input is within the
-    // limit and no device fails.
-    ensures output { OnOk result
-        (IfSome (R.remaining (device_of reader.old)) (λ input. (output : List ℕ)
-        × IsOutput input output
-        × Appends (W.contents (device_of writer.old)) (W.contents (device_of writer.new)) output)) }
-    ensures succeeds { (input : List ℕ) → R.remaining (device_of reader.old) ≡ Some input
-        → length input ≤ limit
-        → IsFalse (has_failed reader.new) → IsFalse (has_failed writer.new) → IsOk result }
+    ensures { IsRun R.remaining W.contents limit reader.old reader.new writer.old writer.new
+        result }
 {
     if reader.failed() {
         return Err(RunFault::Read);

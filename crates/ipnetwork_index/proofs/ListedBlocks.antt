@@ -13,14 +13,13 @@ use Rattle.std.proofs.lemmas.List.Kept.{Any-dedup, Contains-from_dedup, IsStrict
 use Rattle.std.proofs.lemmas.List.Sorted.{Contains-permutation, IsPermutation-sym}
 use Rattle.ipnetwork_blocks.proofs.LeastLists.{contains_nil}
 use Rattle.ipnetwork_family.specs.Network.{Network, IsCidrBlock, block_of, network_cmp}
-use Rattle.ipnetwork_table.specs.Laws.{ListedIsStored, StoredIsListed, EntriesAscend}
+use Rattle.ipnetwork_table.specs.Laws.{ListedIsStored, StoredIsListed}
 use Rattle.ipnetwork_table.specs.Table.{HasOnlyBlocks}
 use Rattle.ipnetwork_table.proofs.Pairs.{one_network, tie_of}
 use Rattle.ipnetwork_index.specs.Entries.{HasBlocksOf, HasValue}
 use Rattle.ipnetwork_index.specs.Private.Listings.{AreListedBlocks}
-use Rattle.ipnetwork_index.specs.Private.Sweeps.{AreListed}
+use Rattle.ipnetwork_index.specs.Private.Sweeps.{HasEntries}
 use Rattle.ipnetwork_index.proofs.Edging.{contains_of_map, map_of_contains, nothing, some_value}
-use Rattle.ipnetwork_index.proofs.Sweeping.{entries_listed}
 
 both_hold : (a b : Bool) → T a → T b → T (a && b)
 both_hold true b p q = q
@@ -128,7 +127,7 @@ module _ {V : Type 0} (value : V) where
 
 module _ {V : Type 0} (w : ℕ) (networks : List Network) (value : V) (es : List (Network × V))
     (h : AreListedBlocks w networks value es) where
-  pub its_entries : es ≡ entries (from_sorted {R = network_cmp} es)
+  its_entries : es ≡ entries (from_sorted {R = network_cmp} es)
   its_entries = sym (entries-from_sorted network_cmp es h.sorted)
 
   module _ (listed : StoredIsListed V) where
@@ -140,7 +139,7 @@ module _ {V : Type 0} (w : ℕ) (networks : List Network) (value : V) (es : List
         (subst (λ (fs : List (Network × V)). slice_get fs at.0 ≡ Some (n, v))
         (sym its_entries ∙ h.own) at.1)
 
-    pub only_blocks : HasOnlyBlocks w (from_sorted {R = network_cmp} es)
+    only_blocks : HasOnlyBlocks w (from_sorted {R = network_cmp} es)
     only_blocks n s =
         let v = some_value (get (from_sorted {R = network_cmp} es) n) s in
         All-contains (IsCidrBlock w) h.keys n h.are_blocks (of_stored n v.0 v.1).0
@@ -160,6 +159,5 @@ module _ {V : Type 0} (w : ℕ) (networks : List Network) (value : V) (es : List
           (sym h.own ∙ its_entries) at.1))),
     )
 
-    pub in_order : ListedIsStored V → EntriesAscend V → AreListed w es
-    in_order stored ascend = entries_listed w (from_sorted {R = network_cmp} es) es only_blocks stored
-        ascend its_entries
+    pub its_table : HasEntries w (from_sorted {R = network_cmp} es) es
+    its_table = record { blocks = only_blocks; own = its_entries }

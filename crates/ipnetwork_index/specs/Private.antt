@@ -7,5 +7,6 @@ pub mod Listings
 pub mod LowHalves
 pub mod Padded
 pub mod Partitions
+pub mod Ranges
 pub mod Steps
 pub mod Sweeps

@@ -1,10 +1,9 @@
 //! What a look-up finds in each range.
 ghost use Rattle.std.specs.Prelude.{◌≡◌, ◌<◌, IfOk, length, map, get_or};
-ghost use Rattle.std.specs.FinMap as finite_map;
-ghost use Rattle.ipnetwork_table.specs.Table.{HasOnlyBlocks, by_pair};
+ghost use Rattle.ipnetwork_table.specs.Table.{by_pair};
 ghost use Rattle.ipnetwork_index.specs.Private.Answers.{IsMadeOf};
 ghost use Rattle.ipnetwork_index.specs.Private.Partitions.{IsPartition};
-ghost use Rattle.ipnetwork_index.specs.Private.Sweeps.{AreAnswersOf, AreListed};
+ghost use Rattle.ipnetwork_index.specs.Private.Sweeps.{AreAnswersOf, AreListed, HasEntries};
 
 use crate::indexed_network::IndexedNetwork;
 use crate::sweep::answers_by_sweep;
@@ -81,8 +80,8 @@ pub(crate) fn entries_of<N: IndexedNetwork, V: Copy>(
     alloc: Global,
     table: &PrefixTable<N, V>,
 ) -> Result<Vec<(N, V)>, AllocError>
-    ensures { IfOk result (λ entries. HasOnlyBlocks N.WIDTH table.now
-        × (by_pair N.pair entries.items ≡ finite_map.entries table.now)) }
+    ensures { IfOk result
+        (λ entries. HasEntries N.WIDTH table.now (by_pair N.pair entries.items)) }
 {
     let mut entries = Vec::with_capacity(alloc, table.len())?;
     let mut left = table.iter();

@@ -3,11 +3,9 @@ ghost use Rattle.std.specs.Prelude.{IfOk, map};
 ghost use Rattle.ipnetwork_table.specs.Table.{HasOnlyBlocks, Finds};
 ghost use Rattle.ipnetwork_index.specs.Entries.{HasBlocksOf, HasValue};
 
-use crate::answers::{Answers, answers_of};
-use crate::edges::ranges_of;
 use crate::indexed_network::IndexedNetwork;
 use crate::listing::entries_of_list;
-use crate::places::Places;
+use crate::ranges::Ranges;
 use ipnetwork_table::laws;
 use std::alloc::{AllocError, Global};
 use std::marker::Model;
@@ -24,29 +22,24 @@ use std::marker::Model;
 pub struct BlockIndex<N: IndexedNetwork, V: Copy> {
     // The blocks in their order, each once.
     entries: Vec<(N, V)>,
-    // The addresses, cut where a block begins or ends.
-    places: Places<N>,
-    // The longest block of the addresses of each range.
-    answers: Answers<V>,
+    ranges: Ranges<N, V>,
 }
 
 // A contract sees the finite map from the blocks to values.
 impl<N: IndexedNetwork, V: Copy> Model for BlockIndex<N, V> {
     ghost use Rattle.std.specs.FinMap as finite_map;
     ghost use Rattle.ipnetwork_family.specs.Network.{network_cmp};
-    ghost use Rattle.ipnetwork_table.specs.Table.{by_pair, network_code};
-    ghost use Rattle.ipnetwork_index.specs.Private.Answers.{IsIndexed};
+    ghost use Rattle.ipnetwork_table.specs.Table.{network_code};
+    ghost use Rattle.ipnetwork_index.specs.Private.Ranges.{IsIndexed, table_with};
 
     ghost Value = { finite_map.FinMap network_cmp V };
 
     ghost coded = { finite_map.code network_code V.code };
 
-    ghost view = { λ i. finite_map.from_sorted (by_pair N.pair i.entries.items) };
+    ghost view = { λ i. table_with N.pair i.entries.items };
 
-    ghost invariant = { λ i. IsIndexed N.WIDTH
-        (finite_map.from_sorted {R = network_cmp} (by_pair N.pair i.entries.items))
-        i.places.partition i.places.halves.lows.items i.places.halves.starts.items
-        i.places.halves.shift i.answers.prefixes.items i.answers.values.items };
+    ghost invariant = { λ i. IsIndexed N.WIDTH (table_with N.pair i.entries.items)
+        i.ranges.places.partition i.ranges.places.halves i.ranges.answers };
 }
 
 impl<N: IndexedNetwork, V: Copy> BlockIndex<N, V> {
@@ -65,14 +58,8 @@ impl<N: IndexedNetwork, V: Copy> BlockIndex<N, V> {
     {
         laws::listing::<V>();
         let entries = entries_of_list(alloc, networks, value)?;
-        let lasts = ranges_of(alloc, entries.as_slice())?;
-        let answers = answers_of(alloc, entries.as_slice(), lasts.as_slice())?;
-        let places = Places::new(alloc, lasts.as_slice())?;
-        Ok(BlockIndex {
-            entries,
-            places,
-            answers,
-        })
+        let ranges = Ranges::of(alloc, entries.as_slice())?;
+        Ok(BlockIndex { entries, ranges })
     }
 
     /// The block of greatest prefix length whose set holds the address, with the value; `None` if
@@ -88,7 +75,6 @@ impl<N: IndexedNetwork, V: Copy> BlockIndex<N, V> {
         ensures answer { Finds N.pair N.WIDTH self.now (N.number addr) result }
         ensures blocks { HasOnlyBlocks N.WIDTH self.now }
     {
-        let place = self.places.place_of(addr);
-        self.answers.of(place, addr)
+        self.ranges.lookup(addr)
     }
 }

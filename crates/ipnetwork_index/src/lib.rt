@@ -21,6 +21,7 @@ mod listing;
 mod low_halves;
 mod partition;
 mod places;
+mod ranges;
 mod route_index;
 mod search;
 mod starts;

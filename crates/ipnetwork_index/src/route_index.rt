@@ -5,12 +5,11 @@ ghost use Rattle.ipnetwork_index.specs.Columns.{AreFound};
 ghost use Rattle.ipnetwork_index.specs.Entries.{HasLastValues};
 ghost use Rattle.ipnetwork_index.specs.Turns.{CutByBlocks};
 
-use crate::answers::{Answers, answers_of, entries_of};
-use crate::edges::ranges_of;
+use crate::answers::entries_of;
 use crate::entries::table_of;
 use crate::indexed_network::IndexedNetwork;
-use crate::places::Places;
-use ipnetwork_table::{PrefixTable, laws};
+use crate::ranges::Ranges;
+use ipnetwork_table::PrefixTable;
 use std::alloc::{AllocError, Global};
 use std::marker::Model;
 
@@ -28,10 +27,7 @@ use std::marker::Model;
 #[derive(Drop)]
 pub struct RouteIndex<N: IndexedNetwork, V: Copy> {
     table: PrefixTable<N, V>,
-    // The addresses, cut where a block begins or ends.
-    places: Places<N>,
-    // What the table finds for the addresses of each range.
-    answers: Answers<V>,
+    ranges: Ranges<N, V>,
 }
 
 // A contract sees the finite map of the table.
@@ -39,7 +35,7 @@ impl<N: IndexedNetwork, V: Copy> Model for RouteIndex<N, V> {
     ghost use Rattle.std.specs.FinMap as finite_map;
     ghost use Rattle.ipnetwork_family.specs.Network.{network_cmp};
     ghost use Rattle.ipnetwork_table.specs.Table.{network_code};
-    ghost use Rattle.ipnetwork_index.specs.Private.Answers.{IsIndexed};
+    ghost use Rattle.ipnetwork_index.specs.Private.Ranges.{IsIndexed};
 
     ghost Value = { finite_map.FinMap network_cmp V };
 
@@ -47,9 +43,8 @@ impl<N: IndexedNetwork, V: Copy> Model for RouteIndex<N, V> {
 
     ghost view = { λ i. i.table };
 
-    ghost invariant = { λ i. IsIndexed N.WIDTH i.table i.places.partition
-        i.places.halves.lows.items i.places.halves.starts.items i.places.halves.shift
-        i.answers.prefixes.items i.answers.values.items };
+    ghost invariant = { λ i. IsIndexed N.WIDTH i.table i.ranges.places.partition
+        i.ranges.places.halves i.ranges.answers };
 }
 
 impl<N: IndexedNetwork, V: Copy> RouteIndex<N, V> {
@@ -66,18 +61,9 @@ impl<N: IndexedNetwork, V: Copy> RouteIndex<N, V> {
     pub fn from_table(alloc: Global, table: PrefixTable<N, V>) -> Result<Self, AllocError>
         ensures { IfOk result (λ index. index ≡ table) }
     {
-        // The clause `blocks` of this call says that the keys are blocks.
-        let _ = table.len();
-        laws::listing::<V>();
         let entries = entries_of(alloc, &table)?;
-        let lasts = ranges_of(alloc, entries.as_slice())?;
-        let answers = answers_of(alloc, entries.as_slice(), lasts.as_slice())?;
-        let places = Places::new(alloc, lasts.as_slice())?;
-        Ok(RouteIndex {
-            table,
-            places,
-            answers,
-        })
+        let ranges = Ranges::of(alloc, entries.as_slice())?;
+        Ok(RouteIndex { table, ranges })
     }
 
     /// The index over networks with values, which may have host bits and stand in any order: over a
@@ -112,8 +98,7 @@ impl<N: IndexedNetwork, V: Copy> RouteIndex<N, V> {
         ensures answer { Finds N.pair N.WIDTH self.now (N.number addr) result }
         ensures blocks { HasOnlyBlocks N.WIDTH self.now }
     {
-        let place = self.places.place_of(addr);
-        self.answers.of(place, addr)
+        self.ranges.lookup(addr)
     }
 
     /// What a look-up of each of the addresses finds, put at the same place. There must be as many
@@ -170,8 +155,8 @@ impl<N: IndexedNetwork, V: Copy> RouteIndex<N, V> {
     /// `AddressIndex` has them, the index has the table, and of each range a byte and a value. It
     /// has two to four places of 4 bytes for each range, or at most one from 2^16 ranges on, but no
     /// more than 2^20. From 2^16 IPv4 ranges on it has of each range 2 bytes in place of 4, if all
-    /// but a 32nd of them reach over a fourth of the addresses, and one place for one to eight
-    /// ranges, or more from 2^23 ranges on, but no more than 2^20 and one.
+    /// but a 32nd of them reach over a fourth of the addresses, and one place for one or more ranges,
+    /// for fewer than eight unless there are 2^23 or more, but no more than 2^20 and one.
     ///
     /// ```
     /// let mut table = PrefixTable::new(rt.alloc());
@@ -181,6 +166,6 @@ impl<N: IndexedNetwork, V: Copy> RouteIndex<N, V> {
     pub fn range_count(&self) -> usize
         ensures { CutByBlocks N.WIDTH self.now result }
     {
-        self.places.len()
+        self.ranges.len()
     }
 }

@@ -37,14 +37,18 @@ UnrefusedLinesAreComputed = (input output : List ℕ) → IsOutput input output 
 
 -- ---- the commands that ask nothing of the routes
 
--- the line's first word is not `add`, `drop` or `find`
-pub record IsPlainLine (line : List ℕ) : Type 0 where
+-- the line's first word is neither `add` nor `drop`
+pub record IsAskingLine (line : List ℕ) : Type 0 where
   pub command : List ℕ
   pub others : List (List ℕ)
   pub cut : words line ≡ command ∷ others
   pub no_add : command ≢ codes "add"
   pub no_drop : command ≢ codes "drop"
-  pub no_find : command ≢ codes "find"
+
+-- nor is it `find`
+pub record IsPlainLine (line : List ℕ) : Type 0 where
+  pub asking : IsAskingLine line
+  pub no_find : asking.command ≢ codes "find"
 
 -- each other line begins with one of the three
 abbrev pub OthersAreRouting : Type 0
@@ -83,14 +87,6 @@ SplitsAtLineEnds = (front back output : List ℕ) (before after : Routes) → En
 abbrev pub PlainPartsRunAlone : Type 0
 PlainPartsRunAlone = (front back output : List ℕ) → EndsALine front → AllByRecursion IsPlainLine (lines front)
     → IsOutput (front ++ back) output ↔ ((one : List ℕ) × (two : List ℕ) × IsOutput front one × IsOutput back two × (output ≡ one ++ two))
-
--- the line's first word is neither `add` nor `drop`
-pub record IsAskingLine (line : List ℕ) : Type 0 where
-  pub command : List ℕ
-  pub others : List (List ℕ)
-  pub cut : words line ≡ command ∷ others
-  pub no_add : command ≢ codes "add"
-  pub no_drop : command ≢ codes "drop"
 
 -- if the routes come first, and the parts after them are cut after lines that leave the routes, each part may be run by
 -- itself after the routes: if no `add` is out of memory, the output of the whole is that of the routes and the first part,

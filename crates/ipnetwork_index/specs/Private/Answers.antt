@@ -5,7 +5,6 @@ use Rattle.std.specs.FinMap.{FinMap}
 use Rattle.ipnetwork_family.specs.Network.{Network, block_at, network_cmp}
 use Rattle.ipnetwork_table.specs.Table.{HasOnlyBlocks, IsLongest, NoneHolds}
 use Rattle.ipnetwork_index.specs.Turns.{CutByBlocks}
-use Rattle.ipnetwork_index.specs.Private.LowHalves.{ArePlacesOf}
 use Rattle.ipnetwork_index.specs.Private.Partitions.{LiesAt}
 
 -- the block of this prefix length that has x is what a look-up of x finds, with this value
@@ -63,10 +62,3 @@ pub record IsAnswered {V : Type 0} (w : ℕ) (t : FinMap network_cmp V) (lasts p
   pub size : length prefixes ≡ length values
   pub all : (x at : ℕ) → LiesAt lasts x at → TellsAt w t prefixes values at x
   pub cut : CutByBlocks w t (length lasts)
-
--- so it is for ranges that are looked up here
-pub record IsIndexed {V : Type 0} (w : ℕ) (t : FinMap network_cmp V) (partition : Option (List ℕ))
-    (lows starts : List ℕ) (shift : ℕ) (prefixes : List ℕ) (values : List V) : Type 0 where
-  pub lasts : List ℕ
-  pub placed : ArePlacesOf w partition lows starts shift lasts
-  pub answered : IsAnswered w t lasts prefixes values

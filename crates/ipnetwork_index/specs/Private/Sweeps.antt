@@ -7,6 +7,12 @@ use Rattle.ipnetwork_family.specs.Network.{Network, IsCidrBlock, IsNetworkBefore
 use Rattle.ipnetwork_table.specs.Table.{HasOnlyBlocks}
 use Rattle.ipnetwork_index.specs.Private.Answers.{AreAnswers, AreAnswersUpTo}
 
+-- the table has these entries, each of a block
+pub record HasEntries {V : Type 0} (w : ℕ) (t : FinMap network_cmp V) (es : List (Network × V)) : Type 0
+  where
+    pub blocks : HasOnlyBlocks w t
+    pub own : es ≡ entries t
+
 -- the entries of a table: each has a block, and they stand in the order of networks
 pub record AreListed {V : Type 0} (w : ℕ) (es : List (Network × V)) : Type 0 where
   pub blocks : (i : ℕ) (e : Network × V) → slice_get es i ≡ Some e → IsCidrBlock w e.0

@@ -1,8 +1,7 @@
-use Rattle.std.proofs.Common.{◌≡◌, ℕ, ◌+◌, ◌++◌, ◌∷◌, [], ◌∙◌, ap, sym, take, map, arith}
-use Rattle.std.proofs.lemmas.List.{take_more}
+use Rattle.std.proofs.Common.{◌≡◌, ℕ, ◌++◌, ◌∙◌, ap, sym, map, arith}
 use Rattle.ipnetwork_family.specs.Network.{low}
 use Rattle.ipnetwork_index.specs.Private.Cuts.{before}
-use Rattle.ipnetwork_index.proofs.Edging.{edges_put, mid_some, mid_none}
+use Rattle.ipnetwork_index.proofs.Edging.{next_taken, edges_put, mid_some, mid_none}
 use Rattle.ipnetwork_index.proofs.edges.edges_of.Goals.{in-Some+in_ok-push, in_default}
 use Rattle.ipnetwork_index.proofs.edges.edges_of.Goals as goal
 
@@ -16,8 +15,6 @@ loop-entry-preserved g c =
     let e = c.entry-item.result in
     let old = c.loop-entry.edges.items in
     let mid = c.match-previous_address.edges.items in
-    let more : take (i + 1) es ≡ take i es ++ e ∷ []
-    = take_more es i e (omega arith) ∙ ap (λ n. take i es ++ n ∷ []) (sym c.entry-item.is) in
     let put : map f mid ≡ map f old ++ before (low w (pair e.0))
     = elim c.match-previous_address.branch [
       | in-Some+in_ok-push v ↦
@@ -28,5 +25,6 @@ loop-entry-preserved g c =
           mid_none f pair w es i e old mid (ap (λ x. x.items) v.edges-is)
           (sym c.network.ensures ∙ v.in_default.ensures)
     ] in
-    edges_put f pair w es i e old mid c.push-in-loop-entry.new.self.items c.broadcast.result more
-    c.loop-entry.invariant put c.in_ok-push-2.ensures.items c.broadcast.ensures
+    edges_put f pair w es i e old mid c.push-in-loop-entry.new.self.items c.broadcast.result
+    (next_taken es i e (omega arith) c.entry-item.is) c.loop-entry.invariant put
+    c.in_ok-push-2.ensures.items c.broadcast.ensures

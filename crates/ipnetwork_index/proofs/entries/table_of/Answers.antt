@@ -1,5 +1,5 @@
-use Rattle.std.proofs.Common.{◌++◌, ◌∷◌, [], ◌∙◌, ap, sym, take, arith}
-use Rattle.std.proofs.lemmas.List.{take_more}
+use Rattle.std.proofs.Common.{arith}
+use Rattle.ipnetwork_index.proofs.Edging.{next_taken}
 use Rattle.ipnetwork_index.proofs.LastValues.{no_entries, one_entry_more, all_entries}
 use Rattle.ipnetwork_index.proofs.entries.table_of.Goals as goal
 
@@ -10,7 +10,7 @@ pub loop-entry-preserved : goal.loop-entry-preserved
 loop-entry-preserved g c =
     let i = c.loop-entry.entry-index in
     one_entry_more g.N.CidrNetwork.pair g.N.CidrNetwork.WIDTH c.args.entries.now c.loop-entry.table c.insert.new.self i c.entry-item.result
-    (take_more c.args.entries.now i c.entry-item.result (omega arith) ∙ ap (λ n. take i c.args.entries.now ++ n ∷ []) (sym c.entry-item.is)) c.in_ok-insert.ensures.set c.loop-entry.invariant
+    (next_taken c.args.entries.now i c.entry-item.result (omega arith) c.entry-item.is) c.in_ok-insert.ensures.set c.loop-entry.invariant
 
 pub returns : goal.returns
 returns g c = all_entries g.N.CidrNetwork.pair g.N.CidrNetwork.WIDTH c.args.entries.now c.loop-entry.table c.loop-entry.entry-index (omega arith) c.loop-entry.invariant
