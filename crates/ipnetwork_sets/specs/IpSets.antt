@@ -1,5 +1,5 @@
 -- Sets of addresses of either family, as lists of blocks.
-use Rattle.std.specs.Prelude.{◌≡◌, ℕ, ◌<◌, ◌⊎◌, ◌++◌, List, length, map}
+use Rattle.std.specs.Prelude.{◌≡◌, ◌↔◌, ℕ, ◌<◌, ◌⊎◌, ◌++◌, Bool, IsTrue, List, length, map, Result, IfOk, OnErr, OnOk}
 use Rattle.std.specs.List.{filter_map}
 use Rattle.ipnetwork_addr.specs.Either.{FitsIp}
 use Rattle.ipnetwork_addr.specs.declared.ip.IpAddr.{IpAddr}
@@ -57,3 +57,12 @@ AreIpDisjoint first second = (x : IpAddr) → ¬ (InIpBoth first second x)
 -- of two lists with room for so many IPv4 networks and so many IPv6 networks, one has too little for these
 abbrev pub HasTooLittleRoom : ℕ → ℕ → List IpNetwork → Type 0
 HasTooLittleRoom v4_room v6_room networks = (v4_room < length (filter_map as_v4 networks)) ⊎ (v6_room < length (filter_map as_v6 networks))
+
+-- a change of the set with the blocks `old` to the set of these addresses
+pub record ChangesTo {E : Type 0} (addresses : IpAddr → Type 0) (told : Type 0) (old new : List IpNetwork) (result : Result Bool E) : Type 0 where
+  -- it is made, and the result says whether what it tells is so
+  pub set : OnOk result (IsIpLeastList addresses new)
+  pub tells : IfOk result (λ answer. IsTrue answer ↔ told)
+  -- an error comes only if the set has more blocks then, and nothing was changed
+  pub room : (blocks : List IpNetwork) → IsIpLeastList addresses blocks → OnErr result (length old < length blocks)
+  pub unchanged : OnErr result (new ≡ old)

@@ -1,11 +1,10 @@
 //! The type of a set of addresses of either family.
-ghost use Rattle.std.specs.Prelude.{◌≡◌, ◌↔◌, ◌+◌, ◌<◌, ◌≤◌, ◌⊎◌, ◌++◌, ◌∷◌, [], List, length, IsTrue, IfOk, OnOk, OnErr, vec_capacity, vec_len};
+ghost use Rattle.std.specs.Prelude.{◌≡◌, ◌↔◌, ◌+◌, ◌<◌, ◌≤◌, ◌⊎◌, ◌++◌, ◌∷◌, [], length, IsTrue, IfOk, OnOk, OnErr, vec_capacity, vec_len};
 ghost use Rattle.std.specs.List.{filter_map};
-ghost use Rattle.ipnetwork.specs.declared.ip_network.IpNetwork.{IpNetwork};
 ghost use Rattle.ipnetwork_blocks.specs.AggregateIp.{as_v4, as_v6, IsIpAggregate};
 ghost use Rattle.ipnetwork_blocks.specs.AggregateIpLaws.{InIpUnion, LiesInIpUnion};
 ghost use Rattle.ipnetwork_sets.specs.Sets.{IsAddressSet};
-ghost use Rattle.ipnetwork_sets.specs.IpSets.{v4_then_v6, IsIpAddressSet, IsIpLeastList, InIpEither, InIpFirstAlone, MeetsIpUnion, HasTooLittleRoom};
+ghost use Rattle.ipnetwork_sets.specs.IpSets.{v4_then_v6, IsIpAddressSet, InIpEither, InIpFirstAlone, MeetsIpUnion, HasTooLittleRoom, ChangesTo};
 
 use crate::ip_sets::blocks::IpBlocks;
 use crate::{AddressSet, Blocks};
@@ -172,12 +171,8 @@ impl IpAddressSet {
     /// assert!(rt; set.iter().eq(["192.0.2.0/24".parse()?, "2001:db8::/32".parse()?]));
     /// ```
     pub fn insert(&mut self, network: IpNetwork) -> Result<bool, AllocError>
-        ensures set { OnOk result (IsIpLeastList (InIpEither self.old (network ∷ [])) self.new) }
-        ensures added { IfOk result (λ added. IsTrue added ↔ ¬ (LiesInIpUnion network self.old)) }
-        ensures room { (blocks : List IpNetwork)
-            → IsIpLeastList (InIpEither self.old (network ∷ [])) blocks
-            → OnErr result (length self.old < length blocks) }
-        ensures unchanged { OnErr result (self.new ≡ self.old) }
+        ensures { ChangesTo (InIpEither self.old (network ∷ []))
+            (¬ (LiesInIpUnion network self.old)) self.old self.new result }
     {
         match network {
             IpNetwork::V4(network) => self.v4.insert(network),
@@ -197,14 +192,8 @@ impl IpAddressSet {
     /// assert!(rt; set.iter().eq(["192.0.2.128/25".parse()?, "::1/128".parse()?]));
     /// ```
     pub fn remove(&mut self, network: IpNetwork) -> Result<bool, AllocError>
-        ensures set { OnOk result
-            (IsIpLeastList (InIpFirstAlone self.old (network ∷ [])) self.new) }
-        ensures removed { IfOk result
-            (λ removed. IsTrue removed ↔ MeetsIpUnion network self.old) }
-        ensures room { (blocks : List IpNetwork)
-            → IsIpLeastList (InIpFirstAlone self.old (network ∷ [])) blocks
-            → OnErr result (length self.old < length blocks) }
-        ensures unchanged { OnErr result (self.new ≡ self.old) }
+        ensures { ChangesTo (InIpFirstAlone self.old (network ∷ []))
+            (MeetsIpUnion network self.old) self.old self.new result }
     {
         match network {
             IpNetwork::V4(network) => self.v4.remove(network),
