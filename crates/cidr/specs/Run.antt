@@ -53,8 +53,8 @@ pub record IsRun {R W : Type 0} (remaining : R → Option (List ℕ)) (contents 
   -- a device has failed exactly if it had failed before, or its failure ended the run
   pub reader_failed : has_failed reader_after ≡ (has_failed reader_before || ended_by_read result)
   pub writer_failed : has_failed writer_after ≡ (has_failed writer_before || ended_by_write result)
-  -- if the reader had failed before, it is `Read`, whatever the writer; else, if the writer had, it is `Write`; and no
-  -- call is made if one of them had
+  -- if the reader had failed before, the result is `Read`, whatever the writer; else, if the writer had, it is `Write`;
+  -- and no call is made if one of them had
   pub reader_first : IsTrue (has_failed reader_before) → result ≡ Err Read
   pub writer_next : IsFalse (has_failed reader_before) → IsTrue (has_failed writer_before) → result ≡ Err Write
   pub uncalled : IsTrue (has_failed reader_before || has_failed writer_before)

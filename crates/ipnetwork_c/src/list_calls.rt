@@ -1,5 +1,5 @@
-//! The calls of lists of networks in the caller's memory: asked for an address, joined, made of a range of addresses, and
-//! made into tables and ranges.
+//! The calls of lists of networks in the caller's memory: asked for an address, joined, made of a range of
+//! addresses, and made into tables and ranges.
 ghost use Rattle.std.specs.Prelude.{All, Any};
 ghost use Rattle.ipnetwork_family.specs.Network.{Member};
 ghost use Rattle.ipnetwork_sets.specs.Sets.{InEither, InBoth, InFirstAlone};

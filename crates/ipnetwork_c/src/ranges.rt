@@ -1,6 +1,6 @@
 //! Ranges in the caller's memory, asked for the longest block with an address: one search, whatever
 //! lies in what.
-ghost use Rattle.std.specs.Prelude.{◌≡◌, ◌<◌};
+ghost use Rattle.std.specs.Prelude.{◌≡◌, ◌↔◌, ◌<◌, IsTrue};
 ghost use Rattle.ipnetwork_c.specs.Ranges.{RangeQuery, no_place, place_before};
 ghost use Rattle.ipnetwork_c.specs.Numbers.{no_member};
 ghost use Rattle.ipnetwork_c.specs.Outcomes.{IsFault, Unless, Writes};
@@ -42,7 +42,7 @@ pub(crate) fn place_near<N: AddressSpace, H: Guessed<N>>(
     ensures { RangeQuery H.held ranges.now places.now (H.value number) place.old place.new result }
 {
     match begun_at_once::<N, H>(ranges, number, guess) {
-        Some(count) => put_last(places, count, place),
+        Some(count) => put_found(found_before(places, count), place),
         None => place_by_halves::<N, H>(ranges, places, index, number, place),
     }
 }
@@ -60,7 +60,7 @@ fn place_by_halves<N: AddressSpace, H: Guessed<N>>(
     ensures { RangeQuery H.held ranges.now places.now (H.value number) place.old place.new result }
 {
     let count = begun_by_halves::<N, H>(ranges, index, number);
-    put_last(places, count, place)
+    put_found(found_before(places, count), place)
 }
 
 // The place beside the last of so many ranges, or that of no block.
@@ -75,17 +75,51 @@ fn found_before(places: &[usize], count: usize) -> usize
     places[row]
 }
 
-// Puts the place beside the last of so many ranges, unless it is that of no block. What stands in
-// `place` is read first, and put back if none was found, so that no branch depends on the address.
+// Puts what was found, unless it is the place of no block.
 #[inline(always)]
-fn put_last(places: &[usize], count: usize, place: &mut usize) -> u32
-    ensures { Unless (IsFault no_member (place_before places.now count ≡ no_place))
-        (Writes (λ put. (put < no_place) × (put ≡ place_before places.now count)))
-        place.old place.new result }
+fn put_found(found: usize, place: &mut usize) -> u32
+    ensures { Unless (IsFault no_member (found ≡ no_place))
+        (Writes (λ put. (put < no_place) × (put ≡ found))) place.old place.new result }
 {
-    let kept = *place;
-    let found = found_before(places, count);
-    let is_found = found != NO_PLACE;
-    *place = if is_found { found } else { kept };
-    if is_found { OK } else { NO_MEMBER }
+    let mut beside = 0;
+    put_or_pass(found != NO_PLACE, found, place, &mut beside)
+}
+
+// Puts the number at `place` if one was found, and else beside it, by one store, so that no branch
+// depends on the address. Not inlined: a compiler that sees that nothing reads what is put beside
+// leaves that out, by a branch that is often guessed wrong. The two reads at the end compile to
+// nothing: they tell the proof which of the two references is `place`.
+#[inline(never)]
+fn put_or_pass(is_found: bool, number: usize, place: &mut usize, beside: &mut usize) -> u32
+    requires { IsTrue is_found ↔ (number < no_place) }
+    ensures { Unless (IsFault no_member (number ≡ no_place))
+        (Writes (λ put. (put < no_place) × (put ≡ number))) place.old place.new result }
+{
+    let (target, other) = in_order(is_found, place, beside);
+    *target = number;
+    if is_found {
+        let _put = *target;
+        return OK;
+    }
+    let _kept = *other;
+    NO_MEMBER
+}
+
+// Both, the first one first if this holds, and else last.
+#[inline(always)]
+fn in_order<'a>(
+    is_in_order: bool,
+    first: &'a mut usize,
+    second: &'a mut usize,
+) -> (&'a mut usize, &'a mut usize)
+    ensures kept { IsTrue is_in_order → (result.0.ghost_name ≡ first.entry.ghost_name)
+        × (result.1.ghost_name ≡ second.entry.ghost_name) }
+    ensures turned { ¬ IsTrue is_in_order → (result.0.ghost_name ≡ second.entry.ghost_name)
+        × (result.1.ghost_name ≡ first.entry.ghost_name) × (result.1.now ≡ first.old) }
+{
+    if is_in_order {
+        (first, second)
+    } else {
+        (second, first)
+    }
 }

@@ -1,4 +1,4 @@
-//! What an index looks up.
+//! The ranges in which an index finds the longest block.
 ghost use Rattle.std.specs.Prelude.{IfOk};
 ghost use Rattle.ipnetwork_table.specs.Table.{Finds, by_pair};
 ghost use Rattle.ipnetwork_index.specs.Turns.{CutByBlocks};

@@ -60,7 +60,7 @@ HasTooLittleRoom v4_room v6_room networks = (v4_room < length (filter_map as_v4 
 
 -- a change of the set with the blocks `old` to the set of these addresses
 pub record ChangesTo {E : Type 0} (addresses : IpAddr → Type 0) (told : Type 0) (old new : List IpNetwork) (result : Result Bool E) : Type 0 where
-  -- it is made, and the result says whether what it tells is so
+  -- it is made, and the result says whether `told` holds
   pub set : OnOk result (IsIpLeastList addresses new)
   pub tells : IfOk result (λ answer. IsTrue answer ↔ told)
   -- an error comes only if the set has more blocks then, and nothing was changed

@@ -35,7 +35,7 @@ UnrefusedIsComputed = (input output : List ℕ) → IsUnrefusedOutput input outp
 abbrev pub UnrefusedLinesAreComputed : Type 0
 UnrefusedLinesAreComputed = (input output : List ℕ) → IsOutput input output → AllByRecursion (λ line. line ≢ out_of_memory) (lines output) → output ≡ output_of input
 
--- ---- the commands that ask nothing of the routes
+-- ---- lines by what they do with the routes
 
 -- the line's first word is neither `add` nor `drop`
 pub record IsAskingLine (line : List ℕ) : Type 0 where

@@ -13,19 +13,19 @@ use Rattle.ipnetwork_index.specs.Private.Sweeps.{HasEntries}
 abbrev pub table_with : {N V : Type 0} → (N → Network) → List (N × V) → FinMap network_cmp V
 table_with pair entries = from_sorted (by_pair pair entries)
 
--- the table is answered for ranges that are looked up here
+-- these places are those of ranges, and the answers are what the table finds in each of them
 pub record IsIndexed {V : Type 0} (w : ℕ) (t : FinMap network_cmp V) (partition : Option (List ℕ))
     (halves : LowHalves) (answers : Answers V) : Type 0 where
   pub lasts : List ℕ
   pub placed : ArePlacesOf w partition halves.lows.items halves.starts.items halves.shift lasts
   pub answered : IsAnswered w t lasts answers.prefixes.items answers.values.items
 
--- so is some table
+-- the same for some table
 abbrev pub IsIndexedForSome : {V : Type 0} → ℕ → Option (List ℕ) → LowHalves → Answers V → Type 0
 IsIndexedForSome {V} w partition halves answers =
     (t : FinMap network_cmp V) × IsIndexed w t partition halves answers
 
--- so is each with these entries
+-- the same for each table with these entries
 abbrev pub IsIndexedForAll : {V : Type 0} → ℕ → List (Network × V) → Option (List ℕ) → LowHalves
     → Answers V → Type 0
 IsIndexedForAll {V} w es partition halves answers = (t : FinMap network_cmp V) → HasEntries w t es
