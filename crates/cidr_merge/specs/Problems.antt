@@ -17,30 +17,25 @@ no_operation_text word =
     else if begins_dashed word then codes "not an operation; options stand behind one"
     else codes "not an operation"
 
--- a word that is no option where it stands, and one that begins with a `-` among the lists: which
--- options the operation of this name takes
-abbrev pub option_texts : List ℕ → List ℕ × List ℕ
-option_texts operation =
-    if bytes_eq operation (codes "check") then (
-      codes "not an option; check takes one --strict",
-      codes "not a FILE; options stand before the first one",
-    )
-    else if bytes_eq operation (codes "overlaps") then (
-      codes "not an option; overlaps takes none",
-      codes "not a FILE, and overlaps takes no option",
-    )
-    else if bytes_eq operation (codes "find") then (
-      codes "not an option; find takes none",
-      codes "not a FILE, and find takes no option",
-    )
-    else if bytes_eq operation (codes "split") then (
-      codes "not an option here; split takes --prefix N, --skip-bad, --json and, behind it, --strict, in this order",
-      codes "not a FILE; split takes --prefix N, --skip-bad, --json and, behind it, --strict, in this order, before the first one",
-    )
-    else (
-      codes "not an option; union, common, minus, differ and list take --ranges, --count, --format FORM, --skip-bad, --json and --strict",
-      codes "not a FILE; options stand before the first one",
-    )
+-- a word that is no option where it stands: which the operation of this name takes
+abbrev pub no_option_text : List ℕ → List ℕ
+no_option_text operation =
+    if bytes_eq operation (codes "check") then codes "not an option; check takes one --strict"
+    else if bytes_eq operation (codes "overlaps") then codes "not an option; overlaps takes none"
+    else if bytes_eq operation (codes "find") then codes "not an option; find takes none"
+    else if bytes_eq operation (codes "split")
+    then codes "not an option here; split takes --prefix N, --skip-bad, --json and, behind it, --strict, in this order"
+    else codes "not an option; union, common, minus, differ and list take --ranges, --count, --format FORM, --skip-bad, --json and --strict"
+
+-- a word that begins with a `-` among the lists of the operation of this name
+abbrev pub among_lists_text : List ℕ → List ℕ
+among_lists_text operation =
+    if bytes_eq operation (codes "check") then codes "not a FILE; options stand before the first one"
+    else if bytes_eq operation (codes "overlaps") then codes "not a FILE, and overlaps takes no option"
+    else if bytes_eq operation (codes "find") then codes "not a FILE, and find takes no option"
+    else if bytes_eq operation (codes "split")
+    then codes "not a FILE; split takes --prefix N, --skip-bad, --json and, behind it, --strict, in this order, before the first one"
+    else codes "not a FILE; options stand before the first one"
 
 -- a `--` before all lists of the operation of this name, which takes one behind a list, or none
 abbrev pub first_side_text : List ℕ → List ℕ
@@ -53,7 +48,7 @@ first_side_text operation =
 abbrev pub problem_text : List ℕ → Problem → List ℕ
 problem_text operation problems.NoOperation = codes "no operation"
 problem_text operation problems.NotAnOperation = no_operation_text operation
-problem_text operation problems.NotAnOption = (option_texts operation).0
+problem_text operation problems.NotAnOption = no_option_text operation
 problem_text operation problems.NotAlone = codes "taken only alone"
 problem_text operation problems.QuietBehind = codes "taken only once, as the first word"
 problem_text operation problems.NotAForm =
@@ -63,7 +58,7 @@ problem_text operation problems.AnotherForm =
     codes "given twice, or together with --ranges or --count"
 problem_text operation problems.FormOfDiffer = codes "differ can be printed only as plain or range"
 problem_text operation problems.EmptyName = codes "not the name of a file"
-problem_text operation problems.OptionAmongLists = (option_texts operation).1
+problem_text operation problems.OptionAmongLists = among_lists_text operation
 problem_text operation problems.InputTwice = codes "standard input can be read only once"
 problem_text operation problems.SecondSideOfUnion =
     codes "only common, minus, differ and find take a --"

@@ -2,7 +2,8 @@
 ghost use Rattle.std.specs.Prelude.{◌≡◌};
 ghost use Rattle.program.specs.Told.{name_at};
 ghost use Rattle.cidr_merge.specs.Problems.{is_alone, misplaced, option_problem, problem_text};
-ghost use Rattle.cidr_merge.specs.Problems.{no_operation_text, option_texts, first_side_text};
+ghost use Rattle.cidr_merge.specs.Problems.{no_operation_text, no_option_text, among_lists_text};
+ghost use Rattle.cidr_merge.specs.Problems.{first_side_text};
 
 use crate::words::begins_dashed;
 use program::words::text_at;
@@ -145,8 +146,8 @@ fn no_operation_text(word: &str) -> &'static str
 // What is reported of a word that is no option of the operation of this name, and of one that
 // begins with a `-` among its lists.
 fn option_texts(operation: &str) -> (&'static str, &'static str)
-    ensures before { result.0.now ≡ (option_texts operation.now).0 }
-    ensures among { result.1.now ≡ (option_texts operation.now).1 }
+    ensures before { result.0.now ≡ no_option_text operation.now }
+    ensures among { result.1.now ≡ among_lists_text operation.now }
 {
     if operation == "check" {
         (

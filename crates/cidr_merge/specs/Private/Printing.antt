@@ -4,12 +4,12 @@ use Rattle.ipnetwork_family.specs.Network.{Network}
 use Rattle.lines.specs.Outputs.{Written, Prints}
 use Rattle.cidr_merge.specs.Exports.{is_any}
 
--- a text that is such
+-- it prints some text for which this holds
 abbrev pub PrintsSome : {W : Type 0} → (List ℕ → Type 0) → Written W → Written W → Type 0
 PrintsSome Is old new = (text : List ℕ) × Is text × Prints old new text
 
--- blocks of a family, as this text, and whether there is any yet, which may follow blocks of the
--- other
+-- it prints the blocks of a family as this text, behind blocks of the other family if some stand
+-- there, and tells whether there are any of either family now
 abbrev pub PrintsBlocks : {W : Type 0} → (List Network → List ℕ) → Bool → List Network → Written W
     → Written W → Bool → Type 0
 PrintsBlocks text follows blocks old new any =
