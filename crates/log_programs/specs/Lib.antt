@@ -1,6 +1,7 @@
 -- What the contracts of this crate cite.
 pub mod Arranged
 pub mod CommandLines
+pub mod Finding
 pub mod Joined
 pub mod Lacking
 pub mod Numbers
