@@ -4,6 +4,7 @@ pub mod CommandLines
 pub mod Finding
 pub mod Joined
 pub mod Lacking
+pub mod LogEnds
 pub mod Numbers
 pub mod Options
 pub mod Plain
