@@ -1,11 +1,15 @@
 -- Lines that are copied into the output before it is known whether they are selected.
-use Rattle.std.proofs.Common.{◌≡◌, ◌↔◌, ℕ, ◌≤◌, ◌∙◌, Bool, true, false, not, List, [], ◌∷◌, length, refl, sym, ap, subst, arith, inl, true≢false}
-use Rattle.std.specs.Prelude.{Option, None, Some, IfSome, IsTrue}
+use Rattle.std.proofs.Common.{◌≡◌, ◌≢◌, ◌↔◌, ℕ, ◌-◌, ◌≤◌, ◌∙◌, Bool, true, false, not, List, [], ◌∷◌, length, refl, sym, ap, subst, arith, inl, true≢false}
+use Rattle.std.specs.Prelude.{Option, None, Some, IfSome, IsTrue, slice_get}
 use Rattle.std.proofs.Math.Bool.{beq}
 use Rattle.std.specs.Option.{option_to_list}
 use Rattle.ipnetwork_addr.specs.declared.ip.IpAddr.{IpAddr}
 use Rattle.line_addresses.specs.Addresses.{address_of, with_text}
+use Rattle.line_addresses.specs.Fields.{field_of}
+use Rattle.line_addresses.specs.Words.{words_of}
 use Rattle.line_addresses.specs.declared.place.Place.{Place}
+use Rattle.line_addresses.specs.declared.place.Place.TheVariants as places
+use Rattle.log_programs.specs.Finding as finding
 use Rattle.cidr_filter.specs.Filters.{IsVerdict, IsVerdictOfAddresses, FirstListed, TellsBlock, addresses_in, asked, asked_of, of_part, spelled_at}
 use Rattle.cidr_filter.specs.Listed.{HasAddress, IsIn}
 use Rattle.cidr_filter.specs.Private.Copying.{IsSelectedByAddress}
@@ -18,12 +22,25 @@ use Rattle.cidr_filter.specs.declared.listed.Sets.{Sets}
 -- ---- the address that is looked for
 
 module _ (filter : Filter) (line part : List ℕ) (place : Place) (is : filter.place ≡ place) (same : spelled_at place line ≡ of_part (Some part)) where
-  pub found_only : (found : Option IpAddr) → found ≡ address_of part → IfSome found (λ address. addresses_in filter line ≡ asked filter.mapped address ∷ [])
+  found_only : (found : Option IpAddr) → found ≡ address_of part → IfSome found (λ address. addresses_in filter line ≡ asked filter.mapped address ∷ [])
   found_only None e = tt
   found_only (Some address) e =
       ap (λ (q : Place). asked_of filter (spelled_at q line)) is
       ∙ ap (asked_of filter) same
       ∙ ap (λ (o : Option IpAddr). asked_of filter (option_to_list (with_text part o))) (sym e)
+
+of_one : (filter : Filter) (line : List ℕ) (place : Place) → filter.place ≡ place → (part : Option (List ℕ)) → spelled_at place line ≡ of_part part
+    → (found : Option IpAddr) → found ≡ finding.of_part part → IfSome found (λ address. addresses_in filter line ≡ asked filter.mapped address ∷ [])
+of_one filter line place is None same found e =
+    subst (λ (o : Option IpAddr). IfSome o (λ address. addresses_in filter line ≡ asked filter.mapped address ∷ [])) (sym e) tt
+of_one filter line place is (Some part) same found e = found_only filter line part place is same found e
+
+pub only_found : (filter : Filter) (line : List ℕ) (place : Place) → filter.place ≡ place → place ≢ places.Anywhere → ((text : List ℕ) → place ≢ places.After text)
+    → (found : Option IpAddr) → found ≡ finding.found_in place line → IfSome found (λ address. addresses_in filter line ≡ asked filter.mapped address ∷ [])
+only_found filter line (places.Field number separator) is all rest found e = of_one filter line (places.Field number separator) is (field_of number separator line) refl found e
+only_found filter line (places.Word number) is all rest found e = of_one filter line (places.Word number) is (slice_get (words_of line) (number - 1)) refl found e
+only_found filter line places.Anywhere is all rest found e = absurd (all refl)
+only_found filter line (places.After text) is all rest found e = absurd (rest text refl)
 
 -- ---- whether a line is selected
 

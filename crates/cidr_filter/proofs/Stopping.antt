@@ -1,10 +1,11 @@
 -- How the filtering of a log ends.
 use Rattle.std.proofs.Common.{◌≡◌, ℕ, ◌+◌, ◌-◌, ◌^◌, ◌≤◌, Bool, true, false, List, [], ◌∷◌, ◌++◌, length, refl, sym, ap, ◌∙◌, subst, append-nil}
-use Rattle.std.specs.Prelude.{Option, if◌then◌else◌}
+use Rattle.std.specs.Prelude.{Option, Err, if◌then◌else◌}
 use Rattle.lines.specs.Outputs.{Written, AppendsBeginning, FailsIn}
 use Rattle.lines.specs.declared.line_end.LineEnd.{LineEnd}
 use Rattle.lines.proofs.Putting.{begins_after_puts}
 use Rattle.program.proofs.LogReadings as readings
+use Rattle.program.specs.LogFaults.{ended_by_read}
 use Rattle.program.specs.LogLines.{LogLine, content, printed, feed_behind, log_line}
 use Rattle.program.specs.LogReaders.{ComesNext, GivesNext, Breaks, line_of, whole_of}
 use Rattle.program.specs.LogReadings.{ReadsToLine}
@@ -24,6 +25,16 @@ use Rattle.cidr_filter.specs.declared.log.Tally.{Tally}
 use Rattle.cidr_filter.proofs.Filtering.{goes_idle, goes_still, more_filters, numbers_same}
 use Rattle.cidr_filter.proofs.Heads.{heads_same}
 use Rattle.cidr_filter.proofs.Spent.{below_within, within_more}
+
+-- no read failed at a line
+pub no_read_at_line : (T : Type 0) (filter : Filter) (line text : List ℕ) (write_failed : Bool) (old new : Stand) (fault : LogFault) → LineStops filter line text write_failed old new fault
+    → ended_by_read {T = T} (Err fault) ≡ false
+no_read_at_line T filter line text write_failed old new (faults.Open cause) h = absurd h
+no_read_at_line T filter line text write_failed old new faults.Read h = absurd h
+no_read_at_line T filter line text write_failed old new faults.Write h = refl
+no_read_at_line T filter line text write_failed old new faults.Address h = refl
+no_read_at_line T filter line text write_failed old new faults.Length h = refl
+no_read_at_line T filter line text write_failed old new faults.Endless h = absurd h
 
 module _ (filter : Filter) (was now : LogReader) (remained before after : Option (List ℕ)) (old mid between : Stand)
     (s : FiltersSoFar filter was remained before old mid) (idle : Goes mid between [] 0 0) (seen : between.addressed ≡ mid.addressed) where

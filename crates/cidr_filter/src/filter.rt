@@ -10,6 +10,7 @@ use ipnetwork::{IpAddr, IpNetwork};
 use line_addresses::{
     Place, Text, address_of, field_of, following, next_address, unmapped, word_of,
 };
+use log_programs::finding::found_in;
 use program::log_reader::LINE_MAX;
 
 /// What becomes of a line without an address.
@@ -133,15 +134,8 @@ impl Filter<'_> {
             addresses_in self.now line.now ≡ asked self.now.mapped address ∷ []) }
     {
         match &self.place {
-            Place::Field { number, separator } => match field_of(line, *number, *separator) {
-                Some(field) => address_of(field),
-                None => None,
-            },
-            Place::Word(number) => match word_of(line, *number) {
-                Some(word) => address_of(word),
-                None => None,
-            },
             Place::Anywhere | Place::After(_) => None,
+            _ => found_in(&self.place, line),
         }
     }
 

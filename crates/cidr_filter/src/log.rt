@@ -1,17 +1,18 @@
 //! Filters the lines of a log.
-ghost use Rattle.std.specs.Prelude.{◌≡◌, ◌||◌, ◌≤◌, ◌-◌, ◌^◌, ◌++◌, [], ℕ, List, true, Option, IsTrue, OnOk, OnErr, IfErr, IfOk, IsOkUnless, Err};
+ghost use Rattle.std.specs.Prelude.{◌≡◌, ◌||◌, ◌≤◌, ◌-◌, ◌^◌, ◌++◌, [], ℕ, List, true, Option, IsTrue, OnOk, OnErr, IfOk, IsOkUnless};
 ghost use Rattle.lines.specs.Outputs.{AppendsBeginning};
 ghost use Rattle.lines.specs.Watched.{device_of, has_failed};
-ghost use Rattle.program.specs.LogFaults.{ended_by_read, ended_by_write};
+ghost use Rattle.program.specs.LogFaults.{ended_by_write};
 ghost use Rattle.program.specs.LogLines.{feed_behind};
 ghost use Rattle.program.specs.LogReaders.{HandsFirst, hurries_of};
 ghost use Rattle.program.specs.Counts.{Counts};
-ghost use Rattle.cidr_filter.specs.Filters.{head_of, is_refused, one_if, shown_of};
+ghost use Rattle.log_programs.specs.LogEnds.{EndsOrStops};
+ghost use Rattle.cidr_filter.specs.Filters.{is_refused, one_if};
 ghost use Rattle.cidr_filter.specs.Stands.{stand, stand, Goes};
 ghost use Rattle.cidr_filter.specs.Stops.{EndsBy, Stops};
 ghost use Rattle.cidr_filter.specs.Private.Copying.{copied, PrintsAsRead};
 ghost use Rattle.cidr_filter.specs.Private.Judging.{fault_of};
-ghost use Rattle.cidr_filter.specs.Private.Progress.{FiltersLine, LineStops};
+ghost use Rattle.cidr_filter.specs.Private.Progress.{FiltersOrStops};
 
 use crate::filter::{Filter, Verdict};
 use crate::leaving::{fewer, is_spent, leave};
@@ -60,24 +61,10 @@ pub fn filter_log<R: Read, W: Write>(
     // Nothing was read with `log`, and it hurries if a line that is too long ends the run.
     requires unread { (remained : Option (List ℕ)) → HandsFirst log.old remained remained [] }
     requires hurries { hurries_of log.old ≡ is_refused filter.now Verdict.TooLong }
-    ensures ok { IfOk result (λ reached.
-        EndsBy reached filter.now log.new (R.remaining (device_of reader.old))
-        (R.remaining (device_of reader.new))
-        (stand output.old tally.old)
-        (stand output.new tally.new)) }
-    ensures err { IfErr result
-        (Stops filter.now (R.remaining (device_of reader.old))
-        (R.remaining (device_of reader.new))
-        (has_failed reader.new) output.new.failed
-        (stand output.old tally.old)
-        (stand output.new tally.new)) }
-    // A device has failed exactly if it had failed before, or its failure ended the log. So nothing
-    // is written after a read that failed.
-    ensures reader_failed { has_failed reader.new
-        ≡ (has_failed reader.old || ended_by_read result) }
-    ensures writer_failed { output.new.failed ≡ (output.old.failed || ended_by_write result) }
-    ensures written { OnOk result (output.new.waits ≡ []) }
-    ensures handed_on { result ≡ Err LogFault.Read → output.old.waits ≡ [] → output.new.waits ≡ [] }
+    ensures { EndsOrStops (λ reached. EndsBy reached filter.now log.new) (Stops filter.now) result
+        (R.remaining (device_of reader.old)) (R.remaining (device_of reader.new))
+        (has_failed reader.old) (has_failed reader.new) output.old output.new
+        (stand output.old tally.old) (stand output.new tally.new) }
 {
     let _ = counted(tally.lines);
     let refuses_long_lines = filter.refuses(&Verdict::TooLong);
@@ -128,13 +115,8 @@ fn filter_line<W: Write>(
     tally: &mut Tally,
 ) -> Result<bool, LogFault>
     requires copied { IsTrue is_copied → PrintsAsRead filter.now }
-    ensures ok { IfOk result (λ is_selected.
-        FiltersLine filter.now line.now (whole.now ++ feed_behind end) is_selected
-        (stand output.old tally.old) (stand output.new tally.new)) }
-    ensures err { IfErr result (LineStops filter.now line.now (whole.now ++ feed_behind end)
-        output.new.failed
-        (stand output.old tally.old) (stand output.new tally.new)) }
-    ensures writer_failed { output.new.failed ≡ (output.old.failed || ended_by_write result) }
+    ensures { FiltersOrStops result filter.now line.now (whole.now ++ feed_behind end)
+        output.old tally.old output.new tally.new }
 {
     if is_copied && has_feed(end) {
         if let Some(is_selected) = filter.selects_by_address(line) {
@@ -193,13 +175,8 @@ fn filter_judged<W: Write>(
     output: &mut Output<'_, W>,
     tally: &mut Tally,
 ) -> Result<bool, LogFault>
-    ensures ok { IfOk result (λ is_selected.
-        FiltersLine filter.now line.now (whole.now ++ feed_behind end) is_selected
-        (stand output.old tally.old) (stand output.new tally.new)) }
-    ensures err { IfErr result (LineStops filter.now line.now (whole.now ++ feed_behind end)
-        output.new.failed
-        (stand output.old tally.old) (stand output.new tally.new)) }
-    ensures writer_failed { output.new.failed ≡ (output.old.failed || ended_by_write result) }
+    ensures { FiltersOrStops result filter.now line.now (whole.now ++ feed_behind end)
+        output.old tally.old output.new tally.new }
 {
     let verdict = filter.judge(line);
     if filter.refuses(&verdict) {
@@ -210,39 +187,9 @@ fn filter_judged<W: Write>(
     if !filter.selects(&verdict) {
         return Ok(false);
     }
-    match select_line(filter, &verdict, line, whole, end, output, tally) {
-        Ok(()) => Ok(true),
-        Err(fault) => Err(fault),
-    }
-}
-
-// Counts a line, and writes what is printed of it.
-fn select_line<W: Write>(
-    filter: &Filter,
-    verdict: &Verdict,
-    line: &[u8],
-    whole: &[u8],
-    end: LineEnd,
-    output: &mut Output<'_, W>,
-    tally: &mut Tally,
-) -> Result<(), LogFault>
-    ensures ok { OnOk result (Goes
-        (stand output.old tally.old) (stand output.new tally.new)
-        (shown_of filter.now (head_of filter.now tally.new.lines) verdict.now line.now
-        (whole.now ++ feed_behind end)) 1 0) }
-    ensures err { OnErr result (IsTrue output.new.failed) }
-    ensures beginning { OnErr result (AppendsBeginning
-        output.old.holds output.new.holds (output.old.waits
-        ++ shown_of filter.now (head_of filter.now tally.new.lines) verdict.now line.now
-        (whole.now ++ feed_behind end))) }
-    ensures fault { IsOkUnless result LogFault.Write }
-    ensures lines { tally.new.lines ≡ tally.old.lines }
-    ensures addressed { tally.new.is_addressed ≡ tally.old.is_addressed }
-    ensures writer_failed { output.new.failed ≡ (output.old.failed || ended_by_write result) }
-{
     tally.selected = tally.selected.saturating_add(1);
-    match print_selected(filter, tally.lines, verdict, line, whole, end, output) {
-        Ok(()) => Ok(()),
+    match print_selected(filter, tally.lines, &verdict, line, whole, end, output) {
+        Ok(()) => Ok(true),
         Err(_) => Err(LogFault::Write),
     }
 }

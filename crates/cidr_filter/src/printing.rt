@@ -51,7 +51,8 @@ pub(crate) fn prints_as_read(filter: &Filter) -> bool
     }
 }
 
-// Writes what stands first, and then a line of this verdict.
+// Writes what stands first, with `--longest` the block that holds the address, and then a line of this verdict. `whole`
+// is the line as it was read, with its end; if that is no line feed, one is written.
 fn print_named<W: Write>(
     filter: &Filter,
     number: u64,
@@ -65,22 +66,7 @@ fn print_named<W: Write>(
         ++ (mark_of filter.now.listed verdict.now ++ (whole.now ++ feed_behind end))) }
 {
     put_head(filter, number, output)?;
-    print_line(&filter.listed, verdict, whole, end, output)
-}
-
-// Writes a line of this verdict, and before it, with `--longest`, the block that holds its address.
-// `whole` is the line as it was read, with its end; if that is no line feed, one is written.
-fn print_line<W: Write>(
-    listed: &Listed,
-    verdict: &Verdict,
-    whole: &[u8],
-    end: LineEnd,
-    output: &mut Output<'_, W>,
-) -> Result<(), RunFault>
-    ensures { PutsOrFails result output.old output.new
-        (mark_of listed.now verdict.now ++ (whole.now ++ feed_behind end)) }
-{
-    put_mark(listed, verdict, output)?;
+    put_mark(&filter.listed, verdict, output)?;
     put_line(whole, end, output)
 }
 

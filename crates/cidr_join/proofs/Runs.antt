@@ -12,19 +12,20 @@ use Rattle.program.proofs.Told.{tells_more, tells_same}
 use Rattle.program.specs.Endings.{Ending, ending, Refuses, HasTold, HasWritten, status_of, end_text}
 use Rattle.program.specs.LogFaults.{log_fault_text, IfWrite, Wrote, HandsOn, StopsBy}
 use Rattle.program.specs.Messages.{Tells}
+use Rattle.lists.specs.Bytes.{IsAllOf, BytesStop}
 use Rattle.lists.specs.KnownLists.{KnownLists}
+use Rattle.lists.specs.declared.bytes.BytesFault.{BytesFault}
 use Rattle.cidr_join.specs.Joins.{Joins}
 use Rattle.program.specs.LogLines.{LogLine}
 use Rattle.cidr_join.specs.Logs.{EndsRunBy}
-use Rattle.program.specs.Logs.{logs_of, IsAllOf, HaltsBy}
+use Rattle.program.specs.Logs.{logs_of, HaltsBy}
 use Rattle.cidr_join.specs.Routes.{Values, no_networks}
 use Rattle.cidr_join.specs.Runs.{StopsAtLog, JoinsAll, EndsLogs, EndsAsked, EndsFinding, EndsGrouping, EndsJoining, EndsRequest, answers_of, join_of, list_name}
 use Rattle.cidr_join.specs.TallyRuns.{EndsTally}
 use Rattle.cidr_join.specs.Stands.{stand}
 use Rattle.cidr_join.specs.Stops.{JoinsLines, WritesBeginning}
 use Rattle.cidr_join.specs.Takes.{TakesLines}
-use Rattle.cidr_join.specs.Texts.{TextStops}
-use Rattle.cidr_join.specs.Told.{text_fault_text}
+use Rattle.cidr_join.specs.Told.{bytes_fault_text}
 use Rattle.cidr_join.specs.Private.Runs.{JoinsNames}
 use Rattle.cidr_join.specs.declared.answers.Answers.{Answers}
 use Rattle.cidr_join.specs.declared.command_line.Request.{Request}
@@ -35,7 +36,6 @@ use Rattle.program.specs.declared.log_fault.LogFault.TheVariants as faults
 use Rattle.cidr_join.specs.declared.routes.Networks.{Networks}
 use Rattle.cidr_join.specs.declared.routes.Routes.{Routes}
 use Rattle.cidr_join.specs.declared.seen.Seen.{Seen}
-use Rattle.cidr_join.specs.declared.text.TextFault.{TextFault}
 use Rattle.cidr_join.proofs.LogsInTurn.{logs_both, of_files}
 use Rattle.cidr_join.proofs.TallyRows.{written_all, failed_all, ends_with}
 
@@ -131,9 +131,9 @@ module _ {Z W E : Type 0} (known : KnownLists) (words : List (String Z)) (reques
       inr (text, subst (λ (n : List ℕ). IsAllOf known n text) same all, subst (λ (n : List ℕ). EndsJoining known words request n text end) same h)
 
   -- it was not
-  pub not_read : (fault : TextFault) → TextStops known name fault → Refuses (text_fault_text name fault) end → EndsGrouping None known words request end
+  pub not_read : (fault : BytesFault) → BytesStop known name 1073741824 fault → Refuses (bytes_fault_text name fault) end → EndsGrouping None known words request end
   not_read fault stops h =
-      inl (fault, subst (λ (n : List ℕ). TextStops known n fault) same stops, subst (λ (n : List ℕ). Refuses (text_fault_text n fault) end) same h)
+      inl (fault, subst (λ (n : List ℕ). BytesStop known n 1073741824 fault) same stops, subst (λ (n : List ℕ). Refuses (bytes_fault_text n fault) end) same h)
 
 pub same_routes : (routes : Routes) (networks : Networks) → routes.v4 ≡ networks.v4 → routes.v6 ≡ networks.v6 → routes ≡ record { v4 = networks.v4; v6 = networks.v6 }
 same_routes routes networks a b =

@@ -1,6 +1,6 @@
--- What the lines of a list are taken for, one after the other, and how its bytes are read.
-use Rattle.std.proofs.Common.{◌≡◌, ℕ, ◌+◌, ◌-◌, ◌≤◌, ◌==◌, Bool, true, false, List, [], ◌∷◌, ◌++◌, length, take, drop, refl, inr, sym, ap, subst, ◌∙◌, arith, append_assoc, append-nil, length-append}
-use Rattle.std.specs.Prelude.{Option, Some, Result, Ok, Err, OnOk, IfOk, IfErr, IsTrue}
+-- What the lines of a list are taken for, one after the other.
+use Rattle.std.proofs.Common.{◌≡◌, ℕ, ◌+◌, ◌-◌, ◌≤◌, ◌==◌, Bool, false, List, [], ◌∷◌, ◌++◌, length, take, drop, refl, inr, sym, ap, subst, ◌∙◌, arith, append_assoc, append-nil, length-append}
+use Rattle.std.specs.Prelude.{Some, Result, Ok, Err, OnOk, IfErr}
 use Rattle.std.specs.List.{slice_split}
 use Rattle.std.proofs.lemmas.List.{take_rest}
 use Rattle.byte_search.specs.Bytes.{IsAbsent, IsNext}
@@ -8,23 +8,17 @@ use Rattle.ipnetwork_blocks.specs.LeastList.{IsLeastList}
 use Rattle.ipnetwork_blocks.specs.Ranges.{FromTo}
 use Rattle.ipnetwork_family.specs.Network.{Network}
 use Rattle.lists.specs.Entries.{ReadsEntry}
-use Rattle.lists.specs.KnownLists.{KnownLists}
 use Rattle.lists.specs.declared.entry.Entry.{Entry}
 use Rattle.lists.specs.declared.entry.Entry.TheVariants as entries
 use Rattle.lists.specs.declared.entry.EntryFault.{EntryFault}
 use Rattle.cidr_join.specs.Entries.{trimmed, is_skipped, entry_len, entry_part, EntryFails, Says, LineFaults}
-use Rattle.program.specs.Logs.{IsAllOf}
 use Rattle.cidr_join.specs.Routes.{Values, no_networks, SetsOne, HasOne, SetsAll, RangeHasOne, IsGoodEntry, SetsEntry, EntryHasOne, IsRefusal}
 use Rattle.cidr_join.specs.Takes.{TakesLine, TakesLines, LineFails, StopsTaking}
-use Rattle.cidr_join.specs.Texts.{ReadsAll, StopsReading, TextStops}
 use Rattle.cidr_join.specs.declared.routes.Networks.{Networks}
 use Rattle.cidr_join.specs.declared.line.Cause.TheVariants as causes
 use Rattle.cidr_join.specs.declared.routes.RouteFault.{RouteFault}
 use Rattle.cidr_join.specs.declared.routes.RouteFault.TheVariants as routes
-use Rattle.cidr_join.specs.declared.text.TextFault.{TextFault}
-use Rattle.cidr_join.specs.declared.text.TextFault.TheVariants as faults
 use Rattle.cidr_join.specs.declared.value.Value.{Value}
-use Rattle.program.proofs.LogNames.{known_first, known_all}
 use Rattle.line_addresses.proofs.Parts.{parts_from, part_from}
 
 -- one network more got the value
@@ -158,20 +152,3 @@ module _ (last_wins : Bool) (text : List ℕ) (at lines : ℕ) (before : Network
     pub last_stops : (fault : RouteFault) → LineFails last_wins before (take (length text - at) (drop at text)) fault
         → StopsTaking last_wins no_networks (parts text) (record { lines = lines; fault = fault })
     last_stops fault fails = (taken.0, drop at text, [], before, last_cut, taken.2, taken.3, subst (λ (l : List ℕ). LineFails last_wins before l fault) (take_rest text at) fails)
-
--- ---- the bytes of a list
-
-module _ (known : KnownLists) (name : List ℕ) (remained remains : Option (List ℕ)) (has : (input : List ℕ) → known.bytes_of name ≡ Some input → remained ≡ Some input) (opened : known.may_open name true) where
-  pub text_read : {X : Type 0} (items : X → List ℕ) (result : Result X TextFault) → IfOk result (λ t. ReadsAll remained remains (items t)) → IfOk result (λ t. IsAllOf known name (items t))
-  text_read items (Ok text) h = (opened, λ input e. known_all remained remains (items text) input (has input e) h.0 h.1)
-  text_read items (Err fault) h = tt
-
-  stops_by : (failed : Bool) (fault : TextFault) → (IsTrue failed → known.may_fail name) → StopsReading remained remains failed fault → TextStops known name fault
-  stops_by failed (faults.Open cause) fails h = absurd h
-  stops_by failed faults.Read fails h = (opened, fails h)
-  stops_by failed faults.Length fails h = (opened, (h.0, (λ input e. known_first remained remains h.0 input (has input e) h.1), h.2))
-  stops_by failed faults.OutOfMemory fails h = tt
-
-  pub text_stops : {X : Type 0} (failed : Bool) (result : Result X TextFault) → (IsTrue failed → known.may_fail name) → IfErr result (StopsReading remained remains failed) → IfErr result (TextStops known name)
-  text_stops failed (Ok text) fails h = tt
-  text_stops failed (Err fault) fails h = stops_by failed fault fails h

@@ -1,13 +1,10 @@
 -- What is printed of the lines of a log.
-use Rattle.std.specs.Prelude.{◌≡◌, ℕ, ◌-◌, ◌≤◌, Bool, List, [], ◌∷◌, ◌++◌, Option, None, Some, length, drop, slice_get, codes, option_map, if◌then◌else◌}
+use Rattle.std.specs.Prelude.{◌≡◌, ℕ, ◌≤◌, Bool, List, [], ◌∷◌, ◌++◌, Option, None, Some, length, drop, codes, option_map, if◌then◌else◌}
 use Rattle.ipnetwork_addr.specs.declared.ip.IpAddr.{IpAddr}
 use Rattle.ipnetwork.specs.IpNetworkText.{ip_network_text}
 use Rattle.ipnetwork.specs.declared.ip_network.IpNetwork.{IpNetwork}
-use Rattle.line_addresses.specs.Addresses.{Spelled, address_of, addresses_of}
-use Rattle.line_addresses.specs.Following.{following}
 use Rattle.line_addresses.specs.Mapped.{unmapped}
-use Rattle.line_addresses.specs.Words.{words_of}
-use Rattle.line_addresses.specs.Fields.{field_of}
+use Rattle.log_programs.specs.Finding.{found_in}
 use Rattle.program.specs.LogLines.{LogLine, content, printed}
 use Rattle.cidr_join.specs.Groups.{block_in}
 use Rattle.cidr_join.specs.Routes.{IsLongestRoute, NoRouteHolds}
@@ -16,35 +13,7 @@ use Rattle.cidr_join.specs.declared.answers.Answers.TheVariants as answers
 use Rattle.cidr_join.specs.declared.found.Found.{Found}
 use Rattle.cidr_join.specs.declared.found.Found.TheVariants as founds
 use Rattle.cidr_join.specs.declared.join.Join.{Join}
-use Rattle.line_addresses.specs.declared.place.Place.{Place}
-use Rattle.line_addresses.specs.declared.place.Place.TheVariants as places
 use Rattle.cidr_join.specs.declared.value.Value.{Value}
-
--- the address that a part of a line is, if there is such a part and it is one
-abbrev pub of_part : Option (List ℕ) → Option IpAddr
-of_part None = None
-of_part (Some part) = address_of part
-
--- the first of the addresses of a text
-abbrev pub first_of : List Spelled → Option IpAddr
-first_of [] = None
-first_of (found ∷ others) = Some found.address
-
-abbrev pub first_in : List ℕ → Option IpAddr
-first_in text = first_of (addresses_of text)
-
--- that of a rest of a line, if there is such a rest
-abbrev pub of_rest : Option (List ℕ) → Option IpAddr
-of_rest None = None
-of_rest (Some rest) = first_in rest
-
--- the address of a line: that of a field or of a word, or the first that stands anywhere in it, or the first of what
--- follows the first place of a text
-abbrev pub found_in : Place → List ℕ → Option IpAddr
-found_in (places.Field number separator) line = of_part (field_of number separator line)
-found_in (places.Word number) line = of_part (slice_get (words_of line) (number - 1))
-found_in places.Anywhere line = first_in line
-found_in (places.After text) line = of_rest (following text line)
 
 -- the address that counts: for an IPv4-mapped one its IPv4 one, if the option says so
 abbrev pub asked_of : Bool → Option IpAddr → Option IpAddr

@@ -15,6 +15,5 @@ pub mod Stops
 pub mod Takes
 pub mod Tallies
 pub mod TallyRuns
-pub mod Texts
 pub mod Told
 pub mod Usage

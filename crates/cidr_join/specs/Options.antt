@@ -1,5 +1,5 @@
 -- What an option of the command line says.
-use Rattle.std.specs.Prelude.{ℕ, ◌==◌, ◌||◌, ◌&&◌, Bool, true, false, List, [], Option, None, Some, drop, length, nat_lt, nat_le, if◌then◌else◌, codes, bytes_eq}
+use Rattle.std.specs.Prelude.{ℕ, ◌==◌, ◌||◌, ◌&&◌, Bool, true, false, List, Option, None, Some, drop, length, nat_lt, nat_le, if◌then◌else◌, codes, bytes_eq}
 use Rattle.std.specs.Option.{option_or}
 use Rattle.std.specs.List.{list_all, list_any}
 use Rattle.line_addresses.specs.Fields.{field_of}

@@ -1,6 +1,7 @@
 -- How a run ends: its exit status, what was written, and what was reported.
 use Rattle.std.specs.Prelude.{◌≡◌, ℕ, Bool, List, ◌∷◌, ◌++◌, true, false, ◌⊎◌, if◌then◌else◌, Option, None, Some, length, take, drop, codes, String, ◌==◌}
 use Rattle.std.specs.List.{slice_split}
+use Rattle.lists.specs.Bytes.{IsAllOf, BytesStop}
 use Rattle.lists.specs.KnownLists.{KnownLists}
 use Rattle.program.specs.Endings.{Ending, Refuses, HasTold}
 use Rattle.log_programs.specs.Runs as runs
@@ -10,14 +11,14 @@ use Rattle.cidr_join.specs.Joins.{Joins}
 use Rattle.program.specs.LogLines.{LogLine}
 use Rattle.cidr_join.specs.Logs.{JoinsLogs, EndsRunBy}
 use Rattle.program.specs.LogFaults.{log_fault_text, Wrote}
-use Rattle.program.specs.Logs.{logs_of, IsAllOf, HaltsBy}
+use Rattle.program.specs.Logs.{logs_of, HaltsBy}
 use Rattle.cidr_join.specs.Options.{syntax_of_options}
 use Rattle.cidr_join.specs.Routes.{no_networks}
 use Rattle.cidr_join.specs.TallyRuns.{EndsTally, EndsWith}
 use Rattle.cidr_join.specs.Takes.{TakesLines, StopsTaking}
-use Rattle.cidr_join.specs.Texts.{TextStops}
-use Rattle.cidr_join.specs.Told.{text_fault_text, take_fault_text}
+use Rattle.cidr_join.specs.Told.{bytes_fault_text, take_fault_text}
 use Rattle.log_programs.specs.Values.{value_of}
+use Rattle.lists.specs.declared.bytes.BytesFault.{BytesFault}
 use Rattle.cidr_join.specs.declared.answers.Answers.{Answers}
 use Rattle.cidr_join.specs.declared.answers.Answers.TheVariants as answers
 use Rattle.cidr_join.specs.declared.command_line.Request.{Request}
@@ -28,7 +29,6 @@ use Rattle.cidr_join.specs.declared.list.TakeFault.{TakeFault}
 use Rattle.program.specs.declared.log_fault.LogFault.{LogFault}
 use Rattle.cidr_join.specs.declared.routes.Networks.{Networks}
 use Rattle.cidr_join.specs.declared.routes.Routes.{Routes}
-use Rattle.cidr_join.specs.declared.text.TextFault.{TextFault}
 
 -- a log was not joined to its end, and ended the run: those before it were joined, and its first lines; their outputs
 -- were written, the cause was reported after what there is to report of those before it, and the status is 2
@@ -113,7 +113,7 @@ EndsFinding known words request by end =
 abbrev pub EndsGrouping : {Z W E : Type 0} → Option Lengths → KnownLists → List (String Z) → Request → Ending W E → Type 0
 EndsGrouping (Some lengths) known words request end = EndsFinding known words request (answers.Blocks lengths) end
 EndsGrouping None known words request end =
-    ((fault : TextFault) × TextStops known (list_name words request) fault × Refuses (text_fault_text (list_name words request) fault) end)
+    ((fault : BytesFault) × BytesStop known (list_name words request) 1073741824 fault × Refuses (bytes_fault_text (list_name words request) fault) end)
     ⊎ ((text : List ℕ) × IsAllOf known (list_name words request) text × EndsJoining known words request (list_name words request) text end)
 
 abbrev pub EndsRequest : {Z W E : Type 0} → KnownLists → List (String Z) → Request → Ending W E → Type 0

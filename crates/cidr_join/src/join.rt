@@ -1,11 +1,12 @@
 //! What a line is to the list.
 ghost use Rattle.std.specs.Prelude.{◌≡◌, None, Some};
-ghost use Rattle.cidr_join.specs.Joins.{Finds, first_in, found_in, address_in};
+ghost use Rattle.cidr_join.specs.Joins.{Finds, address_in};
 
 use crate::answers::Answers;
 use crate::found::Found;
 use ipnetwork::IpAddr;
-use line_addresses::{Place, address_of, field_of, following, next_address, unmapped, word_of};
+use line_addresses::{Place, unmapped};
+use log_programs::finding::found_in;
 
 /// What decides what is printed of a line.
 #[derive(Drop)]
@@ -34,7 +35,7 @@ impl<'a> Join<'a> {
     pub(crate) fn address_in(&self, line: &[u8]) -> Option<IpAddr>
         ensures { result ≡ address_in self.now line.now }
     {
-        let Some(address) = self.found_in(line) else {
+        let Some(address) = found_in(&self.place, line) else {
             return None;
         };
         if self.mapped {
@@ -42,36 +43,5 @@ impl<'a> Join<'a> {
         } else {
             Some(address)
         }
-    }
-
-    // The address of a line.
-    fn found_in(&self, line: &[u8]) -> Option<IpAddr>
-        ensures { result ≡ found_in self.now.place line.now }
-    {
-        match &self.place {
-            Place::Field { number, separator } => match field_of(line, *number, *separator) {
-                Some(field) => address_of(field),
-                None => None,
-            },
-            Place::Word(number) => match word_of(line, *number) {
-                Some(word) => address_of(word),
-                None => None,
-            },
-            Place::Anywhere => first_in(line),
-            Place::After(text) => match following(line, text.bytes()) {
-                Some(rest) => first_in(rest),
-                None => None,
-            },
-        }
-    }
-}
-
-// The first address of a text.
-fn first_in(text: &[u8]) -> Option<IpAddr>
-    ensures { result ≡ first_in text.now }
-{
-    match next_address(text, 0) {
-        Some(found) => Some(found.address),
-        None => None,
     }
 }

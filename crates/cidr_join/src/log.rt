@@ -1,10 +1,11 @@
 //! Joins the lines of a log to a list.
-ghost use Rattle.std.specs.Prelude.{◌≡◌, ◌||◌, ◌≤◌, ◌++◌, [], length, OnOk, IfErr, Err};
+ghost use Rattle.std.specs.Prelude.{◌≡◌, ◌||◌, ◌≤◌, ◌++◌, length, OnOk, IfErr};
 ghost use Rattle.lines.specs.Watched.{device_of, has_failed};
 ghost use Rattle.cidr_join.specs.Stands.{stand};
 ghost use Rattle.cidr_join.specs.Stops.{Ends, Stops};
 ghost use Rattle.cidr_join.specs.Private.Progress.{JoinsLine, LineStops};
-ghost use Rattle.program.specs.LogFaults.{ended_by_read, ended_by_write};
+ghost use Rattle.log_programs.specs.LogEnds.{EndsOrStops};
+ghost use Rattle.program.specs.LogFaults.{ended_by_write};
 ghost use Rattle.program.specs.LogLines.{feed_behind};
 
 use crate::join::Join;
@@ -29,24 +30,10 @@ pub fn join_log<R: Read, W: Write>(
     seen: &mut Seen,
 ) -> Result<(), LogFault>
     requires room { 1048578 ≤ length buffer.old }
-    ensures ok { OnOk result
-        (Ends join.now (R.remaining (device_of reader.old))
-        (R.remaining (device_of reader.new))
-        (stand output.old seen.old)
-        (stand output.new seen.new)) }
-    ensures err { IfErr result
-        (Stops join.now (R.remaining (device_of reader.old))
-        (R.remaining (device_of reader.new))
-        (has_failed reader.new) output.new.failed
-        (stand output.old seen.old)
-        (stand output.new seen.new)) }
-    // A device has failed exactly if it had failed before, or its failure ended the log. So nothing is written after a
-    // read that failed.
-    ensures reader_failed { has_failed reader.new
-        ≡ (has_failed reader.old || ended_by_read result) }
-    ensures writer_failed { output.new.failed ≡ (output.old.failed || ended_by_write result) }
-    ensures written { OnOk result (output.new.waits ≡ []) }
-    ensures handed_on { result ≡ Err LogFault.Read → output.old.waits ≡ [] → output.new.waits ≡ [] }
+    ensures { EndsOrStops (λ _. Ends join.now) (Stops join.now) result
+        (R.remaining (device_of reader.old)) (R.remaining (device_of reader.new))
+        (has_failed reader.old) (has_failed reader.new) output.old output.new
+        (stand output.old seen.old) (stand output.new seen.new) }
 {
     let mut log = LogReader::new(buffer, true);
     'lines: loop {

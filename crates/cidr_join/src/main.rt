@@ -23,7 +23,6 @@ mod tally;
 mod tally_log;
 mod tally_logs;
 mod telling;
-mod text;
 mod value;
 
 use crate::help::{PROGRAM, USAGE};

@@ -53,24 +53,12 @@ fn print_with<W: Write>(
         (shown_of last mark.now line.now (whole.now ++ feed_behind end)) }
 {
     if !last {
-        return put_parts(mark, whole, b"", end, output);
+        put_both(mark, b"\t", output)?;
+        output.put(whole)?;
+        return put_feed(end, output);
     }
     let tail = &whole[line.len()..];
-    put_parts(line, mark, tail, end, output)
-}
-
-// Writes a text and a tab, two more texts, and a line feed if none ended the line.
-fn put_parts<W: Write>(
-    first: &[u8],
-    second: &[u8],
-    third: &[u8],
-    end: LineEnd,
-    output: &mut Output<'_, W>,
-) -> Result<(), RunFault>
-    ensures { PutsOrFails result output.old output.new
-        ((first.now ++ 9 ∷ []) ++ ((second.now ++ third.now) ++ feed_behind end)) }
-{
-    put_both(first, b"\t", output)?;
-    put_both(second, third, output)?;
+    put_both(line, b"\t", output)?;
+    put_both(mark, tail, output)?;
     put_feed(end, output)
 }

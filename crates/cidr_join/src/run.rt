@@ -11,11 +11,10 @@ use crate::list::networks_of;
 use crate::logs::join_logs;
 use crate::routes::Routes;
 use crate::tally_logs::tally_logs;
-use crate::telling::{tell_take_fault, tell_text_fault};
-use crate::text::text_of;
+use crate::telling::{tell_bytes_fault, tell_take_fault};
 use line_addresses::Place;
 use lines::output::Output;
-use lists::OpenLists;
+use lists::{OpenLists, read_bytes};
 use log_programs::asking::{About, asked};
 use log_programs::options::value_of;
 use log_programs::shared;
@@ -24,6 +23,9 @@ use program::log_reader::BUFFER_LEN;
 use program::memory::refuse_memory;
 use std::alloc::Global;
 use std::io::Write;
+
+/// The most bytes of a list.
+const LIST_MAX: usize = 1_073_741_824;
 
 /// Does what the words after the program's name ask for, and returns the exit status.
 pub(crate) fn run<L: OpenLists, W: Write, E: Write>(
@@ -72,7 +74,7 @@ fn join<L: OpenLists, W: Write, E: Write>(
         return join_by(alloc, request, words, answers, lists, output, errors);
     }
     let name = value_of::<JoinOptions>(&words[..request.files], "-f");
-    match text_of(alloc, lists, name) {
+    match read_bytes(alloc, lists, name, LIST_MAX) {
         Ok(text) => join_to(
             alloc,
             request,
@@ -84,7 +86,7 @@ fn join<L: OpenLists, W: Write, E: Write>(
             errors,
         ),
         Err(fault) => {
-            tell_text_fault(name, fault, errors);
+            tell_bytes_fault(name, fault, errors);
             FAILED
         }
     }

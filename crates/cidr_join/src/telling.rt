@@ -1,29 +1,29 @@
 //! Messages on the error writer. If a write of one fails, nothing else changes.
 ghost use Rattle.program.specs.Messages.{Tells};
 ghost use Rattle.cidr_join.specs.Addressed.{lacking_by};
-ghost use Rattle.cidr_join.specs.Told.{text_fault_text, take_fault_text};
+ghost use Rattle.cidr_join.specs.Told.{bytes_fault_text, take_fault_text};
 
 use crate::help::PROGRAM;
 use crate::join::Join;
 use crate::list::TakeFault;
 use crate::routes::RouteFault;
 use crate::seen::Seen;
-use crate::text::TextFault;
 use lines::output::Output;
+use lists::BytesFault;
 use log_programs::telling::tell_lacking;
 use program::log_fault::{tell_line, tell_of};
 use program::messages::tell;
 use std::io::Write;
 
 /// Reports why the list of this name was not read.
-pub(crate) fn tell_text_fault<E: Write>(name: &str, fault: TextFault, errors: &mut Output<'_, E>)
-    ensures { Tells errors.old errors.new (text_fault_text name.now fault) }
+pub(crate) fn tell_bytes_fault<E: Write>(name: &str, fault: BytesFault, errors: &mut Output<'_, E>)
+    ensures { Tells errors.old errors.new (bytes_fault_text name.now fault) }
 {
     match fault {
-        TextFault::Open(cause) => tell_of(name, cause.text(), errors),
-        TextFault::Read => tell_of(name, ": cannot read\n", errors),
-        TextFault::Length => tell_of(name, ": too long\n", errors),
-        TextFault::OutOfMemory => tell("out of memory\n", errors),
+        BytesFault::Open(cause) => tell_of(name, cause.text(), errors),
+        BytesFault::Read => tell_of(name, ": cannot read\n", errors),
+        BytesFault::Length => tell_of(name, ": too long\n", errors),
+        BytesFault::OutOfMemory => tell("out of memory\n", errors),
     }
 }
 

@@ -1,8 +1,10 @@
 pub mod Examples
 pub mod Failing
 pub mod Faults
+pub mod Handed
 pub mod JoinedWords
 pub mod Lacking
+pub mod LogEnds
 pub mod OptionValues
 pub mod OtherWords
 pub mod Requests

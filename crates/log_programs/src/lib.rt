@@ -1,10 +1,11 @@
 //! What the programs that read logs share: how the words of a command line are put in order and read, what is
-//! wrong with them, and what is reported of logs without addresses.
+//! wrong with them, the address of a line, and what is reported of logs without addresses.
 #![tactic(auto)]
 
 pub mod arranging;
 pub mod asking;
 pub mod command_line;
+pub mod finding;
 pub mod grammar;
 mod joined;
 pub mod numbers;

@@ -1,17 +1,19 @@
 -- How far a log is filtered.
-use Rattle.std.specs.Prelude.{◌≡◌, ℕ, Bool, true, false, ◌||◌, IsTrue, List, [], ◌++◌, Option, if◌then◌else◌}
-use Rattle.lines.specs.Outputs.{AppendsBeginning}
+use Rattle.std.specs.Prelude.{◌≡◌, ℕ, Bool, true, false, ◌||◌, IsTrue, List, [], ◌++◌, Option, Result, IfOk, IfErr, if◌then◌else◌}
+use Rattle.lines.specs.Outputs.{Written, AppendsBeginning}
 use Rattle.program.specs.Counts.{Counts}
+use Rattle.program.specs.LogFaults.{ended_by_write}
 use Rattle.cidr_filter.specs.Addressed.{is_addressed_by}
 use Rattle.cidr_filter.specs.Filters.{IsVerdict, is_refused, is_selected, head_of, shown_of, one_if}
 use Rattle.program.specs.LogReadings.{ReadsSoFar}
 use Rattle.program.specs.declared.log_reader.LogReader.{LogReader}
 use Rattle.cidr_filter.specs.Private.Leaving.{less}
-use Rattle.cidr_filter.specs.Stands.{Stand, Goes}
+use Rattle.cidr_filter.specs.Stands.{Stand, stand, Goes}
 use Rattle.cidr_filter.specs.Stops.{FiltersLines}
 use Rattle.cidr_filter.specs.declared.filter.Filter.{Filter}
 use Rattle.cidr_filter.specs.declared.filter.Verdict.{Verdict}
 use Rattle.cidr_filter.specs.declared.filter.Verdict.TheVariants as verdicts
+use Rattle.cidr_filter.specs.declared.log.Tally.{Tally}
 use Rattle.program.specs.declared.log_fault.LogFault.{LogFault}
 use Rattle.program.specs.declared.log_fault.LogFault.TheVariants as faults
 
@@ -46,6 +48,12 @@ LineStops filter line text write_failed old new faults.Address =
 LineStops filter line text write_failed old new faults.Length =
     RefusesLine filter line old new verdicts.TooLong
 LineStops filter line text write_failed old new faults.Endless = ⊥
+
+-- the line was filtered, or one of these stopped that. The writer has failed exactly if it had before, or stopped it
+pub record FiltersOrStops {W : Type 0} (result : Result Bool LogFault) (filter : Filter) (line text : List ℕ) (old : Written W) (was : Tally) (new : Written W) (is : Tally) : Type 0 where
+  pub ok : IfOk result (λ selected. FiltersLine filter line text selected (stand old was) (stand new is))
+  pub err : IfErr result (LineStops filter line text new.failed (stand old was) (stand new is))
+  pub writer_failed : new.failed ≡ (old.failed || ended_by_write result)
 
 -- the lines that were handed out were filtered
 abbrev pub FiltersSoFar : Filter → LogReader → Option (List ℕ) → Option (List ℕ) → Stand → Stand → Type 0

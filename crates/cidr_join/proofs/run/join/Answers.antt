@@ -18,7 +18,7 @@ returns-in-Ok g c =
 
 pub returns-in-Err : goal.returns-in-Err
 returns-in-Err g c =
-    let end = ending c.args.output.now c.args.output.now c.args.errors.now c.tell_text_fault.new.errors 2 in
+    let end = ending c.args.output.now c.args.output.now c.args.errors.now c.tell_bytes_fault.new.errors 2 in
     by_group (g.L.OpenLists.known c.args.lists.now) c.args.words.now c.args.request end None c.in_default.is
     (not_read (g.L.OpenLists.known c.args.lists.now) c.args.words.now c.args.request end
-    c.value_of-name.result.now c.value_of-name.ensures c.in-Err.fault c.in-Err.ensures.err ((refl, refl), c.tell_text_fault.ensures))
+    c.value_of-name.result.now c.value_of-name.ensures c.in-Err.fault c.in-Err.ensures.err ((refl, refl), c.tell_bytes_fault.ensures))

@@ -2,7 +2,6 @@ use Rattle.std.proofs.Common.{◌∙◌, ◌||◌, [], Bool, ap, refl, subst, sy
 use Rattle.std.specs.Prelude.{Err}
 use Rattle.lines.specs.Watched.{device_of, has_failed}
 use Rattle.lines.proofs.Writes.{still_works}
-use Rattle.program.specs.LogReaders.{GivesNext}
 use Rattle.program.specs.declared.log_reader.NextLogLine.{NextLogLine}
 use Rattle.program.proofs.LogReadings.{after_line, line_ends, log_ends}
 use Rattle.program.specs.declared.log_fault.LogFault.TheVariants.{Length}
@@ -10,6 +9,7 @@ use Rattle.cidr_join.specs.Logs.{EndsRunBy}
 use Rattle.cidr_join.specs.Private.TallyProgress.{CountsLines, StopsCounting, ended_by_read}
 use Rattle.cidr_join.specs.declared.tally_log.TallyFault.{TallyFault}
 use Rattle.log_programs.proofs.Failing.{or_on}
+use Rattle.log_programs.proofs.Handed.{handed_out}
 use Rattle.cidr_join.proofs.TallyLines.{no_lines, line_more, counting_breaks, reads_same}
 use Rattle.cidr_join.proofs.tally_log.tally_log.Goals as goal
 
@@ -28,8 +28,7 @@ lines-init g c = record {
 pub lines-preserved : goal.lines-preserved
 lines-preserved g c =
     let s = c.lines.invariant.sofar in
-    let given = (subst (λ (n : NextLogLine). GivesNext c.next.new.self (g.R.Read.remaining (device_of c.args.reader.now)) (g.R.Read.remaining (device_of c.next.new.reader)) s.first n)
-    c.in-Ok-Line.field-0-is (c.in-Ok-Line.ensures.gives _ s.first s.hands)) in
+    let given = (handed_out c.next.new.self (g.R.Read.remaining (device_of c.args.reader.now)) (g.R.Read.remaining (device_of c.next.new.reader)) s.first _ _ c.in-Ok-Line.field-0-is (c.in-Ok-Line.ensures.gives _ s.first s.hands)) in
     record {
       sofar = after_line _ _ c.lines.log c.next.new.self _ _ _ s _ given
           (line_more c.args.numbered.now.founds.items c.args.join.now c.args.counts.now c.lines.counts c.count_line.new.counts c.args.seen.now c.lines.seen c.count_line.new.seen c.line-line.result.now c.in_default.ensures
@@ -42,8 +41,7 @@ lines-preserved g c =
 pub returns-in-Ok-TooLong-clause-err : goal.returns-in-Ok-TooLong-clause-err
 returns-in-Ok-TooLong-clause-err g c =
     let s = c.lines.invariant.sofar in
-    let given = (subst (λ (n : NextLogLine). GivesNext c.next.new.self (g.R.Read.remaining (device_of c.args.reader.now)) (g.R.Read.remaining (device_of c.next.new.reader)) s.first n)
-    c.in-Ok-TooLong.field-0-is (c.in-Ok-TooLong.ensures.gives _ s.first s.hands)) in
+    let given = (handed_out c.next.new.self (g.R.Read.remaining (device_of c.args.reader.now)) (g.R.Read.remaining (device_of c.next.new.reader)) s.first _ _ c.in-Ok-TooLong.field-0-is (c.in-Ok-TooLong.ensures.gives _ s.first s.hands)) in
     line_ends _ _ c.lines.log c.next.new.self _ _ _ s (EndsRunBy Length) given.line given.next given.long s.is_done
 
 -- ---- the end of the log
@@ -51,8 +49,7 @@ returns-in-Ok-TooLong-clause-err g c =
 pub returns-in-Ok-End-clause-ok : goal.returns-in-Ok-End-clause-ok
 returns-in-Ok-End-clause-ok g c =
     let s = c.lines.invariant.sofar in
-    log_ends _ _ c.lines.log c.next.new.self _ _ _ s (subst (λ (n : NextLogLine). GivesNext c.next.new.self (g.R.Read.remaining (device_of c.args.reader.now)) (g.R.Read.remaining (device_of c.next.new.reader)) s.first n)
-    c.in-Ok-End.field-0-is (c.in-Ok-End.ensures.gives _ s.first s.hands)) s.is_done
+    log_ends _ _ c.lines.log c.next.new.self _ _ _ s (handed_out c.next.new.self (g.R.Read.remaining (device_of c.args.reader.now)) (g.R.Read.remaining (device_of c.next.new.reader)) s.first _ _ c.in-Ok-End.field-0-is (c.in-Ok-End.ensures.gives _ s.first s.hands)) s.is_done
 
 -- ---- a log that is not read to its end
 
