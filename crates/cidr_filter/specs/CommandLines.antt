@@ -30,4 +30,15 @@ lacking_problem request = if request.shared.has_list then None else Some problem
 
 -- the options of the program, and what they say
 abbrev pub filter_options : Options Choice Request
-filter_options = record { syntax = syntax_of_options; in_one_word = in_one_word; in_two_words = in_two_words; word_problem = word_problem; value_problem = value_problem; no_options = no_options; with_option = with_option; inputs = λ (request : Request). request.shared.inputs; crossed_problem = crossed_problem; lacking_problem = lacking_problem }
+filter_options = record {
+  syntax = syntax_of_options;
+  in_one_word = in_one_word;
+  in_two_words = in_two_words;
+  word_problem = word_problem;
+  value_problem = value_problem;
+  no_options = no_options;
+  with_option = with_option;
+  inputs = λ (request : Request). request.shared.inputs;
+  crossed_problem = crossed_problem;
+  lacking_problem = lacking_problem;
+}

@@ -124,7 +124,18 @@ with_option request choices.Text = record request { shared = record (request.sha
 -- without options bad lines are dropped, and all lines may be selected
 abbrev pub no_options : Request
 no_options = record {
-  letters = letters_in [];
+  letters = record {
+    inverts = false;
+    counts = false;
+    anywhere = false;
+    words = false;
+    only = false;
+    named = false;
+    unnamed = false;
+    numbered = false;
+    names = false;
+    quiet = false;
+  };
   shared = shared.no_options;
   most = None;
   longest = false;

@@ -50,7 +50,8 @@ LineStops filter line text write_failed old new faults.Length =
 LineStops filter line text write_failed old new faults.Endless = ⊥
 
 -- the line was filtered, or one of these stopped that. The writer has failed exactly if it had before, or stopped it
-pub record FiltersOrStops {W : Type 0} (result : Result Bool LogFault) (filter : Filter) (line text : List ℕ) (old : Written W) (was : Tally) (new : Written W) (is : Tally) : Type 0 where
+pub record FiltersOrStops {W : Type 0} (result : Result Bool LogFault) (filter : Filter) (line text : List ℕ)
+    (old : Written W) (was : Tally) (new : Written W) (is : Tally) : Type 0 where
   pub ok : IfOk result (λ selected. FiltersLine filter line text selected (stand old was) (stand new is))
   pub err : IfErr result (LineStops filter line text new.failed (stand old was) (stand new is))
   pub writer_failed : new.failed ≡ (old.failed || ended_by_write result)
