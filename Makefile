@@ -66,8 +66,7 @@ example:
 
 test:
 	$(call tools,rt python3 cc nm)
-	$(MAKE) all
-	tests/all
+	tests/all $(MAKE) all
 
 try:
 	$(call tools,rt)
