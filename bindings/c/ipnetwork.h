@@ -35,7 +35,7 @@ extern "C" {
  * that of the library. A call that is added raises the minor version, which ipnetwork_abi_minor_version() returns: a
  * program needs a library of the version that it was compiled with, and of the same minor version or a later one. */
 #define IPNETWORK_ABI_VERSION 2
-#define IPNETWORK_ABI_MINOR_VERSION 6
+#define IPNETWORK_ABI_MINOR_VERSION 7
 
 /* Enough for every text of the family and the zero byte after it. */
 #define IPNETWORK_V4_TEXT 19
@@ -405,6 +405,13 @@ IPNETWORK_CHECKED_AT(7, 8) ipnetwork_fault ipnetwork_v4_ranges_find(const ipnetw
 IPNETWORK_CHECKED_AT(7, 8) ipnetwork_fault ipnetwork_v6_ranges_find(const ipnetwork_v6 *ranges, size_t range_count,
     const size_t *places, size_t place_count, const uint32_t *index, size_t index_length, const uint8_t address[16],
     size_t *IPNETWORK_ALONE place);
+
+/* What the call above writes, returned, and IPNETWORK_NO_PLACE where it finds none. It is the fastest way to ask for one
+ * address. */
+IPNETWORK_CHECKED_AT(7) size_t ipnetwork_v4_ranges_place(const ipnetwork_v4 *ranges, size_t range_count,
+    const size_t *places, size_t place_count, const uint32_t *index, size_t index_length, const uint8_t address[4]);
+IPNETWORK_CHECKED_AT(7) size_t ipnetwork_v6_ranges_place(const ipnetwork_v6 *ranges, size_t range_count,
+    const size_t *places, size_t place_count, const uint32_t *index, size_t index_length, const uint8_t address[16]);
 
 /* The same of many addresses in one call: found[i] and faults[i] are what the call for one address leaves and returns of
  * the address number i, so that an address without a block leaves its place as it was, and stops nothing. There are

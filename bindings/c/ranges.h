@@ -114,15 +114,15 @@ static inline ipnetwork_fault block_number(const searched_list *table, const int
 /* The number that stands beside the range that an address lies in, or -1, which is IPNETWORK_NO_PLACE as a place. */
 static inline ipnetwork_fault number_of(const searched_list *ranges, const int64_t *numbers, const uint8_t *address,
                                         int64_t *number) {
-    size_t place = IPNETWORK_NO_PLACE;
-    ipnetwork_fault fault =
-        ranges->width == 4
-            ? ipnetwork_v4_ranges_find((const ipnetwork_v4 *)ranges->structs, ranges->count, (const size_t *)numbers,
-                                       ranges->count, ranges->index, ranges->index_length, address, &place)
-            : ipnetwork_v6_ranges_find((const ipnetwork_v6 *)ranges->structs, ranges->count, (const size_t *)numbers,
-                                       ranges->count, ranges->index, ranges->index_length, address, &place);
-    *number = (int64_t)place;
-    return fault == IPNETWORK_NO_MEMBER ? IPNETWORK_OK : fault;
+    *number =
+        (int64_t)(ranges->width == 4
+                      ? ipnetwork_v4_ranges_place((const ipnetwork_v4 *)ranges->structs, ranges->count,
+                                                  (const size_t *)numbers, ranges->count, ranges->index,
+                                                  ranges->index_length, address)
+                      : ipnetwork_v6_ranges_place((const ipnetwork_v6 *)ranges->structs, ranges->count,
+                                                  (const size_t *)numbers, ranges->count, ranges->index,
+                                                  ranges->index_length, address));
+    return IPNETWORK_OK;
 }
 
 /* Writes beside each range the number of the longest block that its first address has, as the library finds it in the

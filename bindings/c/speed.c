@@ -200,6 +200,9 @@ static void make_ranges(const ipnetwork_v6 *networks) {
 static uint64_t ranges_by(size_t i) {
     return ipnetwork_v4_ranges_find(ranges, range_count, beside, range_count, index_ranges, length_ranges, searched[i], indexes) + indexes[0];
 }
+static uint64_t place_by(size_t i) {
+    return ipnetwork_v4_ranges_place(ranges, range_count, beside, range_count, index_ranges, length_ranges, searched[i]);
+}
 static uint64_t ranges_column_by(size_t i) {
     return i != 0 ? 0 : ipnetwork_v4_ranges_find_column(ranges, range_count, beside, range_count, index_ranges, length_ranges, searched[0], COUNT, indexes, COUNT, faults, COUNT) + indexes[1];
 }
@@ -261,7 +264,7 @@ struct row {
 /* The least of several measurements of each row, which take turns, so that what else the machine does meets all of
  * them. */
 static void measure(const struct row *rows, size_t count) {
-    double least[10];
+    double least[11];
     for (size_t row = 0; row < count; row++) least[row] = 1e300;
     for (int try = 0; try < TRIES; try++) {
         for (size_t row = 0; row < count; row++) {
@@ -290,7 +293,7 @@ int main(void) {
         {"ipnetwork_v4_table_find", table_v4}, {"ipnetwork_v4_table_find_column", table_column_v4}};
     static const struct row by_index[] = {{"ipnetwork_v4_index_contains", set_by}, {"ipnetwork_v4_index_contains_column", set_column_by},
         {"ipnetwork_v4_index_find", table_by}, {"ipnetwork_v4_index_find_column", table_column_by},
-        {"ipnetwork_v4_ranges_find", ranges_by}, {"ipnetwork_v4_ranges_find_column", ranges_column_by}, {"ipnetwork_v6_ranges_find_column", ranges_column_six},
+        {"ipnetwork_v4_ranges_place", place_by}, {"ipnetwork_v4_ranges_find", ranges_by}, {"ipnetwork_v4_ranges_find_column", ranges_column_by}, {"ipnetwork_v6_ranges_find_column", ranges_column_six},
         {"ipnetwork_v6_set_contains", set_v6}, {"ipnetwork_v6_index_contains", six_by}, {"ipnetwork_v6_index_contains_column", six_column_by}};
     make();
     join();
@@ -299,6 +302,6 @@ int main(void) {
     measure(reads, 6);
     measure(members, 4);
     measure(searches, 4);
-    measure(by_index, 10);
+    measure(by_index, 11);
     return 0;
 }

@@ -1045,6 +1045,12 @@ static ipnetwork_fault found_by(const struct ranges_of_table *of, size_t place_c
     return ipnetwork_v6_ranges_find((const ipnetwork_v6 *)of->structs, of->count, of->places, place_count, of->index, of->index_length, address, place);
 }
 
+static size_t place_by(const struct ranges_of_table *of, size_t place_count, const uint8_t *address) {
+    if (of->width == 4)
+        return ipnetwork_v4_ranges_place((const ipnetwork_v4 *)of->structs, of->count, of->places, place_count, of->index, of->index_length, address);
+    return ipnetwork_v6_ranges_place((const ipnetwork_v6 *)of->structs, of->count, of->places, place_count, of->index, of->index_length, address);
+}
+
 static ipnetwork_fault column_by(const struct ranges_of_table *of, const uint8_t *addresses, size_t asked, size_t *places, size_t room, uint8_t *faults, size_t fault_room) {
     if (of->width == 4)
         return ipnetwork_v4_ranges_find_column((const ipnetwork_v4 *)of->structs, of->count, of->places, of->count, of->index, of->index_length, addresses, asked, places, room, faults, fault_room);
@@ -1105,6 +1111,7 @@ static void asked_ranges(const uint8_t *blocks, size_t count, size_t width, cons
             CHECK("ranges", faults[i] == (wanted == IPNETWORK_NO_PLACE ? IPNETWORK_NO_MEMBER : YES));
             CHECK("ranges", place == (faults[i] == YES ? wanted : blank) && found[i] == place);
             CHECK("ranges", found_by(&of, 0, addresses + i * width, &place) == IPNETWORK_NO_MEMBER);
+            CHECK("ranges", place_by(&of, of.count, addresses + i * width) == wanted && place_by(&of, 0, addresses + i * width) == IPNETWORK_NO_PLACE);
         }
     }
     if (count > 0) {
@@ -1174,6 +1181,8 @@ static void table_ranges(void) {
     CHECK("NULL", ipnetwork_v6_ranges_make(NULL, 0, NULL, 0, NULL, 0, &told) == YES && told == 0);
     CHECK("NULL", ipnetwork_v4_ranges_find(NULL, 0, NULL, 0, NULL, 0, addresses[0], &place) == IPNETWORK_NO_MEMBER && place == 77);
     CHECK("NULL", ipnetwork_v6_ranges_find(NULL, 0, NULL, 0, NULL, 0, addresses_six[0], &place) == IPNETWORK_NO_MEMBER && place == 77);
+    CHECK("NULL", ipnetwork_v4_ranges_place(NULL, 0, NULL, 0, NULL, 0, addresses[0]) == IPNETWORK_NO_PLACE);
+    CHECK("NULL", ipnetwork_v6_ranges_place(NULL, 0, NULL, 0, NULL, 0, addresses_six[0]) == IPNETWORK_NO_PLACE);
     CHECK("NULL", ipnetwork_v4_ranges_find_column(NULL, 0, NULL, 0, NULL, 0, NULL, 0, NULL, 0, NULL, 0) == YES);
     CHECK("NULL", ipnetwork_v6_ranges_find_column(NULL, 0, NULL, 0, NULL, 0, NULL, 0, NULL, 0, NULL, 0) == YES);
 }

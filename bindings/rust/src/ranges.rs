@@ -1,6 +1,6 @@
 //! Tables cut into ranges of addresses, so that the longest network is found by one search.
 
-use crate::{Ipv4Network, Ipv4Table, Ipv6Network, Ipv6Table, NO_MEMBER, answered, c, make_index};
+use crate::{Ipv4Network, Ipv4Table, Ipv6Network, Ipv6Table, answered, c, make_index};
 use core::net::{Ipv4Addr, Ipv6Addr};
 
 /// What stands beside a range that no network has.
@@ -36,7 +36,7 @@ unsafe extern "C" {
         place_room: usize,
         range_count: &mut usize,
     ) -> u32;
-    fn ipnetwork_v4_ranges_find(
+    fn ipnetwork_v4_ranges_place(
         ranges: *const c::V4,
         range_count: usize,
         places: *const usize,
@@ -44,9 +44,8 @@ unsafe extern "C" {
         index: *const u32,
         index_length: usize,
         address: &[u8; 4],
-        place: &mut usize,
-    ) -> u32;
-    fn ipnetwork_v6_ranges_find(
+    ) -> usize;
+    fn ipnetwork_v6_ranges_place(
         ranges: *const c::V6,
         range_count: usize,
         places: *const usize,
@@ -54,8 +53,7 @@ unsafe extern "C" {
         index: *const u32,
         index_length: usize,
         address: &[u8; 16],
-        place: &mut usize,
-    ) -> u32;
+    ) -> usize;
     fn ipnetwork_v4_ranges_find_column(
         ranges: *const c::V4,
         range_count: usize,
@@ -124,7 +122,7 @@ fn make_ranges<Network, Held>(
 macro_rules! ranges {
     (
         $name:ident, $table:ident, $network:ident, $address:ident, $octets:literal,
-        $make:ident, $index_make:ident, $find:ident, $find_column:ident
+        $make:ident, $index_make:ident, $place:ident, $find_column:ident
     ) => {
         /// The addresses of a table, cut into ranges that have the same longest network, in the memory of the caller: finds
         /// that network by one search, where a table mostly makes several.
@@ -168,10 +166,9 @@ macro_rules! ranges {
 
             /// Which of the networks, counted from 0, is the longest one that has an address, as `find` of the table says.
             pub fn find(&self, address: $address) -> Option<usize> {
-                let mut number = 0;
                 // SAFETY: slices are never null, and have as many elements, each of which is the struct that it wraps.
-                let fault = unsafe {
-                    $find(
+                let number = unsafe {
+                    $place(
                         self.ranges.as_ptr().cast(),
                         self.ranges.len(),
                         self.numbers.as_ptr(),
@@ -179,14 +176,9 @@ macro_rules! ranges {
                         self.index.as_ptr(),
                         self.index.len(),
                         &address.octets(),
-                        &mut number,
                     )
                 };
-                if fault == NO_MEMBER {
-                    return None;
-                }
-                answered(fault);
-                Some(number)
+                (number != NO_PLACE).then_some(number)
             }
 
             /// The same of each of these addresses, as octets, as `find_column` of the table tells it. Panics if there are
@@ -233,7 +225,7 @@ ranges!(
     4,
     ipnetwork_v4_ranges_make,
     ipnetwork_v4_index_make,
-    ipnetwork_v4_ranges_find,
+    ipnetwork_v4_ranges_place,
     ipnetwork_v4_ranges_find_column
 );
 
@@ -245,6 +237,6 @@ ranges!(
     16,
     ipnetwork_v6_ranges_make,
     ipnetwork_v6_index_make,
-    ipnetwork_v6_ranges_find,
+    ipnetwork_v6_ranges_place,
     ipnetwork_v6_ranges_find_column
 );

@@ -17,7 +17,7 @@ use Rattle.ipnetwork_c.specs.Held.{PrefixFits}
 use Rattle.ipnetwork_c.specs.Outcomes.Unless.{On, Nothing}
 use Rattle.ipnetwork_c.specs.Searches.{StandsAt, LastFits}
 use Rattle.ipnetwork_c.specs.Tables.{IsTable, FindsLongest, TableQuery}
-use Rattle.ipnetwork_c.specs.Ranges.{no_place, place_before, IsLongestAt, AreRangesOf, MakesRanges, RangeQuery, RangesFindTheLongest}
+use Rattle.ipnetwork_c.specs.Ranges.{no_place, place_before, IsLongestAt, AreRangesOf, MakesRanges, PlaceQuery, PlacesAreOfTheLongest, RangeQuery, RangesFindTheLongest}
 use Rattle.ipnetwork_c.specs.Private.Cuts.{firsts, IsAlone, AreEndsOf, AreCutsOf, IsWrittenUpTo, ArePlacesUpTo}
 use Rattle.std.proofs.lemmas.Option.{get_or_from_slice_get, slice_get_within}
 use Rattle.ipnetwork_c.proofs.Searching.{stands_split}
@@ -325,6 +325,10 @@ find_the_longest w held list ranges places x before after code are fits (i, stan
     (λ (f : (place_before places i < no_place) × FindsLongest w (map held list) x (place_before places i)). On (is, subst (FindsLongest w (map held list) x) (sym found) f.1))
     (λ (n : (place_before places i ≡ no_place) × (IsTable w (map held list) → ¬ (InUnion w (map held list) x))). let none = n.0 in absurd (omega (arith, less, found, none)))
     (are.answers x i fits stands)
+
+pub place_is_of_the_longest : {C : Type 0} (w : ℕ) (held : C → Network) → PlacesAreOfTheLongest w held
+place_is_of_the_longest w held list ranges places x place are fits (i, stands, is) =
+    subst (IsLongestAt w (map held list) x) (sym is) (are.answers x i fits stands)
 
 -- the number of a fault that such a search returns is that of a byte
 pub range_fault_is_byte : {C : Type 0} {before after code : ℕ} (held : C → Network) (ranges : List C) (places : List ℕ) (x : ℕ) → RangeQuery held ranges places x before after code → code < 256

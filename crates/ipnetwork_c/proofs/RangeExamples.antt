@@ -11,7 +11,7 @@ use Rattle.ipnetwork_c.specs.Held.{v4_in}
 use Rattle.ipnetwork_c.specs.Outcomes.{Unless, IsFault, Writes}
 use Rattle.ipnetwork_c.specs.Outcomes.Unless.{On, Nothing}
 use Rattle.ipnetwork_c.specs.Tables.{IsTable}
-use Rattle.ipnetwork_c.specs.Ranges.{no_place, place_before, EndsAt, IsCut, IsLongestAt, AreRangesOf, RangeQuery, RangesFindTheLongest}
+use Rattle.ipnetwork_c.specs.Ranges.{no_place, place_before, EndsAt, IsCut, IsLongestAt, AreRangesOf, PlaceQuery, PlacesAreOfTheLongest, RangeQuery, RangesFindTheLongest}
 use Rattle.ipnetwork_c.proofs.TableExamples.{nested, nested_is_a_table, the_last_of_the_longest_is_found, no_wider_block_is_found, none_before_an_equal_one_is_found}
 
 abbrev wide : Network
@@ -85,3 +85,13 @@ pub ranges_find_the_last_of_the_longest : RangesFindTheLongest 32 v4_in → (ran
     → AreRangesOf 32 nested (map v4_in ranges) places → RangeQuery v4_in ranges places 0x0a010203 before after code → (code ≡ ok) × (after ≡ 2)
 ranges_find_the_last_of_the_longest law ranges places before after code are query =
     found_in_nested before after code (law nested_in_c ranges places 0x0a010203 before after code are (lit< tt) query)
+
+-- and the place that is returned is that of it, and no other
+last_stands_there : (place : ℕ) → IsLongestAt 32 nested 0x0a010203 place → place ≡ 2
+last_stands_there place (inl f) = only_the_last place f.1
+last_stands_there place (inr n) = absurd (n.1 nested_is_a_table (narrow, (1, lit< tt, refl), (lit< tt, refl)))
+
+pub places_are_of_the_last_of_the_longest : PlacesAreOfTheLongest 32 v4_in → (ranges : List Ipv4InC) (places : List ℕ) (place : ℕ)
+    → AreRangesOf 32 nested (map v4_in ranges) places → PlaceQuery v4_in ranges places 0x0a010203 place → place ≡ 2
+places_are_of_the_last_of_the_longest law ranges places place are query =
+    last_stands_there place (law nested_in_c ranges places 0x0a010203 place are (lit< tt) query)

@@ -54,6 +54,10 @@ MakesRanges w held list before =
     × AreRangesOf w (map held list) (map held (take after.1 after.0.0)) (take after.1 after.0.1)
     × (drop after.1 after.0.0 ≡ drop after.1 before.0.0) × (drop after.1 after.0.1 ≡ drop after.1 before.0.1)))) before
 
+-- the place is that beside the last range that begins at the address or before it, or that of no network if there is none
+abbrev pub PlaceQuery : {C : Type 0} → (C → Network) → List C → List ℕ → ℕ → ℕ → Type 0
+PlaceQuery held ranges places x place = (i : ℕ) × StandsAt (map held ranges) x i × (place ≡ place_before places i)
+
 -- the place beside the last range that begins at the address or before it is returned, and `no_member` if it is that of no
 -- network
 abbrev pub RangeQuery : {C : Type 0} → (C → Network) → List C → List ℕ → ℕ → ℕ → ℕ → ℕ → Type 0
@@ -64,6 +68,12 @@ RangeQuery held ranges places x before after code =
 -- each address is asked as the call for one asks it, with a place and a fault of its own, if there is room for these
 abbrev pub RangeRows : {C : Type 0} → (C → Network) → List C → List ℕ → List (List ℕ) → List ℕ × List ℕ → List ℕ × List ℕ → ℕ → Type 0
 RangeRows held ranges places = AsksEach [] (λ octets. RangeQuery held ranges places (number_of_octets octets))
+
+-- the place beside a range of a list is that of the longest network of the list
+abbrev pub PlacesAreOfTheLongest : {C : Type 0} → ℕ → (C → Network) → Type 0
+PlacesAreOfTheLongest {C} w held =
+    (list ranges : List C) (places : List ℕ) (x place : ℕ) → AreRangesOf w (map held list) (map held ranges) places → x < 2 ^ w
+    → PlaceQuery held ranges places x place → IsLongestAt w (map held list) x place
 
 -- what is found by the ranges of a list is the longest network of the list
 abbrev pub RangesFindTheLongest : {C : Type 0} → ℕ → (C → Network) → Type 0

@@ -60,7 +60,7 @@ pub extern "C" fn ipnetwork_abi_version() -> u32
 /// begins it again at 0.
 #[unsafe(no_mangle)]
 pub extern "C" fn ipnetwork_abi_minor_version() -> u32
-    ensures { result ≡ 6 }
+    ensures { result ≡ 7 }
 {
-    6
+    7
 }

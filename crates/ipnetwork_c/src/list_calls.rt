@@ -8,7 +8,7 @@ ghost use Rattle.ipnetwork_c.specs.Blocks.{RangeOperation};
 ghost use Rattle.ipnetwork_c.specs.Held.{v4_in, v6_in, PrefixFits, number_of_octets};
 ghost use Rattle.ipnetwork_c.specs.Lists.{SetQuery};
 ghost use Rattle.ipnetwork_c.specs.Outcomes.{Writes};
-ghost use Rattle.ipnetwork_c.specs.Ranges.{MakesRanges, RangeQuery};
+ghost use Rattle.ipnetwork_c.specs.Ranges.{MakesRanges, PlaceQuery, RangeQuery};
 ghost use Rattle.ipnetwork_c.specs.Sets.{SetOperation};
 ghost use Rattle.ipnetwork_c.specs.Tables.{MakesTable, TableQuery};
 
@@ -204,6 +204,36 @@ pub extern "C" fn ipnetwork_v6_ranges_find(
         (number_of_octets address.now) place.old place.new result }
 {
     ranges::find::<Ipv6Network, Ipv6InC>(address, ranges, places, index, place)
+}
+
+/// What `ipnetwork_v4_ranges_find` writes, returned: the place beside the last of the ranges that
+/// begins at an address or before it, and `NO_PLACE`, the greatest number of 64 bits, where it finds
+/// none.
+#[unsafe(no_mangle)]
+#[inline(always)]
+pub extern "C" fn ipnetwork_v4_ranges_place(
+    ranges: &[Ipv4InC],
+    places: &[usize],
+    index: &[u32],
+    address: &[u8; 4],
+) -> usize
+    ensures { PlaceQuery v4_in ranges.now places.now (number_of_octets address.now) result }
+{
+    ranges::place_of::<Ipv4Network, Ipv4InC>(address, ranges, places, index)
+}
+
+/// The same for IPv6.
+#[unsafe(no_mangle)]
+#[inline(always)]
+pub extern "C" fn ipnetwork_v6_ranges_place(
+    ranges: &[Ipv6InC],
+    places: &[usize],
+    index: &[u32],
+    address: &[u8; 16],
+) -> usize
+    ensures { PlaceQuery v6_in ranges.now places.now (number_of_octets address.now) result }
+{
+    ranges::place_of::<Ipv6Network, Ipv6InC>(address, ranges, places, index)
 }
 
 /// Writes the blocks of the addresses that are in one of two sets or in both, to the front of `blocks`: the fewest

@@ -1,7 +1,7 @@
 //! Ranges in the caller's memory, asked for the longest block with an address: one search, whatever
 //! lies in what.
 ghost use Rattle.std.specs.Prelude.{◌≡◌, ◌↔◌, ◌<◌, IsTrue};
-ghost use Rattle.ipnetwork_c.specs.Ranges.{RangeQuery, no_place, place_before};
+ghost use Rattle.ipnetwork_c.specs.Ranges.{PlaceQuery, RangeQuery, no_place, place_before};
 ghost use Rattle.ipnetwork_c.specs.Numbers.{no_member};
 ghost use Rattle.ipnetwork_c.specs.Outcomes.{IsFault, Unless, Writes};
 
@@ -11,8 +11,23 @@ use crate::guessed::Guessed;
 use crate::range_making::NO_PLACE;
 use ipnetwork_blocks::AddressSpace;
 
-/// Puts the place beside the last of the ranges that begins at an address or before it in `place`, by
-/// an index of the ranges, or by none.
+/// The place beside the last of the ranges that begins at an address or before it, by an index of
+/// the ranges, or by none: that of no block if there is none.
+#[inline(always)]
+pub(crate) fn place_of<N: AddressSpace, H: Guessed<N>>(
+    address: &H::Octets,
+    ranges: &[H],
+    places: &[usize],
+    index: &[u32],
+) -> usize
+    ensures { PlaceQuery H.held ranges.now places.now (H.meant address.now) result }
+{
+    let number = H::number_in(address);
+    let guess = guess_by_three::<N, H>(ranges, index, number);
+    place_by_guess::<N, H>(ranges, places, index, number, guess)
+}
+
+/// Puts that place in `place`, if it is that of a block.
 #[inline(always)]
 pub(crate) fn find<N: AddressSpace, H: Guessed<N>>(
     address: &H::Octets,
@@ -41,9 +56,27 @@ pub(crate) fn place_near<N: AddressSpace, H: Guessed<N>>(
 ) -> u32
     ensures { RangeQuery H.held ranges.now places.now (H.value number) place.old place.new result }
 {
+    put_found(
+        place_by_guess::<N, H>(ranges, places, index, number, guess),
+        place,
+    )
+}
+
+// The place beside the last of the ranges that begins at the number or before it, with a guess of
+// how many do.
+#[inline(always)]
+fn place_by_guess<N: AddressSpace, H: Guessed<N>>(
+    ranges: &[H],
+    places: &[usize],
+    index: &[u32],
+    number: H::Number,
+    guess: usize,
+) -> usize
+    ensures { PlaceQuery H.held ranges.now places.now (H.value number) result }
+{
     match begun_at_once::<N, H>(ranges, number, guess) {
-        Some(count) => put_found(found_before(places, count), place),
-        None => place_by_halves::<N, H>(ranges, places, index, number, place),
+        Some(count) => found_before(places, count),
+        None => place_by_halves::<N, H>(ranges, places, index, number),
     }
 }
 
@@ -55,12 +88,11 @@ fn place_by_halves<N: AddressSpace, H: Guessed<N>>(
     places: &[usize],
     index: &[u32],
     number: H::Number,
-    place: &mut usize,
-) -> u32
-    ensures { RangeQuery H.held ranges.now places.now (H.value number) place.old place.new result }
+) -> usize
+    ensures { PlaceQuery H.held ranges.now places.now (H.value number) result }
 {
     let count = begun_by_halves::<N, H>(ranges, index, number);
-    put_found(found_before(places, count), place)
+    found_before(places, count)
 }
 
 // The place beside the last of so many ranges, or that of no block.
