@@ -406,15 +406,14 @@ IPNETWORK_CHECKED_AT(7, 8) ipnetwork_fault ipnetwork_v6_ranges_find(const ipnetw
     const size_t *places, size_t place_count, const uint32_t *index, size_t index_length, const uint8_t address[16],
     size_t *IPNETWORK_ALONE place);
 
-/* What the call above writes, returned, and IPNETWORK_NO_PLACE where it finds none. It is the fastest way to ask for one
- * address. */
+/* Return what the calls above write, and IPNETWORK_NO_PLACE where they find none. For one address this is the fastest. */
 IPNETWORK_CHECKED_AT(7) size_t ipnetwork_v4_ranges_place(const ipnetwork_v4 *ranges, size_t range_count,
     const size_t *places, size_t place_count, const uint32_t *index, size_t index_length, const uint8_t address[4]);
 IPNETWORK_CHECKED_AT(7) size_t ipnetwork_v6_ranges_place(const ipnetwork_v6 *ranges, size_t range_count,
     const size_t *places, size_t place_count, const uint32_t *index, size_t index_length, const uint8_t address[16]);
 
-/* The same of many addresses in one call: found[i] and faults[i] are what the call for one address leaves and returns of
- * the address number i, so that an address without a block leaves its place as it was, and stops nothing. There are
+/* ipnetwork_v4_ranges_find and ipnetwork_v6_ranges_find of many addresses in one call: found[i] and faults[i] are what they
+ * leave and return of the address number i, so that an address without a block leaves its place as it was, and stops nothing. There are
  * address_count addresses, of 4 or 16 octets each, one after the other. What comes after the last of found and faults is
  * not written. IPNETWORK_SHORT_BUFFER if there is room for fewer of them than addresses: then nothing is written. */
 IPNETWORK_CHECKED_FAULT ipnetwork_fault ipnetwork_v4_ranges_find_column(const ipnetwork_v4 *ranges, size_t range_count,
