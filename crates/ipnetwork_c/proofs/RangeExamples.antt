@@ -1,7 +1,7 @@
 -- Ranges at which a misreading of `IsCut`, `IsLongestAt`, `place_before` or `AreRangesOf` would show: of 10.0.0.0/8, and
 -- 10.1.0.0/16 twice.
-use Rattle.std.proofs.Common.{◌≡◌, ℕ, zero, suc, ◌<◌, ◌≤◌, List, [], ◌∷◌, map, refl, inl, inr, lit<, arith, ⊎_elim}
-use Rattle.ipnetwork_family.specs.Network.{Network}
+use Rattle.std.proofs.Common.{◌≡◌, ℕ, zero, suc, ◌<◌, ◌≤◌, List, [], ◌∷◌, map, refl, inl, inr, lit<, arith, ⊎_elim, slice_index_or}
+use Rattle.ipnetwork_family.specs.Network.{Network, Member}
 use Rattle.ipnetwork_blocks.proofs.LeastLists.{contains_nil}
 use Rattle.ipnetwork_c.specs.Tables.{FindsLongest}
 use Rattle.ipnetwork_blocks.specs.Aggregate.{InUnion}
@@ -95,3 +95,19 @@ pub places_are_of_the_last_of_the_longest : PlacesAreOfTheLongest 32 v4_in → (
     → AreRangesOf 32 nested (map v4_in ranges) places → PlaceQuery v4_in ranges places 0x0a010203 place → place ≡ 2
 places_are_of_the_last_of_the_longest law ranges places place are query =
     last_stands_there place (law nested_in_c ranges places 0x0a010203 place are (lit< tt) query)
+
+-- of the address after 10.0.0.0/8 it is that of no network
+none_has_it : (i : ℕ) → i < 3 → ¬ (Member 32 (slice_index_or nested i narrow) 0x0b000000)
+none_has_it zero _ m = let same : 11 ≡ 10 = m.1 in omega (arith, same)
+none_has_it (suc zero) _ m = let same : 2816 ≡ 2561 = m.1 in omega (arith, same)
+none_has_it (suc (suc zero)) _ m = let same : 2816 ≡ 2561 = m.1 in omega (arith, same)
+none_has_it (suc (suc (suc i))) l _ = omega (arith, l)
+
+none_stands_there : (place : ℕ) → IsLongestAt 32 nested 0x0b000000 place → place ≡ no_place
+none_stands_there place (inl f) = absurd (none_has_it place f.1.within (f.1.one narrow))
+none_stands_there place (inr n) = n.0
+
+pub places_after_all_are_of_none : PlacesAreOfTheLongest 32 v4_in → (ranges : List Ipv4InC) (places : List ℕ) (place : ℕ)
+    → AreRangesOf 32 nested (map v4_in ranges) places → PlaceQuery v4_in ranges places 0x0b000000 place → place ≡ no_place
+places_after_all_are_of_none law ranges places place are query =
+    none_stands_there place (law nested_in_c ranges places 0x0b000000 place are (lit< tt) query)
