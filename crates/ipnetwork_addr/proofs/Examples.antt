@@ -18,6 +18,7 @@ use Rattle.ipnetwork_addr.specs.Segments.{number_of_segments}
 use Rattle.ipnetwork_addr.specs.Texts.{IsAddressByte, Digit, UpperHex, LowerHex, Dot, Colon, colon_first}
 use Rattle.ipnetwork_addr.specs.Ipv4Text.{NamesV4}
 use Rattle.ipnetwork_addr.specs.Computed.Ipv4Text.{v4_of}
+use Rattle.ipnetwork_addr.specs.Ipv6Canonical.{IsMapped}
 use Rattle.ipnetwork_addr.specs.Ipv6Text.{NamesV6}
 use Rattle.ipnetwork_addr.specs.Computed.Ipv6Canonical.{canonical_v6}
 use Rattle.ipnetwork_addr.specs.Computed.Ipv6Text.{v6_of, gap_below}
@@ -247,3 +248,16 @@ zeros_left_out = refl
 pub mapped_address : printed (0 ∷ 0 ∷ 0 ∷ 0 ∷ 0 ∷ 65535 ∷ 258 ∷ 772 ∷ []) ≡ codes "::ffff:1.2.3.4"
 unfolding digits
 mapped_address = refl
+
+-- the first and the last mapped address, and those just outside
+pub mapped_ends : IsMapped 0xffff_0000_0000 × IsMapped 0xffff_ffff_ffff
+mapped_ends = (refl, refl)
+
+pub outside_mapped : ¬ (IsMapped 0xfffe_ffff_ffff) × ¬ (IsMapped 0x1_0000_0000_0000)
+outside_mapped = (λ h. let e : 0xfffe ≡ 0xffff = h in omega (arith, e), λ h. let e : 0x1_0000 ≡ 0xffff = h in omega (arith, e))
+
+pub printed_at_the_ends :
+    map canonical_v6 (0xfffe_ffff_ffff ∷ 0xffff_0000_0000 ∷ 0xffff_ffff_ffff ∷ 0x1_0000_0000_0000 ∷ [])
+    ≡ codes "::fffe:ffff:ffff" ∷ codes "::ffff:0.0.0.0" ∷ codes "::ffff:255.255.255.255" ∷ codes "::1:0:0:0" ∷ []
+unfolding digits
+printed_at_the_ends = refl
