@@ -1,6 +1,6 @@
 -- What the laws let one conclude, where a weaker law would not: of lists of several networks, with host bits, over
--- addresses of few bits.
-use Rattle.std.proofs.Common.{◌≡◌, ◌↔◌, ℕ, ◌<◌, ◌≤◌, refl, ap, arith, inl, inr, ⊎_elim, List, [], ◌∷◌, length}
+-- addresses of few bits and of 128.
+use Rattle.std.proofs.Common.{◌≡◌, ◌↔◌, ℕ, ◌+◌, ◌-◌, ◌^◌, ◌<◌, ◌≤◌, ◌⊎◌, refl, ap, arith, inl, inr, ⊎_elim, List, [], ◌∷◌, length}
 use Rattle.std.specs.List.{All, AllPairs, Contains}
 use Rattle.std.specs.List.Sorted.{IsStrictlyIncreasing}
 use Rattle.std.specs.Prelude.{slice_get, Some}
@@ -10,7 +10,7 @@ use Rattle.ipnetwork_blocks.specs.AggregateLaws.{UnionOfNone, UnionOfList, Aggre
 use Rattle.ipnetwork_blocks.specs.Exclusion.{InDifference}
 use Rattle.ipnetwork_blocks.specs.Hosts.{AreIpv4Hosts, AreIpv6Hosts, Ipv4HostsLaw, Ipv6HostsLaw}
 use Rattle.ipnetwork_blocks.specs.LeastList.{IsLeastList}
-use Rattle.ipnetwork_blocks.specs.LeastListLaws.{RangeIsShortest, ExclusionIsShortest, NetworkIsOneBlock, RangeHasAtMost, AllButTheEndsHasMost}
+use Rattle.ipnetwork_blocks.specs.LeastListLaws.{IsShortest, RangeIsShortest, ExclusionIsShortest, NetworkIsOneBlock, RangeHasAtMost, AllButTheEndsHasMost}
 use Rattle.ipnetwork_blocks.specs.Ranges.{FromTo}
 use Rattle.ipnetwork_blocks.specs.SubnetLaws.{ListsSubnets, SubnetsLaw, AroundIsOne, SiblingIsOne, SiblingBack}
 use Rattle.ipnetwork_blocks.specs.Subnets.{subnets_of, subnet_number}
@@ -19,6 +19,9 @@ use Rattle.ipnetwork_blocks.proofs.AggregateExamples.{net, halves, no_halves, ne
 use Rattle.ipnetwork_blocks.proofs.BlockExamples.{upper_half, even_and_odd}
 use Rattle.ipnetwork_blocks.proofs.LeastLists.{contains_head, contains_tail}
 use Rattle.ipnetwork_blocks.proofs.RangeExamples.{six_of_eight, all_but_one}
+
+fits : (w address prefix : ℕ) → address < 2 ^ w → prefix ≤ w → IsNetwork w (net address prefix)
+fits w address prefix below short = record { address_fits = below; prefix_fits = short }
 
 -- two networks are one only if they have the same prefix length
 differ : (a b p q : ℕ) → p < q → ¬ (net a p ≡ net b q)
@@ -125,8 +128,10 @@ two_of_two_bits law first last blocks = law 2 first last blocks (omega arith)
 
 -- ---- hosts
 
-pub both_ends_at_31 : Ipv4HostsLaw → (hosts : List ℕ) → AreIpv4Hosts (net 5 31) hosts → Contains hosts 4
-both_ends_at_31 law hosts h = ((law (net 5 31) hosts (record { address_fits = omega arith; prefix_fits = omega arith }) h).exactly 4).1 ((omega arith, refl), λ short. absurd (omega (arith, short)))
+pub both_ends_at_31 : Ipv4HostsLaw → (hosts : List ℕ) → AreIpv4Hosts (net 4294967295 31) hosts → Contains hosts 4294967294
+both_ends_at_31 law hosts h =
+    ((law (net 4294967295 31) hosts (fits 32 4294967295 31 (omega arith) (omega arith)) h).exactly 4294967294).1
+    ((omega arith, refl), λ short. absurd (omega (arith, short)))
 
 pub no_end_at_30 : Ipv4HostsLaw → (hosts : List ℕ) → AreIpv4Hosts (net 5 30) hosts → ¬ (Contains hosts 7)
 no_end_at_30 law hosts h c =
@@ -134,21 +139,21 @@ no_end_at_30 law hosts h c =
     let inner = (((law (net 5 30) hosts (record { address_fits = omega arith; prefix_fits = omega arith }) h).exactly 7).0 c).1 short in
     inner.1 refl
 
-pub last_at_126 : Ipv6HostsLaw → (hosts : List ℕ) → AreIpv6Hosts (net 5 126) hosts → Contains hosts 7
+pub last_at_126 : Ipv6HostsLaw → (hosts : List ℕ) → AreIpv6Hosts (net (2 ^ 128 - 3) 126) hosts → Contains hosts (2 ^ 128 - 1)
 last_at_126 law hosts h =
-    ((law (net 5 126) hosts (record { address_fits = omega arith; prefix_fits = omega arith }) h).exactly 7).1
-    ((omega arith, refl), λ short e. let f : 7 ≡ 4 = e in omega (arith, f))
+    ((law (net (2 ^ 128 - 3) 126) hosts (fits 128 (2 ^ 128 - 3) 126 (omega arith) (omega arith)) h).exactly (2 ^ 128 - 1)).1
+    ((omega arith, refl), λ short e. let f : 2 ^ 128 - 1 ≡ 2 ^ 128 - 4 = e in omega (arith, f))
 
 pub no_first_at_126 : Ipv6HostsLaw → (hosts : List ℕ) → AreIpv6Hosts (net 5 126) hosts → ¬ (Contains hosts 4)
 no_first_at_126 law hosts h c =
     let short : 126 ≤ 126 = omega arith in
     (((law (net 5 126) hosts (record { address_fits = omega arith; prefix_fits = omega arith }) h).exactly 4).0 c).1 short refl
 
-pub v4_ascend : Ipv4HostsLaw → (hosts : List ℕ) → AreIpv4Hosts (net 5 29) hosts → IsStrictlyIncreasing hosts
-v4_ascend law hosts h = (law (net 5 29) hosts (record { address_fits = omega arith; prefix_fits = omega arith }) h).ascending
+pub v4_ascend : Ipv4HostsLaw → (hosts : List ℕ) → AreIpv4Hosts (net 5 0) hosts → IsStrictlyIncreasing hosts
+v4_ascend law hosts h = (law (net 5 0) hosts (record { address_fits = omega arith; prefix_fits = omega arith }) h).ascending
 
-pub v6_ascend : Ipv6HostsLaw → (hosts : List ℕ) → AreIpv6Hosts (net 5 125) hosts → IsStrictlyIncreasing hosts
-v6_ascend law hosts h = (law (net 5 125) hosts (record { address_fits = omega arith; prefix_fits = omega arith }) h).ascending
+pub v6_ascend : Ipv6HostsLaw → (hosts : List ℕ) → AreIpv6Hosts (net 5 0) hosts → IsStrictlyIncreasing hosts
+v6_ascend law hosts h = (law (net 5 0) hosts (record { address_fits = omega arith; prefix_fits = omega arith }) h).ascending
 
 -- ---- blocks within and around: those of 4 to 7
 
@@ -194,3 +199,61 @@ one_sibling law b h = law 32 (net 4 32) b (net 5 32) h even_and_odd
 
 pub back_without_host_bits : SiblingBack → IsSibling 32 (net 2147483648 1) (net 0 1)
 back_without_host_bits law = law 32 (net 5 1) (net 2147483648 1) (record { address_fits = omega arith; prefix_fits = omega arith }) upper_half
+
+-- ---- over addresses of 128 bits, up to the last: 0:0:0:1::/64 and the last two, by networks with host bits that descend
+-- and of which one lies in another; and all addresses, by a network with host bits
+
+abbrev x6 : List Network
+x6 = net (2 ^ 128 - 1) 127 ∷ net (2 ^ 64 + 9) 66 ∷ net (2 ^ 64 + 7) 64 ∷ []
+
+abbrev all6 : Network
+all6 = net (2 ^ 128 - 1) 0
+
+all6_fits : IsNetwork 128 all6
+all6_fits = fits 128 (2 ^ 128 - 1) 0 (omega arith) (omega arith)
+
+pub ipv6_union : UnionOfNone → UnionOfList → (i : ℕ) → ¬ (InUnion 128 [] i) × (InUnion 128 (all6 ∷ x6) i ↔ (Member 128 all6 i ⊎ InUnion 128 x6 i))
+ipv6_union none list i = (none 128 i, list 128 all6 x6 i)
+
+pub ipv6_aggregate : AggregateHasUnion → AggregateIsApart → AggregateIsItsOwn → (r s : List Network) → IsAggregate 128 x6 r → IsAggregate 128 r s
+    → SameUnion 128 r x6 × AllPairs (λ a b. high 128 a < b.address) r × (r ≡ s)
+ipv6_aggregate union apart own r s h k = (union 128 x6 r h, apart 128 x6 r h, own 128 x6 r s h k)
+
+pub ipv6_one_block : AggregateHasOneBlock → (r : List Network) (a b : Network) → IsAggregate 128 x6 r → Contains r a → Contains r b
+    → Member 128 a (2 ^ 128 - 1) → Member 128 b (2 ^ 128 - 1) → a ≡ b
+ipv6_one_block law r a b = law 128 x6 r a b (2 ^ 128 - 1)
+
+pub ipv6_network : AggregateHasNetworks → (r : List Network) → IsAggregate 128 x6 r → LiesInUnion 128 (net (2 ^ 64 + 3) 65) x6 ↔ ((b : Network) × Contains r b × Subnet 128 (net (2 ^ 64 + 3) 65) b)
+ipv6_network law r h = law 128 x6 r h (net (2 ^ 64 + 3) 65) (fits 128 (2 ^ 64 + 3) 65 (omega arith) (omega arith))
+
+pub ipv6_least : AggregateBlocksAreNeeded → AggregateIsLeast → (r s : List Network) → IsAggregate 128 x6 r → All (IsNetwork 128) s → SameUnion 128 s x6
+    → ((b : Network) → Contains r b → (n : Network) × Contains s n × Subnet 128 n b) × (length r ≤ length s)
+ipv6_least needed least r s h all same = (needed 128 x6 r s h all same, least 128 x6 r s h all same)
+
+pub ipv6_of_union : AggregateIsOfUnion → (r y s : List Network) → IsAggregate 128 x6 r → IsAggregate 128 y s → SameUnion 128 x6 y ↔ (r ≡ s)
+ipv6_of_union law r y s = law 128 x6 y r s
+
+pub ipv6_range : RangeIsShortest → RangeHasAtMost → (r : List Network) → IsLeastList 128 (FromTo (2 ^ 64 + 1) (2 ^ 128 - 1)) r
+    → IsShortest 128 (FromTo (2 ^ 64 + 1) (2 ^ 128 - 1)) r × (length r ≤ 254)
+ipv6_range shortest most r h = (shortest 128 (2 ^ 64 + 1) (2 ^ 128 - 1) r (omega arith) h, most 128 (2 ^ 64 + 1) (2 ^ 128 - 1) r (omega arith) (omega arith) h)
+
+pub ipv6_exclusion : ExclusionIsShortest → (r : List Network) → IsLeastList 128 (InDifference 128 all6 (net (2 ^ 64 + 7) 64)) r → IsShortest 128 (InDifference 128 all6 (net (2 ^ 64 + 7) 64)) r
+ipv6_exclusion law r = law 128 all6 (net (2 ^ 64 + 7) 64) r
+
+pub ipv6_is_one_block : NetworkIsOneBlock → (r : List Network) → IsLeastList 128 (FromTo 0 (2 ^ 128 - 1)) r → r ≡ net 0 0 ∷ []
+ipv6_is_one_block law r = law 128 all6 r all6_fits
+
+-- each address by itself, up to the last
+pub ipv6_subnets : SubnetsLaw → ListsSubnets 128 all6 128
+ipv6_subnets law = law 128 all6 128 all6_fits (omega arith) (omega arith)
+
+pub last_of_ipv6 : SubnetsLaw → slice_get (subnets_of 128 all6 128) (2 ^ 128 - 1) ≡ Some (net (2 ^ 128 - 1) 128)
+last_of_ipv6 law = (ipv6_subnets law).at (2 ^ 128 - 1) (omega arith)
+
+pub ipv6_around : AroundIsOne → (b c : Network) → IsAround 128 all6 0 b → IsAround 128 all6 0 c → b ≡ c
+ipv6_around law b c = law 128 all6 b c 0 all6_fits
+
+pub ipv6_sibling : SiblingIsOne → SiblingBack → (b c : Network) → IsSibling 128 (net (2 ^ 128 - 1) 64) b → IsSibling 128 (net (2 ^ 128 - 1) 64) c
+    → (b ≡ c) × IsSibling 128 b (net (2 ^ 128 - 2 ^ 64) 64)
+ipv6_sibling one back b c h k =
+    (one 128 (net (2 ^ 128 - 1) 64) b c h k, back 128 (net (2 ^ 128 - 1) 64) b (fits 128 (2 ^ 128 - 1) 64 (omega arith) (omega arith)) h)
