@@ -1,6 +1,6 @@
--- What the laws let one conclude, where a weaker law would not: over addresses of 3 bits, of sets of several blocks and
--- a network with host bits.
-use Rattle.std.proofs.Common.{◌≡◌, ◌↔◌, ℕ, ◌+◌, ◌^◌, ◌<◌, ◌≤◌, inr, sym, refl, ap, arith, ⊎_elim, List, [], ◌∷◌, length}
+-- What the laws let one conclude, where a weaker law would not: over addresses of 3 bits and of 128, up to the last one,
+-- of sets of several blocks, of lists of networks in any order, with host bits, and of prefix length 0.
+use Rattle.std.proofs.Common.{◌≡◌, ◌↔◌, ℕ, ◌+◌, ◌^◌, ◌-◌, ◌<◌, ◌≤◌, ◌⊎◌, ◌++◌, sym, refl, ap, arith, List, [], ◌∷◌, length}
 use Rattle.std.specs.Prelude.{min, IsTrue}
 use Rattle.std.specs.List.{AllPairs, Contains}
 use Rattle.ipnetwork_family.specs.Network.{Network, IsCidrBlock, Member, Overlap}
@@ -9,7 +9,7 @@ use Rattle.ipnetwork_blocks.specs.Exclusion.{InDifference}
 use Rattle.ipnetwork_blocks.specs.LeastList.{LiesIn, IsLeastList}
 use Rattle.ipnetwork_blocks.specs.LeastListLaws.{IsShortest}
 use Rattle.ipnetwork_blocks.proofs.AggregateExamples.{no_halves}
-use Rattle.ipnetwork_blocks.proofs.LeastLists.{contains_head, least_of_same}
+use Rattle.ipnetwork_blocks.proofs.LeastLists.{least_of_same}
 use Rattle.ipnetwork_sets.specs.ChangeLaws.{UnionOfPushed, AddedIsPushed, AddedHas, TakenHas, AddedAndTaken, TakenAndAdded}
 use Rattle.ipnetwork_sets.specs.CountLaws.{AscendingIsOneList, UnionHasOneCount, RangesAreOneList, UnionHasOneRangeList, SetAddsUp, CommonPartAddsUp, DifferenceAddsUp, FreePartAddsUp, UnionAddsUp, TotalGoesOn, SetHasFewerBlocks, UnionHasAtMost}
 use Rattle.ipnetwork_sets.specs.Counts.{HasCount}
@@ -26,7 +26,7 @@ use Rattle.ipnetwork_sets.proofs.FromRanges.{union_append}
 abbrev net : ℕ → ℕ → Network
 net address prefix = record { address = address; prefix = prefix }
 
--- 0, 1 and 4 to 7; 0, 2, 3, 6 and 7; 4 and 5
+-- over 3 bits: 0, 1 and 4 to 7; 0, 2, 3, 6 and 7; 4 and 5
 abbrev a : List Network
 a = net 0 2 ∷ net 4 1 ∷ []
 
@@ -40,188 +40,247 @@ c = net 4 2 ∷ []
 abbrev n : Network
 n = net 1 1
 
+-- over 128 bits: 0:0:0:1::/64, 8000::/2, and of the last four addresses all but the third; ::/1, and of the last 32 the
+-- first 16, 4 and 2 further on, and the last two
+abbrev a6 : List Network
+a6 = net (2 ^ 64) 64 ∷ net (2 ^ 127) 2 ∷ net (2 ^ 128 - 4) 127 ∷ net (2 ^ 128 - 1) 128 ∷ []
+
+abbrev b6 : List Network
+b6 = net 0 1 ∷ net (2 ^ 128 - 32) 124 ∷ net (2 ^ 128 - 12) 126 ∷ net (2 ^ 128 - 6) 127 ∷ net (2 ^ 128 - 2) 127 ∷ []
+
+-- lists in no order, of networks with host bits, some of which lie in others: those of the first; ::/1 and the last two;
+-- and two of the last four
+abbrev x6 : List Network
+x6 = net (2 ^ 128 - 1) 128 ∷ net (2 ^ 128 - 3) 127 ∷ net (2 ^ 127 + 5) 2 ∷ net (2 ^ 64 + 7) 66 ∷ net (2 ^ 64 + 9) 64 ∷ []
+
+abbrev y6 : List Network
+y6 = net (2 ^ 128 - 1) 127 ∷ net (2 ^ 128 - 1) 128 ∷ net (2 ^ 128 - 2) 128 ∷ net 7 1 ∷ []
+
+abbrev z6 : List Network
+z6 = net (2 ^ 128 - 3) 127 ∷ []
+
+-- all addresses, by a network with host bits
+abbrev n6 : Network
+n6 = net (2 ^ 128 - 1) 0
+
+-- what is said of sets, and what of any lists, over 3 bits and over 128
+abbrev OfSets : (ℕ → List Network → List Network → Type 0) → Type 0
+OfSets P = P 3 a b × P 128 a6 b6
+
+abbrev OfLists : (ℕ → Network → List Network → List Network → List Network → Type 0) → Type 0
+OfLists P = P 3 n a b c × P 128 n6 x6 y6 z6
+
 longer : {X : Type 0} (xs ys : List X) → length xs < length ys → ¬ (xs ≡ ys)
 longer xs ys l e = omega (arith, l, ap length e)
 
+some_is_not_none : (x : Network) (xs : List Network) → ¬ (x ∷ xs ≡ [])
+some_is_not_none x xs e = cc
+
 -- ---- each operation has the fewest blocks
 
-pub common_shortest : CommonPartIsShortest → (r : List Network) → IsLeastList 3 (InBoth 3 a b) r → IsShortest 3 (InBoth 3 a b) r
-common_shortest law = law 3 a b
+pub common_shortest : CommonPartIsShortest → OfLists (λ w k x y z. (r : List Network) → IsLeastList w (InBoth w x y) r → IsShortest w (InBoth w x y) r)
+common_shortest law = (law 3 a b, law 128 x6 y6)
 
-pub difference_shortest : DifferenceIsShortest → (r : List Network) → IsLeastList 3 (InFirstAlone 3 a b) r → IsShortest 3 (InFirstAlone 3 a b) r
-difference_shortest law = law 3 a b
+pub difference_shortest : DifferenceIsShortest → OfLists (λ w k x y z. (r : List Network) → IsLeastList w (InFirstAlone w x y) r → IsShortest w (InFirstAlone w x y) r)
+difference_shortest law = (law 3 a b, law 128 x6 y6)
 
-pub free_shortest : FreePartIsShortest → (r : List Network) → IsLeastList 3 (InNetworkAlone 3 n a) r → IsShortest 3 (InNetworkAlone 3 n a) r
-free_shortest law = law 3 n a
+pub free_shortest : FreePartIsShortest → OfLists (λ w k x y z. (r : List Network) → IsLeastList w (InNetworkAlone w k x) r → IsShortest w (InNetworkAlone w k x) r)
+free_shortest law = (law 3 n a, law 128 n6 x6)
 
-pub complement_shortest : ComplementIsShortest → (r : List Network) → IsLeastList 3 (InComplement 3 b) r → IsShortest 3 (InComplement 3 b) r
-complement_shortest law = law 3 b
+pub complement_shortest : ComplementIsShortest → OfLists (λ w k x y z. (r : List Network) → IsLeastList w (InComplement w y) r → IsShortest w (InComplement w y) r)
+complement_shortest law = (law 3 b, law 128 y6)
 
-pub union_shortest : UnionIsShortest → (r : List Network) → IsLeastList 3 (InEither 3 a b) r → IsShortest 3 (InEither 3 a b) r
-union_shortest law = law 3 a b
+pub union_shortest : UnionIsShortest → OfLists (λ w k x y z. (r : List Network) → IsLeastList w (InEither w x y) r → IsShortest w (InEither w x y) r)
+union_shortest law = (law 3 a b, law 128 x6 y6)
 
 -- ---- equality
 
-pub other_addresses : SameAddressesAreOneSet → IsAddressSet 3 a → IsAddressSet 3 b → ¬ (SameUnion 3 a b)
-other_addresses law h k same = longer a b (omega arith) ((law 3 a b h k).1 same)
+pub other_addresses : SameAddressesAreOneSet → OfSets (λ w x y. IsAddressSet w x → IsAddressSet w y → ¬ (SameUnion w x y))
+other_addresses law =
+    (λ h k same. longer a b (omega arith) ((law 3 a b h k).1 same), λ h k same. longer a6 b6 (omega arith) ((law 128 a6 b6 h k).1 same))
 
-pub own_addresses : SameAddressesAreOneSet → IsAddressSet 3 b → SameUnion 3 b b
-own_addresses law h = (law 3 b b h h).0 refl
+pub own_addresses : SameAddressesAreOneSet → OfSets (λ w x y. IsAddressSet w y → SameUnion w y y)
+own_addresses law = (λ h. (law 3 b b h h).0 refl, λ h. (law 128 b6 b6 h h).0 refl)
 
-pub same_networks : SameBlocksAreEqual → (m : Network) (xs : List Network) → IsTrue (same_blocks a (net 0 2 ∷ m ∷ xs)) → a ≡ net 0 2 ∷ m ∷ xs
-same_networks law m xs = (law a (net 0 2 ∷ m ∷ xs)).0
+pub same_networks : SameBlocksAreEqual → (m : Network) (xs : List Network) → IsTrue (same_blocks a6 (net (2 ^ 64) 64 ∷ m ∷ xs)) → a6 ≡ net (2 ^ 64) 64 ∷ m ∷ xs
+same_networks law m xs = (law a6 (net (2 ^ 64) 64 ∷ m ∷ xs)).0
 
-pub same_as_itself : SameBlocksAreEqual → IsTrue (same_blocks b b)
-same_as_itself law = (law b b).1 refl
+pub same_as_itself : SameBlocksAreEqual → IsTrue (same_blocks x6 x6)
+same_as_itself law = (law x6 x6).1 refl
 
-pub lines_of_others : (text : Network → List ℕ) → LinesTellSets 3 text → IsAddressSet 3 a → IsAddressSet 3 b → lines_of text a ≡ lines_of text b → SameUnion 3 a b
-lines_of_others text law h k = (law a b h k).0
+pub lines_of_others : OfSets (λ w x y. (text : Network → List ℕ) → LinesTellSets w text → IsAddressSet w x → IsAddressSet w y → lines_of text x ≡ lines_of text y → SameUnion w x y)
+lines_of_others = (λ text law h k. (law a b h k).0, λ text law h k. (law a6 b6 h k).0)
 
-pub lines_of_the_same : (text : Network → List ℕ) → LinesTellSets 3 text → IsAddressSet 3 a → IsAddressSet 3 b → SameUnion 3 a b → lines_of text a ≡ lines_of text b
-lines_of_the_same text law h k = (law a b h k).1
+pub lines_of_the_same : OfSets (λ w x y. (text : Network → List ℕ) → LinesTellSets w text → IsAddressSet w x → IsAddressSet w y → SameUnion w x y → lines_of text x ≡ lines_of text y)
+lines_of_the_same = (λ text law h k. (law a b h k).1, λ text law h k. (law a6 b6 h k).1)
 
 -- ---- order and repetition
 
-pub common_either_way : CommonPartCommutes → (r s : List Network) → IsLeastList 3 (InBoth 3 a b) r → IsLeastList 3 (InBoth 3 b a) s → r ≡ s
-common_either_way law = law 3 a b
+pub common_either_way : CommonPartCommutes → OfLists (λ w k x y z. (r s : List Network) → IsLeastList w (InBoth w x y) r → IsLeastList w (InBoth w y x) s → r ≡ s)
+common_either_way law = (law 3 a b, law 128 x6 y6)
 
-pub union_either_way : UnionCommutes → (r s : List Network) → IsLeastList 3 (InEither 3 a b) r → IsLeastList 3 (InEither 3 b a) s → r ≡ s
-union_either_way law = law 3 a b
+pub union_either_way : UnionCommutes → OfLists (λ w k x y z. (r s : List Network) → IsLeastList w (InEither w x y) r → IsLeastList w (InEither w y x) s → r ≡ s)
+union_either_way law = (law 3 a b, law 128 x6 y6)
 
-pub less_than_itself : CommonPartOfOne → IsAddressSet 3 a → ¬ (IsLeastList 3 (InBoth 3 a a) (net 0 2 ∷ []))
-less_than_itself law h k = longer (net 0 2 ∷ []) a (omega arith) (law 3 a (net 0 2 ∷ []) h k)
+pub not_another_set : CommonPartOfOne → OfSets (λ w x y. IsAddressSet w x → ¬ (IsLeastList w (InBoth w x x) y))
+not_another_set law = (λ h k. longer a b (omega arith) (sym (law 3 a b h k)), λ h k. longer a6 b6 (omega arith) (sym (law 128 a6 b6 h k)))
 
-pub more_than_itself : UnionOfOne → IsAddressSet 3 a → ¬ (IsLeastList 3 (InEither 3 a a) b)
-more_than_itself law h k = longer a b (omega arith) (sym (law 3 a b h k))
+pub no_other_union : UnionOfOne → OfSets (λ w x y. IsAddressSet w x → ¬ (IsLeastList w (InEither w x x) y))
+no_other_union law = (λ h k. longer a b (omega arith) (sym (law 3 a b h k)), λ h k. longer a6 b6 (omega arith) (sym (law 128 a6 b6 h k)))
 
-pub nothing_of_itself : DifferenceOfOne → ¬ (IsLeastList 3 (InFirstAlone 3 a a) (net 0 3 ∷ []))
-nothing_of_itself law h = longer [] (net 0 3 ∷ []) (omega arith) (sym (law 3 a (net 0 3 ∷ []) h))
+pub nothing_of_itself : DifferenceOfOne → OfLists (λ w k x y z. (b : Network) (r : List Network) → ¬ (IsLeastList w (InFirstAlone w x x) (b ∷ r)))
+nothing_of_itself law = (λ m r h. some_is_not_none m r (law 3 a (m ∷ r) h), λ m r h. some_is_not_none m r (law 128 x6 (m ∷ r) h))
 
 -- ---- parts
 
-pub nothing_of_the_second : DifferenceIsDisjoint → (r : List Network) → IsLeastList 3 (InFirstAlone 3 a b) r → AreDisjoint 3 r b
-nothing_of_the_second law = law 3 a b
+pub nothing_of_the_second : DifferenceIsDisjoint → OfLists (λ w k x y z. (r : List Network) → IsLeastList w (InFirstAlone w x y) r → AreDisjoint w r y)
+nothing_of_the_second law = (law 3 a b, law 128 x6 y6)
 
-pub parts_of_two : PartsMakeTheWhole → (common alone r : List Network) → IsAddressSet 3 a → IsLeastList 3 (InBoth 3 a b) common → IsLeastList 3 (InFirstAlone 3 a b) alone
-    → IsLeastList 3 (InEither 3 common alone) r → r ≡ a
-parts_of_two law = law 3 a b
+pub parts_of_two : PartsMakeTheWhole → OfSets (λ w x y. (common alone r : List Network) → IsAddressSet w x → IsLeastList w (InBoth w x y) common → IsLeastList w (InFirstAlone w x y) alone
+    → IsLeastList w (InEither w common alone) r → r ≡ x)
+parts_of_two law = (law 3 a b, law 128 a6 b6)
 
 -- what is out of a union (or a common part) of two lists, and what is out of each of the two, together
-abbrev Outside : (Out : List Network → ℕ → Type 0) (Of Together : ℕ → List Network → List Network → ℕ → Type 0) (xs ys : List Network) → Type 0
-Outside Out Of Together xs ys = (u out out_of_xs out_of_ys both : List Network) → IsLeastList 3 (Of 3 xs ys) u → IsLeastList 3 (Out u) out
-    → IsLeastList 3 (Out xs) out_of_xs → IsLeastList 3 (Out ys) out_of_ys → IsLeastList 3 (Together 3 out_of_xs out_of_ys) both → out ≡ both
+abbrev Outside : ℕ → (Out : List Network → ℕ → Type 0) (Of Together : ℕ → List Network → List Network → ℕ → Type 0) (xs ys : List Network) → Type 0
+Outside w Out Of Together xs ys = (u out out_of_xs out_of_ys both : List Network) → IsLeastList w (Of w xs ys) u → IsLeastList w (Out u) out
+    → IsLeastList w (Out xs) out_of_xs → IsLeastList w (Out ys) out_of_ys → IsLeastList w (Together w out_of_xs out_of_ys) both → out ≡ both
 
-pub free_of_two : FreeOfUnion → Outside (InNetworkAlone 3 n) InEither InBoth b c
-free_of_two law = law 3 n b c
+pub free_of_two : FreeOfUnion → OfLists (λ w k x y z. Outside w (InNetworkAlone w k) InEither InBoth y z)
+free_of_two law = (law 3 n b c, law 128 n6 y6 z6)
 
-pub free_of_one_of_two : FreeOfCommonPart → Outside (InNetworkAlone 3 n) InBoth InEither a b
-free_of_one_of_two law = law 3 n a b
+pub free_of_one_of_two : FreeOfCommonPart → OfLists (λ w k x y z. Outside w (InNetworkAlone w k) InBoth InEither x y)
+free_of_one_of_two law = (law 3 n a b, law 128 n6 x6 y6)
 
-pub without_two : DifferenceOfUnion → Outside (InFirstAlone 3 a) InEither InBoth b c
-without_two law = law 3 a b c
+pub without_two : DifferenceOfUnion → OfLists (λ w k x y z. Outside w (InFirstAlone w x) InEither InBoth y z)
+without_two law = (law 3 a b c, law 128 x6 y6 z6)
 
-pub without_both : DifferenceOfCommonPart → Outside (InFirstAlone 3 a) InBoth InEither b c
-without_both law = law 3 a b c
+pub without_both : DifferenceOfCommonPart → OfLists (λ w k x y z. Outside w (InFirstAlone w x) InBoth InEither y z)
+without_both law = (law 3 a b c, law 128 x6 y6 z6)
 
 -- ---- other lists with the same addresses
 
-pub common_of_the_same : CommonPartIsSettled → (d e r s : List Network) → SameUnion 3 a d → SameUnion 3 b e → IsLeastList 3 (InBoth 3 a b) r → IsLeastList 3 (InBoth 3 d e) s → r ≡ s
-common_of_the_same law = law 3 a b
+-- two lists have one least list of what they have and one of what others have with the same addresses
+abbrev Settled : ℕ → (ℕ → List Network → List Network → ℕ → Type 0) → List Network → List Network → Type 0
+Settled w Of x y = (d e r s : List Network) → SameUnion w x d → SameUnion w y e → IsLeastList w (Of w x y) r → IsLeastList w (Of w d e) s → r ≡ s
 
-pub difference_of_the_same : DifferenceIsSettled → (d e r s : List Network) → SameUnion 3 a d → SameUnion 3 b e → IsLeastList 3 (InFirstAlone 3 a b) r
-    → IsLeastList 3 (InFirstAlone 3 d e) s → r ≡ s
-difference_of_the_same law = law 3 a b
+pub common_of_the_same : CommonPartIsSettled → OfLists (λ w k x y z. Settled w InBoth x y)
+common_of_the_same law = (law 3 a b, law 128 x6 y6)
 
-pub free_of_the_same : FreePartIsSettled → (d r s : List Network) → SameUnion 3 a d → IsLeastList 3 (InNetworkAlone 3 n a) r → IsLeastList 3 (InNetworkAlone 3 n d) s → r ≡ s
-free_of_the_same law = law 3 n a
+pub difference_of_the_same : DifferenceIsSettled → OfLists (λ w k x y z. Settled w InFirstAlone x y)
+difference_of_the_same law = (law 3 a b, law 128 x6 y6)
 
-pub union_of_the_same : UnionIsSettled → (d e r s : List Network) → SameUnion 3 a d → SameUnion 3 b e → IsLeastList 3 (InEither 3 a b) r → IsLeastList 3 (InEither 3 d e) s → r ≡ s
-union_of_the_same law = law 3 a b
+pub free_of_the_same : FreePartIsSettled → OfLists (λ w k x y z. (d r s : List Network) → SameUnion w x d → IsLeastList w (InNetworkAlone w k x) r → IsLeastList w (InNetworkAlone w k d) s → r ≡ s)
+free_of_the_same law = (law 3 n a, law 128 n6 x6)
+
+pub union_of_the_same : UnionIsSettled → OfLists (λ w k x y z. Settled w InEither x y)
+union_of_the_same law = (law 3 a b, law 128 x6 y6)
 
 -- ---- questions
 
-pub meets_the_first : NetworkMeetsUnion → Overlap 3 n (net 0 2) → MeetsUnion 3 n a
-meets_the_first law o = (law 3 n a).1 (net 0 2, contains_head (net 0 2) (net 4 1 ∷ []), o)
+pub meets_one_of_them : NetworkMeetsUnion → OfLists (λ w k x y z. (b : Network) → Contains x b → Overlap w k b → MeetsUnion w k x)
+meets_one_of_them law = (λ m i o. (law 3 n a).1 (m, i, o), λ m i o. (law 128 n6 x6).1 (m, i, o))
 
-pub overlaps_a_block : NetworkMeetsUnion → MeetsUnion 3 n b → (x : Network) × Contains b x × Overlap 3 n x
-overlaps_a_block law = (law 3 n b).0
+pub overlaps_a_block : NetworkMeetsUnion → OfLists (λ w k x y z. MeetsUnion w k y → (b : Network) × Contains y b × Overlap w k b)
+overlaps_a_block law = ((law 3 n b).0, (law 128 n6 y6).0)
 
-pub not_within : WithinIfNothingIsLeft → IsLeastList 3 (InFirstAlone 3 a b) (net 1 3 ∷ net 4 2 ∷ []) → ¬ (IsWithin 3 a b)
-not_within law h k = longer [] (net 1 3 ∷ net 4 2 ∷ []) (omega arith) (sym ((law 3 a b (net 1 3 ∷ net 4 2 ∷ []) h).0 k))
+pub not_within : WithinIfNothingIsLeft → OfLists (λ w k x y z. (b : Network) (r : List Network) → IsLeastList w (InFirstAlone w x y) (b ∷ r) → ¬ (IsWithin w x y))
+not_within law = (λ m r h i. some_is_not_none m r ((law 3 a b (m ∷ r) h).0 i), λ m r h i. some_is_not_none m r ((law 128 x6 y6 (m ∷ r) h).0 i))
 
-pub within : WithinIfNothingIsLeft → IsLeastList 3 (InFirstAlone 3 c a) [] → IsWithin 3 c a
-within law h = (law 3 c a [] h).1 refl
+pub within : WithinIfNothingIsLeft → OfLists (λ w k x y z. IsLeastList w (InFirstAlone w z x) [] → IsWithin w z x)
+within law = (λ h. (law 3 c a [] h).1 refl, λ h. (law 128 z6 x6 [] h).1 refl)
 
-pub not_disjoint : DisjointIfNothingIsCommon → IsLeastList 3 (InBoth 3 a b) (net 0 3 ∷ net 6 2 ∷ []) → ¬ (AreDisjoint 3 a b)
-not_disjoint law h k = longer [] (net 0 3 ∷ net 6 2 ∷ []) (omega arith) (sym ((law 3 a b (net 0 3 ∷ net 6 2 ∷ []) h).0 k))
+pub not_disjoint : DisjointIfNothingIsCommon → OfLists (λ w k x y z. (b : Network) (r : List Network) → IsLeastList w (InBoth w x y) (b ∷ r) → ¬ (AreDisjoint w x y))
+not_disjoint law = (λ m r h i. some_is_not_none m r ((law 3 a b (m ∷ r) h).0 i), λ m r h i. some_is_not_none m r ((law 128 x6 y6 (m ∷ r) h).0 i))
 
-pub disjoint : DisjointIfNothingIsCommon → IsLeastList 3 (InBoth 3 b c) [] → AreDisjoint 3 b c
-disjoint law h = (law 3 b c [] h).1 refl
+pub disjoint : DisjointIfNothingIsCommon → OfLists (λ w k x y z. IsLeastList w (InBoth w y z) [] → AreDisjoint w y z)
+disjoint law = (λ h. (law 3 b c [] h).1 refl, λ h. (law 128 y6 z6 [] h).1 refl)
 
-pub none_of_the_set : ComplementIsDisjoint → (r : List Network) → IsLeastList 3 (InComplement 3 a) r → AreDisjoint 3 r a
-none_of_the_set law = law 3 a
+pub none_of_the_set : ComplementIsDisjoint → OfLists (λ w k x y z. (r : List Network) → IsLeastList w (InComplement w x) r → AreDisjoint w r x)
+none_of_the_set law = (law 3 a, law 128 x6)
 
-pub all_together : ComplementMakesTheWhole → (r all : List Network) → IsLeastList 3 (InComplement 3 b) r → IsLeastList 3 (InEither 3 b r) all → all ≡ net 0 0 ∷ []
-all_together law = law 3 b
+pub all_together : ComplementMakesTheWhole → OfLists (λ w k x y z. (r all : List Network) → IsLeastList w (InComplement w y) r → IsLeastList w (InEither w y r) all → all ≡ net 0 0 ∷ [])
+all_together law = (law 3 b, law 128 y6)
 
-pub free_as_a_difference : FreePartIsADifference → (r s : List Network) → IsLeastList 3 (InNetworkAlone 3 n a) r → IsLeastList 3 (InFirstAlone 3 (n ∷ []) a) s → r ≡ s
-free_as_a_difference law = law 3 n a
+pub free_as_a_difference : FreePartIsADifference → OfLists (λ w k x y z. (r s : List Network) → IsLeastList w (InNetworkAlone w k x) r → IsLeastList w (InFirstAlone w (k ∷ []) x) s → r ≡ s)
+free_as_a_difference law = (law 3 n a, law 128 n6 x6)
 
-pub exclusion_as_a_difference : ExclusionIsADifference → (r s : List Network) → IsLeastList 3 (InDifference 3 n (net 3 2)) r → IsLeastList 3 (InFirstAlone 3 (n ∷ []) (net 3 2 ∷ [])) s → r ≡ s
-exclusion_as_a_difference law = law 3 n (net 3 2)
+-- the network less another one, as an exclusion and as a difference
+abbrev OneExclusion : ℕ → Network → Network → Type 0
+OneExclusion w k inner = (r s : List Network) → IsLeastList w (InDifference w k inner) r → IsLeastList w (InFirstAlone w (k ∷ []) (inner ∷ [])) s → r ≡ s
 
-pub free_block : FreeBlockLiesInFreePart → IsCidrBlock 3 (net 2 2) → LiesIn 3 (InNetworkAlone 3 n a) (net 2 2) → IsFreeBlock 3 n a 2 (net 2 2)
-free_block law h k = (law 3 n a 2 (net 2 2)).1 (h, refl, k)
+pub exclusion_as_a_difference : ExclusionIsADifference → OneExclusion 3 n (net 3 2) × OneExclusion 128 n6 (net (2 ^ 128 - 3) 127)
+exclusion_as_a_difference law = (law 3 n (net 3 2), law 128 n6 (net (2 ^ 128 - 3) 127))
 
-pub free_block_of_its_length : FreeBlockLiesInFreePart → ¬ (IsFreeBlock 3 n a 3 (net 2 2))
-free_block_of_its_length law h = let e : 2 ≡ 3 = ((law 3 n a 3 (net 2 2)).0 h).1 in omega (arith, e)
+pub free_block : FreeBlockLiesInFreePart → OfLists (λ w k x y z. (i p : ℕ) → IsCidrBlock w (net i p) → LiesIn w (InNetworkAlone w k x) (net i p) → IsFreeBlock w k x p (net i p))
+free_block law = (λ i p h l. (law 3 n a p (net i p)).1 (h, refl, l), λ i p h l. (law 128 n6 x6 p (net i p)).1 (h, refl, l))
+
+pub free_block_of_its_length : FreeBlockLiesInFreePart → OfLists (λ w k x y z. (i p q : ℕ) → IsFreeBlock w k x q (net i p) → p ≡ q)
+free_block_of_its_length law = (λ i p q h. ((law 3 n a q (net i p)).0 h).1, λ i p q h. ((law 128 n6 x6 q (net i p)).0 h).1)
 
 -- ---- counts and ranges
 
-pub other_first : AscendingIsOneList → (xs ys : List ℕ) → AllPairs (λ x y. x < y) (1 ∷ xs) → AllPairs (λ x y. x < y) (2 ∷ ys) → ¬ ((x : ℕ) → Contains (1 ∷ xs) x ↔ Contains (2 ∷ ys) x)
+pub other_first : AscendingIsOneList → (xs ys : List ℕ) → AllPairs (λ x y. x < y) (2 ^ 127 ∷ xs) → AllPairs (λ x y. x < y) (2 ^ 128 ∷ ys)
+    → ¬ ((x : ℕ) → Contains (2 ^ 127 ∷ xs) x ↔ Contains (2 ^ 128 ∷ ys) x)
 other_first law xs ys h k same =
-    let e = law (1 ∷ xs) (2 ∷ ys) h k same in
-    let first : ◌≡◌ {A = ℕ} 1 2 = cc in
+    let e = law (2 ^ 127 ∷ xs) (2 ^ 128 ∷ ys) h k same in
+    let first : ◌≡◌ {A = ℕ} (2 ^ 127) (2 ^ 128) = cc in
     omega (arith, first)
 
-pub one_count : UnionHasOneCount → HasCount (InUnion 3 a) 6 → ¬ (HasCount (InUnion 3 a) 5)
-one_count law h k = let e : 6 ≡ 5 = law 3 a a 6 5 (λ x. ((λ m. m), (λ m. m))) h k in omega (arith, e)
+pub one_count : UnionHasOneCount → OfLists (λ w k x y z. (d : List Network) (i j : ℕ) → SameUnion w x d → HasCount (InUnion w x) i → HasCount (InUnion w d) j → i ≡ j)
+one_count law = (law 3 a, law 128 x6)
 
-pub not_joined : RangesAreOneList → IsRangeList (InRanges ((0, 1) ∷ (2, 3) ∷ [])) ((0, 3) ∷ []) → ¬ (IsRangeList (InRanges ((0, 3) ∷ [])) ((0, 1) ∷ (2, 3) ∷ []))
-not_joined law h k = longer ((0, 3) ∷ []) ((0, 1) ∷ (2, 3) ∷ []) (omega arith) (law ((0, 3) ∷ []) ((0, 1) ∷ (2, 3) ∷ []) h k)
+-- all addresses, in two ranges and in one
+abbrev halves : List (ℕ × ℕ)
+halves = (0, 2 ^ 127 - 1) ∷ (2 ^ 127, 2 ^ 128 - 1) ∷ []
 
-pub ranges_of_the_same : UnionHasOneRangeList → (d : List Network) (rs ss : List (ℕ × ℕ)) → SameUnion 3 b d → IsRangeList (InUnion 3 b) rs → IsRangeList (InUnion 3 d) ss → rs ≡ ss
-ranges_of_the_same law = law 3 b
+abbrev whole : List (ℕ × ℕ)
+whole = (0, 2 ^ 128 - 1) ∷ []
 
-pub six_addresses : SetAddsUp → IsAddressSet 3 a → HasCount (InUnion 3 a) 6
-six_addresses law h = (law 3 a h).0
+pub not_joined : RangesAreOneList → IsRangeList (InRanges halves) whole → ¬ (IsRangeList (InRanges whole) halves)
+not_joined law h k = longer whole halves (omega arith) (law whole halves h k)
 
-pub no_more_than_there_are : SetAddsUp → ¬ (IsAddressSet 3 (net 0 0 ∷ net 7 3 ∷ []))
-no_more_than_there_are law h = let few : 9 ≤ 8 = (law 3 (net 0 0 ∷ net 7 3 ∷ []) h).1 in omega (arith, few)
+pub ranges_of_the_same : UnionHasOneRangeList → OfLists (λ w k x y z. (d : List Network) (rs ss : List (ℕ × ℕ)) → SameUnion w y d → IsRangeList (InUnion w y) rs → IsRangeList (InUnion w d) ss → rs ≡ ss)
+ranges_of_the_same law = (law 3 b, law 128 y6)
 
-pub three_in_common : CommonPartAddsUp → IsLeastList 3 (InBoth 3 a b) (net 0 3 ∷ net 6 2 ∷ []) → HasCount (InBoth 3 a b) 3 × (3 ≤ 8)
-three_in_common law h = law 3 a b (net 0 3 ∷ net 6 2 ∷ []) h
+pub six_addresses : SetAddsUp → (IsAddressSet 3 a → HasCount (InUnion 3 a) 6) × (IsAddressSet 128 a6 → HasCount (InUnion 128 a6) (2 ^ 64 + 2 ^ 126 + 3))
+six_addresses law = (λ h. (law 3 a h).0, λ h. (law 128 a6 h).0)
 
-pub three_alone : DifferenceAddsUp → IsLeastList 3 (InFirstAlone 3 a b) (net 1 3 ∷ net 4 2 ∷ []) → HasCount (InFirstAlone 3 a b) 3 × (3 ≤ 8)
-three_alone law h = law 3 a b (net 1 3 ∷ net 4 2 ∷ []) h
+pub no_more_than_there_are : SetAddsUp → ¬ (IsAddressSet 3 (net 0 0 ∷ net 7 3 ∷ [])) × ¬ (IsAddressSet 128 (net 0 0 ∷ net (2 ^ 128 - 1) 128 ∷ []))
+no_more_than_there_are law = (
+  λ h. let few : 9 ≤ 8 = (law 3 (net 0 0 ∷ net 7 3 ∷ []) h).1 in omega (arith, few),
+  λ h. let few : 2 ^ 128 + 1 ≤ 2 ^ 128 = (law 128 (net 0 0 ∷ net (2 ^ 128 - 1) 128 ∷ []) h).1 in omega (arith, few),
+)
 
-pub two_free : FreePartAddsUp → IsLeastList 3 (InNetworkAlone 3 n a) (net 2 2 ∷ []) → HasCount (InNetworkAlone 3 n a) 2 × (2 ≤ 8)
-two_free law h = law 3 n a (net 2 2 ∷ []) h
+-- if the blocks are the least list of a set of addresses of w bits, it has i of them, which are not too many
+abbrev Counts : ℕ → (ℕ → Type 0) → List Network → ℕ → Type 0
+Counts w set blocks i = IsLeastList w set blocks → HasCount set i × (i ≤ 2 ^ w)
 
-pub eight_together : UnionAddsUp → IsLeastList 3 (InEither 3 a b) (net 0 0 ∷ []) → HasCount (InEither 3 a b) 8 × (8 ≤ 8)
-eight_together law h = law 3 a b (net 0 0 ∷ []) h
+pub in_common : CommonPartAddsUp → Counts 3 (InBoth 3 a b) (net 0 3 ∷ net 6 2 ∷ []) 3 × Counts 128 (InBoth 128 x6 y6) (net (2 ^ 64) 64 ∷ net (2 ^ 128 - 1) 128 ∷ []) (2 ^ 64 + 1)
+in_common law = (law 3 a b (net 0 3 ∷ net 6 2 ∷ []), law 128 x6 y6 (net (2 ^ 64) 64 ∷ net (2 ^ 128 - 1) 128 ∷ []))
 
-pub all_of_ipv6 : AllAddressesAreCounted → HasCount (InUnion 128 (net 0 0 ∷ [])) 340282366920938463463374607431768211456
-all_of_ipv6 law = law 128
+pub in_the_first_alone : DifferenceAddsUp → Counts 3 (InFirstAlone 3 a b) (net 1 3 ∷ net 4 2 ∷ []) 3 × Counts 128 (InFirstAlone 128 x6 y6) (net (2 ^ 127) 2 ∷ net (2 ^ 128 - 4) 127 ∷ []) (2 ^ 126 + 2)
+in_the_first_alone law = (law 3 a b (net 1 3 ∷ net 4 2 ∷ []), law 128 x6 y6 (net (2 ^ 127) 2 ∷ net (2 ^ 128 - 4) 127 ∷ []))
 
-pub one_more_than_all : TotalGoesOn → min (min (2 ^ 128) (2 ^ 128) + 1) (2 ^ 128) ≡ min (2 ^ 128 + 1) (2 ^ 128)
-one_more_than_all law = law 128 (net 0 0 ∷ []) (net 5 128)
+pub free : FreePartAddsUp → Counts 3 (InNetworkAlone 3 n a) (net 2 2 ∷ []) 2 × Counts 128 (InNetworkAlone 128 (net (2 ^ 128 - 1) 126) x6) (net (2 ^ 128 - 2) 128 ∷ []) 1
+free law = (law 3 n a (net 2 2 ∷ []), law 128 (net (2 ^ 128 - 1) 126) x6 (net (2 ^ 128 - 2) 128 ∷ []))
+
+pub all_together_counted : UnionAddsUp → Counts 3 (InEither 3 a b) (net 0 0 ∷ []) 8 × Counts 128 (InEither 128 x6 (n6 ∷ [])) (net 0 0 ∷ []) (2 ^ 128)
+all_together_counted law = (law 3 a b (net 0 0 ∷ []), law 128 x6 (n6 ∷ []) (net 0 0 ∷ []))
+
+pub all_addresses : AllAddressesAreCounted → HasCount (InUnion 3 (net 0 0 ∷ [])) 8 × HasCount (InUnion 128 (net 0 0 ∷ [])) 340282366920938463463374607431768211456
+all_addresses law = (law 3, law 128)
+
+pub one_more_than_all : TotalGoesOn → (min (min 6 (2 ^ 128) + 4) (2 ^ 128) ≡ min 10 (2 ^ 128)) × (min (min (2 ^ 128) (2 ^ 128) + 1) (2 ^ 128) ≡ min (2 ^ 128 + 1) (2 ^ 128))
+one_more_than_all law = (law 3 a n, law 128 (net 0 0 ∷ []) (net 5 128))
 
 pub not_each_address : SetHasFewerBlocks → ¬ (IsAddressSet 1 (net 0 1 ∷ net 1 1 ∷ []))
 not_each_address law h = let few : 2 < 2 = law 1 (net 0 1 ∷ net 1 1 ∷ []) (omega arith) h in omega (arith, few)
 
-pub at_most_five : UnionHasAtMost → (r : List Network) → IsAddressSet 3 a → IsAddressSet 3 b → IsLeastList 3 (InEither 3 a b) r → length r ≤ 5
-at_most_five law r = law 3 a b r
+pub fewer_than_all : SetHasFewerBlocks → (r : List Network) → IsAddressSet 128 r → length r < 340282366920938463463374607431768211456
+fewer_than_all law r = law 128 r (omega arith)
+
+pub at_most_as_both : UnionHasAtMost → OfSets (λ w x y. (r : List Network) → IsAddressSet w x → IsAddressSet w y → IsLeastList w (InEither w x y) r → length r ≤ length x + length y)
+at_most_as_both law = (law 3 a b, law 128 a6 b6)
 
 -- a union with as many blocks as both sets
 pub as_many_as_both : IsLeastList 4 (InEither 4 (net 4 2 ∷ []) (net 8 2 ∷ [])) (net 4 2 ∷ net 8 2 ∷ [])
@@ -231,21 +290,27 @@ as_many_as_both =
 
 -- ---- networks added and taken
 
-pub pushed_to_two : UnionOfPushed → InUnion 3 (net 6 3 ∷ net 4 2 ∷ n ∷ []) 2 → ¬ (InUnion 3 (net 6 3 ∷ net 4 2 ∷ []) 2) → Member 3 n 2
-pushed_to_two law h other = ⊎_elim (λ (k : InUnion 3 (net 6 3 ∷ net 4 2 ∷ []) 2). absurd (other k)) (λ (m : Member 3 n 2). m) ((law 3 (net 6 3 ∷ net 4 2 ∷ []) n 2).0 h)
+pub pushed : UnionOfPushed → OfLists (λ w k x y z. (i : ℕ) → InUnion w (x ++ k ∷ []) i ↔ (InUnion w x i ⊎ Member w k i))
+pushed law = (law 3 a n, law 128 x6 n6)
 
-pub added_or_pushed : AddedIsPushed → (d r : List Network) → IsAggregate 3 b d → IsLeastList 3 (InEither 3 d (n ∷ [])) r → IsAggregate 3 (net 0 3 ∷ net 2 2 ∷ net 6 2 ∷ n ∷ []) r
-added_or_pushed law = law 3 b n
+pub added_or_pushed : AddedIsPushed → OfLists (λ w k x y z. (d r : List Network) → IsAggregate w y d → IsLeastList w (InEither w d (k ∷ [])) r → IsAggregate w (y ++ k ∷ []) r)
+added_or_pushed law = (law 3 b n, law 128 y6 n6)
 
-pub added_has_more : AddedHas → (r : List Network) → IsLeastList 3 (InEither 3 b (n ∷ [])) r → Member 3 n 1 → InUnion 3 r 1
-added_has_more law r h m = (law 3 b n r h 1).1 (inr m)
+pub added_has_more : AddedHas → OfLists (λ w k x y z. (r : List Network) → IsLeastList w (InEither w y (k ∷ [])) r → (i : ℕ) → InUnion w r i ↔ (InUnion w y i ⊎ Member w k i))
+added_has_more law = (law 3 b n, law 128 y6 n6)
 
-pub taken_has_less : TakenHas → (r : List Network) → IsLeastList 3 (InFirstAlone 3 b (n ∷ [])) r → Member 3 n 2 → ¬ (InUnion 3 r 2)
-taken_has_less law r h m c = ((law 3 b n r h 2).0 c).1 m
+pub taken_has_less : TakenHas → OfLists (λ w k x y z. (r : List Network) → IsLeastList w (InFirstAlone w y (k ∷ [])) r → (i : ℕ) → InUnion w r i ↔ (InUnion w y i × ¬ (Member w k i)))
+taken_has_less law = (law 3 b n, law 128 y6 n6)
 
-pub there_and_back : AddedAndTaken → (r s : List Network) → IsAddressSet 3 c → ¬ (MeetsUnion 3 n c) → IsLeastList 3 (InEither 3 c (n ∷ [])) r → IsLeastList 3 (InFirstAlone 3 r (n ∷ [])) s → s ≡ c
-there_and_back law = law 3 c n
+-- a network that is put into a set and taken out of it, and one that is taken out and put back
+abbrev ThereAndBack : ℕ → List Network → Network → Type 0
+ThereAndBack w x k = (r s : List Network) → IsAddressSet w x → ¬ (MeetsUnion w k x) → IsLeastList w (InEither w x (k ∷ [])) r → IsLeastList w (InFirstAlone w r (k ∷ [])) s → s ≡ x
 
-pub back_and_there : TakenAndAdded → (r s : List Network) → IsAddressSet 3 a → LiesInUnion 3 (net 5 2) a → IsLeastList 3 (InFirstAlone 3 a (net 5 2 ∷ [])) r
-    → IsLeastList 3 (InEither 3 r (net 5 2 ∷ [])) s → s ≡ a
-back_and_there law = law 3 a (net 5 2)
+abbrev BackAndThere : ℕ → List Network → Network → Type 0
+BackAndThere w x k = (r s : List Network) → IsAddressSet w x → LiesInUnion w k x → IsLeastList w (InFirstAlone w x (k ∷ [])) r → IsLeastList w (InEither w r (k ∷ [])) s → s ≡ x
+
+pub there_and_back : AddedAndTaken → ThereAndBack 3 c n × ThereAndBack 128 a6 (net (2 ^ 128 - 9) 125)
+there_and_back law = (law 3 c n, law 128 a6 (net (2 ^ 128 - 9) 125))
+
+pub back_and_there : TakenAndAdded → BackAndThere 3 a (net 5 2) × BackAndThere 128 a6 (net (2 ^ 127 + 2 ^ 126 - 1) 3)
+back_and_there law = (law 3 a (net 5 2), law 128 a6 (net (2 ^ 127 + 2 ^ 126 - 1) 3))
