@@ -1,12 +1,14 @@
 -- Texts at which a misreading of the definitions would show. Each of these computes.
 use Rattle.std.proofs.Common.{◌≡◌, ℕ, List, [], ◌∷◌, ◌++◌, refl}
-use Rattle.std.specs.Prelude.{codes, map}
+use Rattle.std.specs.Prelude.{codes, map, filter}
+use Rattle.std.specs.List.{range_with_len}
 use Rattle.std.specs.Fmt.{digits}
 use Rattle.ipnetwork_addr.specs.Computed.Ipv6Text.{v6_of, gap_below}
 use Rattle.ipnetwork_addr.specs.declared.ip.IpAddr.TheVariants.{V4, V6}
 use Rattle.line_addresses.specs.Addresses.{Spelled, address_of, before_port, address_in, addresses_of}
 use Rattle.line_addresses.specs.Mapped.{unmapped}
-use Rattle.line_addresses.specs.Words.{words_of}
+use Rattle.line_addresses.specs.Runs.{is_run_byte}
+use Rattle.line_addresses.specs.Words.{is_blank, words_of}
 
 -- the address 10.1.1.1
 abbrev ten : List Spelled
@@ -33,5 +35,17 @@ no_addresses = refl
 pub mapped : map unmapped (V6 0xffff0a010101 ∷ V6 0x0a010101 ∷ V6 0x1ffff0a010101 ∷ V4 1 ∷ []) ≡ V4 0x0a010101 ∷ V6 0x0a010101 ∷ V6 0x1ffff0a010101 ∷ V4 1 ∷ []
 mapped = refl
 
+-- both ends of ::ffff:0:0/96, which are ::ffff:0.0.0.0 and ::ffff:255.255.255.255, and what stands beside them,
+-- ::fffe:255.255.255.255 and ::1:0:0:0
+pub first_and_last_mapped : map unmapped (V6 0xffff00000000 ∷ V6 0xffffffffffff ∷ V6 0xfffeffffffff ∷ V6 0x1000000000000 ∷ []) ≡ V4 0 ∷ V4 0xffffffff ∷ V6 0xfffeffffffff ∷ V6 0x1000000000000 ∷ []
+first_and_last_mapped = refl
+
 pub words : words_of (codes " Nov  3 10:00 ") ≡ codes "Nov" ∷ codes "3" ∷ codes "10:00" ∷ []
 words = refl
+
+-- of the 256 bytes, those of runs, and the blanks between words: a tab and a space
+pub run_bytes : filter is_run_byte (range_with_len 0 256) ≡ codes ".0123456789:ABCDEFGHIJKLMNOPQRSTUVWXYZ_abcdefghijklmnopqrstuvwxyz"
+run_bytes = refl
+
+pub blanks : filter is_blank (range_with_len 0 256) ≡ 9 ∷ 32 ∷ []
+blanks = refl

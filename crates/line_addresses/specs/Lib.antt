@@ -3,6 +3,7 @@ pub mod Addresses
 pub mod Fields
 pub mod Following
 pub mod Found
+pub mod Laws
 pub mod Mapped
 pub mod Private
 pub mod Runs
