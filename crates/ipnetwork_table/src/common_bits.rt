@@ -1,23 +1,28 @@
-//! How many bits two addresses share.
+//! How many bits the addresses of two networks share.
 ghost use Rattle.std.specs.Prelude.{ℕ, ◌≤◌};
+ghost use Rattle.ipnetwork_family.specs.Network.{Member};
 ghost use Rattle.ipnetwork_table.specs.Private.Nearest.{ShareAtMost};
 
 use ipnetwork_family::CidrNetwork;
 
-/// How many bits two addresses have in common in front, found by halves. The contract says only that they have no more
-/// in common: a greater number would cost look-ups and change no result.
-pub(crate) fn shared_length<N: CidrNetwork>(addr: N::Addr, other: N::Addr) -> u8
+/// How many bits the addresses of two networks have in common in front, found by halves.
+#[tactic(auto, using(crate::proofs::Nearest::share_none))]
+pub(crate) fn shared_length<N: CidrNetwork>(one: N, other: N) -> u8
     ensures within { result ≤ N.WIDTH }
-    ensures shared { ShareAtMost N.WIDTH (N.number addr) (N.number other) result }
+    ensures shared { Member N.WIDTH (record { address = (N.pair one).address; prefix = result })
+        (N.pair other).address }
+    ensures no_more { ShareAtMost N.WIDTH (N.pair one).address (N.pair other).address result }
 {
+    let first = one.ip();
+    let second = other.ip();
     let mut least = 0;
     let mut most = N::WIDTH;
     'halves: while least < most {
         let middle = most - (most - least) / 2;
-        let Some(block) = N::block(addr, middle) else {
+        let Some(block) = N::block(first, middle) else {
             unreachable!()
         };
-        if block.contains(other) {
+        if block.contains(second) {
             least = middle;
         } else {
             most = middle - 1;

@@ -1,5 +1,5 @@
 //! A table of values by block.
-ghost use Rattle.std.specs.Prelude.{◌≡◌, ℕ, ◌+◌, ◌≤◌, OnOk, OnErr, IfOk, None, MatchOption, ◌↔◌, IsTrue, IsSome, MatchBool};
+ghost use Rattle.std.specs.Prelude.{◌≡◌, ℕ, ◌+◌, ◌^◌, ◌<◌, ◌≤◌, OnOk, OnErr, IfOk, None, MatchOption, ◌↔◌, IsTrue, IsSome, MatchBool};
 ghost use Rattle.std.specs.FinMap as map;
 ghost use Rattle.ipnetwork_family.specs.Network.{HostBitsAreZero, block_of};
 ghost use Rattle.ipnetwork_table.specs.Table.{HasOnlyBlocks, NoneHolds, Finds, by_pair};
@@ -228,24 +228,6 @@ impl<N: CidrNetwork, V: Copy> PrefixTable<N, V> {
         Some(old)
     }
 
-    // An upper bound of the prefix lengths of the stored blocks that hold the address; `None` if no stored block holds
-    // it. A block that does also holds the nearest stored block below the address, so its prefix is no longer than what
-    // the two share.
-    fn greatest_length(&self, addr: N::Addr) -> Option<u8>
-        ensures bound { MatchOption result (NoneHolds N.WIDTH self.now (N.number addr))
-            (λ length. (length ≤ N.WIDTH) × NoneAbove N.WIDTH self.now (N.number addr) length) }
-        ensures blocks { HasOnlyBlocks N.WIDTH self.now }
-    {
-        let Some(end) = N::block(addr, N::WIDTH) else {
-            unreachable!()
-        };
-        let near = self.values.last_up_to(end)?;
-        if near.contains(addr) {
-            return Some(near.prefix());
-        }
-        Some(shared_length::<N>(addr, near.ip()))
-    }
-
     // Whether some stored block has this prefix length.
     fn has_length(&self, length: u8) -> bool
         ensures { MatchBool result (SomeHasLength self.now length) (NoneHasLength self.now length) }
@@ -267,13 +249,44 @@ impl<N: CidrNetwork, V: Copy> PrefixTable<N, V> {
         ensures blocks { HasOnlyBlocks N.WIDTH self.now }
     {
         let mut steps = 0;
-        let mut length = self.greatest_length(addr)?;
+        self.counted_lookup(&mut steps, addr)
+    }
+
+    // `lookup`, whose searches in the map are counted: at most `WIDTH + 1`. The first finds the last stored block up to
+    // the address. If it holds the address it is the longest that does: a longer one would come after it. If not, the
+    // address shares fewer bits with it than its prefix length, and no block of more bits than these holds the address.
+    fn counted_lookup(&self, steps: &mut u32, addr: N::Addr) -> Option<(N, V)>
+        requires { steps.old + 256 < 2 ^ 32 }
+        ensures answer { Finds N.pair N.WIDTH self.now (N.number addr) result }
+        ensures blocks { HasOnlyBlocks N.WIDTH self.now }
+        ensures at_most { steps.new ≤ steps.old + N.WIDTH + 1 }
+    {
+        let Some(end) = N::block(addr, N::WIDTH) else {
+            unreachable!()
+        };
+        let (near, value) = self.values.last_up_to(steps, end)?;
+        if near.contains(addr) {
+            return Some((near, value));
+        }
+        self.longest_up_to(steps, addr, shared_length(end, near))
+    }
+
+    // `lookup` where no stored block of a prefix length above `most` holds the address: asks for the blocks of the
+    // other prefix lengths in turn, without those that no stored block has.
+    fn longest_up_to(&self, steps: &mut u32, addr: N::Addr, most: u8) -> Option<(N, V)>
+        requires within { most ≤ N.WIDTH }
+        requires none_above { NoneAbove N.WIDTH self.now (N.number addr) most }
+        requires room { steps.old + most + 1 < 2 ^ 32 }
+        ensures answer { Finds N.pair N.WIDTH self.now (N.number addr) result }
+        ensures at_most { steps.new ≤ steps.old + most + 1 }
+    {
+        let mut length = most;
         'shorter: loop {
             if self.has_length(length) {
                 let Some(block) = N::block(addr, length) else {
                     unreachable!()
                 };
-                if let Some(value) = self.values.probe(&mut steps, block) {
+                if let Some(value) = self.values.probe(steps, block) {
                     return Some((block, value));
                 }
             }

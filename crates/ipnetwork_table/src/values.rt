@@ -1,5 +1,5 @@
 //! The ordered map in which a table keeps its values.
-ghost use Rattle.std.specs.Prelude.{◌≡◌, ℕ, ◌+◌, ◌<◌, ◌^◌, OnOk, OnErr, IfOk, None, MatchOption};
+ghost use Rattle.std.specs.Prelude.{◌≡◌, ℕ, ◌+◌, ◌<◌, ◌^◌, OnOk, OnErr, IfOk, IfSome, None, MatchOption};
 ghost use Rattle.std.specs.FinMap as map;
 ghost use Rattle.ipnetwork_table.specs.Table.{by_pair};
 ghost use Rattle.ipnetwork_table.specs.Private.Nearest.{IsLastUpTo, NoneUpTo};
@@ -10,7 +10,8 @@ use std::alloc::{AllocError, Global};
 use std::collections::BTreeMap;
 use std::marker::Model;
 
-/// Values by network. The only way to look up a value counts the look-up.
+/// Values by network. Every search for a key that changes nothing counts itself: `probe` and `last_up_to` add one to
+/// the count that they are handed.
 #[derive(Drop)]
 pub(crate) struct Values<N: CidrNetwork, V: Copy> {
     tree: BTreeMap<N, V>,
@@ -54,13 +55,17 @@ impl<N: CidrNetwork, V: Copy> Values<N, V> {
         self.tree.get(&key).copied()
     }
 
-    /// The last network that does not come after this one, without its value.
-    pub(crate) fn last_up_to(&self, end: N) -> Option<N>
-        ensures { MatchOption result (NoneUpTo self.now (N.pair end))
-            (λ last. IsLastUpTo self.now (N.pair end) (N.pair last)) }
+    /// The last network that does not come after this one, and its value. Counts one step.
+    pub(crate) fn last_up_to(&self, steps: &mut u32, end: N) -> Option<(N, V)>
+        requires { steps.old + 1 < 2 ^ 32 }
+        ensures network { MatchOption result (NoneUpTo self.now (N.pair end))
+            (λ last. IsLastUpTo self.now (N.pair end) (N.pair last.0)) }
+        ensures value { IfSome result (λ last. map.get self.now (N.pair last.0) ≡ Some last.1) }
+        ensures counted { steps.new ≡ steps.old + 1 }
     {
-        let (last, _) = self.tree.range(..=end).next_back()?;
-        Some(*last)
+        *steps += 1;
+        let (last, value) = self.tree.range(..=end).next_back()?;
+        Some((*last, *value))
     }
 
     /// Sets the value of a network and returns the one that it had. An error means out of memory, which can happen
@@ -81,7 +86,7 @@ impl<N: CidrNetwork, V: Copy> Values<N, V> {
         self.tree.clear();
     }
 
-    /// The networks and their values, in order.
+    /// All networks and their values, in order. This is no search for a key, so it counts nothing.
     pub(crate) fn entries(&self) -> Entries<'_, N, V>
         ensures { by_pair N.pair result ≡ map.entries self.now }
     {

@@ -1,11 +1,11 @@
 use Rattle.std.proofs.Common.{◌+◌, ◌≤◌}
 use Rattle.ipnetwork_table.specs.Private.Nearest.{NoneAbove}
-use Rattle.ipnetwork_table.proofs.table.PrefixTable.lookup.Given as goal
+use Rattle.ipnetwork_table.proofs.table.PrefixTable.longest_up_to.Given as goal
 
 abbrev pub invariant-shorter : goal.invariant-shorter
 invariant-shorter g l = record {
   within : l.length ≤ g.N.CidrNetwork.WIDTH;
-  few_steps : l.steps + l.length ≤ 255;
+  counted : l.steps + l.length ≤ l.initial.steps + l.fn.most;
   none_above : NoneAbove g.N.CidrNetwork.WIDTH l.self-inside.values (g.N.CidrNetwork.number l.addr) l.length;
 }
 
