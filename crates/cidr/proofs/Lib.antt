@@ -1,6 +1,7 @@
 pub mod Answers
 pub mod AskingParts
 pub mod CommandAnswers
+pub mod CommandLawExamples
 pub mod CommandLines
 pub mod CommandRequests
 pub mod Computed
