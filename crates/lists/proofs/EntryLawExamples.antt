@@ -1,8 +1,9 @@
 -- What the laws let one conclude, where weaker laws would not.
-use Rattle.std.proofs.Common.{◌≡◌, ℕ, List, ◌∷◌, ◌++◌, ap, ◌≤◌}
-use Rattle.std.specs.Prelude.{Option, None, Some, Result, Ok, Err}
+use Rattle.std.proofs.Common.{◌≡◌, ℕ, List, ◌∷◌, ◌++◌, ap, ◌≤◌, lit≤}
+use Rattle.std.specs.Prelude.{codes, Option, None, Some, Result, Ok, Err}
+use Rattle.ipnetwork_addr.specs.Ipv4Text.{NamesV4}
 use Rattle.ipnetwork_addr.specs.Ipv6Text.{NamesV6}
-use Rattle.ipnetwork_addr.specs.declared.ip.IpAddr.TheVariants.{V6}
+use Rattle.ipnetwork_addr.specs.declared.ip.IpAddr.TheVariants.{V4, V6}
 use Rattle.ipnetwork_family.specs.Network.{Network}
 use Rattle.ipnetwork.specs.IpNetworkText.{NamesIpNetwork}
 use Rattle.ipnetwork.specs.declared.ip_network.IpNetwork.TheVariants as networks
@@ -35,3 +36,13 @@ a_network_of_ipv6 law text n names = law text (networks.V6 n) names
 pub a_range_of_ipv6 : AddressTextsAreRanges → (before after : List ℕ) (first last : ℕ) → NamesV6 before first → NamesV6 after last → first ≤ last
     → ReadsEntry (before ++ 45 ∷ after) (Ok (Some (entries.Range (V6 first) (V6 last))))
 a_range_of_ipv6 law before after first last begins ends order = law before after (V6 first) (V6 last) begins ends order
+
+-- and of IPv4: the network of all addresses, the last address alone, and the range of all addresses
+pub networks_of_ipv4 : NetworkTextsAreEntries → (all last : Network) → NamesIpNetwork (codes "0.0.0.0/0") (networks.V4 all) → NamesIpNetwork (codes "255.255.255.255") (networks.V4 last)
+    → ReadsEntry (codes "0.0.0.0/0") (Ok (Some (entries.Network (networks.V4 all)))) × ReadsEntry (codes "255.255.255.255") (Ok (Some (entries.Network (networks.V4 last))))
+networks_of_ipv4 law all last every alone = (law (codes "0.0.0.0/0") (networks.V4 all) every, law (codes "255.255.255.255") (networks.V4 last) alone)
+
+pub ranges_of_ipv4 : AddressTextsAreRanges → NamesV4 (codes "0.0.0.0") 0 → NamesV4 (codes "255.255.255.255") 4294967295
+    → ReadsEntry (codes "0.0.0.0-255.255.255.255") (Ok (Some (entries.Range (V4 0) (V4 4294967295)))) × ReadsEntry (codes "0.0.0.0-0.0.0.0") (Ok (Some (entries.Range (V4 0) (V4 0))))
+ranges_of_ipv4 law first last =
+    (law (codes "0.0.0.0") (codes "255.255.255.255") (V4 0) (V4 4294967295) first last (lit≤ tt), law (codes "0.0.0.0") (codes "0.0.0.0") (V4 0) (V4 0) first first (lit≤ tt))

@@ -35,6 +35,12 @@ pub of_two_parts : MergesOfPartsMerge → (w : ℕ) (networks merged whole again
 of_two_parts law w networks merged whole again one other first second parts a b have all joined =
     law w networks merged whole again (one ∷ other ∷ []) (first ∷ second ∷ []) parts (a, (b, tt)) have all joined
 
+-- and of three
+pub of_three_parts : MergesOfPartsMerge → (w : ℕ) (networks merged whole again one other third first second last : List Network) → AreParts networks (one ∷ other ∷ third ∷ []) → IsAggregate w one first → IsAggregate w other second → IsAggregate w third last
+    → AreParts merged (first ∷ second ∷ last ∷ []) → IsAggregate w networks whole → IsAggregate w merged again → again ≡ whole
+of_three_parts law w networks merged whole again one other third first second last parts a b c have all joined =
+    law w networks merged whole again (one ∷ other ∷ third ∷ []) (first ∷ second ∷ last ∷ []) parts (a, (b, (c, tt))) have all joined
+
 -- the second network of a printed list is named too
 pub second_network_is_named : PrintedListsNameTheirNetworks → (n m : IpNetwork) (a : IpAddr) → ((k : IpNetwork) → Contains (n ∷ m ∷ []) k → IsIpNetwork k)
     → ((line : List ℕ) → Contains (lines (printed (n ∷ m ∷ []))) line → length line ≤ 1024) → IpMember m a → LinesName (lines (printed (n ∷ m ∷ []))) a
