@@ -1,7 +1,8 @@
 -- What the laws of sets let one conclude, where a weaker law would not.
-use Rattle.std.proofs.Common.{◌≡◌, ℕ, ◌<◌, ◌⊎◌, inl, inr, refl, arith, Contains, List, Some, Ok, Err, Result}
+use Rattle.std.proofs.Common.{◌≡◌, ℕ, ◌<◌, ◌⊎◌, inl, inr, ⊎_elim, refl, arith, Contains, List, Some, Ok, Err, Result}
 use Rattle.std.specs.Fmt.{digits}
-use Rattle.std.specs.Prelude.{◌↔◌, slice_get, codes, IsTrue}
+use Rattle.std.specs.Prelude.{◌↔◌, slice_get, codes, IsTrue, String, string_bytes}
+use Rattle.std.specs.declared.alloc.Global.{Global}
 use Rattle.std.specs.List.Sorted.{IsStrictlyIncreasing}
 use Rattle.ipnetwork_family.specs.Laws.{
   EndsLaw,
@@ -23,7 +24,8 @@ use Rattle.ipnetwork_family.specs.Laws.{
   MasksDiffer,
   MaskIsComputed,
   MaskIsConverted,
-  SameErrorSaysTheSame,
+  SameErrorPrintsTheSame,
+  FormatFaultIsPrinted,
   CanonicalReadsBack,
 }
 use Rattle.ipnetwork_family.specs.Computed.Network.{is_member, is_subnet, prefix_of_mask}
@@ -42,10 +44,10 @@ use Rattle.ipnetwork_family.specs.Network.{
   members,
   mask_of,
 }
+use Rattle.ipnetwork_addr.specs.declared.error.AddrParseError.{AddrParseError}
 use Rattle.ipnetwork_addr.specs.declared.error.AddrParseError.TheVariants as kinds
-use Rattle.ipnetwork_family.specs.ErrorTexts.{refusal_of}
+use Rattle.ipnetwork_family.specs.ErrorTexts.{BadAddress, BadFormat, RanOutOfMemory, refusal_of, refusal_text, fault_of, IsRefusal}
 use Rattle.ipnetwork_family.specs.Family.{v4_family, v6_family}
-use Rattle.ipnetwork_family.specs.Faults.{SameError}
 use Rattle.ipnetwork_family.specs.Ipv4NetworkText.{ReadsV4Network}
 use Rattle.ipnetwork_family.specs.Ipv6NetworkText.{ReadsV6Network}
 use Rattle.ipnetwork_family.specs.Parsing.{ParsesAsItReads, ParsesV4Network, ParsesV6Network}
@@ -232,7 +234,27 @@ v6_is_read law =
     let n : Network = record { address = 1; prefix = 64 } in
     (law n (Ok n) (record { address_fits = omega arith; prefix_fits = omega arith })).1 refl
 
--- errors that say the same are the same, and no others are
-pub same_errors : SameErrorSaysTheSame → (a b : IpNetworkError) → SameError a b
-    ↔ (refusal_of a ≡ refusal_of b)
-same_errors law = law
+-- errors that print one text are one, and the kinds of errors print apart
+pub one_text : SameErrorPrintsTheSame → (a b : String Global)
+    → refusal_text (BadFormat (string_bytes a)) ≡ refusal_text (BadFormat (string_bytes b))
+    → string_bytes a ≡ string_bytes b
+one_text law a b e =
+    let same = (law (IpNetworkError.InvalidCidrFormat a) (IpNetworkError.InvalidCidrFormat b)).1 e in
+    cc
+
+pub two_kinds : SameErrorPrintsTheSame → (a b : String Global)
+    → ¬ (refusal_text (BadAddress (string_bytes a)) ≡ refusal_text (BadFormat (string_bytes b)))
+two_kinds law a b e =
+    let same = (law (IpNetworkError.InvalidAddr a) (IpNetworkError.InvalidCidrFormat b)).1 e in
+    cc
+
+-- whichever kind of address was asked for
+pub format_is_printed : FormatFaultIsPrinted → (kind : AddrParseError) (error : IpNetworkError)
+    → IsRefusal (fault_of CidrFault.Format kind (codes "10/8/")) error
+    → ¬ (refusal_of error ≡ RanOutOfMemory) → refusal_text (refusal_of error)
+    ≡ codes "invalid cidr format: CIDR must contain a single '/': 10/8/"
+format_is_printed law kind error h memory =
+    ⊎_elim
+    (λ (e : refusal_text (refusal_of error)
+    ≡ codes "invalid cidr format: CIDR must contain a single '/': 10/8/"). e)
+    (λ (e : refusal_of error ≡ RanOutOfMemory). absurd (memory e)) (law kind (codes "10/8/") error h)

@@ -8,6 +8,7 @@ pub mod ComputedV6
 pub mod CountedBits
 pub mod EightSegments
 pub mod ErrorExamples
+pub mod ErrorTexts
 pub mod Examples
 pub mod FamilyExamples
 pub mod Generic

@@ -1,14 +1,16 @@
 -- The laws of networks, for addresses of any number of bits.
-use Rattle.std.specs.Prelude.{◌≡◌, ℕ, ◌+◌, ◌<◌, ◌≤◌, ◌⊎◌, ◌↔◌, Contains, List, slice_get, Some, Result, Ok, IsTrue}
+use Rattle.std.specs.Prelude.{◌≡◌, ℕ, ◌+◌, ◌<◌, ◌≤◌, ◌⊎◌, ◌↔◌, ◌++◌, codes, Contains, List, slice_get, Some, Result, Ok, IsTrue}
 use Rattle.std.specs.List.Sorted.{IsStrictlyIncreasing}
 use Rattle.ipnetwork_family.specs.Network.{Network, IsNetwork, Member, low, high, block_size, block_of, HostBitsAreZero, Subnet, Overlap, IsNetworkAtMost, members, mask_of}
 use Rattle.ipnetwork_family.specs.NetworkText.{before_slash, HasNoSuffix, NamesNetwork}
 use Rattle.ipnetwork_family.specs.Computed.Network.{is_member, is_subnet, prefix_of_mask}
-use Rattle.ipnetwork_family.specs.ErrorTexts.{refusal_of}
+use Rattle.ipnetwork_family.specs.ErrorTexts.{RanOutOfMemory, refusal_of, refusal_text, fault_of, IsRefusal}
 use Rattle.ipnetwork_family.specs.Family.{Family, ReadsNetworkOf, text_of}
 use Rattle.ipnetwork_family.specs.Faults.{SameError}
 use Rattle.ipnetwork_family.specs.Masks.{GivesPrefixOfMask}
+use Rattle.ipnetwork_addr.specs.declared.error.AddrParseError.{AddrParseError}
 use Rattle.ipnetwork_family.specs.declared.error.CidrFault.{CidrFault}
+use Rattle.ipnetwork_family.specs.declared.error.CidrFault.TheVariants.{Format}
 use Rattle.ipnetwork_family.specs.declared.error.IpNetworkError.{IpNetworkError}
 
 -- the ends are the least and the greatest member, and the address of the network is a member
@@ -111,9 +113,18 @@ abbrev pub MaskIsConverted : Type 0
 MaskIsConverted = (w p : ℕ) (result : Result ℕ IpNetworkError) → p ≤ w
     → GivesPrefixOfMask w (mask_of w p) result ↔ (result ≡ Ok p)
 
--- two errors are the same exactly if they say the same
-abbrev pub SameErrorSaysTheSame : Type 0
-SameErrorSaysTheSame = (a b : IpNetworkError) → SameError a b ↔ (refusal_of a ≡ refusal_of b)
+-- two errors are the same exactly if they print the same text
+abbrev pub SameErrorPrintsTheSame : Type 0
+SameErrorPrintsTheSame = (a b : IpNetworkError)
+    → SameError a b ↔ (refusal_text (refusal_of a) ≡ refusal_text (refusal_of b))
+
+-- the error for a text with two or more `/` prints what is wrong and the text, unless memory ran out
+abbrev pub FormatFaultIsPrinted : Type 0
+FormatFaultIsPrinted = (kind : AddrParseError) (text : List ℕ) (error : IpNetworkError)
+    → IsRefusal (fault_of Format kind text) error
+    → (refusal_text (refusal_of error)
+    ≡ codes "invalid cidr format: CIDR must contain a single '/': " ++ text)
+    ⊎ (refusal_of error ≡ RanOutOfMemory)
 
 -- the canonical text of a network is read as that network and as nothing else
 abbrev pub CanonicalReadsBack : {w : ℕ} → Family w → Type 0

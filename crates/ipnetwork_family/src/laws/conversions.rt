@@ -2,8 +2,7 @@
 ghost use Rattle.std.specs.Prelude.{◌≡◌, Ok};
 ghost use Rattle.ipnetwork_family.specs.Laws.{MaskIsComputed, MaskIsConverted};
 
-use crate::network::mask_to_prefix;
-use crate::{Address, IpNetworkError, Network};
+use crate::{IpNetworkError, Ipv4Network, Ipv6Network, ipv4_mask_to_prefix, ipv6_mask_to_prefix};
 
 /// The conversion of the mask of a prefix length gives that prefix length, for addresses of any
 /// number of bits.
@@ -12,12 +11,20 @@ pub fn mask_conversion()
     ensures converted { MaskIsConverted }
 {}
 
-/// What the conversion of either family, `ipv4_mask_to_prefix` or `ipv6_mask_to_prefix`, returns
-/// for the mask of a network: the network's prefix length.
-pub fn mask_converts_back<A: Address>(network: Network<A>) -> Result<u8, IpNetworkError>
+/// What `ipv4_mask_to_prefix` returns for the mask of a network: the network's prefix length.
+pub fn v4_mask_converts_back(network: Ipv4Network) -> Result<u8, IpNetworkError>
     ensures { result ≡ Ok network.prefix }
 {
     mask_conversion();
     let _ = network.prefix();
-    mask_to_prefix(network.mask())
+    ipv4_mask_to_prefix(network.mask())
+}
+
+/// What `ipv6_mask_to_prefix` returns for the mask of a network: the network's prefix length.
+pub fn v6_mask_converts_back(network: Ipv6Network) -> Result<u8, IpNetworkError>
+    ensures { result ≡ Ok network.prefix }
+{
+    mask_conversion();
+    let _ = network.prefix();
+    ipv6_mask_to_prefix(network.mask())
 }

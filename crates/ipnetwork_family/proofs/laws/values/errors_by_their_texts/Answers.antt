@@ -1,0 +1,5 @@
+use Rattle.ipnetwork_family.proofs.ErrorTexts.{same_text, format_printed}
+use Rattle.ipnetwork_family.proofs.laws.values.errors_by_their_texts.Goals as goal
+
+pub returns : goal.returns
+returns c = record { same = same_text; format = format_printed }
