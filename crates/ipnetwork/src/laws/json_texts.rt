@@ -8,9 +8,8 @@ ghost use Rattle.ipnetwork_family.specs.declared.json.JsonFault.{JsonFault};
 ghost use Rattle.ipnetwork.specs.IpNetworks.{IsIpNetwork};
 ghost use Rattle.ipnetwork.specs.IpNetworkText.{ParsesIpNetwork, ip_network_text};
 
-use super::{canonical_ip_network_names_it, ip_network_text_names_one};
-use crate::{IpNetwork, Ipv4Addr, Ipv6Addr, JsonFault};
-use ipnetwork_family::laws as family_laws;
+use super::{canonical_ip_network_bytes, canonical_ip_network_names_it, ip_network_text_names_one};
+use crate::{IpNetwork, JsonFault};
 use serde_json::{Error, Value};
 use std::alloc::Global;
 
@@ -20,8 +19,7 @@ pub fn ip_network_stands_in_quotes()
     ensures { (n : IpNetwork) → IsIpNetwork n
         → compact_text (string (ip_network_text n)) ≡ in_quotes (ip_network_text n) }
 {
-    family_laws::network_stands_in_quotes::<Ipv4Addr>();
-    family_laws::network_stands_in_quotes::<Ipv6Addr>();
+    canonical_ip_network_bytes();
 }
 
 /// Reading the value of a network returns that network and nothing else.
