@@ -6,6 +6,7 @@
 #![tactic(auto)]
 
 mod addresses;
+mod every_network;
 mod networks;
 mod of_either_family;
 mod orders;
