@@ -1,9 +1,10 @@
 -- Values at which a misreading of the definitions would show. Each of these computes.
 use Rattle.std.proofs.Common.{◌≡◌, ◌-◌, ◌^◌, ◌<◌, ℕ, List, ◌∷◌, [], true, false, inl, inr, refl, ap, arith}
-use Rattle.std.specs.Prelude.{codes, String, None, Some, Ok, Err, if◌then◌else◌, bytes_eq}
+use Rattle.std.specs.Prelude.{codes, map, String, None, Some, Ok, Err, if◌then◌else◌, bytes_eq}
 use Rattle.std.specs.Fmt.{digits}
 use Rattle.std.specs.String.{string_bytes}
 use Rattle.std.specs.Str.Lines.{lines}
+use Rattle.std.specs.declared.io.ErrorKind.TheVariants as kinds
 use Rattle.lists.specs.Lists.{ReadLists, at_list, TakesLines}
 use Rattle.lists.specs.Refusals.{Refused}
 use Rattle.lines.specs.declared.fault.RunFault.TheVariants as faults
@@ -12,7 +13,7 @@ use Rattle.lists.specs.Private.Readings.{end_of}
 use Rattle.lists.specs.Reading.{ReadsList, StopsAt, StopsAtText}
 use Rattle.program.specs.Runs.{text_asked}
 use Rattle.program.specs.Told.{fault_text, more_text}
-use Rattle.program.specs.Usage.{subject_text, usage_text, arguments_text}
+use Rattle.program.specs.Usage.{subject_text, usage_text, fault_of, arguments_text}
 use Rattle.program.specs.Words.{is, is_only, begins_with, without_first}
 use Rattle.program.specs.declared.arguments.ArgumentsFault.TheVariants as arguments
 use Rattle.lists.specs.declared.named.ReadFault.TheVariants.{Open, Read, OutOfMemory}
@@ -102,6 +103,10 @@ an_argument_that_is_no_text = refl
 
 pub arguments_without_memory : arguments_text arguments.OutOfMemory (codes "p") (codes "usage: p\n") ≡ codes "out of memory\n"
 arguments_without_memory = refl
+
+-- memory that ran out is no argument that is not UTF-8, nor is that one the other
+pub why_arguments_cannot_be_read : map fault_of (kinds.OutOfMemory ∷ kinds.InvalidData ∷ []) ≡ arguments.OutOfMemory ∷ arguments.NotText ∷ []
+why_arguments_cannot_be_read = refl
 
 -- ---- what the program says of itself
 

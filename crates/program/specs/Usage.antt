@@ -1,5 +1,7 @@
 -- What is reported about a command line that the program does not take.
 use Rattle.std.specs.Prelude.{ℕ, List, [], ◌∷◌, ◌++◌, codes, String}
+use Rattle.std.specs.declared.io.ErrorKind.{ErrorKind}
+use Rattle.std.specs.declared.io.ErrorKind.TheVariants as kinds
 use Rattle.program.specs.Told.{name_at}
 use Rattle.program.specs.declared.arguments.ArgumentsFault.{ArgumentsFault}
 use Rattle.program.specs.declared.arguments.ArgumentsFault.TheVariants as arguments
@@ -24,6 +26,11 @@ subject_text words (Value option value) = shown (name_at words option) ++ codes 
 -- wrong, and then the usage
 abbrev pub usage_text : {Z : Type 0} → List ℕ → List ℕ → List (String Z) → Subject → List ℕ → List ℕ
 usage_text program usage words subject problem = program ++ codes ": " ++ subject_text words subject ++ problem ++ codes "\n" ++ usage
+
+-- why the arguments cannot be read: the system's error is that memory ran out, or else an argument is no text
+abbrev pub fault_of : ErrorKind → ArgumentsFault
+fault_of kinds.OutOfMemory = arguments.OutOfMemory
+fault_of kind = arguments.NotText
 
 -- what is reported if the arguments cannot be read
 abbrev pub arguments_text : ArgumentsFault → List ℕ → List ℕ → List ℕ

@@ -1,4 +1,7 @@
 //! The arguments of the program.
+ghost use Rattle.std.specs.Prelude.{◌≡◌};
+ghost use Rattle.program.specs.Usage.{fault_of};
+
 use std::alloc::Global;
 use std::env;
 use std::io::ErrorKind;
@@ -18,6 +21,25 @@ pub enum ArgumentsFault {
     OutOfMemory,
 }
 
+impl ArgumentsFault {
+    /// Why they cannot be read, by the system's error.
+    ///
+    /// ```
+    /// use program::arguments::ArgumentsFault;
+    /// use std::io::ErrorKind;
+    ///
+    /// assert_eq!(rt; ArgumentsFault::of(ErrorKind::InvalidData), ArgumentsFault::NotText);
+    /// ```
+    pub fn of(kind: ErrorKind) -> ArgumentsFault
+        ensures { result ≡ fault_of kind }
+    {
+        match kind {
+            ErrorKind::OutOfMemory => ArgumentsFault::OutOfMemory,
+            _ => ArgumentsFault::NotText,
+        }
+    }
+}
+
 /// The arguments after the program's name, in order. Each is a `String` of its own, in memory of the program's
 /// allocator.
 ///
@@ -27,7 +49,7 @@ pub enum ArgumentsFault {
 pub fn arguments<R: Env + Alloc<A = Global>>(rt: &R) -> Result<Vec<String>, ArgumentsFault> {
     let mut words = match env::args(rt) {
         Ok(words) => words,
-        Err(error) => return Err(arguments_fault(error.kind())),
+        Err(error) => return Err(ArgumentsFault::of(error.kind())),
     };
     let _program = words.next();
     let mut all = Vec::new(rt.alloc());
@@ -37,12 +59,4 @@ pub fn arguments<R: Env + Alloc<A = Global>>(rt: &R) -> Result<Vec<String>, Argu
         }
     }
     Ok(all)
-}
-
-// Why they could not be read.
-fn arguments_fault(kind: ErrorKind) -> ArgumentsFault {
-    match kind {
-        ErrorKind::OutOfMemory => ArgumentsFault::OutOfMemory,
-        _ => ArgumentsFault::NotText,
-    }
 }
