@@ -77,6 +77,50 @@ the_last_addresses_of_either_family law = (
   law (record { octets = replicate 16 255; length = 16 }) (addresses.V6 0xffffffffffffffffffffffffffffffff) (omega arith) (refl, refl),
 )
 
+-- networks with host bits alone, of which no two octets are to be exchanged, and addresses like them: 10.1.9.32/0 and
+-- 2001:db8::1/0
+abbrev wide_four : Network
+wide_four = record { address = 0x0a010920; prefix = 0 }
+
+abbrev wide_six : Network
+wide_six = record { address = 0x20010db8000000000000000000000001; prefix = 0 }
+
+abbrev four_octets : List ℕ
+four_octets = 10 ∷ 1 ∷ 9 ∷ 32 ∷ []
+
+abbrev six_octets : List ℕ
+six_octets = 0x20 ∷ 1 ∷ 0x0d ∷ 0xb8 ∷ replicate 11 0 ++ 1 ∷ []
+
+wide_four_is : IsNetwork 32 wide_four
+wide_four_is = record { address_fits = omega arith; prefix_fits = omega arith }
+
+wide_six_is : IsNetwork 128 wide_six
+wide_six_is = record { address_fits = omega arith; prefix_fits = omega arith }
+
+pub networks_of_host_bits : HeldV4StandsForItself → HeldV6StandsForItself → HeldIpStandsForItself
+    → (v4_in (record { address = four_octets; prefix = 0 }) ≡ wide_four)
+    × (v6_in (record { address = six_octets; prefix = 0 }) ≡ wide_six)
+    × StandsForIp (record { family = 4; v4 = record { address = four_octets; prefix = 0 }; v6 = record { address = replicate 16 0; prefix = 0 } }) (V4 wide_four)
+    × StandsForIp (record { family = 6; v4 = record { address = replicate 4 0; prefix = 0 }; v6 = record { address = six_octets; prefix = 0 } }) (V6 wide_six)
+networks_of_host_bits four six either = (
+  four (record { address = four_octets; prefix = 0 }) wide_four wide_four_is (refl, refl),
+  six (record { address = six_octets; prefix = 0 }) wide_six wide_six_is (refl, refl),
+  either (record { family = 4; v4 = record { address = four_octets; prefix = 0 }; v6 = record { address = replicate 16 0; prefix = 0 } }) (V4 wide_four) wide_four_is (refl, (refl, refl), (refl, refl)),
+  either (record { family = 6; v4 = record { address = replicate 4 0; prefix = 0 }; v6 = record { address = six_octets; prefix = 0 } }) (V6 wide_six) wide_six_is (refl, (refl, refl), (refl, refl)),
+)
+
+pub addresses_in_order : OctetsTellTheV4Address → OctetsTellTheV6Address → HeldAddressStandsForItself
+    → (address_in (octets_of 0x0a010920) ≡ Some (addresses.V4 0x0a010920))
+    × (address_in (octets_of_v6 0x20010db8000000000000000000000001) ≡ Some (addresses.V6 0x20010db8000000000000000000000001))
+    × (held_address (record { octets = four_octets ++ replicate 12 0; length = 4 }) ≡ Some (addresses.V4 0x0a010920))
+    × (held_address (record { octets = six_octets; length = 16 }) ≡ Some (addresses.V6 0x20010db8000000000000000000000001))
+addresses_in_order four six held = (
+  four 0x0a010920 (omega arith),
+  six 0x20010db8000000000000000000000001 (omega arith),
+  held (record { octets = four_octets ++ replicate 12 0; length = 4 }) (addresses.V4 0x0a010920) (omega arith) (refl, refl),
+  held (record { octets = six_octets; length = 16 }) (addresses.V6 0x20010db8000000000000000000000001) (omega arith) (refl, refl),
+)
+
 -- of three rows the last one is read again, and four offsets are offsets
 pub the_third_row : {R : Type 0} (text : R → List ℕ) (a b c : R) (before after offsets_before offsets : List ℕ) → PrintedRowsAreTexts text → PrintsRows text (a ∷ b ∷ c ∷ []) before after offsets_before offsets → row_text after offsets 2 ≡ text c
 the_third_row text a b c before after offsets_before offsets law prints = law (a ∷ b ∷ c ∷ []) before after offsets_before offsets 2 c prints refl

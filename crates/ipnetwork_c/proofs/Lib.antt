@@ -19,6 +19,7 @@ pub mod TableMaking
 pub mod Cutting
 pub mod TableExamples
 pub mod RangeExamples
+pub mod WideRangeExamples
 pub mod StructExamples
 pub mod ResultExamples
 pub mod SearchExamples

@@ -49,11 +49,14 @@ the_longest_stands_there = inl (lit< tt, the_last_of_the_longest_is_found)
 pub no_wider_one_stands_there : ¬ (IsLongestAt 32 nested 0x0a010203 0)
 no_wider_one_stands_there h = ⊎_elim (λ (f : (0 < no_place) × FindsLongest 32 nested 0x0a010203 0). no_wider_block_is_found f.1) (λ (n : (0 ≡ no_place) × _). let none = n.0 in omega (arith, none)) h
 
+narrow_has_it : InUnion 32 nested 0x0a010203
+narrow_has_it = (narrow, (1, lit< tt, refl), (lit< tt, refl))
+
 pub none_is_missed : ¬ (IsLongestAt 32 nested 0x0a010203 no_place)
 none_is_missed h =
     ⊎_elim
     (λ (f : (no_place < no_place) × _). let less = f.0 in omega (arith, less))
-    (λ (n : (no_place ≡ no_place) × _). n.1 nested_is_a_table (narrow, (1, lit< tt, refl), (lit< tt, refl)))
+    (λ (n : (no_place ≡ no_place) × _). n.1 nested_is_a_table narrow_has_it)
     h
 
 -- no range is left out, and none is there that no network needs
@@ -77,24 +80,28 @@ only_the_last (suc zero) f = absurd (none_before_an_equal_one_is_found f)
 only_the_last (suc (suc zero)) f = refl
 only_the_last (suc (suc (suc i))) f = let l = f.within in absurd (omega (arith, l))
 
-found_in_nested : (before after code : ℕ) → Unless (IsFault no_member (IsTable 32 nested → ¬ (InUnion 32 nested 0x0a010203))) (Writes (FindsLongest 32 nested 0x0a010203)) before after code → (code ≡ ok) × (after ≡ 2)
-found_in_nested before after code (On w) = (w.0, only_the_last after w.1)
-found_in_nested before after code (Nothing f same) = absurd (f.0 nested_is_a_table (narrow, (1, lit< tt, refl), (lit< tt, refl)))
+-- what is found in a table that has the address is the one place that can be found,
+pub found_in_a_table : (w : ℕ) (networks : List Network) (x place : ℕ) → IsTable w networks → InUnion w networks x → ((i : ℕ) → FindsLongest w networks x i → i ≡ place)
+    → (before after code : ℕ) → Unless (IsFault no_member (IsTable w networks → ¬ (InUnion w networks x))) (Writes (FindsLongest w networks x)) before after code → (code ≡ ok) × (after ≡ place)
+found_in_a_table w networks x place table has only before after code (On f) = (f.0, only after f.1)
+found_in_a_table w networks x place table has only before after code (Nothing f same) = absurd (f.0 table has)
+
+-- and so is the place that stands there
+pub stands_in_a_table : (w : ℕ) (networks : List Network) (x place : ℕ) → IsTable w networks → InUnion w networks x → ((i : ℕ) → FindsLongest w networks x i → i ≡ place)
+    → (stands : ℕ) → IsLongestAt w networks x stands → stands ≡ place
+stands_in_a_table w networks x place table has only stands (inl f) = only stands f.1
+stands_in_a_table w networks x place table has only stands (inr n) = absurd (n.1 table has)
 
 pub ranges_find_the_last_of_the_longest : RangesFindTheLongest 32 v4_in → (ranges : List Ipv4InC) (places : List ℕ) (before after code : ℕ)
     → AreRangesOf 32 nested (map v4_in ranges) places → RangeQuery v4_in ranges places 0x0a010203 before after code → (code ≡ ok) × (after ≡ 2)
 ranges_find_the_last_of_the_longest law ranges places before after code are query =
-    found_in_nested before after code (law nested_in_c ranges places 0x0a010203 before after code are (lit< tt) query)
+    found_in_a_table 32 nested 0x0a010203 2 nested_is_a_table narrow_has_it only_the_last before after code (law nested_in_c ranges places 0x0a010203 before after code are (lit< tt) query)
 
 -- and the place that is returned is that of it, and no other
-last_stands_there : (place : ℕ) → IsLongestAt 32 nested 0x0a010203 place → place ≡ 2
-last_stands_there place (inl f) = only_the_last place f.1
-last_stands_there place (inr n) = absurd (n.1 nested_is_a_table (narrow, (1, lit< tt, refl), (lit< tt, refl)))
-
 pub places_are_of_the_last_of_the_longest : PlacesAreOfTheLongest 32 v4_in → (ranges : List Ipv4InC) (places : List ℕ) (place : ℕ)
     → AreRangesOf 32 nested (map v4_in ranges) places → PlaceQuery v4_in ranges places 0x0a010203 place → place ≡ 2
 places_are_of_the_last_of_the_longest law ranges places place are query =
-    last_stands_there place (law nested_in_c ranges places 0x0a010203 place are (lit< tt) query)
+    stands_in_a_table 32 nested 0x0a010203 2 nested_is_a_table narrow_has_it only_the_last place (law nested_in_c ranges places 0x0a010203 place are (lit< tt) query)
 
 -- of the address after 10.0.0.0/8 it is that of no network
 none_has_it : (i : ℕ) → i < 3 → ¬ (Member 32 (slice_index_or nested i narrow) 0x0b000000)
