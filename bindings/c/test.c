@@ -896,7 +896,7 @@ static void tables_made(void) {
 /* What an index has to hold, counted from numbers in ascending order as plainly as it can be. The span is below 2^32. */
 static void plain_index(const uint32_t *starts, size_t count, uint32_t *index, size_t length) {
     uint32_t span = count == 0 ? 0 : starts[count - 1] - starts[0], shift = 0;
-    while (shift < 31 && span >> shift >= length) shift++;
+    while (shift < 32 && (uint64_t)span >> shift >= length) shift++;
     for (size_t part = 0; part < length; part++) {
         index[part] = 0;
         for (size_t i = 0; i < count; i++)
@@ -998,6 +998,17 @@ static void indexes(void) {
         leave_edge(index, length * sizeof *index);
         leave_edge(index_six, length * sizeof *index_six);
     }
+    /* An index of one number: the size of one part that has all blocks. */
+    ipnetwork_v4 four[3] = {v4("0.0.0.0"), v4("0.0.0.13"), v4("255.255.255.255")};
+    ipnetwork_v6 six[3] = {v6("::"), v6("::ffff"), v6("ffff:ffff:ffff:ffff:ffff:ffff:ffff:ffff")};
+    uint32_t one = 77;
+    CHECK("one number", ipnetwork_v4_index_make(four, 1, &one, 1) == YES && one == 0);
+    CHECK("one number", ipnetwork_v6_index_make(six, 2, &one, 1) == YES && one == 16);
+    CHECK("one number", ipnetwork_v4_index_make(four, 2, &one, 1) == YES && one == 4);
+    asked_by(four, six, 2, &one, 1, addresses, addresses_six, 258);
+    CHECK("one number", ipnetwork_v4_index_make(four, 3, &one, 1) == YES && one == 32);
+    CHECK("one number", ipnetwork_v6_index_make(six, 3, &one, 1) == YES && one == 128);
+    asked_by(four, six, 3, &one, 1, addresses, addresses_six, 258);
     size_t size = 77;
     CHECK("size", ipnetwork_index_size(0, &size) == YES && size == 0);
     CHECK("size", ipnetwork_index_size(300, &size) == YES && size == 1200);

@@ -1,6 +1,8 @@
 -- Indexes of a list of two networks, and the parts that they have: another number in one of them is none.
-use Rattle.std.proofs.Common.{◌≡◌, ℕ, zero, suc, ◌+◌, ◌*◌, ◌^◌, ◌≤◌, List, [], ◌∷◌, length, get_or, refl, subst, arith}
+use Rattle.std.proofs.Common.{◌≡◌, ℕ, zero, suc, ◌+◌, ◌*◌, ◌/◌, ◌^◌, ◌<◌, ◌≤◌, List, [], ◌∷◌, length, get_or, refl, subst, arith}
 use Rattle.std.specs.Prelude.{min}
+use Rattle.std.proofs.Math.Pow.{pow-lt}
+use Rattle.std.proofs.lemmas.Nat.{pow_pos, le-div}
 use Rattle.ipnetwork_family.specs.Network.{Network}
 use Rattle.ipnetwork_c.specs.Numbers.{ok, short_buffer}
 use Rattle.ipnetwork_c.specs.Held.{number_of_octets}
@@ -24,9 +26,9 @@ none_begins_before_10 h = let l = h.last (record { address = 10; prefix = 128 })
 
 -- in parts of four, the second network would be in a third part, and parts of sixteen are not the least
 pub two_parts_have_eight : (shift : ℕ) → AreLeastParts two 2 shift → shift ≡ 3
-two_parts_have_eight zero h = let e = h.enough (omega arith) in absurd (omega (arith, e))
-two_parts_have_eight (suc zero) h = let e = h.enough (omega arith) in absurd (omega (arith, e))
-two_parts_have_eight (suc (suc zero)) h = let e = h.enough (omega arith) in absurd (omega (arith, e))
+two_parts_have_eight zero h = absurd (omega (arith, h.enough))
+two_parts_have_eight (suc zero) h = absurd (omega (arith, h.enough))
+two_parts_have_eight (suc (suc zero)) h = absurd (omega (arith, h.enough))
 two_parts_have_eight (suc (suc (suc zero))) h = refl
 two_parts_have_eight (suc (suc (suc (suc i)))) h = let l = h.least 3 (omega arith) in absurd (omega (arith, l))
 
@@ -43,6 +45,34 @@ the_index_of_two size start h = (shift_is, start_is)
         let i : one.0 ≡ 1 = one_begins_before_18 one.0 begins in
         let is : start ≡ min one.0 4294967295 = one.2 in
         omega (arith, i, is)
+
+-- one part has both networks, and is the least that has them: its size is the one number of an index of one number
+pub one_part_has_sixteen : (shift : ℕ) → AreLeastParts two 1 shift → shift ≡ 4
+one_part_has_sixteen zero h = absurd (omega (arith, h.enough))
+one_part_has_sixteen (suc zero) h = absurd (omega (arith, h.enough))
+one_part_has_sixteen (suc (suc zero)) h = absurd (omega (arith, h.enough))
+one_part_has_sixteen (suc (suc (suc zero))) h = absurd (omega (arith, h.enough))
+one_part_has_sixteen (suc (suc (suc (suc zero)))) h = refl
+one_part_has_sixteen (suc (suc (suc (suc (suc i))))) h = let l = h.least 4 (omega arith) in absurd (omega (arith, l))
+
+pub the_index_of_one_number : (size : ℕ) → IsIndexOf two (size ∷ []) → size ≡ 4
+the_index_of_one_number size h = one_part_has_sixteen size (h.size (omega arith))
+
+-- of networks at the first and the last address it is that of all addresses
+abbrev ends : List Network
+ends = record { address = 0; prefix = 128 } ∷ record { address = 0xffffffffffffffffffffffffffffffff; prefix = 128 } ∷ []
+
+pub one_part_has_all_addresses : (size : ℕ) → IsIndexOf ends (size ∷ []) → size ≡ 128
+one_part_has_all_addresses size h =
+    let parts : AreLeastParts ends 1 size = h.size (omega arith) in
+    let not_less : ¬ (size < 128) = λ less.
+    let power : 2 ^ size < 0x100000000000000000000000000000000 = pow-lt less in
+    let some : 1 ≤ 0xffffffffffffffffffffffffffffffff / 2 ^ size = le-div 1 0xffffffffffffffffffffffffffffffff (2 ^ size) (pow_pos size) (omega (arith, power)) in
+    let enough : 0xffffffffffffffffffffffffffffffff / 2 ^ size < 1 = parts.enough in
+    omega (arith, some, enough)
+    in
+    let not_more : ¬ (128 < size) = λ more. let least : 1 ≤ 0 = parts.least 128 more in omega (arith, least) in
+    omega (arith, not_less, not_more)
 
 -- what is asked in a column has an answer of its own, and no answer without room is written
 pub rows_without_room_have_no_answer : {C : Type 0} (w : ℕ) (held : C → Network) (list : List C) (asked : List (List ℕ)) (before after : List ℕ × List ℕ) → SetRows w held list asked before after short_buffer

@@ -56,13 +56,13 @@ span_is held list first last a b some first_is last_is a_is b_is =
     subst (λ (k : ℕ). b - a ≡ address_at ns (k - 1) - address_at ns 0) (sym (length-map list held)) (omega (arith, from, to))
 
 pub parts_of_none : (ns : List Network) (count : ℕ) → length ns ≡ 0 → 1 ≤ count → AreLeastParts ns count 0
-parts_of_none [] count none some = record { enough = λ two. omega arith; least = λ smaller l. absurd (omega arith) }
+parts_of_none [] count none some = record { enough = omega arith; least = λ smaller l. absurd (omega arith) }
 parts_of_none (n ∷ ns) count none some = absurd (omega (arith, none))
 
 -- parts of this size are few enough, and those of smaller sizes are not
 pub parts_found : (ns : List Network) (count shift own : ℕ) → own ≡ min (span ns / 2 ^ shift) 18446744073709551615 → own < count → count ≤ 18446744073709551615
     → ((smaller : ℕ) → smaller < shift → count ≤ span ns / 2 ^ smaller) → AreLeastParts ns count shift
-parts_found ns count shift own is less few more = record { enough = λ two. omega arith; least = more }
+parts_found ns count shift own is less few more = record { enough = omega arith; least = more }
 
 pub parts_more : (ns : List Network) (count shift own : ℕ) → own ≡ min (span ns / 2 ^ shift) 18446744073709551615 → count ≤ own
     → ((smaller : ℕ) → smaller < shift → count ≤ span ns / 2 ^ smaller) → (smaller : ℕ) → smaller < shift + 1 → count ≤ span ns / 2 ^ smaller
@@ -74,14 +74,20 @@ parts_more ns count shift own is le more smaller l =
     subst (λ (k : ℕ). count ≤ span ns / 2 ^ k) e (omega arith))
     (cases_lt smaller shift)
 
--- the two halves of all numbers are at most two parts
-pub parts_half : (ns : List Network) (w count half : ℕ) → half + 1 ≡ w → span ns < 2 ^ w → ((smaller : ℕ) → smaller < half → count ≤ span ns / 2 ^ smaller) → AreLeastParts ns count half
-parts_half ns w count half e small more =
+-- one part of all numbers reaches over each list
+pub parts_all : (ns : List Network) (w count half : ℕ) → half + 1 ≡ w → span ns < 2 ^ w → 1 ≤ count → ((smaller : ℕ) → smaller < half + 1 → count ≤ span ns / 2 ^ smaller) → AreLeastParts ns count (half + 1)
+parts_all ns w count half e small some more =
+    let one : span ns / 2 ^ w < 1 = div_below (span ns) (2 ^ w) 1 (pow_pos w) (omega arith) in
+    record { enough = subst (λ (k : ℕ). span ns / 2 ^ k < count) (sym e) (omega arith); least = more }
+
+-- two parts of half of all numbers do too
+pub two_halves : (ns : List Network) (w count half : ℕ) → half + 1 ≡ w → span ns < 2 ^ w → count ≤ span ns / 2 ^ half → count < 2
+two_halves ns w count half e small least =
     let pos : 0 < 2 ^ half = pow_pos half in
     let is : w ≡ suc half = omega arith in
     let whole : 2 ^ w ≡ 2 ^ half + 2 ^ half = ap (λ k. 2 ^ k) is ∙ two-pow-succ half in
     let two : span ns / 2 ^ half < 2 = div_below (span ns) (2 ^ half) 2 pos (omega arith) in
-    record { enough = λ some. omega arith; least = more }
+    omega arith
 
 -- ---- how many begin before a part
 

@@ -21,10 +21,9 @@ pub record BeginBefore (networks : List Network) (number i : ℕ) : Type 0 where
   pub last : (n : Network) → 0 < i → slice_get networks (i - 1) ≡ Some n → n.address < number
   pub next : (n : Network) → slice_get networks i ≡ Some n → number ≤ n.address
 
--- so many parts of 2 ^ shift numbers each, at least two of them, reach from the first address to the last, and as many
--- smaller ones do not
+-- so many parts of 2 ^ shift numbers each reach from the first address to the last, and as many smaller ones do not
 pub record AreLeastParts (networks : List Network) (count shift : ℕ) : Type 0 where
-  pub enough : 2 ≤ count → span networks / 2 ^ shift < count
+  pub enough : span networks / 2 ^ shift < count
   pub least : (smaller : ℕ) → smaller < shift → count ≤ span networks / 2 ^ smaller
 
 -- the index of networks, as many numbers as there are parts: the first is the size of the parts, as a power of two, and

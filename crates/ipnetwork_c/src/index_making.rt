@@ -63,7 +63,7 @@ fn make<N: AddressSpace, H: Numbered<N>>(list: &[H], index: &mut [u32])
 // The size of the least parts of which so many reach over the list, as a power of two.
 fn least_shift<N: AddressSpace, H: Numbered<N>>(list: &[H], count: usize) -> u32
     requires { 1 ≤ count }
-    ensures narrow { result < N.WIDTH }
+    ensures narrow { 2 ≤ count → result < N.WIDTH }
     ensures least { AreLeastParts (map H.held list.now) count result }
 {
     let half = H::half();
@@ -73,13 +73,13 @@ fn least_shift<N: AddressSpace, H: Numbered<N>>(list: &[H], count: usize) -> u32
     let first = list[0].own_number();
     let last = list[list.len() - 1].own_number();
     let mut shift = 0;
-    while shift < half {
+    while shift <= half {
         if H::part_of(last, first, shift) < count {
             return shift;
         }
         shift += 1;
     }
-    half
+    half + 1
 }
 
 // How many structs of the list begin before the part. The last one before `from` does.

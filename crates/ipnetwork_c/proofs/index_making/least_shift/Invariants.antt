@@ -1,12 +1,12 @@
-use Rattle.std.proofs.Common.{ℕ, ◌-◌, ◌/◌, ◌^◌, ◌<◌, ◌≤◌, map}
+use Rattle.std.proofs.Common.{ℕ, ◌+◌, ◌-◌, ◌/◌, ◌^◌, ◌<◌, ◌≤◌, map}
 use Rattle.ipnetwork_c.specs.Indexes.{span}
 use Rattle.ipnetwork_c.proofs.index_making.least_shift.Given as goal
 
 abbrev pub invariant-loop-shift : goal.invariant-loop-shift
 invariant-loop-shift g l = record {
-  narrow : l.shift ≤ l.half;
+  narrow : l.shift ≤ l.half + 1;
   more : (smaller : ℕ) → smaller < l.shift → l.count ≤ span (map g.H.HoldsNetwork.held l.list) / 2 ^ smaller;
 }
 
 abbrev pub decreases-loop-shift : goal.decreases-loop-shift
-decreases-loop-shift g l = l.half - l.shift
+decreases-loop-shift g l = l.half + 1 - l.shift
