@@ -1062,10 +1062,10 @@ static size_t place_by(const struct ranges_of_table *of, size_t place_count, con
     return ipnetwork_v6_ranges_place((const ipnetwork_v6 *)of->structs, of->count, of->places, place_count, of->index, of->index_length, address);
 }
 
-static ipnetwork_fault column_by(const struct ranges_of_table *of, const uint8_t *addresses, size_t asked, size_t *places, size_t room, uint8_t *faults, size_t fault_room) {
+static ipnetwork_fault column_by(const struct ranges_of_table *of, size_t place_count, const uint8_t *addresses, size_t asked, size_t *places, size_t room, uint8_t *faults, size_t fault_room) {
     if (of->width == 4)
-        return ipnetwork_v4_ranges_find_column((const ipnetwork_v4 *)of->structs, of->count, of->places, of->count, of->index, of->index_length, addresses, asked, places, room, faults, fault_room);
-    return ipnetwork_v6_ranges_find_column((const ipnetwork_v6 *)of->structs, of->count, of->places, of->count, of->index, of->index_length, addresses, asked, places, room, faults, fault_room);
+        return ipnetwork_v4_ranges_find_column((const ipnetwork_v4 *)of->structs, of->count, of->places, place_count, of->index, of->index_length, addresses, asked, places, room, faults, fault_room);
+    return ipnetwork_v6_ranges_find_column((const ipnetwork_v6 *)of->structs, of->count, of->places, place_count, of->index, of->index_length, addresses, asked, places, room, faults, fault_room);
 }
 
 /* Where no block has the address, its place may be one that cannot be written. */
@@ -1078,7 +1078,7 @@ static void nothing_is_written(const struct ranges_of_table *of, const uint8_t *
         CHECK("ranges", found_by(of, of->count, address, place) == IPNETWORK_NO_MEMBER);
         memcpy(without + rows++ * of->width, address, of->width);
     }
-    CHECK("ranges", column_by(of, without, rows, place, rows, faults, rows) == YES);
+    CHECK("ranges", column_by(of, of->count, without, rows, place, rows, faults, rows) == YES);
     for (size_t i = 0; i < rows; i++) CHECK("ranges", faults[i] == IPNETWORK_NO_MEMBER);
     if (munmap(place, (size_t)sysconf(_SC_PAGESIZE)) != 0)
         abort();
@@ -1112,7 +1112,7 @@ static void asked_ranges(const uint8_t *blocks, size_t count, size_t width, cons
             for (size_t i = 0; i < 20; i++) of.index[i] = number() % 4 == 0 ? number() * 65537u : number() % 24;
         memset(found, 77, sizeof found);
         memset(faults, 77, sizeof faults);
-        CHECK("ranges", column_by(&of, addresses, asked, found, asked, faults, 300) == YES);
+        CHECK("ranges", column_by(&of, of.count, addresses, asked, found, asked, faults, 300) == YES);
         CHECK("ranges", ((uint8_t *)found)[asked * sizeof *found] == 77 && faults[asked] == 77);
         for (size_t i = 0; i < asked; i++) {
             size_t place, wanted = plain_longest(blocks, count, width, addresses + i * width), blank;
@@ -1125,11 +1125,19 @@ static void asked_ranges(const uint8_t *blocks, size_t count, size_t width, cons
             CHECK("ranges", place_by(&of, of.count, addresses + i * width) == wanted && place_by(&of, 0, addresses + i * width) == IPNETWORK_NO_PLACE);
         }
     }
+    if (of.count > 0) {
+        /* Beside the last range stands no place. */
+        const uint8_t *last = of.structs + (of.count - 1) * stride;
+        size_t place = 77;
+        CHECK("fewer places", place_by(&of, of.count - 1, last) == IPNETWORK_NO_PLACE);
+        CHECK("fewer places", found_by(&of, of.count - 1, last, &place) == IPNETWORK_NO_MEMBER && place == 77);
+        CHECK("fewer places", column_by(&of, of.count - 1, last, 1, &place, 1, faults, 1) == YES && faults[0] == IPNETWORK_NO_MEMBER);
+    }
     if (count > 0) {
         size_t told = 77;
         CHECK("room", (width == 4 ? ipnetwork_v4_ranges_make((const ipnetwork_v4 *)blocks, count, (ipnetwork_v4 *)of.structs, 2 * count - 1, of.places, room, &told)
                                   : ipnetwork_v6_ranges_make((const ipnetwork_v6 *)blocks, count, (ipnetwork_v6 *)of.structs, room, of.places, 2 * count - 1, &told)) == IPNETWORK_SHORT_BUFFER && told == 77);
-        CHECK("room", column_by(&of, addresses, 2, found, 1, faults, 2) == IPNETWORK_SHORT_BUFFER && column_by(&of, addresses, 2, found, 2, faults, 1) == IPNETWORK_SHORT_BUFFER);
+        CHECK("room", column_by(&of, of.count, addresses, 2, found, 1, faults, 2) == IPNETWORK_SHORT_BUFFER && column_by(&of, of.count, addresses, 2, found, 2, faults, 1) == IPNETWORK_SHORT_BUFFER);
     }
     nothing_is_written(&of, blocks, count, addresses, asked);
     leave_edge(of.structs, room * stride);
@@ -1496,6 +1504,7 @@ static void refused_of_either(void) {
         CHECK("bad", ipnetwork_is_subnet_of(&past, &bad, &answer) == PREF);
         CHECK("bad", ipnetwork_overlaps(&bad, &good, &answer) == wanted);
         CHECK("bad", ipnetwork_overlaps(&good, &bad, &answer) == wanted);
+        CHECK("bad", ipnetwork_overlaps(&past, &bad, &answer) == PREF);
         CHECK("bad", ipnetwork_compare(&bad, &good, &order) == wanted);
         CHECK("bad", ipnetwork_compare(&good, &bad, &order) == wanted);
         CHECK("bad", ipnetwork_compare(&past, &bad, &order) == PREF);
@@ -1656,11 +1665,31 @@ static void printed_columns_of_either(void) {
     CHECK("NULL", ipnetwork_address_print_column(NULL, 0, NULL, 0, NULL, 0, &told) == IPNETWORK_SHORT_BUFFER && told == 0);
 }
 
+/* Where each field stands, and the bytes of structs that are read. */
+static void layout(void) {
+    static const uint8_t octets[] = {0x20, 1, 0x0d, 0xb8, 0, 0, 0, 0, 0, 0, 0, 0, 0, 0, 0, 1, 64}, none[17] = {0};
+    ipnetwork_v4 four = v4("10.1.9.32/16");
+    ipnetwork_v6 six = v6("2001:db8::1/64");
+    ipnetwork_ip ip;
+    ipnetwork_address address;
+    CHECK("layout", sizeof four == 5 && offsetof(ipnetwork_v4, address) == 0 && offsetof(ipnetwork_v4, prefix) == 4);
+    CHECK("layout", sizeof six == 17 && offsetof(ipnetwork_v6, address) == 0 && offsetof(ipnetwork_v6, prefix) == 16);
+    CHECK("layout", sizeof ip == 23 && offsetof(ipnetwork_ip, family) == 0);
+    CHECK("layout", offsetof(ipnetwork_ip, v4) == 1 && offsetof(ipnetwork_ip, v6) == 6);
+    CHECK("layout", sizeof address == 17 && offsetof(ipnetwork_address, octets) == 0 && offsetof(ipnetwork_address, length) == 16);
+    CHECK("bytes", memcmp(&four, "\x0a\x01\x09\x20\x10", 5) == 0 && memcmp(&six, octets, 17) == 0);
+    CHECK("bytes", read_ip("10.1.9.32/16", &ip) == YES);
+    CHECK("bytes", memcmp(&ip, "\x04\x0a\x01\x09\x20\x10", 6) == 0 && memcmp((char *)&ip + 6, none, 17) == 0);
+    CHECK("bytes", read_ip("2001:db8::1/64", &ip) == YES);
+    CHECK("bytes", memcmp(&ip, "\x06\0\0\0\0\0", 6) == 0 && memcmp((char *)&ip + 6, octets, 17) == 0);
+    CHECK("bytes", ipnetwork_address_read("10.1.9.32", 9, &address) == YES);
+    CHECK("bytes", memcmp(&address, "\x0a\x01\x09\x20\0\0\0\0\0\0\0\0\0\0\0\0\x04", 17) == 0);
+}
+
 int main(void) {
-    CHECK("layout", sizeof(ipnetwork_v4) == 5 && sizeof(ipnetwork_v6) == 17 && sizeof(ipnetwork_ip) == 23);
-    CHECK("layout", sizeof(ipnetwork_address) == 17);
     CHECK("version", ipnetwork_abi_version() == IPNETWORK_ABI_VERSION);
     CHECK("version", ipnetwork_abi_minor_version() == IPNETWORK_ABI_MINOR_VERSION);
+    layout();
     texts();
     nothing();
     fault_texts();
