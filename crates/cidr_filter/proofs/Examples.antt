@@ -1,6 +1,6 @@
 -- Values at which a misreading of the definitions would show.
 use Rattle.std.proofs.Common.{◌≡◌, ℕ, length, List, [], ◌∷◌, ◌++◌, Bool, true, false, inl, inr, refl, ap, append-nil, arith}
-use Rattle.std.specs.Prelude.{codes, bytes_eq, String, Some, None}
+use Rattle.std.specs.Prelude.{codes, map, bytes_eq, String, Some, None}
 use Rattle.std.specs.Fmt.{digits}
 use Rattle.std.specs.String.{string_bytes}
 use Rattle.ipnetwork_addr.specs.Computed.Ipv6Text.{v6_of, gap_below}
@@ -8,11 +8,11 @@ use Rattle.ipnetwork_addr.specs.declared.ip.IpAddr.{IpAddr}
 use Rattle.ipnetwork_addr.specs.declared.ip.IpAddr.TheVariants as addresses
 use Rattle.line_addresses.specs.Addresses.{address_of, before_port, address_in}
 use Rattle.ipnetwork.specs.IpNetworks.{IpMember}
-use Rattle.ipnetwork.specs.declared.ip_network.IpNetwork.TheVariants.{V4}
+use Rattle.ipnetwork.specs.declared.ip_network.IpNetwork.TheVariants.{V4, V6}
 use Rattle.lists.specs.declared.entry.EntryFault.TheVariants.{Prefix}
 use Rattle.lists.specs.declared.fault.LineFault.TheVariants.{Entry}
 use Rattle.line_addresses.specs.Fields.{field_of}
-use Rattle.cidr_filter.specs.Filters.{IsListed, IsVerdict, addresses_in, is_selected, is_refused, mark_of, output_of}
+use Rattle.cidr_filter.specs.Filters.{IsListed, IsVerdict, addresses_in, is_selected, is_refused, mark_of, shown_of, output_of}
 use Rattle.program.specs.LogLines.{LogLine, log_lines, ended_lines, content, printed}
 use Rattle.cidr_filter.specs.Listed.{IsStored, IsLongestBlock}
 use Rattle.program.specs.LogFaults.{log_fault_text}
@@ -26,11 +26,14 @@ use Rattle.cidr_filter.specs.Told.{in_option}
 use Rattle.cidr_filter.specs.declared.filter.WithoutAddress.{WithoutAddress}
 use Rattle.cidr_filter.specs.declared.filter.WithoutAddress.TheVariants as without
 use Rattle.cidr_filter.specs.declared.filter.Filter.{Filter}
+use Rattle.cidr_filter.specs.declared.filter.Shown.{Shown}
 use Rattle.cidr_filter.specs.declared.filter.Shown.TheVariants as shows
 use Rattle.line_addresses.specs.declared.place.Place.{Place}
 use Rattle.line_addresses.specs.declared.place.Place.TheVariants as places
+use Rattle.cidr_filter.specs.declared.filter.Verdict.{Verdict}
 use Rattle.cidr_filter.specs.declared.filter.Verdict.TheVariants as verdicts
 use Rattle.cidr_filter.specs.declared.listed.Listed.TheVariants.{Addresses, Blocks}
+use Rattle.cidr_filter.specs.declared.listed.Sets.{Sets}
 use Rattle.cidr_filter.specs.declared.listed.Tables.{Tables}
 use Rattle.program.specs.declared.log_fault.LogFault.TheVariants as faults
 use Rattle.lists.specs.declared.opening.OpenFault.TheVariants as causes
@@ -199,6 +202,19 @@ block_before_a_line tables = refl
 
 pub no_block : (tables : Tables) → mark_of (Blocks tables) verdicts.NoAddress ≡ codes "-\t"
 no_block tables = refl
+
+pub block_of_ipv6 : (tables : Tables) → mark_of (Blocks tables) (verdicts.Inside (Some (V6 (record { address = 0; prefix = 0 })))) ≡ codes "::/0\t"
+unfolding digits
+block_of_ipv6 tables = refl
+
+pub no_mark : (sets : Sets) (verdict : Verdict) → mark_of (Addresses sets) verdict ≡ []
+no_mark sets verdict = refl
+
+-- the line as it was stands behind what stands first and its mark, and a name or nothing in place of them
+pub what_is_shown : (tables : Tables) → let filter = record (by false without.Keep) { listed = Blocks tables; name = codes "log" } in
+    map (λ (shown : Shown). shown_of (record filter { shows = shown }) (codes "log:7:") verdicts.NoAddress (codes "a") (codes "a\r\n")) (shows.Lines ∷ shows.Count ∷ shows.Names ∷ shows.Nothing ∷ [])
+    ≡ codes "log:7:-\ta\r\n" ∷ [] ∷ codes "log\n" ∷ [] ∷ []
+what_is_shown tables = refl
 
 pub line_selected : output_of (by false without.Drop) 1 (verdicts.Inside None) (ended (codes "a\r")) ≡ codes "a\r\n"
 line_selected = refl

@@ -83,6 +83,14 @@ a_zero flag name value f n v = record {
   is_fault = inl (rw n);
 }
 
+-- of two wrong words the first is told, and of a wrong value and a wrong word behind it the value
+pub first_of_two_wrong_words : {Z : Type 0} (one two : String Z) → string_bytes one ≡ codes "-k0" → string_bytes two ≡ codes "--longer" → HasFault filter_options (one ∷ two ∷ []) (about (subjects.Word 0) problems.Field)
+first_of_two_wrong_words one two o t = record { choices = []; rest = one ∷ two ∷ []; begin = refl; no_more = rw o; is_fault = inl (rw o) }
+
+pub value_before_a_wrong_word : {Z : Type 0} (name value word : String Z) → string_bytes name ≡ codes "-k" → string_bytes value ≡ codes "0" → string_bytes word ≡ codes "--longer"
+    → HasFault filter_options (name ∷ value ∷ word ∷ []) (about (subjects.Value 0 1) problems.Field)
+value_before_a_wrong_word name value word n v w = record { choices = []; rest = name ∷ value ∷ word ∷ []; begin = refl; no_more = rw (n, v); is_fault = inl (rw n) }
+
 -- right words that are wrong together
 wrong_together : {Z : Type 0} (words : List (String Z)) (said : List Choice) (problem : Problem) → Begin filter_options words said [] → together_problem {Z = Z} filter_options (said_by filter_options said) [] ≡ Some problem
     → HasFault filter_options words (about subjects.CommandLine problem)

@@ -1,6 +1,6 @@
 -- Values at which a misreading of what a strict check finds would show. Each of these computes.
 use Rattle.std.proofs.Common.{◌≡◌, ℕ, List, ◌∷◌, [], true, false, refl}
-use Rattle.std.specs.Prelude.{codes, String, Some}
+use Rattle.std.specs.Prelude.{codes, map, String, Some}
 use Rattle.std.specs.Fmt.{digits}
 use Rattle.ipnetwork.specs.declared.ip_network.IpNetwork.TheVariants as networks
 use Rattle.ipnetwork_addr.specs.declared.ip.IpAddr.TheVariants.{V4}
@@ -45,6 +45,12 @@ the_first_address = refl
 pub the_only_address : has_host_bits (Some (Network (networks.V4
     (record { address = 167772161; prefix = 32 })))) ≡ false
 the_only_address = refl
+
+-- of IPv6, ::1/0 and 2001:db8::1/64 have host bits, and ::/0 and ::1/128 have none
+pub of_ipv6 : map (λ n. has_host_bits (Some (Network (networks.V6 n))))
+    (record { address = 1; prefix = 0 } ∷ record { address = 0x20010db8000000000000000000000001; prefix = 64 } ∷ record { address = 0; prefix = 0 }
+    ∷ record { address = 1; prefix = 128 } ∷ []) ≡ true ∷ true ∷ false ∷ false ∷ []
+of_ipv6 = refl
 
 pub host_bits_are_told : host_findings true (codes "f") 12
     (codes "10.0.0.1/8") ≡ codes "f:12: host bits: 10.0.0.1/8\n" ∷ []
