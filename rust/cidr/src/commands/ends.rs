@@ -1,0 +1,34 @@
+// Written by scripts/plain out of crates/cidr/src/commands/ends.rt
+
+//! `ends`: the ends of a network, its mask and its size.
+
+use crate::commands::REFUSED;
+use crate::commands::reading::network_of;
+use crate::replies::{ANSWER_MAX, Answer, reply};
+use fosibegan::ipnetwork::IpNetwork;
+use fosibegan::ipnetwork::decimal::push_number;
+use cidr_programs::lines::buffer::Buffer;
+
+/// `ends`: the ends of a network, its mask and its size.
+pub(crate) fn ends(word: &[u8], replies: &mut Buffer<'_>) {
+    match network_of(word) {
+        Ok(network) => {
+            let mut text = Answer::new();
+            push_ends(network, &mut text);
+            reply(replies, text.as_str());
+        }
+        Err(_) => reply(replies, REFUSED),
+    }
+}
+
+/// Writes the ends of a network, its mask and its size, with blanks between: at most three addresses of
+/// 39 bytes, a number of 39 digits and three blanks.
+fn push_ends(network: IpNetwork, text: &mut Answer) {
+    text.push_str(network.network().canonical().as_str());
+    text.push(' ');
+    text.push_str(network.broadcast().canonical().as_str());
+    text.push(' ');
+    text.push_str(network.mask().canonical().as_str());
+    text.push(' ');
+    push_number(text, u128::from(network.size()));
+}

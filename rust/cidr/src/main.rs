@@ -1,0 +1,40 @@
+// Written by scripts/plain out of crates/cidr/src/main.rt
+
+//! Answers each line of standard input on standard output.
+#![allow(unused_imports, unused_labels, unused_variables, dead_code)]
+#![forbid(unsafe_code)]
+
+use fosibegan::plain_std::rt::HostRuntime;
+
+mod answering;
+mod commands;
+mod dispatch;
+mod names;
+mod replies;
+mod route_tables;
+mod run;
+mod words;
+
+use crate::run::run;
+use cidr_programs::lines::fault::RunFault;
+use cidr_programs::lines::watched::Watched;
+use std::process::ExitCode;
+
+fn main() -> ExitCode {
+    let rt = HostRuntime::new();
+    let mut reader = Watched::new(rt.stdin());
+    let mut writer = Watched::new(rt.stdout());
+    let end = run(rt.alloc(), &mut reader, &mut writer);
+    if let Err(fault) = end {
+        let _ = rt.eprintln(fault.text());
+    }
+    status(end)
+}
+
+/// The exit status of the program: 0 after a run that answered its whole input, and 1 otherwise.
+fn status(end: Result<(), RunFault>) -> ExitCode {
+    match end {
+        Ok(()) => ExitCode::SUCCESS,
+        Err(_) => ExitCode::FAILURE,
+    }
+}

@@ -1,0 +1,262 @@
+// Written by scripts/plain out of crates/cidr_filter/src/filter.rt
+
+//! What a line is to the lists, and whether it is selected.
+
+use crate::listed::Listed;
+use fosibegan::ipnetwork::{IpAddr, IpNetwork};
+use cidr_programs::line_addresses::{
+    Place, Text, address_of, field_of, following, next_address, unmapped, word_of,
+};
+use cidr_programs::log_programs::finding::found_in;
+use cidr_programs::program::log_reader::LINE_MAX;
+
+/// What becomes of a line without an address.
+#[derive(Clone, Copy, Debug, PartialEq, Eq)]
+pub enum WithoutAddress {
+    /// It is not selected.
+    Drop,
+    /// It is selected.
+    Keep,
+    /// It ends the run.
+    Stop,
+}
+
+/// What a line is to a list.
+#[derive(Clone, Copy, Debug, PartialEq, Eq)]
+pub enum Verdict {
+    /// An address of it is one of the lists. With `--longest`, this is the longest block that holds
+    /// the first of these.
+    Inside(Option<IpNetwork>),
+    /// It has addresses, and none is one of the lists.
+    Outside,
+    /// It has no address.
+    NoAddress,
+    /// It has more than 1,048,576 bytes, not counting its line end.
+    TooLong,
+}
+
+impl Verdict {
+    /// Whether a line of this verdict has an address where it is looked for, or one before it has.
+    pub(crate) fn is_addressed_or(&self, before: bool) -> bool
+    {
+        before || self.is_addressed()
+    }
+
+    // Whether a line of this verdict has one. A line that is too long has none.
+    fn is_addressed(&self) -> bool {
+        match *self {
+            Verdict::Inside(_) => true,
+            Verdict::Outside => true,
+            Verdict::NoAddress => false,
+            Verdict::TooLong => false,
+        }
+    }
+}
+
+/// What is printed.
+#[derive(Clone, Copy, Debug, PartialEq, Eq)]
+pub enum Shown {
+    /// The selected lines.
+    Lines,
+    /// Their addresses that are in the list, in place of them.
+    Addresses,
+    /// How many lines are selected.
+    Count,
+    /// The name of each log that has a selected line.
+    Names,
+    /// Nothing, and the run ends at the first selected line.
+    Nothing,
+}
+
+/// What decides which lines are selected, and what is printed of them.
+pub struct Filter<'a> {
+    pub(crate) listed: Listed,
+    pub(crate) place: Place<'a>,
+    /// Whether an IPv4-mapped address of a line counts as its IPv4 one.
+    pub(crate) mapped: bool,
+    pub(crate) inverts: bool,
+    pub(crate) bad: WithoutAddress,
+    /// How many lines of a log are selected at the most, if that is said: the log ends at the last
+    /// of them.
+    pub(crate) most: Option<u64>,
+    /// What is printed.
+    pub(crate) shows: Shown,
+    /// Whether the name of its log is printed of a line.
+    pub(crate) named: bool,
+    /// Whether the number of a line stands before what is printed of it.
+    pub(crate) numbered: bool,
+    /// The name of its log, if it is printed. It is empty if it is not.
+    pub(crate) name: Text<'a>,
+}
+
+impl Filter<'_> {
+    /// What a line is to the list. It is given without its end. Does not allocate.
+    #[inline(always)]
+    pub(crate) fn judge(&self, line: &[u8]) -> Verdict {
+        if line.len() > LINE_MAX {
+            return Verdict::TooLong;
+        }
+        self.judge_within(line)
+    }
+
+    /// Whether a line is selected, if it is not too long and has the one address that is looked for.
+    /// No branch is taken on that, so that the processor guesses nothing wrong. Of another line, and
+    /// with `--longest`, nothing is told.
+    #[inline(always)]
+    pub(crate) fn selects_by_address(&self, line: &[u8]) -> Option<bool> {
+        if line.len() > LINE_MAX {
+            return None;
+        }
+        let Listed::Addresses(sets) = &self.listed else {
+            return None;
+        };
+        match self.only_address(line) {
+            Some(address) => Some(sets.contains(self.asked(address)) != self.inverts),
+            None => None,
+        }
+    }
+
+    // The address of a line, if only one is looked for and the line has it.
+    #[inline(always)]
+    fn only_address(&self, line: &[u8]) -> Option<IpAddr> {
+        match &self.place {
+            Place::Anywhere | Place::After(_) => None,
+            _ => found_in(&self.place, line),
+        }
+    }
+
+    // What a line that is not too long is to the list.
+    #[inline(always)]
+    fn judge_within(&self, line: &[u8]) -> Verdict {
+        match &self.place {
+            Place::Field { number, separator } => match field_of(line, *number, *separator) {
+                Some(field) => self.judge_part(field),
+                None => Verdict::NoAddress,
+            },
+            Place::Word(number) => match word_of(line, *number) {
+                Some(word) => self.judge_part(word),
+                None => Verdict::NoAddress,
+            },
+            Place::Anywhere => self.judge_anywhere(line),
+            Place::After(text) => match following(line, text.bytes()) {
+                Some(rest) => self.judge_first(rest),
+                None => Verdict::NoAddress,
+            },
+        }
+    }
+
+    // What a line is to the list of which only this part is looked at.
+    #[inline(always)]
+    fn judge_part(&self, part: &[u8]) -> Verdict {
+        match address_of(part) {
+            Some(address) => match self.told_of(address) {
+                Some(told) => Verdict::Inside(told),
+                None => Verdict::Outside,
+            },
+            None => Verdict::NoAddress,
+        }
+    }
+
+    // What a line is to the list of which the first address of this rest is looked at.
+    fn judge_first(&self, rest: &[u8]) -> Verdict {
+        match next_address(rest, 0) {
+            Some(found) => match self.told_of(found.address) {
+                Some(told) => Verdict::Inside(told),
+                None => Verdict::Outside,
+            },
+            None => Verdict::NoAddress,
+        }
+    }
+
+    // What a line is to the list whose addresses stand anywhere in it.
+    fn judge_anywhere(&self, line: &[u8]) -> Verdict {
+        let mut at = 0;
+        let mut is_seen = false;
+        'addresses: while let Some(found) = next_address(line, at) {
+            if let Some(told) = self.told_of(found.address) {
+                return Verdict::Inside(told);
+            }
+            is_seen = true;
+            at = found.next;
+        }
+        if is_seen {
+            Verdict::Outside
+        } else {
+            Verdict::NoAddress
+        }
+    }
+
+    // If an address is one of the list, what is told of it.
+    #[inline(always)]
+    fn told_of(&self, address: IpAddr) -> Option<Option<IpNetwork>> {
+        let address = self.asked(address);
+        match &self.listed {
+            Listed::Addresses(sets) => {
+                if sets.contains(address) {
+                    Some(None)
+                } else {
+                    None
+                }
+            }
+            Listed::Blocks(tables) => match tables.longest(address) {
+                Some(block) => Some(Some(block)),
+                None => None,
+            },
+        }
+    }
+
+    /// Whether an address of a line is printed in place of it: whether it is in the list. Of blocks
+    /// none is, since `-o` is not given together with `--longest`.
+    pub(crate) fn prints(&self, address: IpAddr) -> bool {
+        match &self.listed {
+            Listed::Addresses(sets) => sets.has(self.asked(address)),
+            Listed::Blocks(_) => false,
+        }
+    }
+
+    // The address for which the list is asked.
+    #[inline(always)]
+    fn asked(&self, address: IpAddr) -> IpAddr {
+        if self.mapped {
+            unmapped(address)
+        } else {
+            address
+        }
+    }
+
+    /// Whether the selected lines are only counted.
+    pub(crate) fn counts(&self) -> bool {
+        match self.shows {
+            Shown::Count => true,
+            Shown::Lines | Shown::Addresses | Shown::Names | Shown::Nothing => false,
+        }
+    }
+
+    /// Whether nothing is printed, and the run ends at the first selected line.
+    pub(crate) fn is_silent(&self) -> bool {
+        match self.shows {
+            Shown::Nothing => true,
+            Shown::Lines | Shown::Addresses | Shown::Count | Shown::Names => false,
+        }
+    }
+
+    /// Whether a line of this verdict is selected.
+    pub(crate) fn selects(&self, verdict: &Verdict) -> bool {
+        match *verdict {
+            Verdict::Inside(_) => !self.inverts,
+            Verdict::Outside => self.inverts,
+            Verdict::NoAddress => self.bad == WithoutAddress::Keep,
+            Verdict::TooLong => false,
+        }
+    }
+
+    /// Whether a line of this verdict ends the run.
+    pub(crate) fn refuses(&self, verdict: &Verdict) -> bool {
+        match *verdict {
+            Verdict::Inside(_) => false,
+            Verdict::Outside => false,
+            Verdict::NoAddress => self.bad == WithoutAddress::Stop,
+            Verdict::TooLong => self.bad != WithoutAddress::Drop,
+        }
+    }
+}

@@ -1,0 +1,168 @@
+// Written by scripts/plain out of crates/cidr_filter/src/log.rt
+
+//! Filters the lines of a log.
+
+use crate::filter::{Filter, Verdict};
+use crate::leaving::{fewer, is_spent, leave};
+use crate::printing::{print_selected, prints_as_read};
+use crate::recent::Recent;
+use cidr_programs::lines::line_end::LineEnd;
+use cidr_programs::lines::output::Output;
+use cidr_programs::lines::watched::Watched;
+use cidr_programs::program::log_fault::LogFault;
+use cidr_programs::program::log_reader::{LogReader, NextLogLine};
+use fosibegan::plain_std::io::{Read, Write};
+
+/// Where the filtering of a log ends that nothing stops.
+#[derive(Clone, Copy, Debug, PartialEq, Eq)]
+pub enum Reached {
+    /// The end of the log.
+    End,
+    /// The last line that may be selected. Nothing is read behind it.
+    Last,
+}
+
+/// How many lines were selected.
+#[derive(Clone, Copy, Debug, PartialEq, Eq)]
+pub struct Tally {
+    /// How many lines of all logs were selected.
+    pub selected: u64,
+    /// How many lines of this log came before the one that is read.
+    pub lines: u64,
+    /// Whether one of these has an address where it is looked for.
+    pub is_addressed: bool,
+}
+
+/// Filters the lines of a log, up to the last that may be selected: those that are selected are
+/// written, or only counted. No line behind that is asked for, so that no read is made for it.
+///
+/// What is selected of the lines that a read completes is written before the next read. After a
+/// failed read nothing is written. A line that is too long ends the run even if its end was not
+/// read.
+pub(crate) fn filter_log<R: Read, W: Write>(
+    filter: &Filter,
+    log: &mut LogReader<'_>,
+    reader: &mut Watched<R>,
+    output: &mut Output<'_, W>,
+    tally: &mut Tally,
+) -> Result<Reached, LogFault> {
+    let _ = counted(tally.lines);
+    let refuses_long_lines = filter.refuses(&Verdict::TooLong);
+    let mut left = filter.most;
+    let mut recent = Recent::new(tally.selected);
+    let as_read = prints_as_read(filter);
+    if is_spent(left) {
+        return leave(output);
+    }
+    'lines: loop {
+        match log.next(reader, output) {
+            Ok(NextLogLine::Line(end)) => {
+                let line = log.line();
+                let whole = log.whole_line();
+                let is_copied = as_read && recent.are_many;
+                match filter_line(filter, line, whole, end, is_copied, output, tally) {
+                    Ok(is_selected) => {
+                        left = fewer(left, is_selected);
+                        recent.note(tally.lines, tally.selected);
+                    }
+                    Err(fault) => return Err(fault),
+                }
+                if is_spent(left) {
+                    return leave(output);
+                }
+            }
+            Ok(NextLogLine::TooLong) => {
+                if refuses_long_lines {
+                    return Err(LogFault::Length);
+                }
+                tally.lines = tally.lines.saturating_add(1);
+            }
+            Ok(NextLogLine::End) => return Ok(Reached::End),
+            Err(fault) => return Err(fault),
+        }
+    }
+}
+
+// Filters a line within the limit, and returns whether it is selected. `whole` is the line as it
+// was read, with its end. If it `is_copied`, it is so before it is known whether it is selected.
+fn filter_line<W: Write>(
+    filter: &Filter,
+    line: &[u8],
+    whole: &[u8],
+    end: LineEnd,
+    is_copied: bool,
+    output: &mut Output<'_, W>,
+    tally: &mut Tally,
+) -> Result<bool, LogFault> {
+    if is_copied && has_feed(end) {
+        if let Some(is_selected) = filter.selects_by_address(line) {
+            return pass_line(is_selected, whole, output, tally);
+        }
+    }
+    filter_judged(filter, line, whole, end, output, tally)
+}
+
+// Counts a line that has an address, and writes it as it was read if it is selected.
+#[inline(always)]
+fn pass_line<W: Write>(
+    is_selected: bool,
+    whole: &[u8],
+    output: &mut Output<'_, W>,
+    tally: &mut Tally,
+) -> Result<bool, LogFault> {
+    tally.lines = tally.lines.saturating_add(1);
+    tally.is_addressed = true;
+    tally.selected = tally.selected.saturating_add(u64::from(is_selected));
+    match output.put_if(whole, is_selected) {
+        Ok(()) => Ok(is_selected),
+        Err(_) => Err(LogFault::Write),
+    }
+}
+
+// Whether no line feed is written behind a line that ended so.
+#[inline(always)]
+fn has_feed(end: LineEnd) -> bool {
+    match end {
+        LineEnd::LineFeed | LineEnd::ReturnAndLineFeed => true,
+        LineEnd::EndOfInput => false,
+    }
+}
+
+// Filters a line within the limit, by the verdict on it.
+fn filter_judged<W: Write>(
+    filter: &Filter,
+    line: &[u8],
+    whole: &[u8],
+    end: LineEnd,
+    output: &mut Output<'_, W>,
+    tally: &mut Tally,
+) -> Result<bool, LogFault> {
+    let verdict = filter.judge(line);
+    if filter.refuses(&verdict) {
+        return Err(refusal_of(&verdict));
+    }
+    tally.lines = tally.lines.saturating_add(1);
+    tally.is_addressed = verdict.is_addressed_or(tally.is_addressed);
+    if !filter.selects(&verdict) {
+        return Ok(false);
+    }
+    tally.selected = tally.selected.saturating_add(1);
+    match print_selected(filter, tally.lines, &verdict, line, whole, end, output) {
+        Ok(()) => Ok(true),
+        Err(_) => Err(LogFault::Write),
+    }
+}
+
+// A number of lines, which 64 bits count: so that it is known of those before a log.
+#[inline(always)]
+fn counted(lines: u64) -> u64 {
+    lines
+}
+
+// Why a line of this verdict is refused.
+fn refusal_of(verdict: &Verdict) -> LogFault {
+    match *verdict {
+        Verdict::TooLong => LogFault::Length,
+        _ => LogFault::Address,
+    }
+}

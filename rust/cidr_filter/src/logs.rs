@@ -1,0 +1,174 @@
+// Written by scripts/plain out of crates/cidr_filter/src/logs.rt
+
+//! Filters the logs of a run in turn.
+
+use fosibegan::plain_std::string::String;
+use crate::filter::{Filter, Verdict};
+use crate::help::PROGRAM;
+use crate::log::{Reached, Tally, filter_log};
+use crate::naming::label_of;
+use crate::telling::tell_closed;
+use cidr_programs::line_addresses::Text;
+use cidr_programs::lines::fault::RunFault;
+use cidr_programs::lines::output::Output;
+use cidr_programs::lists::{OpenLists, open_list};
+use cidr_programs::log_programs::telling::tell_lacking;
+use cidr_programs::program::ending::{FAILED, end};
+use cidr_programs::program::log_fault::stop;
+use cidr_programs::program::log_reader::LogReader;
+use cidr_programs::program::messages::number_text;
+use cidr_programs::program::putting::put_both;
+use fosibegan::plain_std::io::Write;
+use core::mem::replace;
+
+/// The exit status if a line was selected.
+const SELECTED: u8 = 0;
+
+/// The exit status if none was.
+const NONE_SELECTED: u8 = 1;
+
+/// Filters the logs of these names in their order, or standard input if there is no name, and
+/// returns the exit status.
+pub(crate) fn filter_logs<'a, L: OpenLists, W: Write, E: Write>(
+    filter: &mut Filter<'a>,
+    lists: &L,
+    files: &'a [String],
+    buffer: &mut [u8],
+    output: &mut Output<'_, W>,
+    errors: &mut Output<'_, E>,
+) -> u8 {
+    let mut tally = Tally {
+        selected: 0,
+        lines: 0,
+        is_addressed: false,
+    };
+    let counts = filter.counts();
+    let is_silent = filter.is_silent();
+    match filter_each(filter, &mut tally, lists, files, buffer, output, errors) {
+        Some(missed) => {
+            let written = write_end(counts, tally.selected, output);
+            let is_enough = is_enough(is_silent, tally.selected);
+            end(written, status(is_enough, missed, tally.selected), errors)
+        }
+        None => FAILED,
+    }
+}
+
+// Filters the logs of these names, or standard input, up to the first that is enough, and returns
+// whether one of them could not be opened, which is reported. If a fault ends the filtering of one
+// that was opened, it is reported, and there is no answer.
+fn filter_each<'a, L: OpenLists, W: Write, E: Write>(
+    filter: &mut Filter<'a>,
+    tally: &mut Tally,
+    lists: &L,
+    files: &'a [String],
+    buffer: &mut [u8],
+    output: &mut Output<'_, W>,
+    errors: &mut Output<'_, E>,
+) -> Option<bool> {
+    if files.is_empty() {
+        let input = "-";
+        return filter_one(filter, tally, lists, input, buffer, output, errors);
+    }
+    let is_silent = filter.is_silent();
+    let mut missed = false;
+    for file in files {
+        let name = file.as_str();
+        let Some(more) = filter_one(filter, tally, lists, name, buffer, output, errors) else {
+            return None;
+        };
+        missed = either(missed, more);
+        if is_enough(is_silent, tally.selected) {
+            return Some(missed);
+        }
+    }
+    Some(missed)
+}
+
+// Whether the run ends behind logs of which so many lines are selected.
+fn is_enough(is_silent: bool, selected: u64) -> bool {
+    is_silent && selected > 0
+}
+
+// Whether one of two is so.
+fn either(first: bool, second: bool) -> bool {
+    first || second
+}
+
+// Opens the log of this name and filters it, and returns whether it could not be opened, as
+// `filter_each` does.
+fn filter_one<'a, L: OpenLists, W: Write, E: Write>(
+    filter: &mut Filter<'a>,
+    tally: &mut Tally,
+    lists: &L,
+    name: &'a str,
+    buffer: &mut [u8],
+    output: &mut Output<'_, W>,
+    errors: &mut Output<'_, E>,
+) -> Option<bool> {
+    tally.lines = 0;
+    tally.is_addressed = false;
+    let mut log = match open_list(lists, name) {
+        Ok(log) => log,
+        Err(cause) => {
+            tell_closed(name, cause, errors);
+            return Some(true);
+        }
+    };
+    let label = label_of(filter.named, name);
+    let before = replace(&mut filter.name, Text::new(label));
+    let mut lines = LogReader::new(buffer, filter.refuses(&Verdict::TooLong));
+    let end = filter_log(filter, &mut lines, &mut log, output, tally);
+    filter.name = before;
+    lists.close(name, log);
+    match end {
+        Ok(Reached::End) => {
+            tell_lacking(
+                PROGRAM,
+                &filter.place,
+                name,
+                tally.lines,
+                tally.is_addressed,
+                errors,
+            );
+            Some(false)
+        }
+        Ok(Reached::Last) => Some(false),
+        Err(fault) => {
+            stop(name, fault, tally.lines, output, errors);
+            None
+        }
+    }
+}
+
+// Writes how many lines were selected, if they are counted, and what waits.
+fn write_end<W: Write>(
+    counts: bool,
+    selected: u64,
+    output: &mut Output<'_, W>,
+) -> Result<(), RunFault> {
+    if !counts {
+        return output.finish();
+    }
+    write_number(selected, output)?;
+    output.finish()
+}
+
+// Writes a number and a line feed.
+fn write_number<W: Write>(number: u64, output: &mut Output<'_, W>) -> Result<(), RunFault> {
+    put_both(number_text(number).as_str().as_bytes(), b"\n", output)
+}
+
+// The exit status by whether the selected lines end the run, whether a log could not be opened, and
+// how many lines were selected.
+fn status(is_enough: bool, missed: bool, selected: u64) -> u8 {
+    if is_enough {
+        SELECTED
+    } else if missed {
+        FAILED
+    } else if selected > 0 {
+        SELECTED
+    } else {
+        NONE_SELECTED
+    }
+}

@@ -1,0 +1,35 @@
+// Written by scripts/plain out of crates/cidr_filter/src/main.rt
+
+//! The lines of logs whose address is in a list of networks.
+#![allow(unused_imports, unused_labels, unused_variables, dead_code)]
+#![forbid(unsafe_code)]
+
+use fosibegan::plain_std::rt::HostRuntime;
+
+mod command_line;
+mod filter;
+mod help;
+mod leaving;
+mod listed;
+mod log;
+mod logs;
+mod naming;
+mod options;
+mod printing;
+mod printing_addresses;
+mod reading;
+mod recent;
+mod run;
+mod telling;
+
+use crate::help::{PROGRAM, USAGE};
+use crate::run::run;
+use cidr_programs::program::start::start;
+use std::process::ExitCode;
+
+fn main() -> ExitCode {
+    let rt = HostRuntime::new();
+    start(&rt, PROGRAM, USAGE, |words, lists, output, errors| {
+        run(rt.alloc(), words, lists, output, errors)
+    })
+}

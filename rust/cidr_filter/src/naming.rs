@@ -1,0 +1,60 @@
+// Written by scripts/plain out of crates/cidr_filter/src/naming.rt
+
+//! What stands before what is printed of a line: the name of its log, and its number.
+
+use crate::filter::Filter;
+use cidr_programs::lines::fault::RunFault;
+use cidr_programs::lines::output::Output;
+use cidr_programs::program::messages::number_text;
+use cidr_programs::program::putting::put_both;
+use fosibegan::plain_std::io::Write;
+
+/// What the log of this name is called before its lines; nothing, if it is not named there.
+pub(crate) fn label_of(named: bool, name: &str) -> &[u8] {
+    if !named {
+        return b"".as_slice();
+    }
+    if name == "-" {
+        return b"(standard input)".as_slice();
+    }
+    name.as_bytes()
+}
+
+/// Writes what stands first before a line of this number.
+#[inline(always)]
+pub(crate) fn put_head<W: Write>(
+    filter: &Filter,
+    number: u64,
+    output: &mut Output<'_, W>,
+) -> Result<(), RunFault> {
+    put_name(filter, output)?;
+    put_number(filter.numbered, number, output)
+}
+
+// Writes what the log is called, and a colon, or nothing if it is not named.
+#[inline(always)]
+fn put_name<W: Write>(filter: &Filter, output: &mut Output<'_, W>) -> Result<(), RunFault> {
+    let name = filter.name.bytes();
+    if name.is_empty() {
+        return Ok(());
+    }
+    put_both(name, b":", output)
+}
+
+// Writes the number of a line and a colon, if lines are numbered.
+#[inline(always)]
+fn put_number<W: Write>(
+    numbered: bool,
+    number: u64,
+    output: &mut Output<'_, W>,
+) -> Result<(), RunFault> {
+    if !numbered {
+        return Ok(());
+    }
+    put_decimal(number, output)
+}
+
+// Writes a number and a colon.
+fn put_decimal<W: Write>(number: u64, output: &mut Output<'_, W>) -> Result<(), RunFault> {
+    put_both(number_text(number).as_str().as_bytes(), b":", output)
+}

@@ -1,0 +1,97 @@
+// Written by scripts/plain out of crates/cidr_filter/src/printing.rt
+
+//! Prints a line.
+
+use crate::filter::{Filter, Shown, Verdict};
+use crate::listed::Listed;
+use crate::naming::put_head;
+use crate::printing_addresses::print_addresses;
+use fosibegan::ipnetwork::IpNetwork;
+use cidr_programs::lines::fault::RunFault;
+use cidr_programs::lines::line_end::LineEnd;
+use cidr_programs::lines::output::Output;
+use cidr_programs::program::log_reader::put_feed;
+use cidr_programs::program::putting::put_both;
+use fosibegan::plain_std::io::Write;
+
+/// Writes what is printed of the line of this number and verdict, which is given without its end
+/// too.
+pub(crate) fn print_selected<W: Write>(
+    filter: &Filter,
+    number: u64,
+    verdict: &Verdict,
+    line: &[u8],
+    whole: &[u8],
+    end: LineEnd,
+    output: &mut Output<'_, W>,
+) -> Result<(), RunFault> {
+    match filter.shows {
+        Shown::Lines => print_named(filter, number, verdict, whole, end, output),
+        Shown::Addresses => print_addresses(filter, number, line, output),
+        Shown::Names => put_both(filter.name.bytes(), b"\n", output),
+        Shown::Count | Shown::Nothing => Ok(()),
+    }
+}
+
+/// Whether of a selected line the line is printed, and nothing else.
+pub(crate) fn prints_as_read(filter: &Filter) -> bool {
+    match (filter.shows, &filter.listed) {
+        (Shown::Lines, Listed::Addresses(_)) => !filter.numbered && filter.name.bytes().is_empty(),
+        _ => false,
+    }
+}
+
+// Writes what stands first, with `--longest` the block that holds the address, and then a line of this verdict. `whole`
+// is the line as it was read, with its end; if that is no line feed, one is written.
+fn print_named<W: Write>(
+    filter: &Filter,
+    number: u64,
+    verdict: &Verdict,
+    whole: &[u8],
+    end: LineEnd,
+    output: &mut Output<'_, W>,
+) -> Result<(), RunFault> {
+    put_head(filter, number, output)?;
+    put_mark(&filter.listed, verdict, output)?;
+    put_line(whole, end, output)
+}
+
+// Writes a line as it was read, and a line feed if it has none.
+fn put_line<W: Write>(
+    whole: &[u8],
+    end: LineEnd,
+    output: &mut Output<'_, W>,
+) -> Result<(), RunFault> {
+    output.put(whole)?;
+    put_feed(end, output)
+}
+
+// Writes what stands before a line of this verdict.
+fn put_mark<W: Write>(
+    listed: &Listed,
+    verdict: &Verdict,
+    output: &mut Output<'_, W>,
+) -> Result<(), RunFault> {
+    match listed {
+        Listed::Addresses(_) => Ok(()),
+        Listed::Blocks(_) => put_block(block_in(verdict), output),
+    }
+}
+
+// Writes a block, or a minus sign for none, and a tab.
+fn put_block<W: Write>(block: Option<IpNetwork>, output: &mut Output<'_, W>) -> Result<(), RunFault> {
+    match block {
+        Some(block) => put_both(block.canonical().as_str().as_bytes(), b"\t", output),
+        None => put_both(b"-", b"\t", output),
+    }
+}
+
+// The block that is printed before a line of this verdict.
+fn block_in(verdict: &Verdict) -> Option<IpNetwork> {
+    match *verdict {
+        Verdict::Inside(block) => block,
+        Verdict::Outside => None,
+        Verdict::NoAddress => None,
+        Verdict::TooLong => None,
+    }
+}

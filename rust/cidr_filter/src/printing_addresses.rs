@@ -1,0 +1,99 @@
+// Written by scripts/plain out of crates/cidr_filter/src/printing_addresses.rt
+
+//! Prints the addresses of a line that are in the list.
+
+use crate::filter::Filter;
+use crate::naming::put_head;
+use fosibegan::ipnetwork::IpAddr;
+use cidr_programs::line_addresses::{Place, address_of, field_of, following, next_address, word_of};
+use cidr_programs::lines::fault::RunFault;
+use cidr_programs::lines::output::Output;
+use cidr_programs::program::putting::put_both;
+use fosibegan::plain_std::io::Write;
+
+/// Writes the addresses of the line of this number that are in the list, one a line, as they are
+/// spelled.
+pub(crate) fn print_addresses<W: Write>(
+    filter: &Filter,
+    line_number: u64,
+    line: &[u8],
+    output: &mut Output<'_, W>,
+) -> Result<(), RunFault> {
+    let of_line = OfLine {
+        filter,
+        number: line_number,
+    };
+    match &filter.place {
+        Place::Field { number, separator } => match field_of(line, *number, *separator) {
+            Some(field) => of_line.print_part(field, output),
+            None => Ok(()),
+        },
+        Place::Word(number) => match word_of(line, *number) {
+            Some(word) => of_line.print_part(word, output),
+            None => Ok(()),
+        },
+        Place::Anywhere => of_line.print_all(line, output),
+        Place::After(text) => match following(line, text.bytes()) {
+            Some(rest) => of_line.print_first(rest, output),
+            None => Ok(()),
+        },
+    }
+}
+
+// What prints the addresses of the line of a number.
+#[derive(Clone, Copy)]
+struct OfLine<'f> {
+    filter: &'f Filter<'f>,
+    number: u64,
+}
+
+impl OfLine<'_> {
+    // Writes a part of a line, if it is an address in the list.
+    fn print_part<W: Write>(&self, part: &[u8], output: &mut Output<'_, W>) -> Result<(), RunFault> {
+        match address_of(part) {
+            Some(address) => self.print_found(address, part, output),
+            None => Ok(()),
+        }
+    }
+
+    // Writes the first address of this rest of a line, if it is in the list.
+    fn print_first<W: Write>(&self, rest: &[u8], output: &mut Output<'_, W>) -> Result<(), RunFault> {
+        match next_address(rest, 0) {
+            Some(found) => {
+                let text = &rest[found.start..found.end];
+                self.print_found(found.address, text, output)
+            }
+            None => Ok(()),
+        }
+    }
+
+    // Writes the addresses that stand anywhere in a line and are in the list.
+    fn print_all<W: Write>(&self, line: &[u8], output: &mut Output<'_, W>) -> Result<(), RunFault> {
+        let mut at = 0;
+        'addresses: while let Some(found) = next_address(line, at) {
+            let text = &line[found.start..found.end];
+            self.print_found(found.address, text, output)?;
+            at = found.next;
+        }
+        Ok(())
+    }
+
+    // Writes the text of an address and a line feed, if it is in the list.
+    fn print_found<W: Write>(
+        &self,
+        address: IpAddr,
+        text: &[u8],
+        output: &mut Output<'_, W>,
+    ) -> Result<(), RunFault> {
+        if !self.filter.prints(address) {
+            return Ok(());
+        }
+        self.print_text(text, output)
+    }
+
+    // Writes what stands first, and then a text and a line feed.
+    fn print_text<W: Write>(&self, text: &[u8], output: &mut Output<'_, W>) -> Result<(), RunFault> {
+        put_head(self.filter, self.number, output)?;
+        put_both(text, b"\n", output)
+    }
+}

@@ -1,0 +1,17 @@
+// Written by scripts/plain out of crates/cidr_join/src/found.rt
+
+//! What is found for the address of a line.
+
+use crate::value::Value;
+use fosibegan::ipnetwork::IpNetwork;
+
+/// What is printed of the address of a line.
+#[derive(Clone, Copy, Debug)]
+pub enum Found<'a> {
+    /// The network or the block that has it.
+    Network(IpNetwork),
+    /// The value of the network that has it.
+    Value(Value<'a>),
+    /// A minus sign: no network has it, or the line has no address.
+    Nothing,
+}

@@ -1,0 +1,68 @@
+// Written by scripts/plain out of crates/cidr_join/src/help.rt
+
+//! What the program prints about itself.
+
+/// What `--help` prints.
+pub(crate) const HELP: &str = "\
+Prints each line of logs behind the value that a list gives its address.
+
+    cidr_join [OPTION..] -f LIST [FILE..]
+    cidr_join [OPTION..] --group N,M [FILE..]
+
+    -f LIST         networks (10.0.0.0/8, 10.0.0.1, 2001:db8::/32) and ranges (A - B), one a line,
+                    each with a value behind it, after a tab, a comma or blanks. A line that begins
+                    with # or ; is a comment. - is standard input
+    --last-wins     a network that stands twice in the list has its last value; without this option
+                    it is refused
+    -k N            the address is the Nth field; without this option the first
+    -d CHAR         fields are cut at each single CHAR; without this option at each space
+    -w              fields are what stands between runs of spaces and tabs. Not with -d
+    -a              the address is the first that stands anywhere in a line: 10.1.1.1:51234,
+                    [10.1.1.1], SRC=10.1.1.1 and [2001:db8::1]:443 have one; v10.1.2.3, 1.2.3.4.5
+                    and 12:34:56 have none. Not with -k, -d or -w
+    --after TEXT    the address is the first that follows the first TEXT of a line, found as by -a;
+                    a line without TEXT has none: --after SRC=. Not with -a, -k, -d or -w
+    --mapped        an address ::ffff:A.B.C.D of a line counts as A.B.C.D
+    --last          print the value behind a line, after a tab, and not before it
+    --network       print the network in place of its value; a range counts as the fewest networks
+                    that make it up
+    --tally         print no line: print how many lines have each value, and a tab and the value,
+                    most first, and those of one count in the order of their bytes. Lines that would
+                    have a minus sign count as one. Not with --last
+    --group N,M     no list: before a line print the block of length N that has its address, or of
+                    length M if that is of IPv6: --group 24,64. Not with -f, --network or
+                    --last-wins
+    --quiet         as the first word: do not show on a terminal how much was read
+    --help          print this text
+    --version       print the version
+
+Before each line the program prints the value of the longest network of the list that has the
+address of the line, and a tab; a minus sign if no network has it, or the line has no address.
+Options may stand behind FILEs; what follows a -- are FILEs. Options of one letter may be one word,
+with the value of the last behind it: -wk1, -flist. A FILE is a name, or - for standard input, as is
+no FILE at all. A line is printed as it was; a last line without a line feed gets one. A line has at
+most 1,048,576 bytes; a longer one ends the program. A line of the list has at most 1,024 bytes, and
+the list 1,073,741,824. A FILE with lines of which none has an address where it is looked for is
+reported.
+
+Status: 0, or 2 on wrong usage, a refused line, a file that cannot be read, a failed write or out
+of memory.
+
+Examples:
+    cidr_join -f teams.txt access.log
+    cidr_join -a -f countries.csv auth.log
+    cidr_join --tally -f countries.csv access.log
+    cidr_join --group 24,64 --tally access.log
+    tail -f access.log | cidr_join --last --network -f networks.txt
+";
+
+/// What `--version` prints.
+pub(crate) const VERSION: &str = "cidr_join 0.1.0\n";
+
+/// The name of the program.
+pub(crate) const PROGRAM: &str = "cidr_join";
+
+/// How the program is used: what is reported for arguments that are not a command, after what is wrong with them.
+pub(crate) const USAGE: &str =
+    "usage: cidr_join [-a | --after TEXT | [-k N] [-d CHAR | -w]] [--mapped] \
+     [--last | --tally] (-f LIST [--network] [--last-wins] | --group N,M) [FILE..]; try --help\n";

@@ -1,0 +1,42 @@
+// Written by scripts/plain out of crates/cidr_join/src/join.rt
+
+//! What a line is to the list.
+
+use crate::answers::Answers;
+use crate::found::Found;
+use fosibegan::ipnetwork::IpAddr;
+use cidr_programs::line_addresses::{Place, unmapped};
+use cidr_programs::log_programs::finding::found_in;
+
+/// What decides what is printed of a line.
+pub struct Join<'a> {
+    /// What is printed of its address.
+    pub(crate) answers: Answers<'a>,
+    pub(crate) place: Place<'a>,
+    /// Whether an IPv4-mapped address of a line counts as its IPv4 one.
+    pub(crate) mapped: bool,
+    /// Whether that stands behind the line, and not before it.
+    pub(crate) last: bool,
+}
+
+impl<'a> Join<'a> {
+    /// What is printed of the address of a line. Does not allocate.
+    pub(crate) fn find(&self, address: Option<IpAddr>) -> Found<'a> {
+        match address {
+            Some(address) => self.answers.find(address),
+            None => Found::Nothing,
+        }
+    }
+
+    /// The address of a line of which this is printed. The line is given without its end.
+    pub(crate) fn address_in(&self, line: &[u8]) -> Option<IpAddr> {
+        let Some(address) = found_in(&self.place, line) else {
+            return None;
+        };
+        if self.mapped {
+            Some(unmapped(address))
+        } else {
+            Some(address)
+        }
+    }
+}

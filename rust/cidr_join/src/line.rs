@@ -1,0 +1,150 @@
+// Written by scripts/plain out of crates/cidr_join/src/line.rt
+
+//! What a line of a list says.
+
+use crate::value::Value;
+use cidr_programs::lists::{ByteKind, Entry, EntryFault, LINE_MAX, front_len, read_entry, trim};
+
+/// Why a line of a list is refused.
+#[derive(Clone, Copy, Debug, PartialEq, Eq)]
+pub enum Cause {
+    /// It begins with no network and no range.
+    Entry(EntryFault),
+    /// No value stands behind its network or range.
+    Value,
+    /// Its network, or one of the blocks of its range, has a value.
+    Twice,
+    /// It has more than 1,024 bytes.
+    Length,
+}
+
+impl Cause {
+    /// The cause in a word.
+    pub(crate) fn text(self) -> &'static str {
+        match self {
+            Cause::Entry(EntryFault::Format) => "format",
+            Cause::Entry(EntryFault::Address) => "address",
+            Cause::Entry(EntryFault::Prefix) => "prefix",
+            Cause::Entry(EntryFault::Range) => "range",
+            Cause::Value => "value",
+            Cause::Twice => "repetition",
+            Cause::Length => "length",
+        }
+    }
+}
+
+/// A network or a range, and what stands behind it.
+#[derive(Clone, Copy, Debug)]
+pub struct Said<'a> {
+    /// The network or the range.
+    pub entry: Entry,
+    /// What stands behind it. Not empty.
+    pub value: Value<'a>,
+}
+
+/// What a line says: nothing if it is blank or begins with `#` or `;`.
+pub(crate) fn read_route(line: &[u8]) -> Result<Option<Said<'_>>, Cause> {
+    if line.len() > LINE_MAX {
+        return Err(Cause::Length);
+    }
+    let text = trim::<Blank>(line);
+    if is_skipped(text) {
+        return Ok(None);
+    }
+    let end = entry_len(text);
+    let entry = match entry_of(&text[..end]) {
+        Ok(entry) => entry,
+        Err(fault) => return Err(Cause::Entry(fault)),
+    };
+    let value = value_part(&text[end..]);
+    if value.is_empty() {
+        return Err(Cause::Value);
+    }
+    let value = Value::new(value);
+    Ok(Some(Said { entry, value }))
+}
+
+// The network or range that a text is, read as a line of a list of networks. One with nothing in it is no address.
+fn entry_of(text: &[u8]) -> Result<Entry, EntryFault> {
+    match read_entry(text) {
+        Ok(Some(entry)) => Ok(entry),
+        Ok(None) => Err(EntryFault::Address),
+        Err(fault) => Err(fault),
+    }
+}
+
+// Whether a text, without the blanks around it, is empty or a comment.
+fn is_skipped(text: &[u8]) -> bool {
+    match text.first() {
+        Some(byte) => *byte == b'#' || *byte == b';',
+        None => true,
+    }
+}
+
+// The length of the network or range that a text begins with: of its first word, or, if spaces and a `-` follow that,
+// up to the end of the word behind the `-`.
+fn entry_len(text: &[u8]) -> usize {
+    let word = front_len::<OfWord>(text);
+    word + tail_len(&text[word..])
+}
+
+// The length of the spaces, the `-`, the spaces and the word that a text begins with, or 0.
+fn tail_len(text: &[u8]) -> usize {
+    let spaces = front_len::<Space>(text);
+    let dash = dash_len(&text[spaces..]);
+    if dash == 0 {
+        return 0;
+    }
+    spaces + dash
+}
+
+// The length of the `-`, the spaces and the word that a text begins with, or 0.
+fn dash_len(text: &[u8]) -> usize {
+    match text.split_first() {
+        Some((byte, rest)) if *byte == b'-' => {
+            let spaces = front_len::<Space>(rest);
+            1 + spaces + front_len::<OfWord>(&rest[spaces..])
+        }
+        _ => 0,
+    }
+}
+
+// What stands behind blanks and one comma.
+fn value_part(text: &[u8]) -> &[u8] {
+    trim::<Blank>(behind_comma(trim::<Blank>(text)))
+}
+
+// The text behind a comma that it begins with, or the whole text.
+fn behind_comma(text: &[u8]) -> &[u8] {
+    match text.split_first() {
+        Some((byte, rest)) if *byte == b',' => rest,
+        _ => text,
+    }
+}
+
+// A space, a tab or a carriage return.
+struct Blank;
+
+impl ByteKind for Blank {
+    fn has(byte: u8) -> bool {
+        byte == b' ' || byte == b'\t' || byte == b'\r'
+    }
+}
+
+// A space.
+struct Space;
+
+impl ByteKind for Space {
+    fn has(byte: u8) -> bool {
+        byte == b' '
+    }
+}
+
+// Neither a space nor a tab nor a comma.
+struct OfWord;
+
+impl ByteKind for OfWord {
+    fn has(byte: u8) -> bool {
+        byte != b' ' && byte != b'\t' && byte != b','
+    }
+}

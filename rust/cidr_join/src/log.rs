@@ -1,0 +1,60 @@
+// Written by scripts/plain out of crates/cidr_join/src/log.rt
+
+//! Joins the lines of a log to a list.
+
+use crate::join::Join;
+use crate::printing::print_line;
+use crate::seen::Seen;
+use cidr_programs::lines::line_end::LineEnd;
+use cidr_programs::lines::output::Output;
+use cidr_programs::lines::watched::Watched;
+use cidr_programs::program::log_fault::LogFault;
+use cidr_programs::program::log_reader::{LogReader, NextLogLine};
+use fosibegan::plain_std::io::{Read, Write};
+
+/// Writes each line of a log with the value of its address, and counts it.
+///
+/// What is written for the lines that a read completes is written before the next read. After a failed read nothing is
+/// written. A line that is too long ends the run even if its end was not read.
+pub(crate) fn join_log<R: Read, W: Write>(
+    join: &Join<'_>,
+    buffer: &mut [u8],
+    reader: &mut Watched<R>,
+    output: &mut Output<'_, W>,
+    seen: &mut Seen,
+) -> Result<(), LogFault> {
+    let mut log = LogReader::new(buffer, true);
+    'lines: loop {
+        match log.next(reader, output) {
+            Ok(NextLogLine::Line(end)) => {
+                let line = log.line();
+                let whole = log.whole_line();
+                if let Err(fault) = join_line(join, line, whole, end, output, seen) {
+                    return Err(fault);
+                }
+            }
+            Ok(NextLogLine::TooLong) => return Err(LogFault::Length),
+            Ok(NextLogLine::End) => return Ok(()),
+            Err(fault) => return Err(fault),
+        }
+    }
+}
+
+// Writes a line within the limit with the value of its address, and counts it. `whole` is the line as it was read, with
+// its end.
+fn join_line<W: Write>(
+    join: &Join<'_>,
+    line: &[u8],
+    whole: &[u8],
+    end: LineEnd,
+    output: &mut Output<'_, W>,
+    seen: &mut Seen,
+) -> Result<(), LogFault> {
+    let address = join.address_in(line);
+    seen.add(address.is_some());
+    let found = join.find(address);
+    match print_line(join, &found, line, whole, end, output) {
+        Ok(()) => Ok(()),
+        Err(_) => Err(LogFault::Write),
+    }
+}

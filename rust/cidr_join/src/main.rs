@@ -1,0 +1,42 @@
+// Written by scripts/plain out of crates/cidr_join/src/main.rt
+
+//! The lines of logs, each with the value that a list gives its address.
+#![allow(unused_imports, unused_labels, unused_variables, dead_code)]
+#![forbid(unsafe_code)]
+
+use fosibegan::plain_std::rt::HostRuntime;
+
+mod answers;
+mod command_line;
+mod counts;
+mod found;
+mod help;
+mod join;
+mod lengths;
+mod line;
+mod list;
+mod log;
+mod logs;
+mod numbered;
+mod options;
+mod printing;
+mod routes;
+mod run;
+mod seen;
+mod tally;
+mod tally_log;
+mod tally_logs;
+mod telling;
+mod value;
+
+use crate::help::{PROGRAM, USAGE};
+use crate::run::run;
+use cidr_programs::program::start::start;
+use std::process::ExitCode;
+
+fn main() -> ExitCode {
+    let rt = HostRuntime::new();
+    start(&rt, PROGRAM, USAGE, |words, lists, output, errors| {
+        run(rt.alloc(), words, lists, output, errors)
+    })
+}

@@ -1,0 +1,101 @@
+// Written by scripts/plain out of crates/cidr_join/src/routes.rt
+
+//! The networks of a list with their values, and which of them an address has.
+
+use crate::line::Cause;
+use crate::value::Value;
+use fosibegan::ipnetwork::{IpAddr, IpNetwork, Ipv4Network, Ipv6Network};
+use fosibegan::ipnetwork_blocks::{AddressSpace, range_to_blocks};
+use fosibegan::ipnetwork_index::RouteIndex;
+use fosibegan::ipnetwork_table::PrefixTable;
+use fosibegan::plain_std::alloc::{AllocError, Global};
+
+/// The networks of a list that were read so far, by family. A network stands for its block: its host bits are cleared.
+pub struct Networks<'a> {
+    pub(crate) v4: PrefixTable<Ipv4Network, Value<'a>>,
+    pub(crate) v6: PrefixTable<Ipv6Network, Value<'a>>,
+}
+
+/// The networks of a list, to be asked.
+pub struct Routes<'a> {
+    pub(crate) v4: RouteIndex<Ipv4Network, Value<'a>>,
+    pub(crate) v6: RouteIndex<Ipv6Network, Value<'a>>,
+}
+
+/// Why a network has no value now.
+#[derive(Clone, Copy, Debug, PartialEq, Eq)]
+pub enum RouteFault {
+    /// Out of memory.
+    OutOfMemory,
+    /// The line is refused.
+    Refused(Cause),
+}
+
+impl<'a> Networks<'a> {
+    /// No networks.
+    pub(crate) fn new(alloc: Global) -> Networks<'a> {
+        Networks {
+            v4: PrefixTable::new(alloc),
+            v6: PrefixTable::new(alloc),
+        }
+    }
+}
+
+impl<'a> Routes<'a> {
+    /// These networks, to be asked.
+    pub(crate) fn of(alloc: Global, networks: Networks<'a>) -> Result<Routes<'a>, AllocError> {
+        Ok(Routes {
+            v4: RouteIndex::from_table(alloc, networks.v4)?,
+            v6: RouteIndex::from_table(alloc, networks.v6)?,
+        })
+    }
+
+    /// The longest network that has the address, and its value.
+    pub(crate) fn longest(&self, address: IpAddr) -> Option<(IpNetwork, Value<'a>)> {
+        match address {
+            IpAddr::V4(address) => match self.v4.lookup(address) {
+                Some((network, value)) => Some((IpNetwork::V4(network), value)),
+                None => None,
+            },
+            IpAddr::V6(address) => match self.v6.lookup(address) {
+                Some((network, value)) => Some((IpNetwork::V6(network), value)),
+                None => None,
+            },
+        }
+    }
+}
+
+/// Gives a network a value. One that has a value gets this one if `last_wins`, and is refused if not.
+pub(crate) fn set_one<'a, N: AddressSpace>(
+    table: &mut PrefixTable<N, Value<'a>>,
+    network: N,
+    value: Value<'a>,
+    last_wins: bool,
+) -> Result<(), RouteFault> {
+    let Ok(had) = table.insert(network, value) else {
+        return Err(RouteFault::OutOfMemory);
+    };
+    if had.is_some() && !last_wins {
+        return Err(RouteFault::Refused(Cause::Twice));
+    }
+    Ok(())
+}
+
+/// Gives a value to each of the fewest blocks that have the addresses from `first` to `last`.
+pub(crate) fn set_range<'a, N: AddressSpace>(
+    table: &mut PrefixTable<N, Value<'a>>,
+    first: N::Addr,
+    last: N::Addr,
+    value: Value<'a>,
+    last_wins: bool,
+) -> Result<(), RouteFault> {
+    // The clause `address` of this call says that `last` is an address of the family.
+    let _ = N::block(last, N::WIDTH);
+    let Some(mut blocks) = range_to_blocks::<N>(first, last) else {
+        unreachable!()
+    };
+    while let Some(block) = blocks.next() {
+        set_one(table, block, value, last_wins)?;
+    }
+    Ok(())
+}

@@ -1,0 +1,92 @@
+// Written by scripts/plain out of crates/cidr_join/src/tally_log.rt
+
+//! Counts what a list gives the lines of a log.
+
+use fosibegan::plain_std::vec::Vec;
+use crate::counts::Counts;
+use crate::found::Found;
+use crate::join::Join;
+use crate::numbered::Numbered;
+use crate::seen::Seen;
+use cidr_programs::lines::output::Output;
+use cidr_programs::lines::watched::Watched;
+use cidr_programs::program::log_fault::LogFault;
+use cidr_programs::program::log_reader::{LogReader, NextLogLine};
+use fosibegan::plain_std::alloc::{AllocError, Global};
+use fosibegan::plain_std::io::Read;
+
+/// Why the lines of a log are not counted to its end.
+#[derive(Clone, Copy, Debug, PartialEq, Eq)]
+pub enum TallyFault {
+    /// A fault of the log.
+    Log(LogFault),
+    /// Out of memory.
+    OutOfMemory,
+}
+
+/// Counts for each line of a log what the list gives its address, and the line.
+///
+/// A line that is too long ends the run even if its end was not read.
+pub(crate) fn tally_log<R: Read>(
+    alloc: Global,
+    join: &Join<'_>,
+    numbered: &Numbered<'_>,
+    buffer: &mut [u8],
+    reader: &mut Watched<R>,
+    counts: &mut Counts,
+    seen: &mut Seen,
+) -> Result<(), TallyFault> {
+    // Nothing is put into it, so that nothing is written before a read.
+    let mut slice = [0; 1];
+    let mut nothing = Output::new(Vec::new(alloc), &mut slice);
+    let mut log = LogReader::new(buffer, true);
+    'lines: loop {
+        match log.next(reader, &mut nothing) {
+            Ok(NextLogLine::Line(_)) => {
+                let line = log.line();
+                if let Err(_) = count_line(alloc, join, numbered, line, counts, seen) {
+                    return Err(TallyFault::OutOfMemory);
+                }
+            }
+            Ok(NextLogLine::TooLong) => return Err(TallyFault::Log(LogFault::Length)),
+            Ok(NextLogLine::End) => return Ok(()),
+            Err(fault) => return Err(tally_fault(fault)),
+        }
+    }
+}
+
+// The fault of a log of whose lines nothing is written but to memory.
+fn tally_fault(fault: LogFault) -> TallyFault {
+    match fault {
+        LogFault::Open(cause) => TallyFault::Log(LogFault::Open(cause)),
+        LogFault::Read => TallyFault::Log(LogFault::Read),
+        LogFault::Write => TallyFault::OutOfMemory,
+        LogFault::Address => TallyFault::Log(LogFault::Address),
+        LogFault::Length => TallyFault::Log(LogFault::Length),
+        LogFault::Endless => TallyFault::Log(LogFault::Endless),
+    }
+}
+
+// Counts what is printed of the address of a line within the limit, and the line.
+fn count_line(
+    alloc: Global,
+    join: &Join<'_>,
+    numbered: &Numbered<'_>,
+    line: &[u8],
+    counts: &mut Counts,
+    seen: &mut Seen,
+) -> Result<(), AllocError> {
+    let address = join.address_in(line);
+    seen.add(address.is_some());
+    if let Some(number) = numbered.number_of(address) {
+        counts.count_number(number);
+        return Ok(());
+    }
+    match join.find(address) {
+        Found::Network(network) => {
+            counts.count_text(alloc, network.canonical().as_str().as_bytes())
+        }
+        Found::Value(value) => counts.count_text(alloc, value.bytes()),
+        Found::Nothing => counts.count_text(alloc, b"-"),
+    }
+}

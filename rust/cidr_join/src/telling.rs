@@ -1,0 +1,45 @@
+// Written by scripts/plain out of crates/cidr_join/src/telling.rt
+
+//! Messages on the error writer. If a write of one fails, nothing else changes.
+
+use crate::help::PROGRAM;
+use crate::join::Join;
+use crate::list::TakeFault;
+use crate::routes::RouteFault;
+use crate::seen::Seen;
+use cidr_programs::lines::output::Output;
+use cidr_programs::lists::BytesFault;
+use cidr_programs::log_programs::telling::tell_lacking;
+use cidr_programs::program::log_fault::{tell_line, tell_of};
+use cidr_programs::program::messages::tell;
+use fosibegan::plain_std::io::Write;
+
+/// Reports why the list of this name was not read.
+pub(crate) fn tell_bytes_fault<E: Write>(name: &str, fault: BytesFault, errors: &mut Output<'_, E>) {
+    match fault {
+        BytesFault::Open(cause) => tell_of(name, cause.text(), errors),
+        BytesFault::Read => tell_of(name, ": cannot read\n", errors),
+        BytesFault::Length => tell_of(name, ": too long\n", errors),
+        BytesFault::OutOfMemory => tell("out of memory\n", errors),
+    }
+}
+
+/// Reports that the log of this name has lines, and none of them an address where it is looked for, if that is so.
+pub(crate) fn tell_unaddressed<E: Write>(
+    join: &Join<'_>,
+    name: &str,
+    seen: &Seen,
+    errors: &mut Output<'_, E>,
+)
+{
+    let (lines, is_addressed) = (seen.lines, seen.is_addressed);
+    tell_lacking(PROGRAM, &join.place, name, lines, is_addressed, errors);
+}
+
+/// Reports why the lines of the list of this name were not taken to its end.
+pub(crate) fn tell_take_fault<E: Write>(name: &str, fault: TakeFault, errors: &mut Output<'_, E>) {
+    match fault.fault {
+        RouteFault::OutOfMemory => tell("out of memory\n", errors),
+        RouteFault::Refused(cause) => tell_line(name, fault.lines as u64, cause.text(), errors),
+    }
+}

@@ -1,0 +1,50 @@
+// Written by scripts/plain out of crates/cidr_merge/src/counts.rt
+
+//! How many blocks and addresses there are.
+
+use crate::sweep::Sweep;
+use fosibegan::plain_std::arrayvec::ArrayString;
+use fosibegan::ipnetwork::CidrNetwork;
+use fosibegan::ipnetwork_addr::decimal::push_number;
+use fosibegan::ipnetwork_blocks::AddressSpace;
+use fosibegan::ipnetwork_sets::{AddressCount, SetBlocks};
+
+/// How many blocks there are, and how many addresses they have.
+#[derive(Clone, Copy, Debug)]
+pub(crate) struct Counts {
+    blocks: u128,
+    addresses: AddressCount,
+}
+
+impl Counts {
+    /// The counts of these blocks.
+    pub(crate) fn of<N: AddressSpace>(mut blocks: Sweep<'_, N>) -> Counts {
+        let mut count = 0u128;
+        let mut addresses = AddressCount::ZERO;
+        while let Some(block) = blocks.next_block() {
+            count = count.saturating_add(1);
+            addresses = addresses.add_block(block);
+        }
+        Counts {
+            blocks: count,
+            addresses,
+        }
+    }
+
+    /// Both numbers, with a blank between them.
+    pub(crate) fn text(self) -> ArrayString<80> {
+        let mut text = ArrayString::new();
+        push_number(&mut text, self.blocks);
+        text.push(' ');
+        push_count(&mut text, self.addresses);
+        text
+    }
+}
+
+// Writes a count of addresses at the end of a text.
+fn push_count(text: &mut ArrayString<80>, count: AddressCount) {
+    match count {
+        AddressCount::Number(number) => push_number(text, number),
+        AddressCount::AllOfIpv6 => text.push_str("340282366920938463463374607431768211456"),
+    }
+}

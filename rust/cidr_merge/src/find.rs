@@ -1,0 +1,91 @@
+// Written by scripts/plain out of crates/cidr_merge/src/find.rt
+
+//! The run of a `find`.
+
+use fosibegan::plain_std::string::String;
+use crate::find_words::{before_dashes, behind_dashes, find_fault, sought_problem};
+use crate::given::Given;
+use crate::help::{PROGRAM, USAGE};
+use crate::reading::refuse_lists;
+use crate::searching::search_lists;
+use crate::sought::{Sought, SoughtFault, addresses_of};
+use crate::texts::{WholeLists, texts_of};
+use crate::usage::{fault_of_word, refuse};
+use fosibegan::ipnetwork::IpAddr;
+use cidr_programs::lines::output::Output;
+use cidr_programs::lists::{OpenLists, ReadFault};
+use cidr_programs::program::ending::{FAILED, end};
+use cidr_programs::program::words::text_at;
+use fosibegan::plain_std::io::Write;
+
+/// The exit status if an entry was printed.
+const FOUND: u8 = 0;
+
+/// The exit status if no entry has an address that is sought.
+const NOTHING_FOUND: u8 = 1;
+
+/// Does what the words after the program's name ask for, of which the first is `find`, and returns
+/// the exit status.
+pub(crate) fn find<L: OpenLists, W: Write, E: Write>(
+    given: &Given<'_, L>,
+    output: &mut Output<'_, W>,
+    errors: &mut Output<'_, E>,
+) -> u8 {
+    let others = &given.words[1..];
+    if let Some(fault) = find_fault(others) {
+        return refuse(given.words, fault, errors);
+    }
+    match addresses_of(given.alloc, before_dashes(others), 1) {
+        Ok(addresses) => find_all(addresses.as_slice(), given, output, errors),
+        Err(fault) => refuse_sought(fault, given.words, errors),
+    }
+}
+
+// Reports why words are not taken as addresses, and returns the exit status.
+fn refuse_sought<E: Write>(fault: SoughtFault, words: &[String], errors: &mut Output<'_, E>) -> u8 {
+    match fault {
+        SoughtFault::NotAnAddress(place) => {
+            let problem = sought_problem(text_at(words, place));
+            refuse(words, fault_of_word(place, problem), errors)
+        }
+        SoughtFault::OutOfMemory => refuse_lists(words, ReadFault::OutOfMemory, errors),
+    }
+}
+
+// Reads the lists, and prints their entries that have one of these addresses.
+fn find_all<L: OpenLists, W: Write, E: Write>(
+    addresses: &[IpAddr],
+    given: &Given<'_, L>,
+    output: &mut Output<'_, W>,
+    errors: &mut Output<'_, E>,
+) -> u8 {
+    let others = &given.words[1..];
+    let sought = Sought {
+        words: before_dashes(others),
+        addresses,
+    };
+    let names = behind_dashes(others);
+    let texts = match texts_of(given, names, 2 + sought.words.len()) {
+        Ok(texts) => texts,
+        Err(fault) => return refuse_lists(given.words, fault, errors),
+    };
+    let lists = WholeLists {
+        names,
+        texts: texts.as_slice(),
+    };
+    let reported = search_lists(&sought, &lists, output, errors);
+    let written = output.finish();
+    let status = status(reported.printed, reported.told);
+    end(written, status, errors)
+}
+
+// The exit status by whether an entry was printed, and whether a refused line was told.
+fn status(printed: bool, told: bool) -> u8 {
+    if told {
+        FAILED
+    } else if printed {
+        FOUND
+    } else {
+        NOTHING_FOUND
+    }
+}

@@ -1,0 +1,81 @@
+// Written by scripts/plain out of crates/cidr_merge/src/findings.rt
+
+//! The lines that tell what was found in lists.
+
+use cidr_programs::lines::output::Output;
+use cidr_programs::lists::LineFault;
+use cidr_programs::program::messages::{tell, tell_number};
+use fosibegan::plain_std::io::Write;
+
+/// A line of a list.
+#[derive(Clone, Copy, Debug)]
+pub(crate) struct Line<'a> {
+    /// The name of the list.
+    pub name: &'a str,
+    /// The number of the line, from 1 on.
+    pub number: usize,
+    /// The line, without its line end.
+    pub text: &'a [u8],
+}
+
+/// Tells why a line is refused, and the line.
+pub(crate) fn tell_wrong<W: Write>(line: &Line<'_>, fault: LineFault, output: &mut Output<'_, W>) {
+    let text = shown(fault, line.text);
+    let (name, number) = (line.name, line.number);
+    let line = Line { name, number, text };
+    tell_line(&line, ": refused ", fault.text(), separator(text), output);
+}
+
+/// Tells that the entry of a line has host bits, and the line.
+pub(crate) fn tell_host_bits<W: Write>(line: &Line<'_>, output: &mut Output<'_, W>) {
+    tell_line(line, ": host bits", "", ": ", output);
+}
+
+/// Tells where a line stands, what there is to say of it, in two parts, and behind a separator the
+/// line.
+pub(crate) fn tell_line<W: Write>(
+    line: &Line<'_>,
+    what: &str,
+    about: &str,
+    separator: &str,
+    output: &mut Output<'_, W>,
+)
+{
+    tell_place(line.name, line.number, output);
+    tell(what, output);
+    tell(about, output);
+    tell(separator, output);
+    tell_bytes(line.text, output);
+    tell("\n", output);
+}
+
+/// Tells where a line stands.
+pub(crate) fn tell_place<W: Write>(name: &str, number: usize, output: &mut Output<'_, W>)
+{
+    tell(name, output);
+    tell(":", output);
+    tell_number(number as u64, output);
+}
+
+// Tells these bytes. If that fails, now or earlier, they are lost, and nothing else happens.
+fn tell_bytes<W: Write>(bytes: &[u8], output: &mut Output<'_, W>) {
+    let _ = output.put(bytes);
+}
+
+/// Whether something was found here or there.
+pub(crate) fn either(here: bool, there: bool) -> bool {
+    here || there
+}
+
+// What is shown of a refused line: the line, unless it is too long.
+fn shown(fault: LineFault, line: &[u8]) -> &[u8] {
+    match fault {
+        LineFault::Entry(_) => line,
+        LineFault::Length => &line[..0],
+    }
+}
+
+// What stands between a fault and that.
+fn separator(line: &[u8]) -> &'static str {
+    if line.is_empty() { "" } else { ": " }
+}

@@ -1,0 +1,50 @@
+// Written by scripts/plain out of crates/cidr_merge/src/help.rt
+
+//! What the program prints about itself.
+
+/// What `--help` prints.
+pub(crate) const HELP: &str = "\
+Merges lists of IP networks, and prints the shortest list with exactly the addresses that are left.
+
+    cidr_merge union  [OPTION..] FILE..             the addresses of any of the files
+    cidr_merge common [OPTION..] FILE.. -- FILE..   of both sides
+    cidr_merge minus  [OPTION..] FILE.. -- FILE..   of the first side and not of the second
+    cidr_merge differ [OPTION..] FILE.. -- FILE..   what one side has and the other has not
+    cidr_merge list   [OPTION..] FILE..             each address of any of the files
+    cidr_merge split --prefix N [OPTION..] FILE..   the networks of union, in pieces of length N
+    cidr_merge check  [--strict] FILE..             wrong entries; --strict: host bits, overlaps too
+    cidr_merge overlaps FILE..                      wrong entries, and each pair that overlaps
+    cidr_merge find   ADDRESS.. -- FILE..           the entries that have one of the addresses
+
+    --ranges       print FIRST - LAST for each run of addresses
+    --count        print v4 BLOCKS ADDRESSES and v6 BLOCKS ADDRESSES
+    --format FORM  print plain, range, netmask, wildcard, csv, nft, ipset, json or addresses
+    --skip-bad     report refused lines, and print the result for the others
+    --json         each FILE is JSON: take its strings that are entries; --strict refuses others
+    --quiet        as the first word: do not show on a terminal how much was read
+    --help         print this text; --version prints the version
+
+A FILE is a name or -, standard input. A line has a network (10.0.0.0/8, 10.0.0.1, 2001:db8::/32), a
+range (A - B) or nothing, and at most 1,024 bytes; # and ; begin a comment. Host bits are dropped.
+The result ascends, IPv4 first; differ puts < before what only the first side has, and > before what
+only the second has. A refused line is reported as FILE:LINE: refused format, address, prefix, range
+or length; check prints that, and the line; find FILE:LINE: has ADDRESS, and the line. split leaves
+longer networks whole, and those of IPv4 if N is above 32, and prints a million at most; its options
+are --skip-bad, --json and --strict, in this order.
+
+Status: 0; 1 if the sides of differ are not equal, check or overlaps found something or find
+nothing; 2 on wrong usage, a refused line, a file not read, too many networks of split, a failed
+write or no memory; 3 if lines were skipped.
+Example: sort -u today.txt | cidr_merge differ --count yesterday.txt -- -
+";
+
+/// What `--version` prints.
+pub(crate) const VERSION: &str = "cidr_merge 0.1.0\n";
+
+/// The name of the program.
+pub(crate) const PROGRAM: &str = "cidr_merge";
+
+/// What is reported for arguments that are not a command, after what is wrong with them.
+pub(crate) const USAGE: &str =
+    "usage: cidr_merge union|common|minus|differ|list|split|check|overlaps \
+     [OPTION..] FILE.. [-- FILE..], or find ADDRESS.. -- FILE..; try --help\n";

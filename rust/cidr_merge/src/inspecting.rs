@@ -1,0 +1,121 @@
+// Written by scripts/plain out of crates/cidr_merge/src/inspecting.rt
+
+//! The run that looks lists over.
+
+use fosibegan::plain_std::vec::Vec;
+use fosibegan::plain_std::string::String;
+use crate::checking::check_lists;
+use crate::findings::either;
+use crate::given::Given;
+use crate::help::{PROGRAM, USAGE};
+use crate::inspections::Inspection;
+use crate::overlapping::tell_pairs;
+use crate::placed::{Placed, entries_of};
+use crate::reading::refuse_lists;
+use crate::repeating::tell_repetitions;
+use crate::texts::{WholeLists, texts_of};
+use crate::usage::refuse;
+use crate::words::options_count;
+use cidr_programs::lines::output::Output;
+use cidr_programs::lists::OpenLists;
+use cidr_programs::program::ending::{FAILED, end};
+use cidr_programs::program::messages::tell;
+use fosibegan::plain_std::alloc::Global;
+use fosibegan::plain_std::io::Write;
+
+/// The exit status if nothing was found.
+const NOTHING_FOUND: u8 = 0;
+
+/// The exit status if something was found.
+const FOUND: u8 = 1;
+
+/// Looks over the lists that the words name, and returns the exit status.
+pub(crate) fn inspect<L: OpenLists, W: Write, E: Write>(
+    inspection: Inspection,
+    given: &Given<'_, L>,
+    output: &mut Output<'_, W>,
+    errors: &mut Output<'_, E>,
+) -> u8 {
+    let others = &given.words[1..];
+    let count = options_count(others);
+    let names = &others[count..];
+    if let Some(fault) = inspection.fault(&others[..count], names) {
+        return refuse(given.words, fault, errors);
+    }
+    let texts = match texts_of(given, names, 1 + count) {
+        Ok(texts) => texts,
+        Err(fault) => return refuse_lists(given.words, fault, errors),
+    };
+    let texts = texts.as_slice();
+    look_over(inspection, given.alloc, names, texts, output, errors)
+}
+
+// Looks over the lists of these names and bytes, and returns the exit status.
+fn look_over<W: Write, E: Write>(
+    inspection: Inspection,
+    alloc: Global,
+    names: &[String],
+    texts: &[Vec<u8>],
+    output: &mut Output<'_, W>,
+    errors: &mut Output<'_, E>,
+) -> u8 {
+    let lists = WholeLists { names, texts };
+    match inspection {
+        Inspection::Check => check(&lists, output, errors),
+        Inspection::Strict => check_ordered(alloc, true, &lists, output, errors),
+        Inspection::Overlaps => check_ordered(alloc, false, &lists, output, errors),
+    }
+}
+
+// Prints the wrong entries of lists, and returns the exit status.
+fn check<W: Write, E: Write>(
+    lists: &WholeLists<'_>,
+    output: &mut Output<'_, W>,
+    errors: &mut Output<'_, E>,
+) -> u8 {
+    let found = check_lists(false, lists, output);
+    let written = output.finish();
+    end(written, status(found), errors)
+}
+
+// Prints the wrong entries of lists, and then what there is to say of the others in order, and
+// returns the exit status.
+fn check_ordered<W: Write, E: Write>(
+    alloc: Global,
+    strictly: bool,
+    lists: &WholeLists<'_>,
+    output: &mut Output<'_, W>,
+    errors: &mut Output<'_, E>,
+) -> u8 {
+    let mut entries = match entries_of(alloc, lists.texts) {
+        Ok(entries) => entries,
+        Err(_) => {
+            tell("out of memory\n", errors);
+            return FAILED;
+        }
+    };
+    let wrong = check_lists(strictly, lists, output);
+    let more = tell_ordered(strictly, lists.names, entries.as_mut_slice(), output);
+    let written = output.finish();
+    end(written, status(either(wrong, more)), errors)
+}
+
+// Tells what there is to say of entries in order, and returns whether there is anything. Leaves the
+// entries in any order.
+fn tell_ordered<W: Write>(
+    strictly: bool,
+    names: &[String],
+    entries: &mut [Placed],
+    output: &mut Output<'_, W>,
+) -> bool {
+    if strictly {
+        tell_repetitions(names, entries, output)
+    } else {
+        tell_pairs(names, entries, output)
+    }
+}
+
+// The exit status by whether something was found.
+fn status(found: bool) -> u8 {
+    if found { FOUND } else { NOTHING_FOUND }
+}

@@ -1,0 +1,62 @@
+// Written by scripts/plain out of crates/cidr_merge/src/main.rt
+
+//! Merges lists of networks: prints the least list of what an operation leaves of them.
+#![allow(unused_imports, unused_labels, unused_variables, dead_code)]
+#![forbid(unsafe_code)]
+
+use fosibegan::plain_std::rt::HostRuntime;
+
+mod addresses;
+mod checking;
+mod command_line;
+mod counts;
+mod cutting;
+mod elements;
+mod exporting;
+mod exports;
+mod find;
+mod find_words;
+mod findings;
+mod given;
+mod help;
+mod inspecting;
+mod inspections;
+mod named;
+mod overlapping;
+mod placed;
+mod printing;
+mod problems;
+mod reading;
+mod repeating;
+mod run;
+mod searching;
+mod shapes;
+mod side_parts;
+mod sides;
+mod sought;
+mod split;
+mod split_words;
+mod sweep;
+mod text_lines;
+mod texts;
+mod usage;
+mod words;
+
+use crate::given::Given;
+use crate::help::{PROGRAM, USAGE};
+use crate::run::run;
+use cidr_programs::program::start::start;
+use std::process::ExitCode;
+
+fn main() -> ExitCode {
+    let rt = HostRuntime::new();
+    start(&rt, PROGRAM, USAGE, |words, lists, output, errors| {
+        let alloc = rt.alloc();
+        let given = Given {
+            alloc,
+            words,
+            lists,
+        };
+        run(&given, output, errors)
+    })
+}

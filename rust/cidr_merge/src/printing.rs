@@ -1,0 +1,133 @@
+// Written by scripts/plain out of crates/cidr_merge/src/printing.rt
+
+//! Prints the answer.
+
+use crate::command_line::{Form, Operation, Request};
+use crate::counts::Counts;
+use crate::exporting::print_export;
+use crate::reading::Sets;
+use crate::side_parts::{Parts, sign_of};
+use crate::sides::{Side, Sides};
+use crate::sweep::Sweep;
+use fosibegan::ipnetwork::{Address, Network};
+use fosibegan::ipnetwork_sets::{AddressSet, Ranges};
+use cidr_programs::lines::fault::RunFault;
+use cidr_programs::lines::output::Output;
+use fosibegan::plain_std::io::Write;
+
+/// A request, and what was read of the lists of its sides.
+pub(crate) struct Merging<'a> {
+    /// The request.
+    pub request: Request,
+    /// The addresses of the first side.
+    pub first: &'a Sets,
+    /// Those of the second.
+    pub second: &'a Sets,
+}
+
+/// Prints what the operation leaves of the sides.
+pub(crate) fn print<W: Write>(
+    merging: &Merging<'_>,
+    output: &mut Output<'_, W>,
+) -> Result<(), RunFault> {
+    let operation = merging.request.operation;
+    let first = merging.first;
+    let second = merging.second;
+    match merging.request.form {
+        Form::Blocks => {
+            print_lines(false, operation, &first.v4, &second.v4, output)?;
+            print_lines(false, operation, &first.v6, &second.v6, output)
+        }
+        Form::Ranges => {
+            print_lines(true, operation, &first.v4, &second.v4, output)?;
+            print_lines(true, operation, &first.v6, &second.v6, output)
+        }
+        Form::Counts => print_counts(merging, output),
+        Form::Exported(export) => {
+            let v4 = Sweep::of(operation, &first.v4, &second.v4);
+            let v6 = Sweep::of(operation, &first.v6, &second.v6);
+            print_export(export, v4, v6, output)
+        }
+    }
+}
+
+// Prints the ranges or the blocks that the operation leaves of two sets of one family.
+fn print_lines<A: Address, W: Write>(
+    in_ranges: bool,
+    operation: Operation,
+    first: &AddressSet<Network<A>>,
+    second: &AddressSet<Network<A>>,
+    output: &mut Output<'_, W>,
+) -> Result<(), RunFault> {
+    let firsts = Sweep::of(operation, first, second);
+    let seconds = Sweep::of(Operation::Minus, second, first);
+    if in_ranges {
+        return print_parts(operation, Ranges::of(firsts), Ranges::of(seconds), output);
+    }
+    print_parts(operation, firsts, seconds, output)
+}
+
+// Prints the parts of the first side, and for `differ` among them those of the second.
+fn print_parts<P: Parts, W: Write>(
+    operation: Operation,
+    firsts: P,
+    seconds: P,
+    output: &mut Output<'_, W>,
+) -> Result<(), RunFault> {
+    let mut parts = Sides::of(operation, firsts, seconds);
+    while let Some(next) = parts.next() {
+        P::put(operation, next.0, next.1, output)?;
+    }
+    Ok(())
+}
+
+// Prints the counts of both families; of `differ` for each side.
+fn print_counts<W: Write>(merging: &Merging<'_>, output: &mut Output<'_, W>) -> Result<(), RunFault> {
+    let operation = merging.request.operation;
+    let first = merging.first;
+    let second = merging.second;
+    print_counts_left(operation, Side::First, first, second, output)?;
+    match operation {
+        Operation::Differ => { print_counts_left(operation, Side::Second, second, first, output) }
+        _ => Ok(()),
+    }
+}
+
+// Prints the counts of both families of what the operation leaves of the first of two sides.
+fn print_counts_left<W: Write>(
+    operation: Operation,
+    side: Side,
+    first: &Sets,
+    second: &Sets,
+    output: &mut Output<'_, W>,
+) -> Result<(), RunFault> {
+    let sign = sign_of(operation, side);
+    print_count_line(sign, "v4 ", operation, &first.v4, &second.v4, output)?;
+    print_count_line(sign, "v6 ", operation, &first.v6, &second.v6, output)
+}
+
+// Prints the counts of what the operation leaves of the first of two sets of one family.
+fn print_count_line<A: Address, W: Write>(
+    sign: &str,
+    family: &str,
+    operation: Operation,
+    first: &AddressSet<Network<A>>,
+    second: &AddressSet<Network<A>>,
+    output: &mut Output<'_, W>,
+) -> Result<(), RunFault> {
+    let counts = Counts::of(Sweep::of(operation, first, second));
+    put_counts(sign, family, counts.text().as_str(), output)
+}
+
+// Prints the counts of a family.
+fn put_counts<W: Write>(
+    sign: &str,
+    family: &str,
+    counts: &str,
+    output: &mut Output<'_, W>,
+) -> Result<(), RunFault> {
+    output.put(sign.as_bytes())?;
+    output.put(family.as_bytes())?;
+    output.put(counts.as_bytes())?;
+    output.put(b"\n")
+}

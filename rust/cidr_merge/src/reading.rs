@@ -1,0 +1,61 @@
+// Written by scripts/plain out of crates/cidr_merge/src/reading.rt
+
+//! Reads the lists of a side.
+
+use fosibegan::plain_std::string::String;
+use crate::given::Given;
+use crate::shapes::{Shape, read_one};
+use fosibegan::ipnetwork::{Ipv4Network, Ipv6Network};
+use fosibegan::ipnetwork_sets::AddressSet;
+use cidr_programs::lines::output::Output;
+use cidr_programs::lists::{ListReader, OpenLists, ReadFault, Refusals};
+use cidr_programs::program::ending::FAILED;
+use cidr_programs::program::telling::tell_fault;
+use fosibegan::plain_std::io::Write;
+
+/// The addresses of a side, by family.
+#[derive(Debug)]
+pub(crate) struct Sets {
+    pub(crate) v4: AddressSet<Ipv4Network>,
+    pub(crate) v6: AddressSet<Ipv6Network>,
+}
+
+/// Reads the lists at the places from `from` up to `to` among the words, in that order.
+///
+/// The refused lines are added to the earlier ones, even if the reading ends with a fault.
+pub(crate) fn read_side<L: OpenLists>(
+    given: &Given<'_, L>,
+    shape: Shape,
+    from: usize,
+    to: usize,
+    refusals: Refusals,
+) -> (Sets, Refusals, Result<(), ReadFault>) {
+    let mut reader = ListReader::new(given.alloc, refusals);
+    let end = read_all(given, shape, from, to, &mut reader);
+    let (v4, v6, refusals) = reader.into_sets();
+    (Sets { v4, v6 }, refusals, end)
+}
+
+// Reads the lists at these places.
+fn read_all<L: OpenLists>(
+    given: &Given<'_, L>,
+    shape: Shape,
+    from: usize,
+    to: usize,
+    reader: &mut ListReader,
+) -> Result<(), ReadFault> {
+    for place in from..to {
+        read_one(given, shape, given.words[place].as_str(), place, reader)?;
+    }
+    Ok(())
+}
+
+/// Reports why lists were not read to their ends, and returns the exit status for that.
+pub(crate) fn refuse_lists<E: Write>(
+    words: &[String],
+    fault: ReadFault,
+    errors: &mut Output<'_, E>,
+) -> u8 {
+    tell_fault(words, fault, errors);
+    FAILED
+}

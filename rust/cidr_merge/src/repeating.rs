@@ -1,0 +1,85 @@
+// Written by scripts/plain out of crates/cidr_merge/src/repeating.rt
+
+//! Tells which entries of lists have addresses that another has.
+
+use fosibegan::plain_std::string::String;
+use crate::findings::either;
+use crate::overlapping::{is_up_to, tell_pair};
+use crate::placed::Placed;
+use cidr_programs::lines::output::Output;
+use fosibegan::plain_std::io::Write;
+
+/// Tells each entry that overlaps an earlier one with one of those, of entries in order, and
+/// returns whether there is one.
+pub(crate) fn tell_repetitions<W: Write>(
+    names: &[String],
+    entries: &[Placed],
+    output: &mut Output<'_, W>,
+) -> bool {
+    let Some((first, others)) = entries.split_first() else {
+        return false;
+    };
+    let mut found = false;
+    let mut previous = *first;
+    // Of the earlier entries the first of those with the greatest last address.
+    let mut furthest = *first;
+    for place in 0..others.len() {
+        let later = others[place];
+        let more = tell_overlap(
+            names,
+            &later,
+            &other_of(&previous, &furthest, &later),
+            output,
+        );
+        found = either(found, more);
+        previous = later;
+        furthest = further(&furthest, &later);
+    }
+    found
+}
+
+// Tells an entry with an earlier one if it overlaps that, and returns whether it does.
+fn tell_overlap<W: Write>(
+    names: &[String],
+    later: &Placed,
+    earlier: &Placed,
+    output: &mut Output<'_, W>,
+) -> bool {
+    if reaches(later, earlier) {
+        tell_pair(names, later, earlier, output);
+        return true;
+    }
+    false
+}
+
+// Whether an entry overlaps an earlier one.
+fn reaches(later: &Placed, earlier: &Placed) -> bool {
+    is_up_to(&later.first, &earlier.last.0)
+}
+
+// The entry with which a later one is told: the one just before it or the one that reaches
+// furthest.
+fn other_of(previous: &Placed, furthest: &Placed, later: &Placed) -> Placed {
+    if is_same(later, previous) {
+        *previous
+    } else {
+        *furthest
+    }
+}
+
+// Whether an entry has the addresses of an earlier one.
+fn is_same(later: &Placed, earlier: &Placed) -> bool {
+    is_up_to(&later.first, &earlier.first)
+        && is_up_to(&later.last.0, &earlier.last.0)
+        && is_up_to(&earlier.last.0, &later.last.0)
+}
+
+// Of an entry and a later one that with the greater last address: the earlier one if they have the
+// same.
+fn further(earlier: &Placed, later: &Placed) -> Placed {
+    if is_up_to(&later.last.0, &earlier.last.0) {
+        *earlier
+    } else {
+        *later
+    }
+}

@@ -1,0 +1,135 @@
+// Written by scripts/plain out of crates/cidr_merge/src/run.rt
+
+//! The run that the program makes.
+
+use crate::command_line::{Operation, Request, request_of};
+use crate::find::find;
+use crate::given::Given;
+use crate::help::{HELP, PROGRAM, USAGE, VERSION};
+use crate::inspecting::inspect;
+use crate::inspections::inspection_of;
+use crate::printing::{Merging, print};
+use crate::reading::{Sets, read_side, refuse_lists};
+use crate::split::split;
+use crate::usage::refuse;
+use crate::words::stands;
+use cidr_programs::lines::fault::RunFault;
+use cidr_programs::lines::output::Output;
+use cidr_programs::lists::{OpenLists, ReadFault, Refusals};
+use cidr_programs::program::ending::{FAILED, end, print_text};
+use cidr_programs::program::start::text_asked;
+use cidr_programs::program::telling::{InLists, tell_refusals};
+use fosibegan::plain_std::io::Write;
+
+/// Does what the words after the program's name ask for, and returns the exit status.
+pub(crate) fn run<L: OpenLists, W: Write, E: Write>(
+    given: &Given<'_, L>,
+    output: &mut Output<'_, W>,
+    errors: &mut Output<'_, E>,
+) -> u8 {
+    let words = given.words;
+    if let Some(text) = text_asked(HELP, VERSION, words) {
+        return print_text(text, output, errors);
+    }
+    if stands(words, 0, "split") {
+        return split(given, output, errors);
+    }
+    if stands(words, 0, "find") {
+        return find(given, output, errors);
+    }
+    if let Some(inspection) = inspection_of(words) {
+        return inspect(inspection, given, output, errors);
+    }
+    match request_of(words) {
+        Ok(request) => merge(request, given, output, errors),
+        Err(fault) => refuse(words, fault, errors),
+    }
+}
+
+// Reads the lists of both sides, and prints what the operation leaves of them.
+fn merge<L: OpenLists, W: Write, E: Write>(
+    request: Request,
+    given: &Given<'_, L>,
+    output: &mut Output<'_, W>,
+    errors: &mut Output<'_, E>,
+) -> u8 {
+    let (first, second, refusals, read) = read_sides(request, given);
+    tell_refusals(given.words, &InLists, &refusals, errors);
+    match read {
+        Ok(()) => {
+            let merging = Merging {
+                request,
+                first: &first,
+                second: &second,
+            };
+            answer(&merging, !refusals.is_empty(), output, errors)
+        }
+        Err(fault) => refuse_lists(given.words, fault, errors),
+    }
+}
+
+// Reads the lists of both sides. Those of the second are only read if those of the first were read
+// to the end.
+fn read_sides<L: OpenLists>(
+    request: Request,
+    given: &Given<'_, L>,
+) -> (Sets, Sets, Refusals, Result<(), ReadFault>) {
+    let shape = request.shape;
+    let none = Refusals::new();
+    let (first, refusals, read) = read_side(given, shape, request.first, request.middle, none);
+    let to = end_of_second(&read, request.second, given.words.len());
+    let (second, refusals, end) = read_side(given, shape, request.second, to, refusals);
+    match read {
+        Ok(()) => (first, second, refusals, end),
+        Err(fault) => (first, second, refusals, Err(fault)),
+    }
+}
+
+// Up to which word the lists of the second side are read, of which this is the first: none of them,
+// if those of the first side were not read to the end.
+fn end_of_second(read: &Result<(), ReadFault>, first: usize, count: usize) -> usize {
+    if read.is_err() { first } else { count }
+}
+
+// Prints what the operation leaves of the sides, unless lines were refused that are not to be
+// skipped.
+fn answer<W: Write, E: Write>(
+    merging: &Merging<'_>,
+    skips: bool,
+    output: &mut Output<'_, W>,
+    errors: &mut Output<'_, E>,
+) -> u8 {
+    let request = merging.request;
+    if skips && !request.skips_bad {
+        return FAILED;
+    }
+    let status = status(request.operation, skips, merging.first, merging.second);
+    let written = write_answer(merging, output);
+    end(written, status, errors)
+}
+
+// Writes what the operation leaves of the sides.
+fn write_answer<W: Write>(merging: &Merging<'_>, output: &mut Output<'_, W>) -> Result<(), RunFault> {
+    print(merging, output)?;
+    output.finish()
+}
+
+/// The exit status of an answer.
+const ANSWERED: u8 = 0;
+
+/// The exit status of `differ` if the sides are not equal.
+const UNEQUAL: u8 = 1;
+
+/// The exit status of an answer if lines were skipped.
+const SKIPPED: u8 = 3;
+
+// The exit status of an answer.
+fn status(operation: Operation, skips: bool, first: &Sets, second: &Sets) -> u8 {
+    if skips {
+        return SKIPPED;
+    }
+    match operation {
+        Operation::Differ if !(first.v4 == second.v4 && first.v6 == second.v6) => UNEQUAL,
+        _ => ANSWERED,
+    }
+}

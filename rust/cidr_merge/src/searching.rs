@@ -1,0 +1,134 @@
+// Written by scripts/plain out of crates/cidr_merge/src/searching.rt
+
+//! Searches lists for addresses.
+
+use crate::findings::{Line, either, tell_line, tell_wrong};
+use crate::named::{entry_of, has_address};
+use crate::sought::Sought;
+use crate::text_lines::TextLines;
+use crate::texts::WholeLists;
+use fosibegan::ipnetwork::IpAddr;
+use cidr_programs::lines::output::Output;
+use cidr_programs::lists::Entry;
+use fosibegan::plain_std::io::Write;
+
+/// What a search wrote.
+#[derive(Clone, Copy, Debug, PartialEq, Eq)]
+pub(crate) struct Reported {
+    /// Whether a line was printed.
+    pub printed: bool,
+    /// Whether a refused line was told.
+    pub told: bool,
+}
+
+/// Prints the entries with the addresses sought of lists, and tells the refused lines.
+pub(crate) fn search_lists<W: Write, E: Write>(
+    sought: &Sought<'_>,
+    lists: &WholeLists<'_>,
+    output: &mut Output<'_, W>,
+    errors: &mut Output<'_, E>,
+) -> Reported {
+    let mut printed = false;
+    let mut told = false;
+    for place in 0..lists.names.len() {
+        let name = lists.names[place].as_str();
+        let text = lists.texts[place].as_slice();
+        let more = search_list(sought, name, text, output, errors);
+        printed = either(printed, more.printed);
+        told = either(told, more.told);
+    }
+    Reported { printed, told }
+}
+
+// Searches a list.
+fn search_list<W: Write, E: Write>(
+    sought: &Sought<'_>,
+    name: &str,
+    text: &[u8],
+    output: &mut Output<'_, W>,
+    errors: &mut Output<'_, E>,
+) -> Reported {
+    let mut printed = false;
+    let mut told = false;
+    let mut number = 0;
+    let mut lines = TextLines::of(text);
+    // A text has at most as many lines as bytes.
+    'lines: while number < text.len() {
+        let Some(text) = lines.next() else {
+            return Reported { printed, told };
+        };
+        number += 1;
+        let more = search_line(sought, &Line { name, number, text }, output, errors);
+        printed = either(printed, more.printed);
+        told = either(told, more.told);
+    }
+    Reported { printed, told }
+}
+
+// Searches a line, or tells why it is refused.
+fn search_line<W: Write, E: Write>(
+    sought: &Sought<'_>,
+    line: &Line<'_>,
+    output: &mut Output<'_, W>,
+    errors: &mut Output<'_, E>,
+) -> Reported {
+    match entry_of(line.text) {
+        Ok(None) => Reported {
+            printed: false,
+            told: false,
+        },
+        Ok(Some(entry)) => Reported {
+            printed: print_matches(sought, line, &entry, output),
+            told: false,
+        },
+        Err(fault) => {
+            tell_wrong(line, fault, errors);
+            Reported {
+                printed: false,
+                told: true,
+            }
+        }
+    }
+}
+
+// Prints a line for each of the addresses sought that the entry of a line has.
+fn print_matches<W: Write>(
+    sought: &Sought<'_>,
+    line: &Line<'_>,
+    entry: &Entry,
+    output: &mut Output<'_, W>,
+) -> bool {
+    let mut printed = false;
+    for place in 0..sought.words.len() {
+        let more = print_match(
+            sought.words[place].as_str(),
+            &sought.addresses[place],
+            line,
+            entry,
+            output,
+        );
+        printed = either(printed, more);
+    }
+    printed
+}
+
+// Prints a line if the entry of a line has the address that a word names.
+fn print_match<W: Write>(
+    word: &str,
+    address: &IpAddr,
+    line: &Line<'_>,
+    entry: &Entry,
+    output: &mut Output<'_, W>,
+) -> bool {
+    if has_address(entry, address) {
+        print_line(word, line, output);
+        true
+    } else {
+        false
+    }
+}
+
+// Prints that the entry of a line has the address that a word names.
+fn print_line<W: Write>(word: &str, line: &Line<'_>, output: &mut Output<'_, W>) {
+    tell_line(line, ": has ", word, ": ", output);
+}

@@ -1,0 +1,48 @@
+// Written by scripts/plain out of crates/cidr_merge/src/shapes.rt
+
+//! How lists are written, and how one is read.
+
+use fosibegan::plain_std::string::String;
+use crate::given::Given;
+use crate::words::has;
+use cidr_programs::lists::{ListReader, OpenLists, ReadFault, read_document, read_named};
+
+/// How lists are written.
+#[derive(Clone, Copy, Debug, PartialEq, Eq)]
+pub enum Shape {
+    /// An entry in a line.
+    Lines,
+    /// As documents of JSON, of which the strings that name no entry are passed over.
+    Json,
+    /// As documents of JSON, of which these strings are refused.
+    StrictJson,
+}
+
+/// How these options say that lists are written.
+pub(crate) fn shape_of(options: &[String]) -> Shape {
+    if !has(options, "--json") {
+        return Shape::Lines;
+    }
+    if has(options, "--strict") {
+        Shape::StrictJson
+    } else {
+        Shape::Json
+    }
+}
+
+/// Opens the list of this name, which is the word at the index `place`, reads it to the end, and
+/// closes it.
+pub(crate) fn read_one<L: OpenLists>(
+    given: &Given<'_, L>,
+    shape: Shape,
+    name: &str,
+    place: usize,
+    reader: &mut ListReader,
+) -> Result<(), ReadFault> {
+    let lists = given.lists;
+    match shape {
+        Shape::Lines => read_named(lists, name, place, reader),
+        Shape::Json => read_document(given.alloc, lists, name, place, false, reader),
+        Shape::StrictJson => read_document(given.alloc, lists, name, place, true, reader),
+    }
+}

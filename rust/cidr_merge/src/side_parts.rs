@@ -1,0 +1,93 @@
+// Written by scripts/plain out of crates/cidr_merge/src/side_parts.rt
+
+//! The parts that an operation leaves of one side: blocks, or ranges of addresses.
+
+use crate::command_line::Operation;
+use crate::sides::Side;
+use crate::sweep::Sweep;
+use fosibegan::ipnetwork::{Address, CidrNetwork, Network};
+use fosibegan::ipnetwork_sets::{Ranges, SetBlocks};
+use cidr_programs::lines::fault::RunFault;
+use cidr_programs::lines::output::Output;
+use fosibegan::plain_std::io::Write;
+
+/// Parts in the order of where they begin, one after the other.
+pub(crate) trait Parts {
+    /// A part.
+    type Part: Copy;
+
+    /// The next part.
+    fn next_part(&mut self) -> Option<Self::Part>;
+
+    /// Whether the first begins before the second.
+    fn begins_before(first: Self::Part, second: Self::Part) -> bool;
+
+    /// Prints a part of a side.
+    fn put<W: Write>(
+        operation: Operation,
+        side: Side,
+        part: Self::Part,
+        output: &mut Output<'_, W>,
+    ) -> Result<(), RunFault>;
+}
+
+// The blocks.
+impl<'a, A: Address> Parts for Sweep<'a, Network<A>> {
+    type Part = Network<A>;
+
+    fn next_part(&mut self) -> Option<Network<A>> {
+        self.next_block()
+    }
+
+    fn begins_before(first: Network<A>, second: Network<A>) -> bool {
+        first.ip() < second.ip()
+    }
+
+    fn put<W: Write>(
+        operation: Operation,
+        side: Side,
+        block: Network<A>,
+        output: &mut Output<'_, W>,
+    ) -> Result<(), RunFault> {
+        output.put(sign_of(operation, side).as_bytes())?;
+        output.put(block.canonical().as_str().as_bytes())?;
+        output.put(b"\n")
+    }
+}
+
+// The ranges: the first and the last address of each.
+impl<'a, A: Address> Parts for Ranges<Network<A>, Sweep<'a, Network<A>>> {
+    type Part = (A, A);
+
+    fn next_part(&mut self) -> Option<(A, A)> {
+        self.next()
+    }
+
+    fn begins_before(first: (A, A), second: (A, A)) -> bool {
+        first.0 < second.0
+    }
+
+    fn put<W: Write>(
+        operation: Operation,
+        side: Side,
+        range: (A, A),
+        output: &mut Output<'_, W>,
+    ) -> Result<(), RunFault> {
+        output.put(sign_of(operation, side).as_bytes())?;
+        output.put(range.0.canonical().as_str().as_bytes())?;
+        output.put(b" - ")?;
+        output.put(range.1.canonical().as_str().as_bytes())?;
+        output.put(b"\n")
+    }
+}
+
+/// What stands before a part of a side.
+pub(crate) fn sign_of(operation: Operation, side: Side) -> &'static str {
+    match operation {
+        Operation::Differ => match side {
+            Side::First => "< ",
+            Side::Second => "> ",
+        },
+        _ => "",
+    }
+}

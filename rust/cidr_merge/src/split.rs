@@ -1,0 +1,78 @@
+// Written by scripts/plain out of crates/cidr_merge/src/split.rt
+
+//! The run of a `split`.
+
+use crate::cutting::{count_pieces, print_pieces, too_many_text};
+use crate::given::Given;
+use crate::help::{PROGRAM, USAGE};
+use crate::reading::{Sets, read_side, refuse_lists};
+use crate::split_words::{SplitRequest, split_request};
+use crate::usage::refuse;
+use cidr_programs::lines::fault::RunFault;
+use cidr_programs::lines::output::Output;
+use cidr_programs::lists::{OpenLists, Refusals};
+use cidr_programs::program::ending::{FAILED, end};
+use cidr_programs::program::messages::tell;
+use cidr_programs::program::telling::{InLists, tell_refusals};
+use fosibegan::plain_std::io::Write;
+
+/// Does what the words after the program's name ask for, of which the first is `split`, and returns
+/// the exit status.
+pub(crate) fn split<L: OpenLists, W: Write, E: Write>(
+    given: &Given<'_, L>,
+    output: &mut Output<'_, W>,
+    errors: &mut Output<'_, E>,
+) -> u8 {
+    let words = given.words;
+    let request = match split_request(words) {
+        Ok(request) => request,
+        Err(fault) => return refuse(words, fault, errors),
+    };
+    let none = Refusals::new();
+    let (sets, refusals, read) = read_side(given, request.shape, request.first, words.len(), none);
+    tell_refusals(words, &InLists, &refusals, errors);
+    match read {
+        Ok(()) => print_split(request, !refusals.is_empty(), &sets, output, errors),
+        Err(fault) => refuse_lists(words, fault, errors),
+    }
+}
+
+// The most networks that are printed.
+const PIECES_MAX: u128 = 1_000_000;
+
+// Prints the pieces of the networks, unless lines were refused that are not to be skipped, or there
+// are too many.
+fn print_split<W: Write, E: Write>(
+    request: SplitRequest,
+    skips: bool,
+    sets: &Sets,
+    output: &mut Output<'_, W>,
+    errors: &mut Output<'_, E>,
+) -> u8 {
+    if skips && !request.skips_bad {
+        return FAILED;
+    }
+    let count = count_split(request.length, sets);
+    if count > PIECES_MAX {
+        tell(too_many_text(count).as_str(), errors);
+        return FAILED;
+    }
+    let written = write_split(request.length, sets, output);
+    end(written, if skips { 3 } else { 0 }, errors)
+}
+
+// How many networks there are to print, or the greatest number of 128 bits.
+fn count_split(length: u8, sets: &Sets) -> u128 {
+    count_pieces(length, &sets.v4).saturating_add(count_pieces(length, &sets.v6))
+}
+
+// Writes the pieces of the networks of both families.
+fn write_split<W: Write>(
+    length: u8,
+    sets: &Sets,
+    output: &mut Output<'_, W>,
+) -> Result<(), RunFault> {
+    print_pieces(length, &sets.v4, output)?;
+    print_pieces(length, &sets.v6, output)?;
+    output.finish()
+}

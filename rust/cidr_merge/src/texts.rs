@@ -1,0 +1,56 @@
+// Written by scripts/plain out of crates/cidr_merge/src/texts.rt
+
+//! Reads whole lists.
+
+use fosibegan::plain_std::vec::Vec;
+use fosibegan::plain_std::string::String;
+use crate::given::Given;
+use cidr_programs::lists::{BytesFault, OpenLists, ReadFault, read_bytes};
+
+/// The names and the bytes of lists.
+pub(crate) struct WholeLists<'a> {
+    /// The names.
+    pub names: &'a [String],
+    /// The bytes of each, in the same order.
+    pub texts: &'a [Vec<u8>],
+}
+
+/// The bytes of the lists of these names, of which the first is the word at the index `first`.
+pub(crate) fn texts_of<L: OpenLists>(
+    given: &Given<'_, L>,
+    names: &[String],
+    first: usize,
+) -> Result<Vec<Vec<u8>>, ReadFault> {
+    let mut texts = Vec::new(given.alloc);
+    for place in 0..names.len() {
+        let text = match text_of(given, names[place].as_str(), first + place) {
+            Ok(text) => text,
+            Err(fault) => return Err(fault),
+        };
+        let Ok(_) = texts.push(text) else {
+            return Err(ReadFault::OutOfMemory);
+        };
+    }
+    Ok(texts)
+}
+
+// The bytes of the list of this name, which is the word at the index `place`.
+fn text_of<L: OpenLists>(
+    given: &Given<'_, L>,
+    name: &str,
+    place: usize,
+) -> Result<Vec<u8>, ReadFault> {
+    match read_bytes(given.alloc, given.lists, name, usize::MAX) {
+        Ok(text) => Ok(text),
+        Err(fault) => Err(not_read(fault, place)),
+    }
+}
+
+// Why the list was not read that the word at this index names. None is too long.
+fn not_read(fault: BytesFault, place: usize) -> ReadFault {
+    match fault {
+        BytesFault::Open(cause) => ReadFault::Open(place, cause),
+        BytesFault::Read => ReadFault::Read(place),
+        BytesFault::Length | BytesFault::OutOfMemory => ReadFault::OutOfMemory,
+    }
+}

@@ -1,0 +1,17 @@
+//! What the programs `cidr`, `cidr_merge`, `cidr_filter` and `cidr_join` share: lines, lists of networks, addresses of
+//! logs, command lines. Not for other use: nothing here is kept stable. Made of proved sources, and tested.
+#![forbid(unsafe_code)]
+#![allow(unused_imports, unused_labels, unused_variables, dead_code)]
+
+pub mod line_addresses;
+pub mod lines;
+pub mod lists;
+pub mod log_programs;
+pub mod program;
+
+/// What the examples have in scope.
+#[doc(hidden)]
+pub mod in_examples {
+    pub use crate::{line_addresses, lines, lists, log_programs, program};
+    pub use fosibegan::in_examples::*;
+}

@@ -1,0 +1,29 @@
+// Written by scripts/plain out of crates/line_addresses/src/lib.rt
+
+//! The addresses of a line, wherever they stand in it.
+//!
+//! The longest runs of ASCII letters, digits, `.`, `:` and `_` of a line are looked at, each by itself. The text of a
+//! run's address is the run, or the run less one `.` or `:` at its end, or the run less a `:` and one to five digits at
+//! its end, whichever of these first is an address text; a run of which none is has no address. So `10.1.1.1:51234`,
+//! `[10.1.1.1]`, `"10.1.1.1"`, `SRC=10.1.1.1` and `[2001:db8::1]:443` have one, and `v10.1.2.3`, `1.2.3.4.5`,
+//! `12:34:56` and `00:1b:44:11:3a:b7` have none.
+//!
+//! Nothing here allocates. A line is a slice of bytes, of any length and any bytes.
+
+mod byte_kind;
+mod field;
+mod first_place;
+mod found;
+mod mapped;
+mod place;
+mod port;
+mod run;
+mod words;
+
+pub use field::field_of;
+pub use first_place::following;
+pub use found::{Found, next_address};
+pub use mapped::unmapped;
+pub use place::{Place, Text};
+pub use run::address_of;
+pub use words::word_of;

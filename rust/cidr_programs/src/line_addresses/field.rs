@@ -1,0 +1,36 @@
+// Written by scripts/plain out of crates/line_addresses/src/field.rt
+
+//! The fields of a line.
+
+use fosibegan::byte_search::find_from;
+
+/// The field of this number, from 1 on, of a line that is cut at each single separator.
+///
+/// ```
+/// # use cidr_programs::in_examples::*;
+/// assert_eq!(field_of(b"a,,10.1.1.1", 3, b','), Some(b"10.1.1.1".as_slice()));
+/// assert_eq!(field_of(b"a,,10.1.1.1", 2, b','), Some(b"".as_slice()));
+/// assert_eq!(field_of(b"a,,10.1.1.1", 4, b','), None);
+/// ```
+#[inline(always)]
+pub fn field_of(line: &[u8], number: u32, separator: u8) -> Option<&[u8]> {
+    let mut start = 0;
+    let mut more = number.saturating_sub(1);
+    while more > 0 {
+        let Some(end) = find_from(line, start, separator) else {
+            return None;
+        };
+        start = end + 1;
+        more -= 1;
+    }
+    Some(field_at(line, start, separator))
+}
+
+// The field that begins at a place.
+#[inline(always)]
+fn field_at(line: &[u8], start: usize, separator: u8) -> &[u8] {
+    match find_from(line, start, separator) {
+        Some(end) => &line[start..end],
+        None => &line[start..],
+    }
+}

@@ -1,0 +1,18 @@
+// Written by scripts/plain out of crates/line_addresses/src/port.rt
+
+//! The number of a port, behind an address.
+
+/// Whether a text is one to five digits.
+pub(crate) fn is_port(text: &[u8]) -> bool {
+    !text.is_empty() && text.len() <= 5 && are_digits(text)
+}
+
+// Whether each byte is a digit.
+fn are_digits(text: &[u8]) -> bool {
+    for byte in text {
+        if !byte.is_ascii_digit() {
+            return false;
+        }
+    }
+    true
+}

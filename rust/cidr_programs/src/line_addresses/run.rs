@@ -1,0 +1,78 @@
+// Written by scripts/plain out of crates/line_addresses/src/run.rt
+
+//! The address of a run.
+
+use crate::line_addresses::byte_kind::{is_address_byte, is_run_byte};
+use crate::line_addresses::port::is_port;
+use fosibegan::byte_search::find_from;
+use fosibegan::ipnetwork_addr::IpAddr;
+
+/// The index after the bytes from an index on that runs are made of.
+#[inline(always)]
+pub(crate) fn run_end(line: &[u8], start: usize) -> usize {
+    for at in start..line.len() {
+        if !is_run_byte(line[at]) {
+            return at;
+        }
+    }
+    line.len()
+}
+
+/// The address of a run, and the length of its text, with which the run begins.
+pub(crate) fn address_in(run: &[u8]) -> Option<(IpAddr, usize)> {
+    if run.is_empty() {
+        return None;
+    }
+    if !is_address_byte(run[0]) {
+        return None;
+    }
+    if let Some(address) = address_of(run) {
+        return Some((address, run.len()));
+    }
+    if ends_with_mark(run) {
+        let end = run.len() - 1;
+        if let Some(address) = address_of(&run[..end]) {
+            return Some((address, end));
+        }
+    }
+    before_port(run)
+}
+
+/// The address that a text is, as `IpAddr::read_bytes` reads it, if it is one.
+///
+/// ```
+/// # use cidr_programs::in_examples::*;
+/// assert_eq!(address_of(b"10.1.1.1"), Some("10.1.1.1".parse()?));
+/// assert_eq!(address_of(b"10.1.1.1."), None);
+/// # Ok::<(), Fail>(())
+/// ```
+#[inline(always)]
+pub fn address_of(text: &[u8]) -> Option<IpAddr> {
+    match IpAddr::read_bytes(text) {
+        Ok(address) => Some(address),
+        Err(_) => None,
+    }
+}
+
+// Whether a text ends with a `.` or a `:`.
+fn ends_with_mark(text: &[u8]) -> bool {
+    if text.is_empty() {
+        return false;
+    }
+    let last = text[text.len() - 1];
+    last == b'.' || last == b':'
+}
+
+// The address before the first `:`, if a port follows it, and the length of its text.
+fn before_port(run: &[u8]) -> Option<(IpAddr, usize)> {
+    let Some(colon) = find_from(run, 0, b':') else {
+        return None;
+    };
+    if !is_port(&run[colon + 1..]) {
+        return None;
+    }
+    match address_of(&run[..colon]) {
+        Some(address) => Some((address, colon)),
+        None => None,
+    }
+}

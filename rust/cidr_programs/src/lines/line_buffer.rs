@@ -1,0 +1,261 @@
+// Written by scripts/plain out of crates/lines/src/line_buffer.rt
+
+//! Lines of the bytes that are read into a buffer, handed out where they lie.
+
+use crate::lines::fault::RunFault;
+use crate::lines::line_end::{Cut, LineEnd, cut_before};
+use crate::lines::watched::Watched;
+use fosibegan::byte_search::find_far;
+use fosibegan::plain_std::io::Read;
+
+/// What comes next.
+///
+/// ```
+/// # use cidr_programs::in_examples::*;
+/// use cidr_programs::lines::line_buffer::{LineBuffer, NextLine};
+/// use cidr_programs::lines::watched::Watched;
+///
+/// let mut reader = Watched::new(b"too long\n".as_slice());
+/// let mut room = [0; 10];
+/// let mut lines = LineBuffer::new(&mut room, 7);
+/// assert_eq!(lines.next(), NextLine::Ask);
+/// assert_eq!(lines.ask(&mut reader), Ok(9));
+/// assert_eq!(lines.next(), NextLine::TooLong);
+/// assert_eq!(lines.ask(&mut reader), Ok(0));
+/// assert_eq!(lines.next(), NextLine::End);
+/// ```
+#[derive(Clone, Copy, Debug, PartialEq, Eq)]
+pub enum NextLine {
+    /// A line, which `line` lends, and how it ended.
+    Line(LineEnd),
+    /// A line that has more bytes than the limit. All of it is passed over.
+    TooLong,
+    /// No line yet: the device has to be asked for more bytes.
+    Ask,
+    /// No line: the input has ended, and all of its lines were handed out.
+    End,
+}
+
+/// How many bytes a read asks for at most. What is read and answered then stays in the processor's nearer memory.
+const MOST_AT_ONCE: usize = 131_072;
+
+/// The lines of the bytes that are read into a buffer, which the caller lends.
+///
+/// `next` hands out one line after the other and calls no device; if it needs more bytes, it says so, and `ask` makes
+/// one read. So between two reads the caller decides what is done. A line is lent from the buffer, where it was read: no
+/// byte of it is copied, and none is moved while its line feed is in the buffer. `ask` moves the bytes of a line that is
+/// not whole yet to the front of the buffer, unless they are there. Nothing here allocates.
+///
+/// The lines, each with the bytes that end it, make up what was read, except for what is still pending. They are the
+/// lines of std's `str::lines`: a line ends with a line feed, and one carriage return before it is dropped; what follows
+/// the last line feed is a line too, unless it is empty.
+///
+/// ```
+/// # use cidr_programs::in_examples::*;
+/// use cidr_programs::lines::line_buffer::{LineBuffer, NextLine};
+/// use cidr_programs::lines::line_end::LineEnd;
+/// use cidr_programs::lines::watched::Watched;
+///
+/// let mut reader = Watched::new(b"10.0.0.0/8\n::1".as_slice());
+/// let mut room = [0; 64];
+/// let mut lines = LineBuffer::new(&mut room, 32);
+/// assert_eq!(lines.ask(&mut reader), Ok(14));
+/// assert_eq!(lines.next(), NextLine::Line(LineEnd::LineFeed));
+/// assert_eq!(lines.line(), b"10.0.0.0/8".as_slice());
+/// assert_eq!(lines.next(), NextLine::Ask);
+/// ```
+pub struct LineBuffer<'b> {
+    buffer: &'b mut [u8],
+    limit: usize,
+    // The line that was handed out last.
+    line_start: usize,
+    line_end: usize,
+    // The bytes that wait. Those up to `searched` are not line feeds.
+    start: usize,
+    searched: usize,
+    end: usize,
+    dropped: bool,
+    ended: bool,
+}
+
+impl<'b> LineBuffer<'b> {
+    /// No bytes yet. A line of more than `limit` bytes, not counting those that end it, is too long.
+    ///
+    /// The buffer must have at least two bytes more than the limit. The longer it is, the fewer reads are made. Its
+    /// content is not read before it is written, and is unspecified afterwards.
+    ///
+    /// ```
+    /// # use cidr_programs::in_examples::*;
+    /// let mut room = [0; 10];
+    /// let mut lines = cidr_programs::lines::line_buffer::LineBuffer::new(&mut room, 8);
+    /// assert_eq!(lines.next(), cidr_programs::lines::line_buffer::NextLine::Ask);
+    /// ```
+    #[doc(hidden)]
+    pub fn new(buffer: &'b mut [u8], limit: usize) -> LineBuffer<'b> {
+        LineBuffer {
+            buffer,
+            limit,
+            line_start: 0,
+            line_end: 0,
+            start: 0,
+            searched: 0,
+            end: 0,
+            dropped: false,
+            ended: false,
+        }
+    }
+
+    /// The line that `next` handed out last, without the bytes that end it. It is there until the next call of `ask`.
+    ///
+    /// ```
+    /// # use cidr_programs::in_examples::*;
+    /// let mut room = [0; 10];
+    /// let mut lines = cidr_programs::lines::line_buffer::LineBuffer::new(&mut room, 8);
+    /// assert!(lines.line().is_empty());
+    /// ```
+    pub fn line(&self) -> &[u8] {
+        &self.buffer[self.line_start..self.line_end]
+    }
+
+    /// The line that `next` handed out last, with the bytes that end it. It is there until the next call of `ask`.
+    ///
+    /// ```
+    /// # use cidr_programs::in_examples::*;
+    /// use cidr_programs::lines::watched::Watched;
+    ///
+    /// let mut room = [0; 10];
+    /// let mut lines = cidr_programs::lines::line_buffer::LineBuffer::new(&mut room, 8);
+    /// assert_eq!(lines.ask(&mut Watched::new(b"::1\r\n::2".as_slice())), Ok(8));
+    /// let _ = lines.next();
+    /// assert_eq!(lines.whole_line(), b"::1\r\n".as_slice());
+    /// ```
+    pub fn whole_line(&self) -> &[u8] {
+        &self.buffer[self.line_start..self.start]
+    }
+
+    /// Whether the line that is pending is too long, however it goes on: it has more bytes than the limit and a carriage
+    /// return. No line feed may wait, as after `next` returned `Ask`.
+    pub(crate) fn is_too_long(&self) -> bool {
+        self.dropped || self.end - self.start >= self.limit + 2
+    }
+
+    /// Hands out the next line, or says why there is none. No byte is moved or copied.
+    ///
+    /// ```
+    /// # use cidr_programs::in_examples::*;
+    /// use cidr_programs::lines::line_buffer::NextLine;
+    /// use cidr_programs::lines::line_end::LineEnd;
+    /// use cidr_programs::lines::watched::Watched;
+    ///
+    /// let mut room = [0; 10];
+    /// let mut lines = cidr_programs::lines::line_buffer::LineBuffer::new(&mut room, 8);
+    /// assert_eq!(lines.next(), NextLine::Ask);
+    /// assert_eq!(lines.ask(&mut Watched::new(b"::1\n::2".as_slice())), Ok(7));
+    /// assert_eq!(lines.next(), NextLine::Line(LineEnd::LineFeed));
+    /// assert_eq!(lines.next(), NextLine::Ask);
+    /// ```
+    pub fn next(&mut self) -> NextLine {
+        let Some(cut) = self.first_cut() else {
+            return self.next_unended();
+        };
+        self.line_start = self.start;
+        self.line_end = self.start + cut.content;
+        self.start += cut.before + 1;
+        self.searched = self.start;
+        if self.dropped {
+            self.dropped = false;
+            return NextLine::TooLong;
+        }
+        if cut.content > self.limit {
+            return NextLine::TooLong;
+        }
+        NextLine::Line(cut.end)
+    }
+
+    // Where the first of the lines that wait ends, if its line feed waits.
+    fn first_cut(&self) -> Option<Cut> {
+        let (start, searched, end) = (self.start, self.searched, self.end);
+        let window = &self.buffer[..end];
+        let at = find_far(window, searched, b'\n')?;
+        Some(cut_before(&window[start..at]))
+    }
+
+    // What comes next if no line feed waits.
+    fn next_unended(&mut self) -> NextLine {
+        self.searched = self.end;
+        if !self.ended {
+            return NextLine::Ask;
+        }
+        self.line_start = self.start;
+        self.line_end = self.end;
+        let count = self.end - self.start;
+        self.start = self.end;
+        if self.dropped {
+            self.dropped = false;
+            return NextLine::TooLong;
+        }
+        if count > self.limit {
+            return NextLine::TooLong;
+        }
+        if count == 0 {
+            return NextLine::End;
+        }
+        NextLine::Line(LineEnd::EndOfInput)
+    }
+
+    /// Reads from the device, in one call, and returns how many bytes it gave: none only at the end of the input. They
+    /// are pending behind those that were. No line feed may wait, as after `next` returned `Ask`.
+    ///
+    /// The error means that a read failed, now or earlier; a device that had failed is not called. What was pending is
+    /// pending still.
+    ///
+    /// ```
+    /// # use cidr_programs::in_examples::*;
+    /// use cidr_programs::lines::watched::Watched;
+    ///
+    /// let mut reader = Watched::new(b"10.0.0.0/8".as_slice());
+    /// let mut room = [0; 6];
+    /// let mut lines = cidr_programs::lines::line_buffer::LineBuffer::new(&mut room, 4);
+    /// assert_eq!(lines.ask(&mut reader), Ok(6));
+    /// assert_eq!(lines.ask(&mut reader), Ok(4));
+    /// assert_eq!(lines.ask(&mut reader), Ok(0));
+    /// ```
+    #[doc(hidden)]
+    pub fn ask<R: Read>(&mut self, reader: &mut Watched<R>) -> Result<usize, RunFault> {
+        if reader.failed() {
+            return Err(RunFault::Read);
+        }
+        self.make_room();
+        let most = self.buffer.len().min(self.end.saturating_add(MOST_AT_ONCE));
+        let Ok(count) = reader.device.read(&mut self.buffer[self.end..most]) else {
+            return Err(RunFault::Read);
+        };
+        self.end += count;
+        self.ended = count == 0;
+        Ok(count)
+    }
+
+    // Moves the bytes that wait to the front of the buffer, with room for at least a byte behind them. If they are all of
+    // it, they are dropped.
+    fn make_room(&mut self) {
+        if self.start == 0 {
+            if self.end == self.buffer.len() {
+                self.dropped = true;
+                self.searched = 0;
+                self.end = 0;
+            }
+            return;
+        }
+        self.line_start = 0;
+        self.line_end = 0;
+        move_to_front(self.buffer, self.start, self.end);
+        self.searched -= self.start;
+        self.end -= self.start;
+        self.start = 0;
+    }
+}
+
+// Moves the bytes from `start` up to `end` to the front of the buffer.
+fn move_to_front(buffer: &mut [u8], start: usize, end: usize) {
+    buffer.copy_within(start..end, 0);
+}

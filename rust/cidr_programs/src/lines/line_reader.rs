@@ -1,0 +1,145 @@
+// Written by scripts/plain out of crates/lines/src/line_reader.rt
+
+//! A reader of lines, which is asked for one after the other.
+
+use crate::lines::fault::RunFault;
+use crate::lines::line_buffer::{LineBuffer, NextLine};
+use crate::lines::watched::Watched;
+use fosibegan::plain_std::io::Read;
+
+/// A device, and a `LineBuffer` of what is read from it.
+///
+/// ```
+/// # use cidr_programs::in_examples::*;
+/// use cidr_programs::lines::line_buffer::NextLine;
+/// use cidr_programs::lines::line_end::LineEnd;
+/// use cidr_programs::lines::watched::Watched;
+///
+/// let reader = Watched::new(b"10.0.0.0/8\r\n".as_slice());
+/// let mut room = [0; 64];
+/// let mut lines = cidr_programs::lines::line_reader::LineReader::new(reader, &mut room, 32);
+/// assert_eq!(lines.ask(), Ok(12));
+/// assert_eq!(lines.next(), NextLine::Line(LineEnd::ReturnAndLineFeed));
+/// assert_eq!(lines.line(), b"10.0.0.0/8".as_slice());
+/// assert_eq!((lines.next(), lines.ask(), lines.next()), (NextLine::Ask, Ok(0), NextLine::End));
+/// ```
+pub struct LineReader<'b, R> {
+    source: Watched<R>,
+    buffer: LineBuffer<'b>,
+}
+
+impl<'b, R: Read> LineReader<'b, R> {
+    /// The lines of a device, none of which is read yet. A line of more than `limit` bytes, not counting those that end
+    /// it, is too long. The buffer must have at least two bytes more than the limit.
+    ///
+    /// ```
+    /// # use cidr_programs::in_examples::*;
+    /// use cidr_programs::lines::line_buffer::NextLine;
+    /// use cidr_programs::lines::line_reader::LineReader;
+    /// use cidr_programs::lines::watched::Watched;
+    ///
+    /// let mut room = [0; 64];
+    /// let mut lines = LineReader::new(Watched::new(b"::1".as_slice()), &mut room, 32);
+    /// assert_eq!(lines.next(), NextLine::Ask);
+    /// ```
+    #[doc(hidden)]
+    pub fn new(source: Watched<R>, buffer: &'b mut [u8], limit: usize) -> LineReader<'b, R> {
+        LineReader {
+            source,
+            buffer: LineBuffer::new(buffer, limit),
+        }
+    }
+
+    /// The line that `next` handed out last, without the bytes that end it. It is there until the next call of `ask`.
+    ///
+    /// ```
+    /// # use cidr_programs::in_examples::*;
+    /// use cidr_programs::lines::line_reader::LineReader;
+    /// use cidr_programs::lines::watched::Watched;
+    ///
+    /// let mut room = [0; 64];
+    /// let mut lines = LineReader::new(Watched::new(b"::1\n".as_slice()), &mut room, 32);
+    /// assert_eq!(lines.ask(), Ok(4));
+    /// let _ = lines.next();
+    /// assert_eq!(lines.line(), b"::1".as_slice());
+    /// ```
+    pub fn line(&self) -> &[u8] {
+        self.buffer.line()
+    }
+
+    /// The line that `next` handed out last, with the bytes that end it. It is there until the next call of `ask`.
+    ///
+    /// ```
+    /// # use cidr_programs::in_examples::*;
+    /// use cidr_programs::lines::line_reader::LineReader;
+    /// use cidr_programs::lines::watched::Watched;
+    ///
+    /// let mut room = [0; 64];
+    /// let mut lines = LineReader::new(Watched::new(b"::1\n".as_slice()), &mut room, 32);
+    /// assert_eq!(lines.ask(), Ok(4));
+    /// let _ = lines.next();
+    /// assert_eq!(lines.whole_line(), b"::1\n".as_slice());
+    /// ```
+    pub fn whole_line(&self) -> &[u8] {
+        self.buffer.whole_line()
+    }
+
+    /// Whether the line that is pending is too long, however it goes on: it has more bytes than the limit and a carriage
+    /// return. No line feed may wait, as after `next` returned `Ask`.
+    pub(crate) fn is_too_long(&self) -> bool {
+        self.buffer.is_too_long()
+    }
+
+    /// Hands out the next line, or says why there is none. The device is not called, and no byte is moved or copied.
+    ///
+    /// ```
+    /// # use cidr_programs::in_examples::*;
+    /// use cidr_programs::lines::line_buffer::NextLine;
+    /// use cidr_programs::lines::line_reader::LineReader;
+    /// use cidr_programs::lines::watched::Watched;
+    ///
+    /// let mut room = [0; 64];
+    /// let mut lines = LineReader::new(Watched::new(b"".as_slice()), &mut room, 32);
+    /// assert_eq!(lines.next(), NextLine::Ask);
+    /// assert_eq!(lines.ask(), Ok(0));
+    /// assert_eq!(lines.next(), NextLine::End);
+    /// ```
+    pub fn next(&mut self) -> NextLine {
+        self.buffer.next()
+    }
+
+    /// Reads from the device, in one call, and returns how many bytes it gave: none only at the end of the input. They
+    /// are pending behind those that were. No line feed may wait, as after `next` returned `Ask`.
+    ///
+    /// The error means that a read failed, now or earlier; a device that had failed is not called. What was pending is
+    /// pending still.
+    ///
+    /// ```
+    /// # use cidr_programs::in_examples::*;
+    /// use cidr_programs::lines::line_reader::LineReader;
+    /// use cidr_programs::lines::watched::Watched;
+    ///
+    /// let mut room = [0; 6];
+    /// let mut lines = LineReader::new(Watched::new(b"10.0.0.0/8".as_slice()), &mut room, 4);
+    /// assert_eq!((lines.ask(), lines.ask(), lines.ask()), (Ok(6), Ok(4), Ok(0)));
+    /// ```
+    #[doc(hidden)]
+    pub fn ask(&mut self) -> Result<usize, RunFault> {
+        self.buffer.ask(&mut self.source)
+    }
+
+    /// Returns the device.
+    ///
+    /// ```
+    /// # use cidr_programs::in_examples::*;
+    /// use cidr_programs::lines::line_reader::LineReader;
+    /// use cidr_programs::lines::watched::Watched;
+    ///
+    /// let mut room = [0; 64];
+    /// let lines = LineReader::new(Watched::new(b"::1".as_slice()), &mut room, 32);
+    /// assert_eq!(lines.into_inner().into_inner(), b"::1".as_slice());
+    /// ```
+    pub fn into_inner(self) -> Watched<R> {
+        self.source
+    }
+}

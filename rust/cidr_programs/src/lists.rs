@@ -1,0 +1,37 @@
+// Written by scripts/plain out of crates/lists/src/lib.rt
+
+//! Lists of networks: what their lines name, read into the networks of each family, and which lines are refused.
+//!
+//! A line is a network, a range of addresses, or empty. A comment begins with `#` or `;`. Only the networks that a list
+//! names take memory.
+
+mod bytes;
+mod comment;
+#[cfg(feature = "serde")]
+mod document;
+mod entry;
+mod fault;
+mod list_reader;
+mod named;
+mod networks;
+mod open_lists;
+mod opening;
+mod range;
+mod read;
+mod refusals;
+#[cfg(feature = "serde")]
+mod strings;
+mod trimming;
+
+pub use bytes::{BytesFault, read_bytes};
+#[cfg(feature = "serde")]
+pub use document::{DOCUMENT_MAX, read_document};
+pub use entry::{Entry, EntryFault, read_entry};
+pub use fault::LineFault;
+pub use list_reader::ListReader;
+pub use named::{ReadFault, read_named, read_text};
+pub use open_lists::OpenLists;
+pub use opening::{OpenFault, open_list};
+pub use read::{LINE_MAX, read_list};
+pub use refusals::{REFUSALS_MAX, Refusal, Refusals};
+pub use trimming::{Blank, ByteKind, front_len, trim};

@@ -1,0 +1,90 @@
+// Written by scripts/plain out of crates/lists/src/document.rt
+
+//! Reads a document of JSON as a list.
+
+use fosibegan::plain_std::serde_json::OfKit;
+use fosibegan::plain_std::serde_json::ErrorOfKit;
+use crate::lists::bytes::{BytesFault, read_bytes};
+use crate::lists::list_reader::ListReader;
+use crate::lists::named::ReadFault;
+use crate::lists::open_lists::OpenLists;
+#[cfg(feature = "serde")]
+use crate::lists::strings::take_value;
+use fosibegan::plain_std::serde_json::Value;
+use fosibegan::plain_std::alloc::Global;
+
+/// The most bytes of a document.
+///
+/// ```
+/// # use cidr_programs::in_examples::*;
+/// assert_eq!(cidr_programs::lists::DOCUMENT_MAX, 1 << 30);
+/// ```
+pub const DOCUMENT_MAX: usize = 1_073_741_824;
+
+/// Opens the document of JSON (RFC 8259) of this name, which is the word at the index `place`,
+/// reads it, and closes it.
+///
+/// Each of its strings that is the text of a network or of a range is an entry, at any depth, as an
+/// element of an array or as a value of an object; keys are not looked at. Of values of one key the
+/// last counts. Another string is passed over, or refused if the reading is strict: strings are then
+/// numbered as lines are, in the order of `Value`, which has the keys of an object in order. A
+/// document has at most 1,073,741,824 bytes and 127 levels.
+///
+/// If the reading stops, the reader is unchanged, unless memory ran out for an entry.
+///
+/// ```
+/// # use cidr_programs::in_examples::*;
+/// # let rt = HostRuntime::new();
+/// use cidr_programs::lists::{OpenFault, ReadFault, read_document};
+///
+/// let system = program::system::System::new(&rt);
+/// let mut reader = cidr_programs::lists::ListReader::new(Global, cidr_programs::lists::Refusals::new());
+/// let fault = ReadFault::Open(1, OpenFault::Missing);
+/// let read = read_document(Global, &system, "no such file", 1, false, &mut reader);
+/// assert_eq!(read, Err(fault));
+/// ```
+pub fn read_document<L: OpenLists>(
+    alloc: Global,
+    lists: &L,
+    name: &str,
+    place: usize,
+    is_strict: bool,
+    reader: &mut ListReader,
+) -> Result<(), ReadFault> {
+    let bytes = match read_bytes(alloc, lists, name, DOCUMENT_MAX) {
+        Ok(bytes) => bytes,
+        Err(fault) => return Err(not_read(fault, place)),
+    };
+    take_document(alloc, bytes.as_slice(), place, is_strict, reader)
+}
+
+// Takes the strings of the document of these bytes. Changes nothing if they are no document.
+fn take_document(
+    alloc: Global,
+    bytes: &[u8],
+    place: usize,
+    is_strict: bool,
+    reader: &mut ListReader,
+) -> Result<(), ReadFault> {
+    let value = match Value::from_slice(alloc, bytes) {
+        Ok(value) => value,
+        Err(error) if error.is_memory() => return Err(ReadFault::OutOfMemory),
+        Err(error) => return Err(ReadFault::NotJson(place, error.line() as u64)),
+    };
+    reader.begin(place);
+    take_value(reader, &value, is_strict);
+    if reader.is_out_of_memory() {
+        return Err(ReadFault::OutOfMemory);
+    }
+    Ok(())
+}
+
+// Why the document was not read that the word at this index names.
+fn not_read(fault: BytesFault, place: usize) -> ReadFault {
+    match fault {
+        BytesFault::Open(cause) => ReadFault::Open(place, cause),
+        BytesFault::Read => ReadFault::Read(place),
+        BytesFault::Length => ReadFault::Length(place),
+        BytesFault::OutOfMemory => ReadFault::OutOfMemory,
+    }
+}

@@ -1,0 +1,106 @@
+// Written by scripts/plain out of crates/lists/src/entry.rt
+
+//! What a line of a list says.
+
+use crate::lists::comment::without_comment;
+use crate::lists::range::read_range;
+use crate::lists::trimming::{Blank, trim};
+use fosibegan::byte_search::find_from;
+use fosibegan::ipnetwork::{CidrFault, IpAddr, IpNetwork, cause};
+
+/// What a list names: addresses of one family.
+///
+/// ```
+/// # use cidr_programs::in_examples::*;
+/// let entry = read_entry(b"10.0.0.0/8 # private")?;
+/// assert_eq!(entry, Some(Entry::Network("10.0.0.0/8".parse()?)));
+/// # Ok::<(), Fail>(())
+/// ```
+#[derive(Clone, Copy, Debug, PartialEq, Eq)]
+pub enum Entry {
+    /// A network, host bits kept. Its addresses are those of its set.
+    Network(IpNetwork),
+    /// The addresses from `first` to `last`, both included, of one family. `first` is not after `last`.
+    Range {
+        /// The first address.
+        first: IpAddr,
+        /// The last address.
+        last: IpAddr,
+    },
+}
+
+/// Why a line names no addresses.
+///
+/// ```
+/// # use cidr_programs::in_examples::*;
+/// assert_eq!(read_entry(b"10.0.0.0/33"), Err(EntryFault::Prefix));
+/// assert_eq!(read_entry(b"10.0.0.9-10.0.0.1"), Err(EntryFault::Range));
+/// ```
+#[derive(Clone, Copy, Debug, PartialEq, Eq)]
+pub enum EntryFault {
+    /// A network text with two or more `/`.
+    Format,
+    /// What stands before a `/`, or the whole entry if it has none, is not an address, or an end of a range is not an
+    /// address.
+    Address,
+    /// What stands after a `/` is not a suffix of that address's family.
+    Prefix,
+    /// The ends of a range are of two families, or its last address is before its first.
+    Range,
+}
+
+/// What a line says. The line is given without its line end. `None` if there is nothing but blanks and a comment.
+///
+/// An entry is what stands before the first `#` or `;`, without the blanks (spaces and tabs) around it. If it contains
+/// a `-`, it is a range: what stands before the first `-` and what stands after it, without the blanks around each, are
+/// its first and its last address. Any other entry is a network text, as `IpNetwork::read_bytes` reads it. Every other
+/// byte belongs to the entry.
+///
+/// ```
+/// # use cidr_programs::in_examples::*;
+/// let (first, last) = ("10.0.0.1".parse()?, "10.0.0.9".parse()?);
+/// assert_eq!(read_entry(b"10.0.0.1 - 10.0.0.9"), Ok(Some(Entry::Range { first, last })));
+/// assert_eq!(read_entry(b"; nothing"), Ok(None));
+/// # Ok::<(), Fail>(())
+/// ```
+pub fn read_entry(line: &[u8]) -> Result<Option<Entry>, EntryFault> {
+    // Does nothing. The proof needs the law: a network text contains no mark of a comment, no blank and no `-`.
+    if let Ok(network) = IpNetwork::read_bytes(line) {
+        return Ok(Some(Entry::Network(network)));
+    }
+    read_line(line)
+}
+
+/// What a line says.
+fn read_line(line: &[u8]) -> Result<Option<Entry>, EntryFault> {
+    let text = trim::<Blank>(without_comment(line));
+    if text.is_empty() {
+        return Ok(None);
+    }
+    match read_text(text) {
+        Ok(entry) => Ok(Some(entry)),
+        Err(fault) => Err(fault),
+    }
+}
+
+/// The entry that a text names.
+pub(crate) fn read_text(text: &[u8]) -> Result<Entry, EntryFault> {
+    // Does nothing. The proof needs the law: other addresses of the same ends would be other ranges.
+    match find_from(text, 0, b'-') {
+        Some(at) => read_range(&text[..at], &text[at + 1..]),
+        None => read_network(text),
+    }
+}
+
+/// The network that a text names.
+fn read_network(text: &[u8]) -> Result<Entry, EntryFault> {
+    if let Ok(network) = IpNetwork::read_bytes(text) {
+        return Ok(Entry::Network(network));
+    }
+    match cause(text) {
+        Some(CidrFault::Format) => Err(EntryFault::Format),
+        Some(CidrFault::Prefix) => Err(EntryFault::Prefix),
+        Some(CidrFault::Addr) => Err(EntryFault::Address),
+        None => Err(EntryFault::Address),
+    }
+}

@@ -1,0 +1,42 @@
+// Written by scripts/plain out of crates/lists/src/fault.rt
+
+//! Why a line is refused.
+
+use crate::lists::EntryFault;
+
+/// Why a line of a list is refused.
+///
+/// ```
+/// # use cidr_programs::in_examples::*;
+/// let mut lists = ListReader::new(Global, Refusals::new());
+/// read_list(&mut lists, 1, &mut cidr_programs::lines::watched::Watched::new(b"10.0.0.0/33".as_slice()))?;
+/// let (_, _, refusals) = lists.into_sets();
+/// assert_eq!(refusals.kept()[0].fault, LineFault::Entry(EntryFault::Prefix));
+/// # Ok::<(), Fail>(())
+/// ```
+#[derive(Clone, Copy, Debug, PartialEq, Eq)]
+pub enum LineFault {
+    /// The line names no addresses.
+    Entry(EntryFault),
+    /// The line has more than 1,024 bytes, not counting its line end.
+    Length,
+}
+
+impl LineFault {
+    /// The fault in one word: `format`, `address`, `prefix`, `range` or `length`.
+    ///
+    /// ```
+    /// # use cidr_programs::in_examples::*;
+    /// assert_eq!(LineFault::Entry(EntryFault::Prefix).text(), "prefix");
+    /// assert_eq!(LineFault::Length.text(), "length");
+    /// ```
+    pub fn text(self) -> &'static str {
+        match self {
+            LineFault::Entry(EntryFault::Format) => "format",
+            LineFault::Entry(EntryFault::Address) => "address",
+            LineFault::Entry(EntryFault::Prefix) => "prefix",
+            LineFault::Entry(EntryFault::Range) => "range",
+            LineFault::Length => "length",
+        }
+    }
+}

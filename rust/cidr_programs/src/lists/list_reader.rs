@@ -1,0 +1,210 @@
+// Written by scripts/plain out of crates/lists/src/list_reader.rt
+
+//! What was read of lists.
+
+use fosibegan::plain_std::vec::Vec;
+use crate::lists::entry::{Entry, read_entry, read_text};
+use crate::lists::fault::LineFault;
+use crate::lists::networks::Networks;
+use crate::lists::refusals::{Refusal, Refusals};
+use fosibegan::ipnetwork::{IpAddr, IpNetwork, Ipv4Network, Ipv6Network};
+use fosibegan::ipnetwork_sets::AddressSet;
+use fosibegan::plain_std::alloc::{AllocError, Global};
+
+/// The networks that the lines of lists name, by family, and the lines that are refused.
+///
+/// It reads any number of lists, one after the other (`read_list`). Networks are kept in the
+/// order in which they are read, and a range as its blocks. Once memory has run out for a network, nothing more is
+/// read.
+///
+/// ```
+/// # use cidr_programs::in_examples::*;
+/// let mut lists = ListReader::new(Global, Refusals::new());
+/// read_list(&mut lists, 1, &mut cidr_programs::lines::watched::Watched::new(b"10.0.0.0/9\n::1".as_slice()))?;
+/// read_list(&mut lists, 2, &mut cidr_programs::lines::watched::Watched::new(b"10.128.0.0/9".as_slice()))?;
+/// let (v4, v6, _) = lists.into_sets();
+/// assert_eq!(v4.blocks(), ["10.0.0.0/8".parse()?].as_slice());
+/// assert_eq!(v6.blocks(), ["::1/128".parse()?].as_slice());
+/// # Ok::<(), Fail>(())
+/// ```
+#[derive(Debug)]
+pub struct ListReader {
+    v4: Networks<Ipv4Network>,
+    v6: Networks<Ipv6Network>,
+    refusals: Refusals,
+    list: usize,
+    line: u64,
+    is_out_of_memory: bool,
+}
+
+impl ListReader {
+    /// A reader that has read no list yet. `refusals` has the lines that were refused before.
+    ///
+    /// ```
+    /// # use cidr_programs::in_examples::*;
+    /// let lists = ListReader::new(Global, Refusals::new());
+    /// let (v4, v6, refusals) = lists.into_sets();
+    /// assert!(v4.is_empty() && v6.is_empty() && refusals.is_empty());
+    /// ```
+    pub fn new(alloc: Global, refusals: Refusals) -> ListReader {
+        ListReader {
+            v4: Networks::new(alloc),
+            v6: Networks::new(alloc),
+            refusals,
+            list: 0,
+            line: 0,
+            is_out_of_memory: false,
+        }
+    }
+
+    /// Begins a list, to which the caller gives this number.
+    pub(crate) fn begin(&mut self, list: usize) {
+        self.list = list;
+        self.line = 0;
+    }
+
+    /// Whether memory ran out for a network.
+    ///
+    /// ```
+    /// # use cidr_programs::in_examples::*;
+    /// let mut lists = ListReader::new(Global, Refusals::new());
+    /// read_list(&mut lists, 1, &mut cidr_programs::lines::watched::Watched::new(b"10.0.0.0/8".as_slice()))?;
+    /// assert!(!lists.is_out_of_memory());
+    /// # Ok::<(), Fail>(())
+    /// ```
+    pub fn is_out_of_memory(&self) -> bool {
+        self.is_out_of_memory
+    }
+
+    /// The addresses of the networks of each family, and the refused lines.
+    ///
+    /// ```
+    /// # use cidr_programs::in_examples::*;
+    /// let mut lists = ListReader::new(Global, Refusals::new());
+    /// read_list(&mut lists, 1, &mut cidr_programs::lines::watched::Watched::new(b"192.0.2.4-192.0.2.7".as_slice()))?;
+    /// let (v4, _, refusals) = lists.into_sets();
+    /// assert_eq!(v4.blocks(), ["192.0.2.4/30".parse()?].as_slice());
+    /// assert!(refusals.is_empty());
+    /// # Ok::<(), Fail>(())
+    /// ```
+    pub fn into_sets(self) -> (AddressSet<Ipv4Network>, AddressSet<Ipv6Network>, Refusals) {
+        (self.v4.into_set(), self.v6.into_set(), self.refusals)
+    }
+
+    /// The networks of each family in the order in which they were read, and the refused lines.
+    ///
+    /// A range is given as the fewest blocks that have its addresses.
+    ///
+    /// ```
+    /// # use cidr_programs::in_examples::*;
+    /// let mut lists = ListReader::new(Global, Refusals::new());
+    /// let list = b"10.0.0.0/8\n192.0.2.7 - 192.0.2.8\n10.1.0.0/16".as_slice();
+    /// read_list(&mut lists, 1, &mut cidr_programs::lines::watched::Watched::new(list))?;
+    /// let (v4, _, _) = lists.into_networks();
+    /// assert_eq!(v4.len(), 4);
+    /// assert_eq!(v4[1], "192.0.2.7/32".parse()?);
+    /// # Ok::<(), Fail>(())
+    /// ```
+    pub fn into_networks(self) -> (Vec<Ipv4Network>, Vec<Ipv6Network>, Refusals) {
+        (self.v4.into_vec(), self.v6.into_vec(), self.refusals)
+    }
+
+    /// Takes a line of at most 1,024 bytes, unless memory has run out.
+    pub(crate) fn take_line(&mut self, line: &[u8]) {
+        if self.is_out_of_memory() {
+            return;
+        }
+        self.next_line();
+        match read_entry(line) {
+            Ok(None) => {}
+            Ok(Some(entry)) => self.take(entry),
+            Err(fault) => self.refuse(LineFault::Entry(fault)),
+        }
+    }
+
+    /// Refuses a longer line, unless memory has run out.
+    pub(crate) fn refuse_long_line(&mut self) {
+        if self.is_out_of_memory() {
+            return;
+        }
+        self.next_line();
+        self.refuse(LineFault::Length);
+    }
+
+    /// Takes a string of a document, unless memory has run out. One that names no entry is refused if the reading is
+    /// strict.
+    pub(crate) fn take_string(&mut self, text: &[u8], is_strict: bool) {
+        if self.is_out_of_memory() {
+            return;
+        }
+        self.next_line();
+        match read_text(text) {
+            Ok(entry) => self.take(entry),
+            Err(fault) if is_strict => self.refuse(LineFault::Entry(fault)),
+            Err(_) => {}
+        }
+    }
+
+    // Goes on to the next line of the list.
+    fn next_line(&mut self) {
+        self.line = self.line.saturating_add(1);
+    }
+
+    // Notes that the line is refused.
+    fn refuse(&mut self, fault: LineFault) {
+        self.refusals.add(Refusal {
+            list: self.list,
+            line: self.line,
+            fault,
+        });
+    }
+
+    // Takes what an entry names.
+    fn take(&mut self, entry: Entry) {
+        let pushed = push_entry(&mut self.v4, &mut self.v6, entry);
+        self.is_out_of_memory = pushed.is_err();
+    }
+}
+
+// Adds the network, or the blocks of the range, to those of its family.
+fn push_entry(
+    v4: &mut Networks<Ipv4Network>,
+    v6: &mut Networks<Ipv6Network>,
+    entry: Entry,
+) -> Result<(), AllocError> {
+    match entry {
+        Entry::Network(network) => push_network(v4, v6, network),
+        Entry::Range { first, last } => push_range(v4, v6, first, last),
+    }
+}
+
+// Adds the network to those of its family.
+fn push_network(
+    v4: &mut Networks<Ipv4Network>,
+    v6: &mut Networks<Ipv6Network>,
+    network: IpNetwork,
+) -> Result<(), AllocError> {
+    match network {
+        IpNetwork::V4(network) => v4.push(network),
+        IpNetwork::V6(network) => v6.push(network),
+    }
+}
+
+// Adds the blocks of the range to those of its family.
+fn push_range(
+    v4: &mut Networks<Ipv4Network>,
+    v6: &mut Networks<Ipv6Network>,
+    first: IpAddr,
+    last: IpAddr,
+) -> Result<(), AllocError> {
+    match first {
+        IpAddr::V4(first) => match last {
+            IpAddr::V4(last) => v4.push_range(first, last),
+            IpAddr::V6(_) => Ok(()),
+        },
+        IpAddr::V6(first) => match last {
+            IpAddr::V4(_) => Ok(()),
+            IpAddr::V6(last) => v6.push_range(first, last),
+        },
+    }
+}

@@ -1,0 +1,79 @@
+// Written by scripts/plain out of crates/lists/src/opening.rt
+
+//! Why a file cannot be opened.
+
+use crate::lists::open_lists::OpenLists;
+use crate::lines::watched::Watched;
+use fosibegan::plain_std::io::ErrorKind;
+
+/// Why a file cannot be opened.
+///
+/// ```
+/// # use cidr_programs::in_examples::*;
+/// use fosibegan::plain_std::io::ErrorKind;
+///
+/// assert_eq!(OpenFault::of(ErrorKind::NotFound), OpenFault::Missing);
+/// assert_eq!(OpenFault::of(ErrorKind::TimedOut), OpenFault::Other);
+/// ```
+#[derive(Clone, Copy, Debug, PartialEq, Eq)]
+pub enum OpenFault {
+    /// There is no file of this name.
+    Missing,
+    /// It may not be read.
+    Denied,
+    /// It is a directory.
+    Directory,
+    /// Another cause.
+    Other,
+}
+
+impl OpenFault {
+    /// The cause that an error of the system names.
+    ///
+    /// ```
+    /// # use cidr_programs::in_examples::*;
+    /// use fosibegan::plain_std::io::ErrorKind;
+    ///
+    /// assert_eq!(OpenFault::of(ErrorKind::PermissionDenied), OpenFault::Denied);
+    /// ```
+    pub fn of(kind: ErrorKind) -> OpenFault {
+        match kind {
+            ErrorKind::NotFound => OpenFault::Missing,
+            ErrorKind::PermissionDenied => OpenFault::Denied,
+            ErrorKind::IsADirectory => OpenFault::Directory,
+            _ => OpenFault::Other,
+        }
+    }
+
+    /// What is reported of it, after the name of the file.
+    ///
+    /// ```
+    /// # use cidr_programs::in_examples::*;
+    /// assert_eq!(OpenFault::Missing.text(), ": cannot open: no such file\n");
+    /// assert_eq!(OpenFault::Other.text(), ": cannot open\n");
+    /// ```
+    pub fn text(self) -> &'static str {
+        match self {
+            OpenFault::Missing => ": cannot open: no such file\n",
+            OpenFault::Denied => ": cannot open: permission denied\n",
+            OpenFault::Directory => ": cannot open: is a directory\n",
+            OpenFault::Other => ": cannot open\n",
+        }
+    }
+}
+
+/// Opens the list of this name. Once a read of it has failed, it is not read again.
+///
+/// ```
+/// # use cidr_programs::in_examples::*;
+/// # let rt = HostRuntime::new();
+/// let system = program::system::System::new(&rt);
+/// assert!(cidr_programs::lists::open_list(&system, "-").is_ok());
+/// assert!(cidr_programs::lists::open_list(&system, "no such file").is_err());
+/// ```
+pub fn open_list<L: OpenLists>(lists: &L, name: &str) -> Result<Watched<L::List>, OpenFault> {
+    match lists.open(name) {
+        Ok(list) => Ok(Watched::new(list)),
+        Err(error) => Err(OpenFault::of(error.kind())),
+    }
+}

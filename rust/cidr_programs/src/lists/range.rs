@@ -1,0 +1,35 @@
+// Written by scripts/plain out of crates/lists/src/range.rt
+
+//! The range of addresses between two ends.
+
+use crate::lists::entry::{Entry, EntryFault};
+use crate::lists::trimming::{Blank, trim};
+use fosibegan::ipnetwork::IpAddr;
+
+/// The range of which these texts name the ends.
+pub(crate) fn read_range(before: &[u8], after: &[u8]) -> Result<Entry, EntryFault> {
+    let Ok(first) = IpAddr::read_bytes(trim::<Blank>(before)) else {
+        return Err(EntryFault::Address);
+    };
+    let Ok(last) = IpAddr::read_bytes(trim::<Blank>(after)) else {
+        return Err(EntryFault::Address);
+    };
+    between(first, last)
+}
+
+/// The range from one address to another.
+fn between(first: IpAddr, last: IpAddr) -> Result<Entry, EntryFault> {
+    if !is_range(&first, &last) {
+        return Err(EntryFault::Range);
+    }
+    let range = Entry::Range { first, last };
+    Ok(range)
+}
+
+/// Whether the addresses are of one family, and the first is not after the last.
+fn is_range(first: &IpAddr, last: &IpAddr) -> bool {
+    if let (IpAddr::V4(_), IpAddr::V6(_)) = (first, last) {
+        return false;
+    }
+    first <= last
+}

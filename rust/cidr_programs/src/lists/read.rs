@@ -1,0 +1,97 @@
+// Written by scripts/plain out of crates/lists/src/read.rt
+
+//! Reads lists.
+
+use crate::lists::list_reader::ListReader;
+use crate::lines::fault::RunFault;
+use crate::lines::line_buffer::{LineBuffer, NextLine};
+use crate::lines::watched::Watched;
+use fosibegan::plain_std::io::Read;
+
+/// The most bytes of a line, not counting its line end.
+///
+/// ```
+/// # use cidr_programs::in_examples::*;
+/// let line = [b'#'].repeat(Global, LINE_MAX + 1)?;
+/// let mut lists = ListReader::new(Global, Refusals::new());
+/// read_list(&mut lists, 1, &mut cidr_programs::lines::watched::Watched::new(line.as_slice()))?;
+/// assert_eq!(lists.into_sets().2.kept()[0].fault, LineFault::Length);
+/// # Ok::<(), Fail>(())
+/// ```
+pub const LINE_MAX: usize = 1024;
+
+/// The most bytes that are read and not yet taken.
+const BUFFER_MAX: usize = 65536;
+
+/// Reads a list to its end, or until memory runs out. `list` is a number that the caller chooses, by which refused lines name the list.
+///
+/// `RunFault::Read` if a read failed: exactly the lines that were complete before were read. `RunFault::InputTooLong`
+/// if there are more than 18,446,744,073,709,551,615 bytes. Allocates only for what the list names, unless the device
+/// allocates.
+///
+/// ```
+/// # use cidr_programs::in_examples::*;
+/// let mut lists = ListReader::new(Global, Refusals::new());
+/// let list = b"# private\n10.0.0.0/8\n10.0.0.0/33\n".as_slice();
+/// read_list(&mut lists, 1, &mut cidr_programs::lines::watched::Watched::new(list))?;
+/// let (v4, _, refusals) = lists.into_sets();
+/// assert_eq!(v4.blocks(), ["10.0.0.0/8".parse()?].as_slice());
+/// assert_eq!(refusals.kept()[0].line, 3);
+/// # Ok::<(), Fail>(())
+/// ```
+pub fn read_list<R: Read>(
+    lists: &mut ListReader,
+    list: usize,
+    reader: &mut Watched<R>,
+) -> Result<(), RunFault> {
+    lists.begin(list);
+    let mut slice = [0u8; BUFFER_MAX];
+    let mut lines = LineBuffer::new(&mut slice, LINE_MAX);
+    let mut room = u64::MAX;
+    'reads: loop {
+        let count = match lines.ask(reader) {
+            Ok(count) => count,
+            Err(_) => return Err(RunFault::Read),
+        };
+        if count as u64 > room {
+            return Err(RunFault::InputTooLong);
+        }
+        room -= count as u64;
+        take_whole_lines(lists, &mut lines);
+        if count == 0 {
+            return Ok(());
+        }
+        if lists.is_out_of_memory() {
+            return Ok(());
+        }
+    }
+}
+
+// Takes the lines that are whole.
+fn take_whole_lines(lists: &mut ListReader, lines: &mut LineBuffer<'_>) {
+    'lines: loop {
+        match lines.next() {
+            NextLine::Line(_) => lists.take_line(lines.line()),
+            NextLine::TooLong => lists.refuse_long_line(),
+            NextLine::Ask => return,
+            NextLine::End => return,
+        }
+    }
+}
+
+// Reads a text as a list to its end, as `read_list` reads its bytes. Refused lines name the text by the number `list`.
+pub(crate) fn take_text(lists: &mut ListReader, list: usize, text: &str) {
+    lists.begin(list);
+    for line in text.lines() {
+        read_line(lists, line.as_bytes());
+    }
+}
+
+// Takes a line, unless it is too long.
+fn read_line(lists: &mut ListReader, line: &[u8]) {
+    if line.len() > LINE_MAX {
+        lists.refuse_long_line();
+    } else {
+        lists.take_line(line);
+    }
+}

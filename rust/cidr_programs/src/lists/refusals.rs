@@ -1,0 +1,136 @@
+// Written by scripts/plain out of crates/lists/src/refusals.rt
+
+//! The refused lines of lists.
+
+use crate::lists::fault::LineFault;
+
+/// How many refused lines are kept.
+///
+/// ```
+/// # use cidr_programs::in_examples::*;
+/// let list = b"x\n".repeat(Global, 103)?;
+/// let mut lists = ListReader::new(Global, Refusals::new());
+/// read_list(&mut lists, 1, &mut cidr_programs::lines::watched::Watched::new(list.as_slice()))?;
+/// let (_, _, refusals) = lists.into_sets();
+/// assert_eq!(refusals.kept().len(), REFUSALS_MAX);
+/// # Ok::<(), Fail>(())
+/// ```
+pub const REFUSALS_MAX: usize = 100;
+
+/// A refused line.
+///
+/// ```
+/// # use cidr_programs::in_examples::*;
+/// let mut lists = ListReader::new(Global, Refusals::new());
+/// read_list(&mut lists, 7, &mut cidr_programs::lines::watched::Watched::new(b"10.0.0.1\n10.0.0.256".as_slice()))?;
+/// let (_, _, refusals) = lists.into_sets();
+/// let fault = LineFault::Entry(EntryFault::Address);
+/// assert_eq!(refusals.kept()[0], Refusal { list: 7, line: 2, fault });
+/// # Ok::<(), Fail>(())
+/// ```
+#[derive(Clone, Copy, Debug, PartialEq, Eq)]
+pub struct Refusal {
+    /// The number that the caller gave the list.
+    pub list: usize,
+    /// The number of the line in its list, from 1 on.
+    pub line: u64,
+    /// Why it is refused.
+    pub fault: LineFault,
+}
+
+/// The first hundred refused lines, in the order in which they were read, and how many more there were.
+///
+/// ```
+/// # use cidr_programs::in_examples::*;
+/// let list = b"x\n".repeat(Global, 103)?;
+/// let mut lists = ListReader::new(Global, Refusals::new());
+/// read_list(&mut lists, 1, &mut cidr_programs::lines::watched::Watched::new(list.as_slice()))?;
+/// let (_, _, refusals) = lists.into_sets();
+/// assert_eq!((refusals.kept().len(), refusals.more()), (100, 3));
+/// # Ok::<(), Fail>(())
+/// ```
+#[derive(Debug)]
+pub struct Refusals {
+    slots: [Refusal; REFUSALS_MAX],
+    count: usize,
+    more: u64,
+}
+
+// What stands in a slot that is not used.
+const UNUSED: Refusal = Refusal {
+    list: 0,
+    line: 0,
+    fault: LineFault::Length,
+};
+
+impl Refusals {
+    /// No refused lines.
+    ///
+    /// ```
+    /// # use cidr_programs::in_examples::*;
+    /// let refusals = Refusals::new();
+    /// assert_eq!((refusals.kept().len(), refusals.more()), (0, 0));
+    /// ```
+    pub fn new() -> Refusals {
+        Refusals {
+            slots: [UNUSED; REFUSALS_MAX],
+            count: 0,
+            more: 0,
+        }
+    }
+
+    /// Adds a refused line.
+    pub(crate) fn add(&mut self, refusal: Refusal) {
+        if self.count < REFUSALS_MAX {
+            self.slots[self.count] = refusal;
+            self.count += 1;
+        } else {
+            self.more = self.more.saturating_add(1);
+        }
+    }
+
+    /// The refused lines that are kept: the first hundred.
+    ///
+    /// ```
+    /// # use cidr_programs::in_examples::*;
+    /// let mut lists = ListReader::new(Global, Refusals::new());
+    /// read_list(&mut lists, 1, &mut cidr_programs::lines::watched::Watched::new(b"1.1.1.1/8/8\nx".as_slice()))?;
+    /// let (_, _, refusals) = lists.into_sets();
+    /// assert_eq!(refusals.kept()[0].fault.text(), "format");
+    /// assert_eq!(refusals.kept()[1].fault.text(), "address");
+    /// # Ok::<(), Fail>(())
+    /// ```
+    pub fn kept(&self) -> &[Refusal] {
+        &self.slots[..self.count]
+    }
+
+    /// How many more refused lines there were, up to 18,446,744,073,709,551,615.
+    ///
+    /// ```
+    /// # use cidr_programs::in_examples::*;
+    /// let list = b"x\n".repeat(Global, 103)?;
+    /// let mut lists = ListReader::new(Global, Refusals::new());
+    /// read_list(&mut lists, 1, &mut cidr_programs::lines::watched::Watched::new(list.as_slice()))?;
+    /// let (_, _, refusals) = lists.into_sets();
+    /// assert_eq!(refusals.more(), 3);
+    /// # Ok::<(), Fail>(())
+    /// ```
+    pub fn more(&self) -> u64 {
+        self.more
+    }
+
+    /// Whether no refused line is kept.
+    ///
+    /// ```
+    /// # use cidr_programs::in_examples::*;
+    /// let mut lists = ListReader::new(Global, Refusals::new());
+    /// read_list(&mut lists, 1, &mut cidr_programs::lines::watched::Watched::new(b"::/129".as_slice()))?;
+    /// let (_, _, refusals) = lists.into_sets();
+    /// assert!(Refusals::new().is_empty());
+    /// assert!(!refusals.is_empty());
+    /// # Ok::<(), Fail>(())
+    /// ```
+    pub fn is_empty(&self) -> bool {
+        self.kept().is_empty()
+    }
+}

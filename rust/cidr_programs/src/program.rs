@@ -1,0 +1,20 @@
+// Written by scripts/plain out of crates/program/src/lib.rt
+
+//! What programs that read lists share: their arguments, the files they open, the lines of logs, and what they report
+//! on standard error.
+
+pub mod arguments;
+pub mod ending;
+pub mod log_fault;
+pub mod log_reader;
+pub mod memory;
+pub mod messages;
+pub mod progress;
+pub mod putting;
+pub mod standard_error;
+pub mod standard_output;
+pub mod start;
+pub mod system;
+pub mod telling;
+pub mod usage;
+pub mod words;

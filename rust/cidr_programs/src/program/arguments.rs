@@ -1,0 +1,67 @@
+// Written by scripts/plain out of crates/program/src/arguments.rt
+
+//! The arguments of the program.
+
+use fosibegan::plain_std::vec::Vec;
+use fosibegan::plain_std::string::String;
+use fosibegan::plain_std::rt::Alloc;
+use fosibegan::plain_std::alloc::Global;
+use fosibegan::plain_std::env;
+use fosibegan::plain_std::io::ErrorKind;
+use fosibegan::plain_std::rt::Env;
+
+/// Why the arguments cannot be read.
+///
+/// ```
+/// # use cidr_programs::in_examples::*;
+/// let fault = cidr_programs::program::arguments::ArgumentsFault::NotText;
+/// assert!(fault != cidr_programs::program::arguments::ArgumentsFault::OutOfMemory);
+/// ```
+#[derive(Clone, Copy, Debug, PartialEq, Eq)]
+pub enum ArgumentsFault {
+    /// An argument is not UTF-8.
+    NotText,
+    /// Out of memory.
+    OutOfMemory,
+}
+
+impl ArgumentsFault {
+    /// Why they cannot be read, by the system's error.
+    ///
+    /// ```
+    /// # use cidr_programs::in_examples::*;
+    /// use cidr_programs::program::arguments::ArgumentsFault;
+    /// use fosibegan::plain_std::io::ErrorKind;
+    ///
+    /// assert_eq!(ArgumentsFault::of(ErrorKind::InvalidData), ArgumentsFault::NotText);
+    /// ```
+    pub fn of(kind: ErrorKind) -> ArgumentsFault {
+        match kind {
+            ErrorKind::OutOfMemory => ArgumentsFault::OutOfMemory,
+            _ => ArgumentsFault::NotText,
+        }
+    }
+}
+
+/// The arguments after the program's name, in order. Each is a `String` of its own, in memory of the program's
+/// allocator.
+///
+/// ```
+/// # use cidr_programs::in_examples::*;
+/// # let rt = HostRuntime::new();
+/// assert!(cidr_programs::program::arguments::arguments(&rt).is_ok());
+/// ```
+pub fn arguments<R: Env + Alloc<A = Global>>(rt: &R) -> Result<Vec<String>, ArgumentsFault> {
+    let mut words = match env::args(rt) {
+        Ok(words) => words,
+        Err(error) => return Err(ArgumentsFault::of(error.kind())),
+    };
+    let _program = words.next();
+    let mut all = Vec::new(rt.alloc());
+    for word in words {
+        if all.push(word).is_err() {
+            return Err(ArgumentsFault::OutOfMemory);
+        }
+    }
+    Ok(all)
+}

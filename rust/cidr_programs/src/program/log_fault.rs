@@ -1,0 +1,113 @@
+// Written by scripts/plain out of crates/program/src/log_fault.rt
+
+//! Why a log is not read to its end, and what is reported then.
+
+use crate::program::messages::{tell, tell_number};
+use crate::lines::output::Output;
+use crate::lists::OpenFault;
+use fosibegan::plain_std::io::Write;
+
+/// Why a log is not read to its end.
+#[derive(Clone, Copy, Debug, PartialEq, Eq)]
+pub enum LogFault {
+    /// The log cannot be opened, for this cause.
+    Open(OpenFault),
+    /// A read failed.
+    Read,
+    /// A write failed.
+    Write,
+    /// A line without an address ends the run.
+    Address,
+    /// A line that is too long ends the run.
+    Length,
+    /// The log has more than 18,446,744,073,709,551,615 bytes.
+    Endless,
+}
+
+/// Writes what waits, and reports why the log of this name was not read to its end, after this many of its lines: a
+/// failed write, if one fails now.
+///
+/// ```
+/// # use cidr_programs::in_examples::*;
+/// use cidr_programs::lines::output::Output;
+/// use cidr_programs::program::log_fault::{LogFault, stop};
+///
+/// let (mut slice, mut error_slice, mut room) = ([0; 8], [0; 64], [0; 24]);
+/// let mut output = Output::new(Vec::new(Global), &mut slice);
+/// let mut errors = Output::new(room.as_mut_slice(), &mut error_slice);
+/// stop("log", LogFault::Address, 6, &mut output, &mut errors);
+/// assert_eq!(errors.finish(), Ok(()));
+/// drop(errors);
+/// assert_eq!(room.as_slice(), b"log:7: refused address\n\0".as_slice());
+/// ```
+pub fn stop<W: Write, E: Write>(
+    name: &str,
+    fault: LogFault,
+    lines: u64,
+    output: &mut Output<'_, W>,
+    errors: &mut Output<'_, E>,
+) {
+    match fault {
+        LogFault::Write => tell_log_fault(name, LogFault::Write, lines, errors),
+        _ => match output.hand_on() {
+            Ok(()) => tell_log_fault(name, fault, lines, errors),
+            Err(_) => tell_log_fault(name, LogFault::Write, lines, errors),
+        },
+    }
+}
+
+/// Reports why the log of this name was not read to its end, after this many of its lines.
+///
+/// ```
+/// # use cidr_programs::in_examples::*;
+/// use cidr_programs::program::log_fault::{LogFault, tell_log_fault};
+///
+/// let (mut slice, mut room) = ([0; 64], [0; 23]);
+/// let mut errors = cidr_programs::lines::output::Output::new(room.as_mut_slice(), &mut slice);
+/// tell_log_fault("log", LogFault::Length, 6, &mut errors);
+/// assert_eq!(errors.finish(), Ok(()));
+/// drop(errors);
+/// assert_eq!(room.as_slice(), b"log:7: refused length\n\0".as_slice());
+/// ```
+pub fn tell_log_fault<E: Write>(name: &str, fault: LogFault, lines: u64, errors: &mut Output<'_, E>) {
+    match fault {
+        LogFault::Open(cause) => tell_of(name, cause.text(), errors),
+        LogFault::Read => tell_of(name, ": cannot read\n", errors),
+        LogFault::Write => tell("write error\n", errors),
+        LogFault::Address => tell_line(name, lines, "address", errors),
+        LogFault::Length => tell_line(name, lines, "length", errors),
+        LogFault::Endless => tell_of(name, ": too long\n", errors),
+    }
+}
+
+/// Reports a name, and then a text.
+///
+/// ```
+/// # use cidr_programs::in_examples::*;
+/// let mut slice = [0; 64];
+/// let mut errors = cidr_programs::lines::output::Output::new(Vec::new(Global), &mut slice);
+/// cidr_programs::program::log_fault::tell_of("log", ": cannot open\n", &mut errors);
+/// assert_eq!(errors.finish(), Ok(()));
+/// ```
+pub fn tell_of<E: Write>(name: &str, text: &str, errors: &mut Output<'_, E>) {
+    tell(name, errors);
+    tell(text, errors);
+}
+
+/// Reports which line of a file is refused, the one after this many, and why.
+///
+/// ```
+/// # use cidr_programs::in_examples::*;
+/// let mut slice = [0; 64];
+/// let mut errors = cidr_programs::lines::output::Output::new(Vec::new(Global), &mut slice);
+/// cidr_programs::program::log_fault::tell_line("log", 6, "address", &mut errors);
+/// assert_eq!(errors.finish(), Ok(()));
+/// ```
+pub fn tell_line<E: Write>(name: &str, lines: u64, cause: &str, errors: &mut Output<'_, E>) {
+    tell(name, errors);
+    tell(":", errors);
+    tell_number(lines.saturating_add(1), errors);
+    tell(": refused ", errors);
+    tell(cause, errors);
+    tell("\n", errors);
+}

@@ -1,0 +1,200 @@
+// Written by scripts/plain out of crates/program/src/log_reader.rt
+
+//! The lines of a log, as they are read.
+
+use crate::program::log_fault::LogFault;
+use crate::lines::fault::RunFault;
+use crate::lines::line_buffer::{LineBuffer, NextLine};
+use crate::lines::line_end::LineEnd;
+use crate::lines::output::Output;
+use crate::lines::watched::Watched;
+use fosibegan::plain_std::io::{Read, Write};
+
+/// The most bytes of a line, not counting its line end.
+pub const LINE_MAX: usize = 1_048_576;
+
+/// How many bytes a buffer has: those of the longest line, and those that are read beside it.
+pub const BUFFER_LEN: usize = LINE_MAX + 2 + 262_144;
+
+/// What comes next in a log.
+///
+/// ```
+/// # use cidr_programs::in_examples::*;
+/// use cidr_programs::lines::output::Output;
+/// use cidr_programs::lines::watched::Watched;
+/// use cidr_programs::program::log_reader::{BUFFER_LEN, LogReader, NextLogLine};
+///
+/// let mut buffer = vec![in Global; 0u8; BUFFER_LEN]?;
+/// let mut slice = [0; 8];
+/// let mut output = Output::new(Vec::new(Global), &mut slice);
+/// let mut log = LogReader::new(buffer.as_mut_slice(), false);
+/// assert_eq!(log.next(&mut Watched::new(b"".as_slice()), &mut output), Ok(NextLogLine::End));
+/// # Ok::<(), Fail>(())
+/// ```
+#[derive(Clone, Copy, Debug, PartialEq, Eq)]
+pub enum NextLogLine {
+    /// A line, which `line` lends, and how it ended.
+    Line(LineEnd),
+    /// A line of more than 1,048,576 bytes.
+    TooLong,
+    /// No line: the log has ended.
+    End,
+}
+
+/// The lines of a log.
+///
+/// `next` hands out one line after the other, each where it was read. Before it asks the device for more bytes, and at
+/// the end, it writes what waits in an output: so what is written for the lines that a read completes is written before
+/// the next read.
+///
+/// ```
+/// # use cidr_programs::in_examples::*;
+/// use cidr_programs::lines::line_end::LineEnd;
+/// use cidr_programs::lines::output::Output;
+/// use cidr_programs::lines::watched::Watched;
+/// use cidr_programs::program::log_reader::{BUFFER_LEN, LogReader, NextLogLine};
+///
+/// let mut buffer = vec![in Global; 0u8; BUFFER_LEN]?;
+/// let mut slice = [0; 8];
+/// let mut output = Output::new(Vec::new(Global), &mut slice);
+/// let mut reader = Watched::new(b"10.1.1.1 GET\n".as_slice());
+/// let mut log = LogReader::new(buffer.as_mut_slice(), false);
+/// assert_eq!(log.next(&mut reader, &mut output), Ok(NextLogLine::Line(LineEnd::LineFeed)));
+/// assert_eq!(log.line(), b"10.1.1.1 GET".as_slice());
+/// # Ok::<(), Fail>(())
+/// ```
+pub struct LogReader<'b> {
+    lines: LineBuffer<'b>,
+    // How many more bytes may be read.
+    room: u64,
+    // Whether a line that is too long is told before its end was read.
+    hurries: bool,
+}
+
+impl<'b> LogReader<'b> {
+    /// The lines of a log of which nothing was read yet. If it `hurries`, a line that is too long is told as soon as that
+    /// is known, and is then the last.
+    ///
+    /// ```
+    /// # use cidr_programs::in_examples::*;
+    /// use cidr_programs::program::log_reader::{BUFFER_LEN, LogReader};
+    ///
+    /// let mut buffer = vec![in Global; 0u8; BUFFER_LEN]?;
+    /// assert!(LogReader::new(buffer.as_mut_slice(), true).line().is_empty());
+    /// # Ok::<(), Fail>(())
+    /// ```
+    #[doc(hidden)]
+    pub fn new(buffer: &'b mut [u8], hurries: bool) -> LogReader<'b> {
+        LogReader {
+            lines: LineBuffer::new(buffer, LINE_MAX),
+            room: u64::MAX,
+            hurries,
+        }
+    }
+
+    /// The line that `next` handed out last, without the bytes that end it.
+    ///
+    /// ```
+    /// # use cidr_programs::in_examples::*;
+    /// use cidr_programs::program::log_reader::{BUFFER_LEN, LogReader};
+    ///
+    /// let mut buffer = vec![in Global; 0u8; BUFFER_LEN]?;
+    /// assert!(LogReader::new(buffer.as_mut_slice(), false).line().is_empty());
+    /// # Ok::<(), Fail>(())
+    /// ```
+    pub fn line(&self) -> &[u8] {
+        self.lines.line()
+    }
+
+    /// The line that `next` handed out last, with the bytes that end it.
+    ///
+    /// ```
+    /// # use cidr_programs::in_examples::*;
+    /// use cidr_programs::program::log_reader::{BUFFER_LEN, LogReader};
+    ///
+    /// let mut buffer = vec![in Global; 0u8; BUFFER_LEN]?;
+    /// assert!(LogReader::new(buffer.as_mut_slice(), false).whole_line().is_empty());
+    /// # Ok::<(), Fail>(())
+    /// ```
+    pub fn whole_line(&self) -> &[u8] {
+        self.lines.whole_line()
+    }
+
+    /// Hands out the next line, or says that there is none. What waits in the output is written before the device is
+    /// asked, and at the end of the log.
+    ///
+    /// The error is `LogFault::Read` or `LogFault::Write` if a read or a write failed, now or earlier, and
+    /// `LogFault::Endless` if more bytes were read than 64 bits count. After a failed read nothing is written.
+    ///
+    /// ```
+    /// # use cidr_programs::in_examples::*;
+    /// use cidr_programs::lines::line_end::LineEnd;
+    /// use cidr_programs::lines::output::Output;
+    /// use cidr_programs::lines::watched::Watched;
+    /// use cidr_programs::program::log_reader::{BUFFER_LEN, LogReader, NextLogLine};
+    ///
+    /// let mut buffer = vec![in Global; 0u8; BUFFER_LEN]?;
+    /// let mut slice = [0; 8];
+    /// let mut output = Output::new(Vec::new(Global), &mut slice);
+    /// let mut reader = Watched::new(b"10.1.1.1 GET".as_slice());
+    /// let mut log = LogReader::new(buffer.as_mut_slice(), false);
+    /// assert_eq!(log.next(&mut reader, &mut output), Ok(NextLogLine::Line(LineEnd::EndOfInput)));
+    /// assert_eq!(log.next(&mut reader, &mut output), Ok(NextLogLine::End));
+    /// # Ok::<(), Fail>(())
+    /// ```
+    pub fn next<R: Read, W: Write>(
+        &mut self,
+        reader: &mut Watched<R>,
+        output: &mut Output<'_, W>,
+    ) -> Result<NextLogLine, LogFault> {
+        'asks: loop {
+            match self.lines.next() {
+                NextLine::Line(end) => return Ok(NextLogLine::Line(end)),
+                NextLine::TooLong => return Ok(NextLogLine::TooLong),
+                NextLine::Ask => {
+                    let Ok(_) = output.hand_on() else {
+                        return Err(LogFault::Write);
+                    };
+                    if self.hurries && self.lines.is_too_long() {
+                        return Ok(NextLogLine::TooLong);
+                    }
+                    let Ok(count) = self.lines.ask(reader) else {
+                        return Err(LogFault::Read);
+                    };
+                    if count as u64 > self.room {
+                        return Err(LogFault::Endless);
+                    }
+                    self.room -= count as u64;
+                }
+                NextLine::End => match output.hand_on() {
+                    Ok(()) => return Ok(NextLogLine::End),
+                    Err(_) => return Err(LogFault::Write),
+                },
+            }
+        }
+    }
+}
+
+/// Writes a line feed behind a line that has none.
+///
+/// ```
+/// # use cidr_programs::in_examples::*;
+/// use cidr_programs::lines::line_end::LineEnd;
+/// use cidr_programs::lines::output::Output;
+/// use cidr_programs::program::log_reader::put_feed;
+///
+/// let (mut slice, mut room) = ([0; 8], [b'.'; 2]);
+/// let mut output = Output::new(room.as_mut_slice(), &mut slice);
+/// assert_eq!(put_feed(LineEnd::LineFeed, &mut output), Ok(()));
+/// assert_eq!(put_feed(LineEnd::EndOfInput, &mut output), Ok(()));
+/// assert_eq!(output.finish(), Ok(()));
+/// drop(output);
+/// assert_eq!(room, *b"\n.");
+/// ```
+pub fn put_feed<W: Write>(end: LineEnd, output: &mut Output<'_, W>) -> Result<(), RunFault> {
+    match end {
+        LineEnd::LineFeed => Ok(()),
+        LineEnd::ReturnAndLineFeed => Ok(()),
+        LineEnd::EndOfInput => output.put(b"\n"),
+    }
+}

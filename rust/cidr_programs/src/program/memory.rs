@@ -1,0 +1,21 @@
+// Written by scripts/plain out of crates/program/src/memory.rt
+
+//! What is reported if memory runs out.
+
+use crate::program::ending::FAILED;
+use crate::program::messages::tell;
+use crate::lines::output::Output;
+use fosibegan::plain_std::io::Write;
+
+/// Reports that memory ran out, and returns the exit status for that, 2.
+///
+/// ```
+/// # use cidr_programs::in_examples::*;
+/// let mut slice = [0; 64];
+/// let mut errors = cidr_programs::lines::output::Output::new(Vec::new(Global), &mut slice);
+/// assert_eq!(cidr_programs::program::memory::refuse_memory(&mut errors), 2);
+/// ```
+pub fn refuse_memory<E: Write>(errors: &mut Output<'_, E>) -> u8 {
+    tell("out of memory\n", errors);
+    FAILED
+}

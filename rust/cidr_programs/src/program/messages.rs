@@ -1,0 +1,46 @@
+// Written by scripts/plain out of crates/program/src/messages.rt
+
+//! Messages on the error writer. If a write of one fails, nothing else changes.
+
+use fosibegan::plain_std::arrayvec::ArrayString;
+use fosibegan::ipnetwork_addr::decimal::push_number;
+use crate::lines::output::Output;
+use fosibegan::plain_std::io::Write;
+
+/// Writes a text to the error writer. If that fails, now or earlier, the text is lost, and nothing else happens.
+///
+/// ```
+/// # use cidr_programs::in_examples::*;
+/// let mut slice = [0; 64];
+/// let mut errors = cidr_programs::lines::output::Output::new(Vec::new(Global), &mut slice);
+/// cidr_programs::program::messages::tell("out of memory\n", &mut errors);
+/// assert_eq!(errors.finish(), Ok(()));
+/// ```
+pub fn tell<E: Write>(text: &str, errors: &mut Output<'_, E>) {
+    let _ = errors.put(text.as_bytes());
+}
+
+/// Writes a number in decimal to the error writer.
+///
+/// ```
+/// # use cidr_programs::in_examples::*;
+/// let mut slice = [0; 64];
+/// let mut errors = cidr_programs::lines::output::Output::new(Vec::new(Global), &mut slice);
+/// cidr_programs::program::messages::tell_number(1024, &mut errors);
+/// assert_eq!(errors.finish(), Ok(()));
+/// ```
+pub fn tell_number<E: Write>(number: u64, errors: &mut Output<'_, E>) {
+    tell(number_text(number).as_str(), errors);
+}
+
+/// A number in decimal.
+///
+/// ```
+/// # use cidr_programs::in_examples::*;
+/// assert_eq!(cidr_programs::program::messages::number_text(1024).as_str(), "1024");
+/// ```
+pub fn number_text(number: u64) -> ArrayString<40> {
+    let mut text = ArrayString::new();
+    push_number(&mut text, u128::from(number));
+    text
+}

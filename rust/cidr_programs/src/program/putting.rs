@@ -1,0 +1,27 @@
+// Written by scripts/plain out of crates/program/src/putting.rt
+
+//! Texts that are written one after the other.
+
+use crate::lines::fault::RunFault;
+use crate::lines::output::Output;
+use fosibegan::plain_std::io::Write;
+
+/// Writes two texts.
+///
+/// ```
+/// # use cidr_programs::in_examples::*;
+/// let (mut slice, mut room) = ([0; 8], [0; 3]);
+/// let mut output = cidr_programs::lines::output::Output::new(room.as_mut_slice(), &mut slice);
+/// assert_eq!(cidr_programs::program::putting::put_both(b"12", b"\n", &mut output), Ok(()));
+/// assert_eq!(output.finish(), Ok(()));
+/// drop(output);
+/// assert_eq!(room, *b"12\n");
+/// ```
+pub fn put_both<W: Write>(
+    first: &[u8],
+    second: &[u8],
+    output: &mut Output<'_, W>,
+) -> Result<(), RunFault> {
+    output.put(first)?;
+    output.put(second)
+}

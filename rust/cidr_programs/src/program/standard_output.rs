@@ -1,0 +1,72 @@
+// Written by scripts/plain out of crates/program/src/standard_output.rt
+
+//! Standard output, which may be a pipe that its reader closes.
+
+use crate::program::progress::Progress;
+use core::cell::Cell;
+use fosibegan::plain_std::io;
+use fosibegan::plain_std::io::{ErrorKind, Stdout, Write};
+
+/// Standard output, and a note whether a write failed since nobody reads it any more. What is shown
+/// of a long reading is taken away before a write.
+///
+/// ```
+/// # use cidr_programs::in_examples::*;
+/// # let rt = HostRuntime::new();
+/// use cidr_programs::program::progress::Progress;
+/// use cidr_programs::program::standard_output::StandardOutput;
+/// use fosibegan::plain_std::io::Write;
+///
+/// let (progress, is_closed) = (Progress::new(&rt, true), core::cell::Cell::new(false));
+/// let mut output = StandardOutput::new(rt.stdout(), &progress, &is_closed);
+/// assert!(output.flush().is_ok());
+/// assert!(!is_closed.get());
+/// ```
+pub struct StandardOutput<'a> {
+    output: Stdout,
+    progress: &'a Progress<'a>,
+    is_closed: &'a Cell<bool>,
+}
+
+impl<'a> StandardOutput<'a> {
+    /// Standard output, with what is shown on standard error and the place of that note.
+    ///
+    /// ```
+    /// # use cidr_programs::in_examples::*;
+    /// # let rt = HostRuntime::new();
+    /// use cidr_programs::program::progress::Progress;
+    /// use cidr_programs::program::standard_output::StandardOutput;
+    ///
+    /// let (progress, is_closed) = (Progress::new(&rt, true), core::cell::Cell::new(false));
+    /// let _ = StandardOutput::new(rt.stdout(), &progress, &is_closed);
+    /// assert!(!is_closed.get());
+    /// ```
+    pub fn new(
+        output: Stdout,
+        progress: &'a Progress<'a>,
+        is_closed: &'a Cell<bool>,
+    ) -> StandardOutput<'a> {
+        StandardOutput {
+            output,
+            progress,
+            is_closed,
+        }
+    }
+}
+
+impl Write for StandardOutput<'_> {
+    fn write(&mut self, buf: &[u8]) -> io::Result<usize> {
+        self.progress.clear();
+        let result = self.output.write(buf);
+        if let Err(error) = &result {
+            if matches!(error.kind(), ErrorKind::BrokenPipe) {
+                self.is_closed.set(true);
+            }
+        }
+        result
+    }
+
+    fn flush(&mut self) -> io::Result<()> {
+        self.output.flush()
+    }
+}

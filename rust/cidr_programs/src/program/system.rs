@@ -1,0 +1,156 @@
+// Written by scripts/plain out of crates/program/src/system.rt
+
+//! The files of the system.
+
+use fosibegan::plain_std::rt::HostRuntime;
+use crate::program::progress::Progress;
+use crate::lines::watched::Watched;
+use crate::lists::OpenLists;
+use fosibegan::plain_std::fs::File;
+use fosibegan::plain_std::io::{ErrorKind, IsTerminal, Read, Stdin};
+use fosibegan::plain_std::{fs, io};
+
+/// The files of the system, and its standard input under the name `-`.
+///
+/// ```
+/// # use cidr_programs::in_examples::*;
+/// # let rt = HostRuntime::new();
+/// use cidr_programs::lists::OpenLists;
+///
+/// let system = cidr_programs::program::system::System::new(&rt);
+/// assert!(system.open("-").is_ok());
+/// ```
+pub struct System<'a> {
+    rt: &'a HostRuntime,
+    progress: Option<&'a Progress<'a>>,
+}
+
+impl<'a> System<'a> {
+    /// The files that the program can open.
+    ///
+    /// ```
+    /// # use cidr_programs::in_examples::*;
+    /// # let rt = HostRuntime::new();
+    /// use cidr_programs::lists::OpenLists;
+    ///
+    /// let system = cidr_programs::program::system::System::new(&rt);
+    /// assert!(system.open("no such file").is_err());
+    /// ```
+    pub fn new(rt: &'a HostRuntime) -> System<'a> {
+        System { rt, progress: None }
+    }
+
+    /// The same, and what is read of them is counted and shown.
+    ///
+    /// ```
+    /// # use cidr_programs::in_examples::*;
+    /// # let rt = HostRuntime::new();
+    /// use cidr_programs::lists::OpenLists;
+    /// use cidr_programs::program::progress::Progress;
+    /// use cidr_programs::program::system::System;
+    ///
+    /// let progress = Progress::new(&rt, true);
+    /// assert!(System::with_progress(&rt, &progress).open("-").is_ok());
+    /// ```
+    pub fn with_progress(rt: &'a HostRuntime, progress: &'a Progress<'a>) -> System<'a> {
+        System {
+            rt,
+            progress: Some(progress),
+        }
+    }
+
+    // What is shown of the reading of this file: nothing, if it is typed at a terminal.
+    fn progress_of(&self, name: &str) -> Option<&'a Progress<'a>> {
+        if name == "-" && self.rt.stdin().is_terminal() {
+            return None;
+        }
+        self.progress
+    }
+}
+
+/// A file, or standard input.
+///
+/// ```
+/// # use cidr_programs::in_examples::*;
+/// # let rt = HostRuntime::new();
+/// let device = cidr_programs::program::system::Device::Input(rt.stdin());
+/// assert!(matches!(device, cidr_programs::program::system::Device::Input(_)));
+/// ```
+pub enum Device {
+    /// A file.
+    File(File),
+    /// Standard input.
+    Input(Stdin),
+}
+
+impl Read for Device {
+    fn read(&mut self, buf: &mut [u8]) -> io::Result<usize> {
+        match self {
+            Device::File(file) => file.read(buf),
+            Device::Input(input) => input.read(buf),
+        }
+    }
+}
+
+/// A device, and what is shown of its reading.
+///
+/// ```
+/// # use cidr_programs::in_examples::*;
+/// # let rt = HostRuntime::new();
+/// use cidr_programs::lists::OpenLists;
+/// use fosibegan::plain_std::io::Read;
+///
+/// let mut list = cidr_programs::program::system::System::new(&rt).open("no such file");
+/// assert!(list.is_err());
+/// ```
+pub struct ShownDevice<'a> {
+    device: Device,
+    progress: Option<&'a Progress<'a>>,
+}
+
+impl Read for ShownDevice<'_> {
+    fn read(&mut self, buf: &mut [u8]) -> io::Result<usize> {
+        let count = self.device.read(buf)?;
+        if let Some(progress) = self.progress {
+            if let Some(read) = buf.get(..count) {
+                progress.count(read);
+            }
+        }
+        Ok(count)
+    }
+}
+
+// Whether a file that was opened is a directory, which the system opens but does not read.
+fn is_directory(file: &File) -> bool {
+    match file.metadata() {
+        Ok(metadata) => metadata.is_dir(),
+        Err(_) => false,
+    }
+}
+
+// Opens the file of this name, or standard input.
+fn device_of(rt: &HostRuntime, name: &str) -> io::Result<Device> {
+    if name == "-" {
+        return Ok(Device::Input(rt.stdin()));
+    }
+    let file = fs::open(rt, name)?;
+    if is_directory(&file) {
+        return Err(io::Error::from(ErrorKind::IsADirectory));
+    }
+    Ok(Device::File(file))
+}
+
+impl<'a> OpenLists for System<'a> {
+    type List = ShownDevice<'a>;
+
+    fn open(&self, name: &str) -> io::Result<ShownDevice<'a>> {
+        Ok(ShownDevice {
+            device: device_of(self.rt, name)?,
+            progress: self.progress_of(name),
+        })
+    }
+
+    fn close(&self, _name: &str, list: Watched<ShownDevice<'a>>) {
+        drop(list);
+    }
+}

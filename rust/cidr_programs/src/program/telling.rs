@@ -1,0 +1,147 @@
+// Written by scripts/plain out of crates/program/src/telling.rt
+
+//! Messages about lists on the error writer. If a write of one fails, nothing else changes.
+
+use fosibegan::plain_std::string::String;
+use crate::program::messages::{tell, tell_number};
+use crate::program::words::text_at;
+use crate::lines::output::Output;
+use crate::lists::{ReadFault, Refusal, Refusals};
+use fosibegan::plain_std::io::Write;
+
+/// Where refused lines stand, in the words of a command line.
+///
+/// ```
+/// # use cidr_programs::in_examples::*;
+/// use cidr_programs::lists::{LineFault, Refusal};
+/// use cidr_programs::program::telling::{InLists, Places};
+///
+/// let refusal = Refusal { list: 2, line: 7, fault: LineFault::Length };
+/// assert_eq!(InLists.place(refusal), (2, 7));
+/// ```
+pub trait Places {
+    /// The index of the word that names the place of a refused line, and the number that is told with it.
+    fn place(&self, refusal: Refusal) -> (usize, u64);
+}
+
+/// A line stands in the list that a word names, and has its number there.
+///
+/// ```
+/// # use cidr_programs::in_examples::*;
+/// use cidr_programs::lists::{LineFault, Refusal};
+/// use cidr_programs::program::telling::{InLists, Places};
+///
+/// let refusal = Refusal { list: 1, line: 12, fault: LineFault::Length };
+/// assert_eq!(InLists.place(refusal), (1, 12));
+/// ```
+#[derive(Clone, Copy, Debug)]
+pub struct InLists;
+
+impl Places for InLists {
+    fn place(&self, refusal: Refusal) -> (usize, u64) {
+        (refusal.list, refusal.line)
+    }
+}
+
+/// Reports the refused lines: the first hundred, and how many more there were.
+///
+/// ```
+/// # use cidr_programs::in_examples::*;
+/// use cidr_programs::lists::Refusals;
+/// use cidr_programs::program::telling::{InLists, tell_refusals};
+///
+/// let mut slice = [0; 64];
+/// let mut errors = cidr_programs::lines::output::Output::new(Vec::new(Global), &mut slice);
+/// tell_refusals(&[], &InLists, &Refusals::new(), &mut errors);
+/// assert_eq!(errors.finish(), Ok(()));
+/// ```
+pub fn tell_refusals<P: Places, E: Write>(
+    words: &[String],
+    places: &P,
+    refusals: &Refusals,
+    errors: &mut Output<'_, E>,
+) {
+    let kept = refusals.kept();
+    for refusal in kept {
+        tell_refusal(words, places, *refusal, errors);
+    }
+    tell_more(refusals.more(), errors);
+}
+
+// Reports a refused line.
+fn tell_refusal<P: Places, E: Write>(
+    words: &[String],
+    places: &P,
+    refusal: Refusal,
+    errors: &mut Output<'_, E>,
+) {
+    let (word, number) = places.place(refusal);
+    tell_name(words, word, errors);
+    tell(":", errors);
+    tell_number(number, errors);
+    tell(": refused ", errors);
+    tell(refusal.fault.text(), errors);
+    tell("\n", errors);
+}
+
+/// Writes the word at an index to the error writer, and nothing if there is no such word.
+///
+/// ```
+/// # use cidr_programs::in_examples::*;
+/// let mut slice = [0; 64];
+/// let mut errors = cidr_programs::lines::output::Output::new(Vec::new(Global), &mut slice);
+/// cidr_programs::program::telling::tell_name(&[], 0, &mut errors);
+/// assert_eq!(errors.finish(), Ok(()));
+/// ```
+pub fn tell_name<E: Write>(words: &[String], place: usize, errors: &mut Output<'_, E>) {
+    tell(text_at(words, place), errors);
+}
+
+/// Reports how many more lines were refused, if any were.
+///
+/// ```
+/// # use cidr_programs::in_examples::*;
+/// let mut slice = [0; 64];
+/// let mut errors = cidr_programs::lines::output::Output::new(Vec::new(Global), &mut slice);
+/// cidr_programs::program::telling::tell_more(3, &mut errors);
+/// assert_eq!(errors.finish(), Ok(()));
+/// ```
+pub fn tell_more<E: Write>(more: u64, errors: &mut Output<'_, E>) {
+    if more > 0 {
+        tell_number(more, errors);
+        tell(" more refused lines\n", errors);
+    }
+}
+
+/// Reports why lists were not read to the end.
+///
+/// ```
+/// # use cidr_programs::in_examples::*;
+/// let mut slice = [0; 64];
+/// let mut errors = cidr_programs::lines::output::Output::new(Vec::new(Global), &mut slice);
+/// cidr_programs::program::telling::tell_fault(&[], cidr_programs::lists::ReadFault::OutOfMemory, &mut errors);
+/// assert_eq!(errors.finish(), Ok(()));
+/// ```
+pub fn tell_fault<E: Write>(words: &[String], fault: ReadFault, errors: &mut Output<'_, E>) {
+    match fault {
+        ReadFault::Open(place, cause) => {
+            tell_name(words, place, errors);
+            tell(cause.text(), errors);
+        }
+        ReadFault::Read(place) => {
+            tell_name(words, place, errors);
+            tell(": cannot read\n", errors);
+        }
+        ReadFault::Length(place) => {
+            tell_name(words, place, errors);
+            tell(": more than 1,073,741,824 bytes\n", errors);
+        }
+        ReadFault::NotJson(place, line) => {
+            tell_name(words, place, errors);
+            tell(":", errors);
+            tell_number(line, errors);
+            tell(": not JSON, or more than 127 levels\n", errors);
+        }
+        ReadFault::OutOfMemory => tell("out of memory\n", errors),
+    }
+}

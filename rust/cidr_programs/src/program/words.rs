@@ -1,0 +1,53 @@
+// Written by scripts/plain out of crates/program/src/words.rt
+
+//! Words of a command line.
+
+use fosibegan::plain_std::string::String;
+
+/// Whether a word is this text.
+///
+/// ```
+/// # use cidr_programs::in_examples::*;
+/// let mut word = String::new(Global);
+/// word.push_str("--help")?;
+/// assert!(cidr_programs::program::words::is(&word, "--help"));
+/// # Ok::<(), Fail>(())
+/// ```
+pub fn is(word: &String, text: &str) -> bool {
+    word.as_str() == text
+}
+
+/// Whether there is one word, and it is this text.
+pub(crate) fn is_only(words: &[String], text: &str) -> bool {
+    words.len() == 1 && is(&words[0], text)
+}
+
+/// How many of the words are this text.
+///
+/// ```
+/// # use cidr_programs::in_examples::*;
+/// assert_eq!(cidr_programs::program::words::count_of(&[], "-"), 0);
+/// ```
+pub fn count_of(words: &[String], text: &str) -> usize {
+    let mut count = 0;
+    for word in words {
+        if is(word, text) {
+            count += 1;
+        }
+    }
+    count
+}
+
+/// The word at an index; past the last word, an empty text.
+///
+/// ```
+/// # use cidr_programs::in_examples::*;
+/// assert_eq!(cidr_programs::program::words::text_at(&[], 0), "");
+/// ```
+pub fn text_at(words: &[String], place: usize) -> &str {
+    if let Some(word) = words.get(place) {
+        word.as_str()
+    } else {
+        ""
+    }
+}

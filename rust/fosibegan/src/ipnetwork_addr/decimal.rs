@@ -1,0 +1,95 @@
+// Written by scripts/plain out of crates/ipnetwork_addr/src/decimal.rt
+
+//! Numbers, written in decimal at the end of a text.
+
+use crate::plain_std::arrayvec::ArrayString;
+
+/// Writes the shortest decimal of a number at the end of a text: one to three bytes. There must be
+/// room for three.
+///
+/// ```
+/// # use fosibegan::in_examples::*;
+/// let mut text = fosibegan::plain_std::arrayvec::ArrayString::<8>::new();
+/// decimal::push_decimal(&mut text, 207);
+/// assert_eq!(text.as_str(), "207");
+/// ```
+#[doc(hidden)]
+pub fn push_decimal<const N: usize>(text: &mut ArrayString<N>, number: u8) {
+    if number >= 100 {
+        text.push(digit(number / 100));
+        text.push(digit(number / 10 % 10));
+        text.push(digit(number % 10));
+    } else if number >= 10 {
+        text.push(digit(number / 10));
+        text.push(digit(number % 10));
+    } else {
+        text.push(digit(number));
+    }
+}
+
+fn digit(value: u8) -> char {
+    char::from(b'0' + value)
+}
+
+/// Ten to the power of `CHUNK_DIGITS`: the greatest power of ten that fits 64 bits.
+const CHUNK: u128 = 10_000_000_000_000_000_000;
+
+/// How many digits of a large number are written at a time.
+const CHUNK_DIGITS: u8 = 19;
+
+/// Writes the shortest decimal of a number at the end of a text: one to 39 bytes. There must be
+/// room for 39.
+///
+/// ```
+/// # use fosibegan::in_examples::*;
+/// let mut text = fosibegan::plain_std::arrayvec::ArrayString::<39>::new();
+/// decimal::push_number(&mut text, 1 << 64);
+/// assert_eq!(text.as_str(), "18446744073709551616");
+/// ```
+#[inline(always)]
+#[doc(hidden)]
+pub fn push_number<const N: usize>(text: &mut ArrayString<N>, number: u128) {
+    let high = number / CHUNK;
+    let low = (number % CHUNK) as u64;
+    if high == 0 {
+        push_shortest(text, low);
+    } else if high < CHUNK {
+        push_shortest(text, high as u64);
+        push_padded(text, low, CHUNK_DIGITS);
+    } else {
+        text.push(digit((high / CHUNK) as u8));
+        push_padded(text, (high % CHUNK) as u64, CHUNK_DIGITS);
+        push_padded(text, low, CHUNK_DIGITS);
+    }
+}
+
+/// Writes the shortest decimal of a number: one to 20 bytes.
+fn push_shortest<const N: usize>(text: &mut ArrayString<N>, number: u64) {
+    push_padded(text, number, digit_count(number));
+}
+
+/// The number of digits of a number's shortest decimal.
+fn digit_count(number: u64) -> u8 {
+    let mut count = 1;
+    let mut rest = number;
+    'digits: while rest >= 10 {
+        count += 1;
+        rest /= 10;
+    }
+    count
+}
+
+/// Writes the last digits of a number, this many, zeros among them.
+fn push_padded<const N: usize>(text: &mut ArrayString<N>, number: u64, count: u8) {
+    if count == 0 {
+        return;
+    }
+    if count == 1 {
+        text.push(digit((number % 10) as u8));
+        return;
+    }
+    push_padded(text, number / 100, count - 2);
+    let two = (number % 100) as u8;
+    text.push(digit(two / 10));
+    text.push(digit(two % 10));
+}

@@ -1,0 +1,59 @@
+// Written by scripts/plain out of crates/ipnetwork_addr/src/digit_lanes.rt
+
+//! The values of the hex digits of a text, as the lanes of vectors.
+
+use crate::plain_std::simd::prelude::*;
+
+/// The place of the value of a text's first byte. Those of a group are read four at a time, also
+/// where fewer bytes come before its end.
+const FIRST: usize = 4;
+
+/// The greatest length of a text whose values there is room for.
+pub(crate) const MOST: usize = 44;
+
+/// What stands for a byte that is not a hex digit, or another number above 15.
+const NO_DIGIT: u8 = 255;
+
+/// Puts the value of each byte of a text as a hex digit at its place. The colons are returned, as bits.
+///
+/// The last vector overlaps the one before, unless the text has 32 bytes.
+#[inline(always)]
+pub(crate) fn put_values(text: &[u8], values: &mut [u8; 48]) -> u64 {
+    let last = text.len() - 16;
+    let mut colons = put_lanes(text, 0, values);
+    if last > 16 {
+        colons |= put_lanes(text, 16, values) << 16;
+    }
+    colons | put_lanes(text, last, values) << last
+}
+
+/// Puts the values of the sixteen bytes from the place `at` on, of which the colons are returned, as bits.
+#[inline(always)]
+fn put_lanes(text: &[u8], at: usize, values: &mut [u8; 48]) -> u64 {
+    let bytes = u8x16::from_slice(&text[at..]);
+    store(values, at + FIRST, values_of(bytes));
+    colons_of(bytes)
+}
+
+/// Stores sixteen lanes from the place `at` on.
+#[inline(always)]
+fn store(values: &mut [u8; 48], at: usize, lanes: u8x16) {
+    lanes.copy_to_slice(&mut values[at..]);
+}
+
+/// The value of each byte as a hex digit of either case: more than 15 if it is none.
+#[inline(always)]
+fn values_of(bytes: u8x16) -> u8x16 {
+    let decimals = bytes - u8x16::splat(b'0');
+    let letters = (bytes | u8x16::splat(0x20)) - u8x16::splat(b'a');
+    let others = letters
+        .simd_lt(u8x16::splat(6))
+        .select(letters + u8x16::splat(10), u8x16::splat(NO_DIGIT));
+    decimals.simd_lt(u8x16::splat(10)).select(decimals, others)
+}
+
+/// The places of the colons, as bits.
+#[inline(always)]
+fn colons_of(bytes: u8x16) -> u64 {
+    bytes.simd_eq(u8x16::splat(b':')).to_bitmask()
+}

@@ -1,0 +1,45 @@
+// Written by scripts/plain out of crates/ipnetwork_addr/src/hexadecimal.rt
+
+//! Groups of an IPv6 address, written in hex at the end of a text.
+
+use crate::ipnetwork_addr::ADDRESS_TEXT_CAPACITY;
+use crate::plain_std::arrayvec::ArrayString;
+
+/// Writes groups in shortest lower-case hex, with `:` between them.
+pub(crate) fn push_groups(text: &mut ArrayString<ADDRESS_TEXT_CAPACITY>, groups: &[u16]) {
+    if let [first, rest @ ..] = groups {
+        push_hex(text, *first);
+        for group in rest {
+            text.push(':');
+            push_hex(text, *group);
+        }
+    }
+}
+
+/// Writes the shortest lower-case hex of a group: one to four bytes.
+#[inline(always)]
+fn push_hex(text: &mut ArrayString<ADDRESS_TEXT_CAPACITY>, group: u16) {
+    if group >= 0x1000 {
+        text.push(hex_digit(group / 0x1000));
+        text.push(hex_digit(group / 0x100 % 16));
+        text.push(hex_digit(group / 0x10 % 16));
+        text.push(hex_digit(group % 16));
+    } else if group >= 0x100 {
+        text.push(hex_digit(group / 0x100));
+        text.push(hex_digit(group / 0x10 % 16));
+        text.push(hex_digit(group % 16));
+    } else if group >= 0x10 {
+        text.push(hex_digit(group / 0x10));
+        text.push(hex_digit(group % 16));
+    } else {
+        text.push(hex_digit(group));
+    }
+}
+
+fn hex_digit(value: u16) -> char {
+    if value < 10 {
+        char::from(b'0' + value as u8)
+    } else {
+        char::from(b'a' + (value - 10) as u8)
+    }
+}

@@ -1,0 +1,81 @@
+// Written by scripts/plain out of crates/ipnetwork_addr/src/ip.rt
+
+//! Addresses of either family.
+
+use crate::ipnetwork_addr::first_mark::has_colon_first;
+use crate::ipnetwork_addr::{ADDRESS_TEXT_CAPACITY, AddrParseError, Ipv4Addr, Ipv6Addr};
+use crate::plain_std::arrayvec::ArrayString;
+use core::fmt;
+use core::str::FromStr;
+
+/// An address of either family. Every IPv4 address is ordered before every IPv6 address.
+///
+/// ```
+/// # use fosibegan::in_examples::*;
+/// let v4: IpAddr = "255.255.255.255".parse()?;
+/// let v6: IpAddr = "::".parse()?;
+/// assert!(v4 < v6);
+/// # Ok::<(), Fail>(())
+/// ```
+#[derive(Clone, Copy, Debug, PartialEq, Eq, PartialOrd, Ord, Hash)]
+pub enum IpAddr {
+    /// An IPv4 address.
+    V4(Ipv4Addr),
+    /// An IPv6 address.
+    V6(Ipv6Addr),
+}
+
+impl IpAddr {
+    /// The address that a text names, as `Ipv4Addr::read_bytes` or `Ipv6Addr::read_bytes` reads it: no text names one
+    /// of each family. Any other text is `AddrParseError::Ip`.
+    ///
+    /// ```
+    /// # use fosibegan::in_examples::*;
+    /// assert_eq!(IpAddr::read_bytes(b"192.0.2.1"), Ok(IpAddr::V4(Ipv4Addr::new(192, 0, 2, 1))));
+    /// assert_eq!(IpAddr::read_bytes(b"192.0.2"), Err(AddrParseError::Ip));
+    /// ```
+    #[inline(always)]
+    pub fn read_bytes(text: &[u8]) -> Result<Self, AddrParseError> {
+        if has_colon_first(text) {
+            match Ipv6Addr::read_bytes(text) {
+                Ok(address) => Ok(IpAddr::V6(address)),
+                Err(_) => Err(AddrParseError::Ip),
+            }
+        } else {
+            match Ipv4Addr::read_bytes(text) {
+                Ok(address) => Ok(IpAddr::V4(address)),
+                Err(_) => Err(AddrParseError::Ip),
+            }
+        }
+    }
+
+    /// The canonical text of the address, at most 39 bytes.
+    ///
+    /// ```
+    /// # use fosibegan::in_examples::*;
+    /// let address: IpAddr = "2001:DB8:0:0:1:0:0:1".parse()?;
+    /// assert_eq!(address.canonical().as_str(), "2001:db8::1:0:0:1");
+    /// # Ok::<(), Fail>(())
+    /// ```
+    pub fn canonical(&self) -> ArrayString<ADDRESS_TEXT_CAPACITY> {
+        match self {
+            IpAddr::V4(address) => address.canonical(),
+            IpAddr::V6(address) => address.canonical(),
+        }
+    }
+}
+
+impl FromStr for IpAddr {
+    type Err = AddrParseError;
+
+    /// The same as `read_bytes`.
+    fn from_str(text: &str) -> Result<Self, AddrParseError> {
+        IpAddr::read_bytes(text.as_bytes())
+    }
+}
+
+impl fmt::Display for IpAddr {
+    fn fmt(&self, f: &mut fmt::Formatter<'_>) -> fmt::Result {
+        f.write_str(self.canonical().as_str())
+    }
+}

@@ -1,0 +1,169 @@
+// Written by scripts/plain out of crates/ipnetwork_addr/src/ipv6.rt
+
+//! IPv6 addresses.
+
+use crate::ipnetwork_addr::canonical::canonical_text;
+use crate::ipnetwork_addr::colons::read_address;
+use crate::ipnetwork_addr::{ADDRESS_TEXT_CAPACITY, AddrParseError, segments};
+use crate::plain_std::arrayvec::ArrayString;
+use core::cmp::Ordering;
+use core::fmt;
+use core::str::FromStr;
+
+/// An IPv6 address of 128 bits, ordered by its number.
+///
+/// ```
+/// # use fosibegan::in_examples::*;
+/// let address: Ipv6Addr = "::1:2".parse()?;
+/// assert_eq!(u128::from(address), 0x1_0002);
+/// # Ok::<(), Fail>(())
+/// ```
+#[derive(Clone, Copy, Debug)]
+pub struct Ipv6Addr {
+    // The eight segments, the lowest first. If the low octets of a number are stored first, as on most machines, each
+    // half of the address then lies in memory as one number of 64 bits: `order` compares by these.
+    low_first: [u16; 8],
+}
+
+impl Ipv6Addr {
+    /// The address `a:b:c:d:e:f:g:h`.
+    ///
+    /// ```
+    /// # use fosibegan::in_examples::*;
+    /// let address = Ipv6Addr::new(0x2001, 0xdb8, 0, 0, 0, 0, 0, 1);
+    /// assert_eq!(address.canonical().as_str(), "2001:db8::1");
+    /// ```
+    pub fn new(a: u16, b: u16, c: u16, d: u16, e: u16, f: u16, g: u16, h: u16) -> Self {
+        Ipv6Addr {
+            low_first: [h, g, f, e, d, c, b, a],
+        }
+    }
+
+    /// The eight groups, highest first.
+    ///
+    /// ```
+    /// # use fosibegan::in_examples::*;
+    /// let address: Ipv6Addr = "2001:db8::1".parse()?;
+    /// assert_eq!(address.segments(), [0x2001, 0xdb8, 0, 0, 0, 0, 0, 1]);
+    /// # Ok::<(), Fail>(())
+    /// ```
+    pub fn segments(&self) -> [u16; 8] {
+        segments::reversed(&self.low_first)
+    }
+
+    /// The sixteen octets, highest first.
+    ///
+    /// ```
+    /// # use fosibegan::in_examples::*;
+    /// let address: Ipv6Addr = "2001:db8::1".parse()?;
+    /// assert_eq!(address.octets(), [32, 1, 13, 184, 0, 0, 0, 0, 0, 0, 0, 0, 0, 0, 0, 1]);
+    /// # Ok::<(), Fail>(())
+    /// ```
+    pub fn octets(&self) -> [u8; 16] {
+        segments::octets_high_first(&self.segments())
+    }
+
+    /// The address that a text names: eight groups of one to four hex digits of either case, joined by `:`, of which
+    /// the last two may be an IPv4 text, and of which `::` may stand once for all the zero groups that are missing
+    /// (RFC 4291, section 2.2), with nothing before or after. Any other text is `AddrParseError::Ipv6`.
+    ///
+    /// ```
+    /// # use fosibegan::in_examples::*;
+    /// let dotted = Ipv6Addr::read_bytes(b"64:ff9b::192.0.2.33");
+    /// assert_eq!(dotted, Ok(Ipv6Addr::new(0x64, 0xff9b, 0, 0, 0, 0, 0xc000, 0x221)));
+    /// assert_eq!(Ipv6Addr::read_bytes(b"1::2::3"), Err(AddrParseError::Ipv6));
+    /// ```
+    #[inline(always)]
+    pub fn read_bytes(text: &[u8]) -> Result<Self, AddrParseError> {
+        match read_address(text) {
+            Some((high, low)) => Ok(Ipv6Addr::from_halves(high, low)),
+            None => Err(AddrParseError::Ipv6),
+        }
+    }
+
+    /// The canonical text, at most 39 bytes (RFC 5952). An address of `::ffff:0:0/96` is `::ffff:` and an IPv4 text
+    /// (section 5). Any other is its groups in shortest lower-case hex, with `::` for the longest run of two or more
+    /// zero groups, and of two as long for the one on the left (section 4).
+    ///
+    /// ```
+    /// # use fosibegan::in_examples::*;
+    /// let address: Ipv6Addr = "2001:0DB8:0:0:1:0:0:1".parse()?;
+    /// assert_eq!(address.canonical().as_str(), "2001:db8::1:0:0:1");
+    /// # Ok::<(), Fail>(())
+    /// ```
+    #[inline(always)]
+    pub fn canonical(&self) -> ArrayString<ADDRESS_TEXT_CAPACITY> {
+        canonical_text(&self.segments())
+    }
+
+    /// The address of these halves.
+    #[inline(always)]
+    fn from_halves(high: u64, low: u64) -> Self {
+        Ipv6Addr {
+            low_first: segments::low_first_of(high, low),
+        }
+    }
+
+    /// How the address compares with another: by the high half, then by the low one.
+    pub(crate) fn order(&self, other: &Ipv6Addr) -> Ordering {
+        let (high, low) = segments::halves(&self.low_first);
+        let (other_high, other_low) = segments::halves(&other.low_first);
+        if high != other_high {
+            return high.cmp(&other_high);
+        }
+        low.cmp(&other_low)
+    }
+
+    /// The sixteen octets, lowest first.
+    pub(crate) fn octets_low_first(&self) -> [u8; 16] {
+        segments::octets_low_first(&self.segments())
+    }
+}
+
+/// The high half of a number, and the low one.
+// Not inlined: to a compiler the halves are then two numbers that it knows nothing of, and it stores each at once. If it
+// sees how they are made, it cuts and stores every segment by itself.
+#[inline(never)]
+fn halves_of(number: u128) -> (u64, u64) {
+    segments::halves_of_number(number)
+}
+
+impl From<u128> for Ipv6Addr {
+    /// The address of this number.
+    fn from(number: u128) -> Self {
+        let (high, low) = halves_of(number);
+        Ipv6Addr::from_halves(high, low)
+    }
+}
+
+impl From<[u16; 8]> for Ipv6Addr {
+    /// The address of these groups, highest first.
+    fn from(segments: [u16; 8]) -> Self {
+        Ipv6Addr {
+            low_first: segments::reversed(&segments),
+        }
+    }
+}
+
+impl From<Ipv6Addr> for u128 {
+    /// The number of the address.
+    fn from(address: Ipv6Addr) -> Self {
+        let (high, low) = segments::halves(&address.low_first);
+        segments::number_of_halves(high, low)
+    }
+}
+
+impl FromStr for Ipv6Addr {
+    type Err = AddrParseError;
+
+    /// The same as `read_bytes`.
+    fn from_str(text: &str) -> Result<Self, AddrParseError> {
+        Ipv6Addr::read_bytes(text.as_bytes())
+    }
+}
+
+impl fmt::Display for Ipv6Addr {
+    fn fmt(&self, f: &mut fmt::Formatter<'_>) -> fmt::Result {
+        f.write_str(self.canonical().as_str())
+    }
+}

@@ -1,0 +1,34 @@
+// Written by scripts/plain out of crates/ipnetwork_addr/src/ipv6_order.rt
+
+//! IPv6 addresses compared and hashed, as their numbers are.
+
+use crate::ipnetwork_addr::Ipv6Addr;
+use core::cmp::Ordering;
+use core::hash::{Hash, Hasher};
+
+impl PartialEq for Ipv6Addr {
+    fn eq(&self, other: &Ipv6Addr) -> bool {
+        self.order(other).is_eq()
+    }
+}
+
+impl Eq for Ipv6Addr {
+}
+
+impl Ord for Ipv6Addr {
+    fn cmp(&self, other: &Ipv6Addr) -> Ordering {
+        self.order(other)
+    }
+}
+
+impl PartialOrd for Ipv6Addr {
+    fn partial_cmp(&self, other: &Ipv6Addr) -> Option<Ordering> {
+        Some(self.cmp(other))
+    }
+}
+
+impl Hash for Ipv6Addr {
+    fn hash<H: Hasher>(&self, state: &mut H) {
+        state.write(&self.octets_low_first());
+    }
+}

@@ -1,0 +1,76 @@
+// Written by scripts/plain out of crates/ipnetwork_blocks/src/held_network.rt
+
+//! Values that hold a network of one family, so that one pass aggregates a list of such networks as well as the
+//! part of a list of both families that is of one.
+
+use crate::ipnetwork::{IpNetwork, Ipv4Network, Ipv6Network};
+use crate::ipnetwork_family::CidrNetwork;
+
+/// A value that may hold a network of the family of `N`, so that lists of such values are aggregated as they stand in
+/// memory. Values that do are ordered as their networks are. A network holds itself, and an `IpNetwork` holds one of
+/// either family.
+///
+/// ```
+/// # use fosibegan::in_examples::*;
+/// let network: Ipv4Network = "10.0.0.0/8".parse()?;
+/// let value = <IpNetwork as HoldsNetwork<Ipv4Network>>::holding(network);
+/// assert_eq!(value, "10.0.0.0/8".parse()?);
+/// # Ok::<(), Fail>(())
+/// ```
+pub trait HoldsNetwork<N: CidrNetwork>: Copy + Ord {
+    /// The network that the value holds; it must hold one of the family of `N`.
+    ///
+    /// ```
+    /// # use fosibegan::in_examples::*;
+    /// let value: Ipv6Network = "2001:db8::/32".parse()?;
+    /// assert_eq!(HoldsNetwork::<Ipv6Network>::held_network(value), value);
+    /// # Ok::<(), Fail>(())
+    /// ```
+    fn held_network(self) -> N;
+
+    /// The value that holds the network.
+    ///
+    /// ```
+    /// # use fosibegan::in_examples::*;
+    /// let network: Ipv6Network = "2001:db8::/32".parse()?;
+    /// assert_eq!(<IpNetwork as HoldsNetwork<Ipv6Network>>::holding(network), IpNetwork::V6(network));
+    /// # Ok::<(), Fail>(())
+    /// ```
+    fn holding(network: N) -> Self;
+}
+
+impl<N: CidrNetwork> HoldsNetwork<N> for N {
+    fn held_network(self) -> N {
+        self
+    }
+
+    fn holding(network: N) -> N {
+        network
+    }
+}
+
+impl HoldsNetwork<Ipv4Network> for IpNetwork {
+    fn held_network(self) -> Ipv4Network {
+        match self {
+            IpNetwork::V4(network) => network,
+            IpNetwork::V6(_) => unreachable!(),
+        }
+    }
+
+    fn holding(network: Ipv4Network) -> IpNetwork {
+        IpNetwork::V4(network)
+    }
+}
+
+impl HoldsNetwork<Ipv6Network> for IpNetwork {
+    fn held_network(self) -> Ipv6Network {
+        match self {
+            IpNetwork::V6(network) => network,
+            IpNetwork::V4(_) => unreachable!(),
+        }
+    }
+
+    fn holding(network: Ipv6Network) -> IpNetwork {
+        IpNetwork::V6(network)
+    }
+}

@@ -1,0 +1,41 @@
+// Written by scripts/plain out of crates/ipnetwork_blocks/src/numbered_subnet.rt
+
+//! One of the blocks of a prefix length within a network, by its number.
+
+use crate::ipnetwork_blocks::address_space::AddressSpace;
+
+/// The block number `number` of this prefix length within the network: the one that [`subnets`](crate::subnets) yields
+/// after `number` others. `None` for a prefix length that is shorter than the network's or greater than `WIDTH`, and
+/// for a number that is not below 2^(`prefix` - n), where n is the network's own prefix length. Takes the same
+/// few steps for each number.
+///
+/// ```
+/// # use fosibegan::in_examples::*;
+/// let network: Ipv4Network = "10.0.0.0/8".parse()?;
+/// assert_eq!(subnet_at(network, 16, 255), Some("10.255.0.0/16".parse()?));
+/// assert_eq!(subnet_at(network, 16, 256), None);
+/// # Ok::<(), Fail>(())
+/// ```
+pub fn subnet_at<N: AddressSpace>(network: N, prefix: u8, number: u128) -> Option<N> {
+    if prefix < network.prefix() || N::WIDTH < prefix {
+        return None;
+    }
+    if !is_below_power(number, prefix - network.prefix()) {
+        return None;
+    }
+    let offset = times_power(number, N::WIDTH - prefix);
+    Some(N::block_at(N::plus(network.network(), offset), prefix))
+}
+
+// Whether the number is below 2^`exponent`.
+fn is_below_power(number: u128, exponent: u8) -> bool {
+    exponent >= 128 || number >> exponent == 0
+}
+
+// The number times 2^`exponent`, which 128 bits hold. Zero is tested first: 128 bits cannot be shifted by 128.
+fn times_power(number: u128, exponent: u8) -> u128 {
+    if number == 0 {
+        return 0;
+    }
+    number << exponent
+}

@@ -1,0 +1,21 @@
+// Written by scripts/plain out of crates/ipnetwork_blocks/src/preceding_block.rt
+
+//! The block before a block.
+
+use crate::ipnetwork_blocks::address_space::AddressSpace;
+
+/// The block of the same prefix length that ends right before the least member of the network; `None` if that member is
+/// the first address of the family.
+///
+/// ```
+/// # use fosibegan::in_examples::*;
+/// let network: Ipv4Network = "192.0.3.0/25".parse()?;
+/// assert_eq!(preceding(network), Some("192.0.2.128/25".parse()?));
+/// # Ok::<(), Fail>(())
+/// ```
+pub fn preceding<N: AddressSpace>(network: N) -> Option<N> {
+    match N::previous_address(network.network()) {
+        Some(previous) => Some(N::block_at(previous, network.prefix())),
+        None => None,
+    }
+}

@@ -1,0 +1,154 @@
+// Written by scripts/plain out of crates/ipnetwork_family/src/address.rt
+
+//! What networks need of an address.
+
+use crate::plain_std::arrayvec::ArrayString;
+use crate::ipnetwork_addr::{ADDRESS_TEXT_CAPACITY, AddrParseError};
+use core::fmt::Debug;
+use core::hash::Hash;
+
+/// The addresses of one family. An address means a number of `WIDTH` bits and is ordered by it; a
+/// prefix length says how many of its first bits are compared. No call allocates.
+///
+/// ```
+/// # use fosibegan::in_examples::*;
+/// assert_eq!(<Ipv4Addr as Address>::WIDTH, 32);
+/// assert_eq!(<Ipv6Addr as Address>::WIDTH, 128);
+/// ```
+pub trait Address: Copy + Ord + Hash + Debug {
+    /// The number of bits of an address, and the greatest prefix length: 32 for IPv4, 128 for IPv6.
+    const WIDTH: u8;
+
+    /// The address that a text names, or `refusal` if it names none.
+    ///
+    /// ```
+    /// # use fosibegan::in_examples::*;
+    /// let address = <Ipv4Addr as Address>::read_bytes(b"192.0.2.1")?;
+    /// assert_eq!(address, Ipv4Addr::new(192, 0, 2, 1));
+    /// # Ok::<(), Fail>(())
+    /// ```
+    fn read_bytes(text: &[u8]) -> Result<Self, AddrParseError>;
+
+    /// The prefix length that a text gives after the `/` of a network, if it gives one: as a number
+    /// and, for IPv4, also as a mask in the form of an address.
+    ///
+    /// ```
+    /// # use fosibegan::in_examples::*;
+    /// assert_eq!(Ipv4Addr::read_suffix(b"255.255.240.0"), Some(20));
+    /// assert_eq!(Ipv6Addr::read_suffix(b"129"), None);
+    /// ```
+    fn read_suffix(text: &[u8]) -> Option<u8>;
+
+    /// The error for a text that names no address of the family.
+    ///
+    /// ```
+    /// # use fosibegan::in_examples::*;
+    /// assert_eq!(Ipv4Addr::refusal(), AddrParseError::Ipv4);
+    /// ```
+    fn refusal() -> AddrParseError;
+
+    /// The canonical text.
+    ///
+    /// ```
+    /// # use fosibegan::in_examples::*;
+    /// let address = Ipv4Addr::new(192, 0, 2, 1);
+    /// assert_eq!(Address::canonical(&address).as_str(), "192.0.2.1");
+    /// ```
+    fn canonical(&self) -> ArrayString<ADDRESS_TEXT_CAPACITY>;
+
+    /// Does nothing. A proof learns from it what is true of the texts of addresses and of suffixes.
+    #[doc(hidden)]
+    fn law_texts();
+
+    /// Does nothing. A proof learns from it that the number has `WIDTH` bits.
+    #[doc(hidden)]
+    fn law_of_width(self);
+
+    /// The mask of a prefix length, which must be at most `WIDTH`: as many ones in front, and zeros
+    /// after them.
+    ///
+    /// ```
+    /// # use fosibegan::in_examples::*;
+    /// assert_eq!(Ipv4Addr::mask(20), Ipv4Addr::new(255, 255, 240, 0));
+    /// ```
+    fn mask(prefix: u8) -> Self;
+
+    /// The prefix length of a mask; `None` if the address is not a mask.
+    ///
+    /// ```
+    /// # use fosibegan::in_examples::*;
+    /// assert_eq!(Ipv4Addr::new(255, 255, 240, 0).prefix_of_mask(), Some(20));
+    /// assert_eq!(Ipv4Addr::new(255, 0, 255, 0).prefix_of_mask(), None);
+    /// ```
+    fn prefix_of_mask(self) -> Option<u8>;
+
+    /// The address with the bits after the first `prefix` cleared. `prefix` must be at most
+    /// `WIDTH`.
+    ///
+    /// ```
+    /// # use fosibegan::in_examples::*;
+    /// assert_eq!(Ipv4Addr::new(192, 0, 2, 77).least(26), Ipv4Addr::new(192, 0, 2, 64));
+    /// ```
+    fn least(self, prefix: u8) -> Self;
+
+    /// The address with the bits after the first `prefix` set. `prefix` must be at most `WIDTH`.
+    ///
+    /// ```
+    /// # use fosibegan::in_examples::*;
+    /// assert_eq!(Ipv4Addr::new(192, 0, 2, 77).greatest(26), Ipv4Addr::new(192, 0, 2, 127));
+    /// ```
+    fn greatest(self, prefix: u8) -> Self;
+
+    /// Whether two addresses agree in their first `prefix` bits. `prefix` must be at most `WIDTH`.
+    ///
+    /// ```
+    /// # use fosibegan::in_examples::*;
+    /// let address = Ipv4Addr::new(192, 0, 2, 77);
+    /// assert!(address.agrees(Ipv4Addr::new(192, 0, 2, 127), 26));
+    /// assert!(!address.agrees(Ipv4Addr::new(192, 0, 2, 128), 26));
+    /// ```
+    fn agrees(self, other: Self, prefix: u8) -> bool;
+
+    /// The address after this one, which must not be the last.
+    ///
+    /// ```
+    /// # use fosibegan::in_examples::*;
+    /// assert_eq!(Ipv4Addr::new(192, 0, 2, 255).next(), Ipv4Addr::new(192, 0, 3, 0));
+    /// ```
+    fn next(self) -> Self;
+
+    /// The address before this one, which must not be the first.
+    ///
+    /// ```
+    /// # use fosibegan::in_examples::*;
+    /// assert_eq!(Ipv4Addr::new(192, 0, 3, 0).previous(), Ipv4Addr::new(192, 0, 2, 255));
+    /// ```
+    fn previous(self) -> Self;
+
+    /// The address `offset` addresses after this one. It must not be past the last address of the
+    /// family.
+    ///
+    /// ```
+    /// # use fosibegan::in_examples::*;
+    /// assert_eq!(Ipv4Addr::new(192, 0, 2, 255).plus(257), Ipv4Addr::new(192, 0, 4, 0));
+    /// ```
+    fn plus(self, offset: u128) -> Self;
+
+    /// How many of their first bits two addresses share: the greatest prefix length with which they
+    /// lie in one block.
+    ///
+    /// ```
+    /// # use fosibegan::in_examples::*;
+    /// let address = Ipv4Addr::new(192, 0, 2, 77);
+    /// assert_eq!(address.shared_bits(Ipv4Addr::new(192, 0, 2, 127)), 26);
+    /// ```
+    fn shared_bits(self, other: Self) -> u8;
+
+    /// The number of trailing zero bits; `WIDTH` for the address 0.
+    ///
+    /// ```
+    /// # use fosibegan::in_examples::*;
+    /// assert_eq!(Ipv4Addr::new(255, 255, 240, 0).trailing_zeros(), 12);
+    /// ```
+    fn trailing_zeros(self) -> u8;
+}

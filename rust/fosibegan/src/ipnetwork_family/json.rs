@@ -1,0 +1,60 @@
+// Written by scripts/plain out of crates/ipnetwork_family/src/json.rt
+
+//! Networks to and from values of JSON (RFC 8259): a network is the string of its canonical text.
+
+use crate::plain_std::serde_json::OfKit;
+use crate::ipnetwork_family::{Address, IpNetworkError, Network};
+use crate::plain_std::serde_json::Value;
+use crate::plain_std::alloc::{AllocError, Global};
+
+/// Why a JSON value is refused as a network.
+///
+/// ```
+/// # use fosibegan::in_examples::*;
+/// let value = fosibegan::plain_std::serde_json::from_str::<fosibegan::plain_std::serde_json::Value>(Global, "8")?;
+/// assert_eq!(Ipv4Network::from_value(Global, &value), Err(JsonFault::NotAString));
+/// # Ok::<(), Fail>(())
+/// ```
+#[derive(Debug, PartialEq, Eq)]
+pub enum JsonFault {
+    /// The value is not a string: null, a boolean, a number, a list or an object.
+    NotAString,
+    /// The value is a string, and parsing refuses it with this error.
+    Refused(IpNetworkError),
+}
+
+impl<A: Address> Network<A> {
+    /// The string value of the canonical text. Allocates once; `AllocError` when out of memory.
+    ///
+    /// ```
+    /// # use fosibegan::in_examples::*;
+    /// let network: Ipv4Network = "10.1.9.32/8".parse()?;
+    /// let text = network.to_value(Global)?.to_string(Global)?;
+    /// assert_eq!(text.as_str(), "\"10.1.9.32/8\"");
+    /// # Ok::<(), Fail>(())
+    /// ```
+    pub fn to_value(&self, alloc: Global) -> Result<Value, AllocError> {
+        Value::try_from_str(alloc, self.canonical().as_str())
+    }
+
+    /// The network that a string value names. A string is read as `parse` reads it, and one that it refuses is
+    /// `Refused` with its error; any other value is `NotAString`. Allocates at most once, only for a refusal whose
+    /// error carries a text: if that is out of memory, the result is `Refused(IpNetworkError::OutOfMemory)`.
+    ///
+    /// ```
+    /// # use fosibegan::in_examples::*;
+    /// let value = fosibegan::plain_std::serde_json::Value::try_from_str(Global, "10.1.9.32/8")?;
+    /// let network = Ipv4Network::from_value(Global, &value)?;
+    /// assert_eq!(network.prefix(), 8);
+    /// # Ok::<(), Fail>(())
+    /// ```
+    pub fn from_value(alloc: Global, value: &Value) -> Result<Self, JsonFault> {
+        match value.as_str() {
+            Some(text) => match Network::<A>::parse(alloc, text) {
+                Ok(network) => Ok(network),
+                Err(error) => Err(JsonFault::Refused(error)),
+            },
+            None => Err(JsonFault::NotAString),
+        }
+    }
+}

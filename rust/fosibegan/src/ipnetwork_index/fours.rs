@@ -1,0 +1,20 @@
+// Written by scripts/plain out of crates/ipnetwork_index/src/fours.rt
+
+//! Four numbers compared at once.
+
+use crate::ipnetwork_index::key::Key;
+
+// From `at` on each fourth of so many keys and one more is the last of a step: how many of the ends
+// of the next four steps are less than this key. No branch depends on what they are.
+pub(crate) fn below_of_four<K: Key>(keys: &[K], at: usize, step: usize, key: K) -> usize {
+    let first = one_if_less::<K>(keys[at + step], key);
+    let second = one_if_less::<K>(keys[at + (2 * step + 1)], key);
+    let third = one_if_less::<K>(keys[at + (3 * step + 2)], key);
+    let fourth = one_if_less::<K>(keys[at + (4 * step + 3)], key);
+    first + second + third + fourth
+}
+
+// 1 if the first is less than the second, and 0 if not.
+fn one_if_less<K: Key>(first: K, second: K) -> usize {
+    usize::from(first.is_less(second))
+}

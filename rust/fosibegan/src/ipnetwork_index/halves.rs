@@ -1,0 +1,63 @@
+// Written by scripts/plain out of crates/ipnetwork_index/src/halves.rt
+
+//! The search for a number by its high half first.
+
+use crate::plain_std::vec::Vec;
+use crate::ipnetwork_index::indexed_network::IndexedNetwork;
+use crate::ipnetwork_index::key::Key;
+use crate::ipnetwork_index::search::{place_from, place_of};
+use crate::plain_std::alloc::{AllocError, Global};
+
+// The place of the first number that is not less than this one: it is searched for among the high
+// halves, and then, unless these tell the place, from there on among the whole numbers.
+pub(crate) fn place_by_halves<N: IndexedNetwork>(
+    lasts: &[N::Number],
+    highs: &[N::High],
+    starts: &[u32],
+    base: N::High,
+    shift: u32,
+    tell: bool,
+    number: N::Number,
+) -> usize {
+    let high = N::high_of(number);
+    let at = place_of::<N::High>(highs, starts, base, shift, high);
+    if tell {
+        return at;
+    }
+    place_from::<N::Number>(lasts, at, number)
+}
+
+// The high halves of the numbers.
+pub(crate) fn highs_of<N: IndexedNetwork>(
+    alloc: Global,
+    lasts: &[N::Number],
+) -> Result<Vec<N::High>, AllocError> {
+    let mut highs = Vec::with_capacity(alloc, lasts.len())?;
+    for last in lasts {
+        highs.push(N::high_of(*last))?;
+    }
+    Ok(highs)
+}
+
+// Whether enough of the high halves differ from the one before: every fourth or more. The contract
+// leaves the answer open: another would cost time and change no answer.
+pub(crate) fn are_worth_it<K: Key>(highs: &[K]) -> bool {
+    let mut differ = 0usize;
+    for place in 1..highs.len() {
+        if highs[place - 1].is_less(highs[place]) {
+            differ = differ.saturating_add(1);
+        }
+    }
+    differ.saturating_mul(4) >= highs.len()
+}
+
+// Whether each number is the greatest of those that have its high half.
+pub(crate) fn all_end<N: IndexedNetwork>(lasts: &[N::Number]) -> bool {
+    for last in lasts {
+        let ends = N::ends_high(*last);
+        if !ends {
+            return false;
+        }
+    }
+    true
+}

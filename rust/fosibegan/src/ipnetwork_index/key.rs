@@ -1,0 +1,86 @@
+// Written by scripts/plain out of crates/ipnetwork_index/src/key.rt
+
+//! Bare numbers that are searched for.
+
+/// A bare number that is searched for among others: `u32`, `u64` and `u128`. No call allocates.
+///
+/// ```
+/// # use fosibegan::in_examples::*;
+/// assert!(1u32.is_less(2));
+/// ```
+pub trait Key: Copy {
+    /// Whether it is less than the other.
+    ///
+    /// ```
+    /// # use fosibegan::in_examples::*;
+    /// assert!(!2u64.is_less(2));
+    /// ```
+    fn is_less(self, other: Self) -> bool;
+
+    /// In which part of the numbers from `base` on it lies, if each has 2^`shift` numbers: the
+    /// first for the numbers before `base`, and the part `last` for those after it.
+    ///
+    /// ```
+    /// # use fosibegan::in_examples::*;
+    /// assert_eq!(259u32.part_of(3, 6, 9), 4);
+    /// assert_eq!(259u32.part_of(3, 6, 2), 2);
+    /// ```
+    fn part_of(self, base: Self, shift: u32, last: usize) -> usize;
+
+    /// How large parts are, as a power of two, if about 2^`bits` of them reach from `base` to this
+    /// number. The contract leaves the size open: another would cost time and change no answer.
+    ///
+    /// ```
+    /// # use fosibegan::in_examples::*;
+    /// assert_eq!(259u32.part_size(3, 4), 5);
+    /// ```
+    fn part_size(self, base: Self, bits: u32) -> u32;
+}
+
+impl Key for u32 {
+    fn is_less(self, other: u32) -> bool {
+        self < other
+    }
+
+    fn part_of(self, base: u32, shift: u32, last: usize) -> usize {
+        let part = (self.saturating_sub(base) >> shift) as usize;
+        part.min(last)
+    }
+
+    fn part_size(self, base: u32, bits: u32) -> u32 {
+        let width = 32 - self.saturating_sub(base).leading_zeros();
+        width.saturating_sub(bits).min(31)
+    }
+}
+
+impl Key for u64 {
+    fn is_less(self, other: u64) -> bool {
+        self < other
+    }
+
+    fn part_of(self, base: u64, shift: u32, last: usize) -> usize {
+        let part = (self.saturating_sub(base) >> shift) as usize;
+        part.min(last)
+    }
+
+    fn part_size(self, base: u64, bits: u32) -> u32 {
+        let width = 64 - self.saturating_sub(base).leading_zeros();
+        width.saturating_sub(bits).min(63)
+    }
+}
+
+impl Key for u128 {
+    fn is_less(self, other: u128) -> bool {
+        self < other
+    }
+
+    fn part_of(self, base: u128, shift: u32, last: usize) -> usize {
+        let part = self.saturating_sub(base) >> shift;
+        part.min(last as u128) as usize
+    }
+
+    fn part_size(self, base: u128, bits: u32) -> u32 {
+        let width = 128 - self.saturating_sub(base).leading_zeros();
+        width.saturating_sub(bits).min(127)
+    }
+}

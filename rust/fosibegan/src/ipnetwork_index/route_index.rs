@@ -1,0 +1,136 @@
+// Written by scripts/plain out of crates/ipnetwork_index/src/route_index.rt
+
+//! The index over a table.
+
+use crate::ipnetwork_index::answers::entries_of;
+use crate::ipnetwork_index::entries::table_of;
+use crate::ipnetwork_index::indexed_network::IndexedNetwork;
+use crate::ipnetwork_index::ranges::Ranges;
+use crate::ipnetwork_table::PrefixTable;
+use crate::plain_std::alloc::{AllocError, Global};
+
+/// A table that is asked for the longest block of addresses, and does not change meanwhile: the
+/// index takes it over, and `into_table` gives it back. The answers are copied, so a look-up does
+/// not read the table.
+///
+/// ```
+/// # use fosibegan::in_examples::*;
+/// let mut table = PrefixTable::new(Global);
+/// table.insert("10.0.0.0/8".parse::<Ipv4Network>()?, 2)?;
+/// table.insert("10.1.0.0/16".parse()?, 3)?;
+/// let index = RouteIndex::from_table(Global, table)?;
+/// assert_eq!(index.lookup(Ipv4Addr::new(10, 1, 9, 32)), Some(("10.1.0.0/16".parse()?, 3)));
+/// # Ok::<(), Fail>(())
+/// ```
+pub struct RouteIndex<N: IndexedNetwork, V: Copy> {
+    table: PrefixTable<N, V>,
+    ranges: Ranges<N, V>,
+}
+
+impl<N: IndexedNetwork, V: Copy> RouteIndex<N, V> {
+    /// The index over a table. Sorts where its blocks begin and end, and goes over the blocks and
+    /// the ranges between in their order. At most one block of each prefix length is open at once,
+    /// so no memory is asked for these. If memory runs out, the table is dropped.
+    ///
+    /// ```
+    /// # use fosibegan::in_examples::*;
+    /// let mut table = PrefixTable::new(Global);
+    /// table.insert("2001:db8::/32".parse::<Ipv6Network>()?, 2)?;
+    /// let index = RouteIndex::from_table(Global, table)?;
+    /// assert_eq!(index.lookup("2001:db9::".parse()?), None);
+    /// # Ok::<(), Fail>(())
+    /// ```
+    pub fn from_table(alloc: Global, table: PrefixTable<N, V>) -> Result<Self, AllocError> {
+        let entries = entries_of(alloc, &table)?;
+        let ranges = Ranges::of(alloc, entries.as_slice())?;
+        Ok(RouteIndex { table, ranges })
+    }
+
+    /// The index over networks with values, which may have host bits and stand in any order: over a
+    /// table of their blocks. Of several with the same block the last counts.
+    ///
+    /// ```
+    /// # use fosibegan::in_examples::*;
+    /// let entries = [("10.0.0.0/8".parse::<Ipv4Network>()?, 2), ("10.1.9.32/16".parse()?, 3)];
+    /// let index = RouteIndex::from_entries(Global, &entries)?;
+    /// assert_eq!(index.lookup(Ipv4Addr::new(10, 1, 2, 3)), Some(("10.1.0.0/16".parse()?, 3)));
+    /// # Ok::<(), Fail>(())
+    /// ```
+    pub fn from_entries(alloc: Global, entries: &[(N, V)]) -> Result<Self, AllocError> {
+        let table = table_of(alloc, entries)?;
+        let index = RouteIndex::from_table(alloc, table)?;
+        Ok(index)
+    }
+
+    /// The stored block of greatest prefix length whose set holds the address, with its value;
+    /// `None` if no stored block holds it. Takes a few reads if the blocks lie spread, and else about
+    /// as many as a search that halves its list.
+    ///
+    /// ```
+    /// # use fosibegan::in_examples::*;
+    /// let mut table = PrefixTable::new(Global);
+    /// table.insert("10.0.0.0/8".parse::<Ipv4Network>()?, 2)?;
+    /// let index = RouteIndex::from_table(Global, table)?;
+    /// assert_eq!(index.lookup(Ipv4Addr::new(10, 1, 9, 32)), Some(("10.0.0.0/8".parse()?, 2)));
+    /// assert_eq!(index.lookup(Ipv4Addr::new(11, 0, 0, 0)), None);
+    /// # Ok::<(), Fail>(())
+    /// ```
+    pub fn lookup(&self, addr: N::Addr) -> Option<(N, V)> {
+        self.ranges.lookup(addr)
+    }
+
+    /// What a look-up of each of the addresses finds, put at the same place. There must be as many
+    /// answers as addresses.
+    pub(crate) fn lookup_each(&self, addrs: &[N::Addr], answers: &mut [Option<(N, V)>]) {
+        for place in 0..addrs.len() {
+            answers[place] = self.lookup(addrs[place]);
+        }
+    }
+
+    /// The table, to ask what an index does not answer.
+    ///
+    /// ```
+    /// # use fosibegan::in_examples::*;
+    /// let mut table = PrefixTable::new(Global);
+    /// table.insert("10.0.0.0/8".parse::<Ipv4Network>()?, 2)?;
+    /// let index = RouteIndex::from_table(Global, table)?;
+    /// assert_eq!(index.table().len(), 1);
+    /// # Ok::<(), Fail>(())
+    /// ```
+    pub fn table(&self) -> &PrefixTable<N, V> {
+        &self.table
+    }
+
+    /// The table, to change it. What else the index has is dropped.
+    ///
+    /// ```
+    /// # use fosibegan::in_examples::*;
+    /// let table = PrefixTable::<Ipv4Network, u8>::new(Global);
+    /// let index = RouteIndex::from_table(Global, table)?;
+    /// assert!(index.into_table().is_empty());
+    /// # Ok::<(), Fail>(())
+    /// ```
+    pub fn into_table(self) -> PrefixTable<N, V> {
+        self.table
+    }
+
+    /// The number of ranges that the table's blocks cut the addresses into, where one begins or ends:
+    /// what a look-up finds is the same for all addresses of one. There are at most one more than
+    /// twice the blocks (`laws::few_routed_ranges`). Beside the last numbers of the ranges, as an
+    /// `AddressIndex` has them, the index has the table, and of each range a byte and a value. It
+    /// has two to four places of 4 bytes for each range, or at most one from 2^16 ranges on, but no
+    /// more than 2^20. From 2^16 IPv4 ranges on it has of each range 2 bytes in place of 4, if all
+    /// but a 32nd of them reach over a fourth of the addresses, and one place for one or more ranges,
+    /// for fewer than eight unless there are 2^23 or more, but no more than 2^20 and one.
+    ///
+    /// ```
+    /// # use fosibegan::in_examples::*;
+    /// let mut table = PrefixTable::new(Global);
+    /// table.insert("10.0.0.0/8".parse::<Ipv4Network>()?, 2)?;
+    /// assert_eq!(RouteIndex::from_table(Global, table)?.range_count(), 3);
+    /// # Ok::<(), Fail>(())
+    /// ```
+    pub fn range_count(&self) -> usize {
+        self.ranges.len()
+    }
+}

@@ -1,0 +1,47 @@
+// Written by scripts/plain out of crates/ipnetwork_sets/src/changes.rt
+
+//! Networks added to a set and taken from it, in its own list.
+
+use crate::plain_std::vec::Vec;
+use crate::ipnetwork_sets::joining::join_around;
+use crate::ipnetwork_sets::place::place_of;
+use crate::ipnetwork_sets::replacing::{make_room, write_over};
+use crate::ipnetwork_sets::search::covers;
+use crate::ipnetwork_blocks::{AddressSpace, exclude};
+use crate::plain_std::alloc::AllocError;
+
+/// Adds the addresses of the network to the set with these blocks, and tells whether one of them is new.
+pub(crate) fn insert<N: AddressSpace>(blocks: &mut Vec<N>, network: N) -> Result<bool, AllocError> {
+    let Some(found) = block_to_add(blocks.as_slice(), network) else {
+        return Ok(false);
+    };
+    make_room(blocks, found.0, found.1, 1)?;
+    blocks[found.0] = found.2;
+    Ok(true)
+}
+
+// The block that takes the place of the network, and of the blocks from the first index up to before the second; `None`
+// if each address of the network is one of the set.
+fn block_to_add<N: AddressSpace>(blocks: &[N], network: N) -> Option<(usize, usize, N)> {
+    if covers(blocks, network) {
+        return None;
+    }
+    let (from, to) = place_of(blocks, network);
+    Some(join_around(blocks, network, from, to))
+}
+
+/// Takes the addresses of the network from the set with these blocks, and tells whether one of them was in it.
+pub(crate) fn remove<N: AddressSpace>(blocks: &mut Vec<N>, network: N) -> Result<bool, AllocError> {
+    // The clauses of this call say that it is a network of addresses of WIDTH bits.
+    let _ = network.ip();
+    let (from, to) = place_of(blocks.as_slice(), network);
+    if from == to {
+        return Ok(false);
+    }
+    let whole = blocks[from];
+    let left = exclude(whole, network);
+    let count = network.prefix().saturating_sub(whole.prefix());
+    make_room(blocks, from, to, count)?;
+    write_over(blocks.as_mut_slice(), from, left);
+    Ok(true)
+}

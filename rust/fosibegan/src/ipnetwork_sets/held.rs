@@ -1,0 +1,16 @@
+// Written by scripts/plain out of crates/ipnetwork_sets/src/held.rt
+
+//! Lists of values that hold networks.
+
+use crate::ipnetwork_blocks::{AddressSpace, HoldsNetwork};
+
+/// The network that the first value holds, and the other values.
+#[inline(always)]
+pub(crate) fn split_held<'a, N: AddressSpace, H: HoldsNetwork<N>>(
+    list: &'a [H],
+) -> Option<(N, &'a [H])> {
+    let Some((first, others)) = list.split_first() else {
+        return None;
+    };
+    Some(((*first).held_network(), others))
+}

@@ -1,0 +1,13 @@
+// Written by scripts/plain out of crates/ipnetwork_sets/src/ip_sets.rt
+
+//! Sets of addresses of either family: of each family one set.
+
+mod blocks;
+mod collecting;
+mod counting;
+mod equality;
+mod ip_address_set;
+mod operations;
+
+pub use blocks::IpBlocks;
+pub use ip_address_set::IpAddressSet;

@@ -1,0 +1,39 @@
+// Written by scripts/plain out of crates/ipnetwork_sets/src/order.rt
+
+//! Which of two networks comes first.
+
+use crate::ipnetwork_blocks::AddressSpace;
+
+/// Whether the first ends before the address of the second.
+pub(crate) fn ends_before<N: AddressSpace>(first: N, second: N) -> bool {
+    first.broadcast() < second.ip()
+}
+
+/// Whether the network ends at the address.
+pub(crate) fn ends_at<N: AddressSpace>(network: N, last: N::Addr) -> bool {
+    last == network.broadcast()
+}
+
+/// Whether both have the same address.
+pub(crate) fn begin_alike<N: AddressSpace>(first: N, second: N) -> bool {
+    first.ip() == second.ip()
+}
+
+/// Whether the second begins right after the first.
+pub(crate) fn touches<N: AddressSpace>(first: N, second: N) -> bool {
+    begins_behind(first.broadcast(), second)
+}
+
+/// Whether the network begins right after the address.
+fn begins_behind<N: AddressSpace>(last: N::Addr, network: N) -> bool {
+    let begin = network.ip();
+    match N::next_address(last) {
+        Some(next) => next == begin,
+        None => false,
+    }
+}
+
+/// Whether the network begins up to the address or right after it: no address lies between them.
+pub(crate) fn goes_on<N: AddressSpace>(last: N::Addr, network: N) -> bool {
+    network.ip() <= last || begins_behind(last, network)
+}

@@ -1,0 +1,15 @@
+// Written by scripts/plain out of crates/ipnetwork_table/src/lib.rt
+
+//! Routing tables: values kept under blocks of IP addresses and found by longest prefix (RFC 4632, section
+//! 5.1), for networks of either family.
+//!
+//! Only `insert` allocates.
+
+mod common_bits;
+mod counts;
+mod entries;
+mod table;
+mod values;
+
+pub use entries::Entries;
+pub use table::PrefixTable;

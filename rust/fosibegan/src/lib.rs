@@ -1,0 +1,62 @@
+//! IP networks in CIDR notation: read from texts, printed, and asked about the set of addresses that they stand for;
+//! with routing tables, blocks, aggregation, sets of addresses and indexes for fast look-ups.
+//!
+//! Made of proved sources, and tested: each module below but [`plain_std`] is written, by taking away contracts and what
+//! is only for proofs, out of a crate of which every function is proved to meet its contract.
+//!
+//! ```
+//! use fosibegan::{Ipv4Network, PrefixTable};
+//! use fosibegan::plain_std::alloc::Global;
+//!
+//! let network: Ipv4Network = "10.1.9.32/8".parse()?;
+//! assert!(network.contains("10.255.255.255".parse()?));
+//!
+//! let mut table = PrefixTable::new(Global);
+//! table.insert(network, "inside")?;
+//! assert_eq!(table.lookup("10.1.2.3".parse()?), Some(("10.0.0.0/8".parse()?, "inside")));
+//! # Ok::<(), fosibegan::plain_std::test::Fail>(())
+//! ```
+//!
+//! What allocates is given [`plain_std::alloc::Global`], and tells with an `AllocError` that there is no memory.
+#![no_std]
+#![deny(unsafe_code)]
+#![allow(unused_imports, unused_labels, unused_variables, dead_code)]
+
+#[cfg(not(target_pointer_width = "64"))]
+compile_error!("this library is made of sources that are proved for a `usize` of 64 bits, and of no other width");
+
+extern crate alloc as rust_alloc;
+#[cfg(feature = "std")]
+extern crate std;
+
+#[doc(hidden)]
+pub mod byte_search;
+pub mod ipnetwork;
+pub mod ipnetwork_addr;
+pub mod ipnetwork_blocks;
+pub mod ipnetwork_family;
+pub mod ipnetwork_index;
+pub mod ipnetwork_sets;
+pub mod ipnetwork_table;
+pub mod plain_std;
+
+pub use ipnetwork::*;
+pub use ipnetwork_blocks::*;
+pub use ipnetwork_index::*;
+pub use ipnetwork_sets::*;
+pub use ipnetwork_table::*;
+
+/// What the examples have in scope.
+#[doc(hidden)]
+pub mod in_examples {
+    pub use crate::plain_std::alloc::Global;
+    #[cfg(feature = "std")]
+    pub use crate::plain_std::rt::HostRuntime;
+    #[cfg(feature = "serde")]
+    pub use crate::plain_std::serde_json;
+    pub use crate::plain_std::string::{String, ToString};
+    pub use crate::plain_std::test::Fail;
+    pub use crate::plain_std::vec::{Concat, ToVec, Vec};
+    pub use crate::plain_std::{KitClone, format, vec};
+    pub use crate::{ipnetwork_addr::*, ipnetwork_family::*, *};
+}

@@ -1,0 +1,2 @@
+pub use ::std::io::*;
+pub use crate::plain_std::rt::{Stderr, Stdin, Stdout};

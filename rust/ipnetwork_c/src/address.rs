@@ -1,0 +1,91 @@
+// Written by scripts/plain out of crates/ipnetwork_c/src/address.rt
+
+//! Addresses of either family for C.
+
+use crate::fault::{ADDRESS, NO_FAMILY, OK};
+use crate::structs::address_of;
+use crate::text;
+use fosibegan::ipnetwork::{IpAddr, Ipv4Addr};
+
+/// An address of either family as C holds it: its octets in network order, and how many they are.
+#[repr(C)]
+#[derive(Clone, Copy)]
+pub struct AddressInC {
+    /// The octets, the highest first, and zeros after those of an IPv4 address.
+    pub octets: [u8; 16],
+    /// 4 or 16.
+    pub length: u8,
+}
+
+impl AddressInC {
+    /// The struct that holds an address.
+    pub(crate) fn of(address: IpAddr) -> Self {
+        match address {
+            IpAddr::V4(address) => {
+                let [a, b, c, d] = address.octets();
+                AddressInC {
+                    octets: [a, b, c, d, 0, 0, 0, 0, 0, 0, 0, 0, 0, 0, 0, 0],
+                    length: 4,
+                }
+            }
+            IpAddr::V6(address) => AddressInC {
+                octets: address.octets(),
+                length: 16,
+            },
+        }
+    }
+
+    /// The address, if it has 4 or 16 octets.
+    pub(crate) fn address(&self) -> Option<IpAddr> {
+        if self.length == 4 {
+            let [a, b, c, d, ..] = self.octets;
+            return Some(IpAddr::V4(Ipv4Addr::from([a, b, c, d])));
+        }
+        if self.length == 16 {
+            return Some(IpAddr::V6(address_of(&self.octets)));
+        }
+        None
+    }
+}
+
+/// Reads the address of either family that a text names, as `IpAddr::read_bytes` does: `OK`, and the address is written
+/// to `address`. Any other text is `ADDRESS`.
+#[inline]
+pub fn ipnetwork_address_read(text: &[u8], address: &mut AddressInC) -> u32 {
+    match IpAddr::read_bytes(text) {
+        Ok(read) => {
+            *address = AddressInC::of(read);
+            OK
+        }
+        Err(_) => ADDRESS,
+    }
+}
+
+const _: () = {
+    #[unsafe(export_name = "ipnetwork_address_read")]
+    unsafe extern "C" fn called(text: *const u8, text_length: usize, address: &mut AddressInC) -> u32 {
+        unsafe { ipnetwork_address_read(crate::lent::lent(text, text_length), address) }
+    }
+};
+
+/// Writes the canonical text of an address and a zero byte after it to `buffer`, of which 40 bytes are enough, and the
+/// length of the text, without the zero byte, to `length`. `SHORT_BUFFER` if the buffer has no room for both: then only
+/// the length is written. `NO_FAMILY` if the number of octets in the struct is neither 4 nor 16.
+#[inline]
+pub fn ipnetwork_address_canonical(
+    address: &AddressInC,
+    buffer: &mut [u8],
+    length: &mut usize,
+) -> u32 {
+    match address.address() {
+        Some(address) => text::tell_address(&address, buffer, length),
+        None => NO_FAMILY,
+    }
+}
+
+const _: () = {
+    #[unsafe(export_name = "ipnetwork_address_canonical")]
+    unsafe extern "C" fn called(address: &AddressInC, buffer: *mut u8, buffer_length: usize, length: &mut usize) -> u32 {
+        unsafe { ipnetwork_address_canonical(address, crate::lent::lent_mut(buffer, buffer_length), length) }
+    }
+};

@@ -1,0 +1,199 @@
+// Written by scripts/plain out of crates/ipnetwork_c/src/begun.rt
+
+//! How many structs of a list begin up to a number: by a binary search, or by an index of the list.
+
+use crate::guessed::Guessed;
+use crate::numbered::Numbered;
+use fosibegan::ipnetwork_blocks::AddressSpace;
+
+/// How many of a list in ascending order begin at the number or before it. Of any other list, a
+/// number of structs of which the last does, and the next one does not. The index only says where
+/// the search begins: one that is not that of the list costs time, and changes nothing else.
+#[inline(always)]
+pub(crate) fn begun<N: AddressSpace, H: Guessed<N>>(
+    list: &[H],
+    index: &[u32],
+    number: H::Number,
+) -> usize
+{
+    let guess = guess_by_last::<N, H>(list, index, number);
+    match begun_at_once::<N, H>(list, number, guess) {
+        Some(count) => count,
+        None => begun_by_halves::<N, H>(list, index, number),
+    }
+}
+
+/// A guess of how many begin up to the number, by the last struct of its part: for lists of which a
+/// part mostly has one. No branch depends on whether it begins up to the number.
+#[inline(always)]
+pub(crate) fn guess_by_last<N: AddressSpace, H: Guessed<N>>(
+    list: &[H],
+    index: &[u32],
+    number: H::Number,
+) -> usize {
+    if list.is_empty() || index.is_empty() {
+        return 0;
+    }
+    let part = part_of::<N, H>(list, index, number);
+    let end = part_end(index, part, list.len()).min(list.len());
+    let last = end.max(1) - 1;
+    last + one_up_to::<N, H>(list, last, number)
+}
+
+/// The same by the first three of its part: for lists of which a part often has several.
+#[inline(always)]
+pub(crate) fn guess_by_three<N: AddressSpace, H: Guessed<N>>(
+    list: &[H],
+    index: &[u32],
+    number: H::Number,
+) -> usize {
+    if list.len() < 3 || index.is_empty() {
+        return 0;
+    }
+    let part = part_of::<N, H>(list, index, number);
+    let from = start_of(index, part).min(list.len() - 3);
+    let first = one_up_to::<N, H>(list, from, number);
+    let second = one_up_to::<N, H>(list, from + 1, number);
+    from + first + second + one_up_to::<N, H>(list, from + 2, number)
+}
+
+/// How many begin up to the number, if that is the guess.
+#[inline(always)]
+pub(crate) fn begun_at_once<N: AddressSpace, H: Numbered<N>>(
+    list: &[H],
+    number: H::Number,
+    guess: usize,
+) -> Option<usize> {
+    if guess > list.len() {
+        return None;
+    }
+    if !next_is_after::<N, H>(list, guess, number) || !last_is_up_to::<N, H>(list, guess, number) {
+        return None;
+    }
+    Some(guess)
+}
+
+/// The same by halves: of the part of the number, and of the whole list if that is not in the
+/// index.
+#[inline(never)]
+pub(crate) fn begun_by_halves<N: AddressSpace, H: Numbered<N>>(
+    list: &[H],
+    index: &[u32],
+    number: H::Number,
+) -> usize {
+    if list.is_empty() || index.is_empty() {
+        return begun_between::<N, H>(list, 0, list.len(), number);
+    }
+    let part = part_of::<N, H>(list, index, number);
+    let from = from_start::<N, H>(list, start_of(index, part), number);
+    let to = end_of::<N, H>(list, index, part, from, number);
+    begun_between::<N, H>(list, from, to, number)
+}
+
+// The same, of which is known that the structs before `begin` begin up to the number, and that at
+// `end` after it. A step leaves a number of structs and not an end, so that it is compiled to no
+// branch that depends on the list.
+fn begun_between<N: AddressSpace, H: Numbered<N>>(
+    list: &[H],
+    begin: usize,
+    end: usize,
+    number: H::Number,
+) -> usize {
+    let mut from = begin;
+    let mut count = end - begin;
+    while count > 0 {
+        let half = count / 2;
+        if begins_up_to::<N, H>(list[from + half], number) {
+            from += half + 1;
+            count -= half + 1;
+        } else {
+            count = half;
+        }
+    }
+    from
+}
+
+// Whether the struct's own address is that of the number, or comes before it.
+#[inline(always)]
+fn begins_up_to<N: AddressSpace, H: Numbered<N>>(held: H, number: H::Number) -> bool {
+    H::is_up_to(held.own_number(), number)
+}
+
+// In which part of the index the number lies.
+#[inline(always)]
+fn part_of<N: AddressSpace, H: Numbered<N>>(list: &[H], index: &[u32], number: H::Number) -> usize {
+    let first = list[0];
+    let part = H::part_of(number, first.own_number(), index[0] & H::half());
+    part.min(index.len() - 1)
+}
+
+// Where the part begins, as the index says.
+#[inline(always)]
+fn start_of(index: &[u32], part: usize) -> usize {
+    if part == 0 {
+        return 0;
+    }
+    index[part] as usize
+}
+
+// Where the part ends, as the index says, and the last one with the list.
+#[inline(always)]
+fn part_end(index: &[u32], part: usize, count: usize) -> usize {
+    if part + 1 == index.len() {
+        return count;
+    }
+    index[part + 1] as usize
+}
+
+// 1 if the struct there seems to begin up to the number, and 0 if not.
+#[inline(always)]
+fn one_up_to<N: AddressSpace, H: Guessed<N>>(list: &[H], place: usize, number: H::Number) -> usize {
+    usize::from(list[place].seems_up_to(number))
+}
+
+// Whether the struct after so many begins after the number, or there is none.
+#[inline(always)]
+fn next_is_after<N: AddressSpace, H: Numbered<N>>(list: &[H], at: usize, number: H::Number) -> bool {
+    if at >= list.len() {
+        return true;
+    }
+    !begins_up_to::<N, H>(list[at], number)
+}
+
+// Whether the last of so many structs begins up to the number, or there is none.
+#[inline(always)]
+fn last_is_up_to<N: AddressSpace, H: Numbered<N>>(list: &[H], at: usize, number: H::Number) -> bool {
+    let last = at.wrapping_sub(1);
+    if last >= list.len() {
+        return true;
+    }
+    begins_up_to::<N, H>(list[last], number)
+}
+
+// The start, or the end of the list if that comes first, unless the struct before begins after the
+// number: then 0.
+fn from_start<N: AddressSpace, H: Numbered<N>>(list: &[H], start: usize, number: H::Number) -> usize {
+    let from = start.min(list.len());
+    if last_is_up_to::<N, H>(list, from, number) {
+        return from;
+    }
+    0
+}
+
+// Up to where structs are looked at, from `from` on: to the start of the next part, if the one
+// there begins after the number, and else to the last.
+fn end_of<N: AddressSpace, H: Numbered<N>>(
+    list: &[H],
+    index: &[u32],
+    part: usize,
+    from: usize,
+    number: H::Number,
+) -> usize
+{
+    let count = list.len();
+    let end = part_end(index, part, count);
+    if end < from || end >= count || begins_up_to::<N, H>(list[end], number) {
+        return count;
+    }
+    end
+}

@@ -1,0 +1,399 @@
+// Written by scripts/plain out of crates/ipnetwork_c/src/column_calls.rt
+
+//! The calls for many addresses, texts or networks at once, a row for each. Texts are in the layout of Arrow: the bytes of
+//! all, one after the other, and the offsets at which each begins and the last ends.
+
+use crate::address::AddressInC;
+use crate::fault::{OK, SHORT_BUFFER};
+use crate::guesses::Guesses;
+use crate::printed_columns::print_rows;
+use crate::search_columns::{ranges_find_each, table_find_each, v4_contains, v6_contains};
+use crate::structs::{IpInC, IpWithCauseInC, Ipv4InC, Ipv6InC};
+use crate::text_columns::read_rows;
+use crate::{columns, halves};
+use fosibegan::ipnetwork::{Ipv4Network, Ipv6Network};
+
+/// Writes for each of these addresses whether it lies in the network's set: 1 or 0, in `answers` at the same index. The
+/// rest of `answers` is unchanged. `PREFIX` if the prefix length is greater than 32, else `SHORT_BUFFER` if there are
+/// fewer answers than addresses.
+#[inline]
+pub fn ipnetwork_v4_contains_column(
+    network: &Ipv4InC,
+    addresses: &[[u8; 4]],
+    answers: &mut [u8],
+) -> u32 {
+    columns::contains_each::<Ipv4Network, Ipv4InC>(*network, addresses, answers)
+}
+
+const _: () = {
+    #[unsafe(export_name = "ipnetwork_v4_contains_column")]
+    unsafe extern "C" fn called(network: &Ipv4InC, addresses: *const [u8; 4], addresses_length: usize, answers: *mut u8, answers_length: usize) -> u32 {
+        unsafe { ipnetwork_v4_contains_column(network, crate::lent::lent(addresses, addresses_length), crate::lent::lent_mut(answers, answers_length)) }
+    }
+};
+
+/// The same for IPv6, for prefix lengths up to 128.
+#[inline]
+pub fn ipnetwork_v6_contains_column(
+    network: &Ipv6InC,
+    addresses: &[[u8; 16]],
+    answers: &mut [u8],
+) -> u32 {
+    columns::contains_each::<Ipv6Network, Ipv6InC>(*network, addresses, answers)
+}
+
+const _: () = {
+    #[unsafe(export_name = "ipnetwork_v6_contains_column")]
+    unsafe extern "C" fn called(network: &Ipv6InC, addresses: *const [u8; 16], addresses_length: usize, answers: *mut u8, answers_length: usize) -> u32 {
+        unsafe { ipnetwork_v6_contains_column(network, crate::lent::lent(addresses, addresses_length), crate::lent::lent_mut(answers, answers_length)) }
+    }
+};
+
+/// For each of these addresses whether it is in the set of a list, by an index of the list: answer i and fault i are what
+/// `ipnetwork_v4_index_contains` leaves and returns of address i, so that a refusal stops nothing. Of a list that is not
+/// in ascending order another block may answer than there. What comes after them stays as it is. `SHORT_BUFFER` if there
+/// are fewer answers or faults than addresses.
+#[inline]
+pub fn ipnetwork_v4_index_contains_column(
+    blocks: &[Ipv4InC],
+    index: &[u32],
+    addresses: &[[u8; 4]],
+    answers: &mut [u8],
+    faults: &mut [u8],
+) -> u32 {
+    if answers.len() < addresses.len() || faults.len() < addresses.len() {
+        return SHORT_BUFFER;
+    }
+    let mut guesses = Guesses::new();
+    for (row, address) in addresses.iter().enumerate() {
+        let guess = guesses.of_row::<Ipv4Network, Ipv4InC>(blocks, index, addresses, row);
+        faults[row] = v4_contains(blocks, index, address, guess, &mut answers[row]);
+    }
+    OK
+}
+
+const _: () = {
+    #[unsafe(export_name = "ipnetwork_v4_index_contains_column")]
+    unsafe extern "C" fn called(blocks: *const Ipv4InC, blocks_length: usize, index: *const u32, index_length: usize, addresses: *const [u8; 4], addresses_length: usize, answers: *mut u8, answers_length: usize, faults: *mut u8, faults_length: usize) -> u32 {
+        unsafe { ipnetwork_v4_index_contains_column(crate::lent::lent(blocks, blocks_length), crate::lent::lent(index, index_length), crate::lent::lent(addresses, addresses_length), crate::lent::lent_mut(answers, answers_length), crate::lent::lent_mut(faults, faults_length)) }
+    }
+};
+
+/// The same of IPv6, as `ipnetwork_v6_index_contains` answers.
+#[inline]
+pub fn ipnetwork_v6_index_contains_column(
+    blocks: &[Ipv6InC],
+    index: &[u32],
+    addresses: &[[u8; 16]],
+    answers: &mut [u8],
+    faults: &mut [u8],
+) -> u32 {
+    if answers.len() < addresses.len() || faults.len() < addresses.len() {
+        return SHORT_BUFFER;
+    }
+    let parts = halves::parts_of(blocks, index);
+    for (row, address) in addresses.iter().enumerate() {
+        faults[row] = v6_contains(blocks, index, parts, address, &mut answers[row]);
+    }
+    OK
+}
+
+const _: () = {
+    #[unsafe(export_name = "ipnetwork_v6_index_contains_column")]
+    unsafe extern "C" fn called(blocks: *const Ipv6InC, blocks_length: usize, index: *const u32, index_length: usize, addresses: *const [u8; 16], addresses_length: usize, answers: *mut u8, answers_length: usize, faults: *mut u8, faults_length: usize) -> u32 {
+        unsafe { ipnetwork_v6_index_contains_column(crate::lent::lent(blocks, blocks_length), crate::lent::lent(index, index_length), crate::lent::lent(addresses, addresses_length), crate::lent::lent_mut(answers, answers_length), crate::lent::lent_mut(faults, faults_length)) }
+    }
+};
+
+/// For each of these addresses the index of the longest block of a table that has it: index i and fault i are what
+/// `ipnetwork_v4_table_find` leaves and returns of address i, so that an address without a block stops nothing. What
+/// comes after them stays as it is. `SHORT_BUFFER` if there are fewer indexes or faults than addresses.
+#[inline]
+pub fn ipnetwork_v4_table_find_column(
+    blocks: &[Ipv4InC],
+    addresses: &[[u8; 4]],
+    indexes: &mut [usize],
+    faults: &mut [u8],
+) -> u32 {
+    table_find_each::<Ipv4Network, Ipv4InC>(blocks, &[], addresses, indexes, faults)
+}
+
+const _: () = {
+    #[unsafe(export_name = "ipnetwork_v4_table_find_column")]
+    unsafe extern "C" fn called(blocks: *const Ipv4InC, blocks_length: usize, addresses: *const [u8; 4], addresses_length: usize, indexes: *mut usize, indexes_length: usize, faults: *mut u8, faults_length: usize) -> u32 {
+        unsafe { ipnetwork_v4_table_find_column(crate::lent::lent(blocks, blocks_length), crate::lent::lent(addresses, addresses_length), crate::lent::lent_mut(indexes, indexes_length), crate::lent::lent_mut(faults, faults_length)) }
+    }
+};
+
+/// The same of IPv6, as `ipnetwork_v6_table_find` finds blocks.
+#[inline]
+pub fn ipnetwork_v6_table_find_column(
+    blocks: &[Ipv6InC],
+    addresses: &[[u8; 16]],
+    indexes: &mut [usize],
+    faults: &mut [u8],
+) -> u32 {
+    table_find_each::<Ipv6Network, Ipv6InC>(blocks, &[], addresses, indexes, faults)
+}
+
+const _: () = {
+    #[unsafe(export_name = "ipnetwork_v6_table_find_column")]
+    unsafe extern "C" fn called(blocks: *const Ipv6InC, blocks_length: usize, addresses: *const [u8; 16], addresses_length: usize, indexes: *mut usize, indexes_length: usize, faults: *mut u8, faults_length: usize) -> u32 {
+        unsafe { ipnetwork_v6_table_find_column(crate::lent::lent(blocks, blocks_length), crate::lent::lent(addresses, addresses_length), crate::lent::lent_mut(indexes, indexes_length), crate::lent::lent_mut(faults, faults_length)) }
+    }
+};
+
+/// For each of these addresses the place of the longest block of a table that has it, by an index of the table: place i
+/// and fault i are what `ipnetwork_v4_index_find` leaves and returns of address i, so that an address without a block
+/// stops nothing. What comes after them stays as it is. `SHORT_BUFFER` if there are fewer places or faults than
+/// addresses.
+#[inline]
+pub fn ipnetwork_v4_index_find_column(
+    blocks: &[Ipv4InC],
+    index: &[u32],
+    addresses: &[[u8; 4]],
+    places: &mut [usize],
+    faults: &mut [u8],
+) -> u32 {
+    table_find_each::<Ipv4Network, Ipv4InC>(blocks, index, addresses, places, faults)
+}
+
+const _: () = {
+    #[unsafe(export_name = "ipnetwork_v4_index_find_column")]
+    unsafe extern "C" fn called(blocks: *const Ipv4InC, blocks_length: usize, index: *const u32, index_length: usize, addresses: *const [u8; 4], addresses_length: usize, places: *mut usize, places_length: usize, faults: *mut u8, faults_length: usize) -> u32 {
+        unsafe { ipnetwork_v4_index_find_column(crate::lent::lent(blocks, blocks_length), crate::lent::lent(index, index_length), crate::lent::lent(addresses, addresses_length), crate::lent::lent_mut(places, places_length), crate::lent::lent_mut(faults, faults_length)) }
+    }
+};
+
+/// The same of IPv6, as `ipnetwork_v6_index_find` finds blocks.
+#[inline]
+pub fn ipnetwork_v6_index_find_column(
+    blocks: &[Ipv6InC],
+    index: &[u32],
+    addresses: &[[u8; 16]],
+    places: &mut [usize],
+    faults: &mut [u8],
+) -> u32 {
+    table_find_each::<Ipv6Network, Ipv6InC>(blocks, index, addresses, places, faults)
+}
+
+const _: () = {
+    #[unsafe(export_name = "ipnetwork_v6_index_find_column")]
+    unsafe extern "C" fn called(blocks: *const Ipv6InC, blocks_length: usize, index: *const u32, index_length: usize, addresses: *const [u8; 16], addresses_length: usize, places: *mut usize, places_length: usize, faults: *mut u8, faults_length: usize) -> u32 {
+        unsafe { ipnetwork_v6_index_find_column(crate::lent::lent(blocks, blocks_length), crate::lent::lent(index, index_length), crate::lent::lent(addresses, addresses_length), crate::lent::lent_mut(places, places_length), crate::lent::lent_mut(faults, faults_length)) }
+    }
+};
+
+/// For each of these addresses the place that the ranges of a table tell: place i and fault i are
+/// what `ipnetwork_v4_ranges_find` leaves and returns of address i, so that an address without a
+/// block stops nothing. What comes after them stays as it is. `SHORT_BUFFER` if there are fewer
+/// places or faults than addresses.
+#[inline]
+pub fn ipnetwork_v4_ranges_find_column(
+    ranges: &[Ipv4InC],
+    range_places: &[usize],
+    index: &[u32],
+    addresses: &[[u8; 4]],
+    places: &mut [usize],
+    faults: &mut [u8],
+) -> u32 {
+    ranges_find_each::<Ipv4Network, Ipv4InC>(addresses, places, faults, ranges, range_places, index)
+}
+
+const _: () = {
+    #[unsafe(export_name = "ipnetwork_v4_ranges_find_column")]
+    unsafe extern "C" fn called(ranges: *const Ipv4InC, ranges_length: usize, range_places: *const usize, range_places_length: usize, index: *const u32, index_length: usize, addresses: *const [u8; 4], addresses_length: usize, places: *mut usize, places_length: usize, faults: *mut u8, faults_length: usize) -> u32 {
+        unsafe { ipnetwork_v4_ranges_find_column(crate::lent::lent(ranges, ranges_length), crate::lent::lent(range_places, range_places_length), crate::lent::lent(index, index_length), crate::lent::lent(addresses, addresses_length), crate::lent::lent_mut(places, places_length), crate::lent::lent_mut(faults, faults_length)) }
+    }
+};
+
+/// The same of IPv6, as `ipnetwork_v6_ranges_find` finds places.
+#[inline]
+pub fn ipnetwork_v6_ranges_find_column(
+    ranges: &[Ipv6InC],
+    range_places: &[usize],
+    index: &[u32],
+    addresses: &[[u8; 16]],
+    places: &mut [usize],
+    faults: &mut [u8],
+) -> u32 {
+    ranges_find_each::<Ipv6Network, Ipv6InC>(addresses, places, faults, ranges, range_places, index)
+}
+
+const _: () = {
+    #[unsafe(export_name = "ipnetwork_v6_ranges_find_column")]
+    unsafe extern "C" fn called(ranges: *const Ipv6InC, ranges_length: usize, range_places: *const usize, range_places_length: usize, index: *const u32, index_length: usize, addresses: *const [u8; 16], addresses_length: usize, places: *mut usize, places_length: usize, faults: *mut u8, faults_length: usize) -> u32 {
+        unsafe { ipnetwork_v6_ranges_find_column(crate::lent::lent(ranges, ranges_length), crate::lent::lent(range_places, range_places_length), crate::lent::lent(index, index_length), crate::lent::lent(addresses, addresses_length), crate::lent::lent_mut(places, places_length), crate::lent::lent_mut(faults, faults_length)) }
+    }
+};
+
+/// Reads the IPv4 network of each text of a column: row i and fault i are what `ipnetwork_v4_read` writes and returns
+/// for text i. A text that names no network does not stop the reading. There is one text less than offsets; text i goes
+/// from offset i to the next. `NO_OFFSETS` if an offset is less than the one before, or greater than the length of the
+/// texts; else `SHORT_BUFFER` if there are fewer rows or faults than texts.
+#[inline]
+pub fn ipnetwork_v4_read_column(
+    texts: &[u8],
+    offsets: &[u32],
+    networks: &mut [Ipv4InC],
+    faults: &mut [u8],
+) -> u32 {
+    read_rows(texts, offsets, networks, faults)
+}
+
+const _: () = {
+    #[unsafe(export_name = "ipnetwork_v4_read_column")]
+    unsafe extern "C" fn called(texts: *const u8, texts_length: usize, offsets: *const u32, offsets_length: usize, networks: *mut Ipv4InC, networks_length: usize, faults: *mut u8, faults_length: usize) -> u32 {
+        unsafe { ipnetwork_v4_read_column(crate::lent::lent(texts, texts_length), crate::lent::lent(offsets, offsets_length), crate::lent::lent_mut(networks, networks_length), crate::lent::lent_mut(faults, faults_length)) }
+    }
+};
+
+/// The same for IPv6 networks, as `ipnetwork_v6_read` reads them.
+#[inline]
+pub fn ipnetwork_v6_read_column(
+    texts: &[u8],
+    offsets: &[u32],
+    networks: &mut [Ipv6InC],
+    faults: &mut [u8],
+) -> u32 {
+    read_rows(texts, offsets, networks, faults)
+}
+
+const _: () = {
+    #[unsafe(export_name = "ipnetwork_v6_read_column")]
+    unsafe extern "C" fn called(texts: *const u8, texts_length: usize, offsets: *const u32, offsets_length: usize, networks: *mut Ipv6InC, networks_length: usize, faults: *mut u8, faults_length: usize) -> u32 {
+        unsafe { ipnetwork_v6_read_column(crate::lent::lent(texts, texts_length), crate::lent::lent(offsets, offsets_length), crate::lent::lent_mut(networks, networks_length), crate::lent::lent_mut(faults, faults_length)) }
+    }
+};
+
+/// The same for networks of either family, as `ipnetwork_read` reads them.
+#[inline]
+pub fn ipnetwork_read_column(
+    texts: &[u8],
+    offsets: &[u32],
+    networks: &mut [IpInC],
+    faults: &mut [u8],
+) -> u32 {
+    read_rows(texts, offsets, networks, faults)
+}
+
+const _: () = {
+    #[unsafe(export_name = "ipnetwork_read_column")]
+    unsafe extern "C" fn called(texts: *const u8, texts_length: usize, offsets: *const u32, offsets_length: usize, networks: *mut IpInC, networks_length: usize, faults: *mut u8, faults_length: usize) -> u32 {
+        unsafe { ipnetwork_read_column(crate::lent::lent(texts, texts_length), crate::lent::lent(offsets, offsets_length), crate::lent::lent_mut(networks, networks_length), crate::lent::lent_mut(faults, faults_length)) }
+    }
+};
+
+/// The same for networks of either family, as `ipnetwork_read_with_cause` reads them.
+#[inline]
+pub fn ipnetwork_read_with_cause_column(
+    texts: &[u8],
+    offsets: &[u32],
+    networks: &mut [IpWithCauseInC],
+    faults: &mut [u8],
+) -> u32 {
+    read_rows(texts, offsets, networks, faults)
+}
+
+const _: () = {
+    #[unsafe(export_name = "ipnetwork_read_with_cause_column")]
+    unsafe extern "C" fn called(texts: *const u8, texts_length: usize, offsets: *const u32, offsets_length: usize, networks: *mut IpWithCauseInC, networks_length: usize, faults: *mut u8, faults_length: usize) -> u32 {
+        unsafe { ipnetwork_read_with_cause_column(crate::lent::lent(texts, texts_length), crate::lent::lent(offsets, offsets_length), crate::lent::lent_mut(networks, networks_length), crate::lent::lent_mut(faults, faults_length)) }
+    }
+};
+
+/// The same for addresses of either family, as `ipnetwork_address_read` reads them.
+#[inline]
+pub fn ipnetwork_address_read_column(
+    texts: &[u8],
+    offsets: &[u32],
+    addresses: &mut [AddressInC],
+    faults: &mut [u8],
+) -> u32 {
+    read_rows(texts, offsets, addresses, faults)
+}
+
+const _: () = {
+    #[unsafe(export_name = "ipnetwork_address_read_column")]
+    unsafe extern "C" fn called(texts: *const u8, texts_length: usize, offsets: *const u32, offsets_length: usize, addresses: *mut AddressInC, addresses_length: usize, faults: *mut u8, faults_length: usize) -> u32 {
+        unsafe { ipnetwork_address_read_column(crate::lent::lent(texts, texts_length), crate::lent::lent(offsets, offsets_length), crate::lent::lent_mut(addresses, addresses_length), crate::lent::lent_mut(faults, faults_length)) }
+    }
+};
+
+/// Prints the IPv4 network of each row, as `ipnetwork_v4_canonical` does, to the front of `texts`, one text directly
+/// after the other, and writes how many bytes they have in all to `length`. Text i goes from offset i to offset i + 1,
+/// so that there is one offset more than rows. `PREFIX` if the prefix length of a row is greater than 32.
+/// `SHORT_BUFFER` if there is room for fewer bytes, or offsets, or if the texts have more than 2^31 - 1 bytes: then
+/// only their length is written.
+#[inline]
+pub fn ipnetwork_v4_print_column(
+    networks: &[Ipv4InC],
+    texts: &mut [u8],
+    offsets: &mut [u32],
+    length: &mut usize,
+) -> u32 {
+    print_rows(networks, texts, offsets, length)
+}
+
+const _: () = {
+    #[unsafe(export_name = "ipnetwork_v4_print_column")]
+    unsafe extern "C" fn called(networks: *const Ipv4InC, networks_length: usize, texts: *mut u8, texts_length: usize, offsets: *mut u32, offsets_length: usize, length: &mut usize) -> u32 {
+        unsafe { ipnetwork_v4_print_column(crate::lent::lent(networks, networks_length), crate::lent::lent_mut(texts, texts_length), crate::lent::lent_mut(offsets, offsets_length), length) }
+    }
+};
+
+/// The same for IPv6 networks, for prefix lengths up to 128.
+#[inline]
+pub fn ipnetwork_v6_print_column(
+    networks: &[Ipv6InC],
+    texts: &mut [u8],
+    offsets: &mut [u32],
+    length: &mut usize,
+) -> u32 {
+    print_rows(networks, texts, offsets, length)
+}
+
+const _: () = {
+    #[unsafe(export_name = "ipnetwork_v6_print_column")]
+    unsafe extern "C" fn called(networks: *const Ipv6InC, networks_length: usize, texts: *mut u8, texts_length: usize, offsets: *mut u32, offsets_length: usize, length: &mut usize) -> u32 {
+        unsafe { ipnetwork_v6_print_column(crate::lent::lent(networks, networks_length), crate::lent::lent_mut(texts, texts_length), crate::lent::lent_mut(offsets, offsets_length), length) }
+    }
+};
+
+/// The same of networks of either family, as `ipnetwork_canonical` prints them. If one is refused, the fault is that of
+/// the first: `NO_FAMILY` if the struct tells neither family, else `PREFIX`.
+#[inline]
+pub fn ipnetwork_print_column(
+    networks: &[IpInC],
+    texts: &mut [u8],
+    offsets: &mut [u32],
+    length: &mut usize,
+) -> u32 {
+    print_rows(networks, texts, offsets, length)
+}
+
+const _: () = {
+    #[unsafe(export_name = "ipnetwork_print_column")]
+    unsafe extern "C" fn called(networks: *const IpInC, networks_length: usize, texts: *mut u8, texts_length: usize, offsets: *mut u32, offsets_length: usize, length: &mut usize) -> u32 {
+        unsafe { ipnetwork_print_column(crate::lent::lent(networks, networks_length), crate::lent::lent_mut(texts, texts_length), crate::lent::lent_mut(offsets, offsets_length), length) }
+    }
+};
+
+/// The same of addresses of either family, as `ipnetwork_address_canonical` prints them. `NO_FAMILY` if a struct tells
+/// neither 4 nor 16 octets.
+#[inline]
+pub fn ipnetwork_address_print_column(
+    addresses: &[AddressInC],
+    texts: &mut [u8],
+    offsets: &mut [u32],
+    length: &mut usize,
+) -> u32 {
+    print_rows(addresses, texts, offsets, length)
+}
+
+const _: () = {
+    #[unsafe(export_name = "ipnetwork_address_print_column")]
+    unsafe extern "C" fn called(addresses: *const AddressInC, addresses_length: usize, texts: *mut u8, texts_length: usize, offsets: *mut u32, offsets_length: usize, length: &mut usize) -> u32 {
+        unsafe { ipnetwork_address_print_column(crate::lent::lent(addresses, addresses_length), crate::lent::lent_mut(texts, texts_length), crate::lent::lent_mut(offsets, offsets_length), length) }
+    }
+};

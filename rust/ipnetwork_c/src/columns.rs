@@ -1,0 +1,32 @@
+// Written by scripts/plain out of crates/ipnetwork_c/src/columns.rt
+
+//! A network asked about many addresses in one call, a row for each.
+
+use crate::fault::{OK, PREFIX, SHORT_BUFFER};
+use crate::numbered::Numbered;
+use fosibegan::ipnetwork_blocks::AddressSpace;
+
+/// Writes for each address whether it lies in the network's set.
+#[inline(always)]
+pub(crate) fn contains_each<N: AddressSpace, H: Numbered<N>>(
+    network: H,
+    addresses: &[H::Octets],
+    answers: &mut [u8],
+) -> u32 {
+    if !network.fits() {
+        return PREFIX;
+    }
+    if answers.len() < addresses.len() {
+        return SHORT_BUFFER;
+    }
+    for (row, address) in addresses.iter().enumerate() {
+        answers[row] = flag::<N, H>(network, address);
+    }
+    OK
+}
+
+// Whether the address lies in the network's set, as 1 or 0.
+#[inline(always)]
+fn flag<N: AddressSpace, H: Numbered<N>>(network: H, address: &H::Octets) -> u8 {
+    u8::from(network.held_network().contains(H::address_in(address)))
+}

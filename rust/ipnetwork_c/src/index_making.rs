@@ -1,0 +1,114 @@
+// Written by scripts/plain out of crates/ipnetwork_c/src/index_making.rt
+
+//! Indexes of lists, made in the caller's memory.
+
+use crate::fault::OK;
+use crate::numbered::Numbered;
+use crate::structs::{Ipv4InC, Ipv6InC};
+use fosibegan::ipnetwork::{Ipv4Network, Ipv6Network};
+use fosibegan::ipnetwork_blocks::AddressSpace;
+
+/// How many numbers an index of so many blocks should have: four for each block, but no more than 2^20. One of fewer
+/// numbers makes a search slower, and one of more hardly faster.
+#[inline]
+pub fn ipnetwork_index_size(block_count: usize, index_length: &mut usize) -> u32 {
+    *index_length = block_count.saturating_mul(4).min(1 << 20);
+    OK
+}
+
+const _: () = {
+    #[unsafe(export_name = "ipnetwork_index_size")]
+    extern "C" fn called(block_count: usize, index_length: &mut usize) -> u32 {
+        ipnetwork_index_size(block_count, index_length)
+    }
+};
+
+/// Writes the index of a list, of as many numbers as there is room for, so that a search of the list by
+/// `ipnetwork_v4_index_contains` or `ipnetwork_v4_index_find` takes a few steps. The addresses from the first of the list
+/// to the last are cut into parts, all of one size, a power of two, as small as it can be: the index has this power, and
+/// then, of each part but the first, how many of the list begin before it. No struct is refused.
+#[inline]
+pub fn ipnetwork_v4_index_make(blocks: &[Ipv4InC], index: &mut [u32]) -> u32 {
+    make::<Ipv4Network, Ipv4InC>(blocks, index);
+    OK
+}
+
+const _: () = {
+    #[unsafe(export_name = "ipnetwork_v4_index_make")]
+    unsafe extern "C" fn called(blocks: *const Ipv4InC, blocks_length: usize, index: *mut u32, index_length: usize) -> u32 {
+        unsafe { ipnetwork_v4_index_make(crate::lent::lent(blocks, blocks_length), crate::lent::lent_mut(index, index_length)) }
+    }
+};
+
+/// The same of IPv6.
+#[inline]
+pub fn ipnetwork_v6_index_make(blocks: &[Ipv6InC], index: &mut [u32]) -> u32 {
+    make::<Ipv6Network, Ipv6InC>(blocks, index);
+    OK
+}
+
+const _: () = {
+    #[unsafe(export_name = "ipnetwork_v6_index_make")]
+    unsafe extern "C" fn called(blocks: *const Ipv6InC, blocks_length: usize, index: *mut u32, index_length: usize) -> u32 {
+        unsafe { ipnetwork_v6_index_make(crate::lent::lent(blocks, blocks_length), crate::lent::lent_mut(index, index_length)) }
+    }
+};
+
+// Goes over the list once.
+fn make<N: AddressSpace, H: Numbered<N>>(list: &[H], index: &mut [u32]) {
+    if index.is_empty() {
+        return;
+    }
+    let shift = least_shift::<N, H>(list, index.len());
+    index[0] = shift;
+    let mut at = 0;
+    for part in 1..index.len() {
+        at = start_from::<N, H>(list, at, shift, part);
+        index[part] = at.min(u32::MAX as usize) as u32;
+    }
+}
+
+// The size of the least parts of which so many reach over the list, as a power of two.
+fn least_shift<N: AddressSpace, H: Numbered<N>>(list: &[H], count: usize) -> u32 {
+    let half = H::half();
+    if list.is_empty() {
+        return 0;
+    }
+    let first = list[0].own_number();
+    let last = list[list.len() - 1].own_number();
+    let mut shift = 0;
+    while shift <= half {
+        if H::part_of(last, first, shift) < count {
+            return shift;
+        }
+        shift += 1;
+    }
+    half + 1
+}
+
+// How many structs of the list begin before the part. The last one before `from` does.
+fn start_from<N: AddressSpace, H: Numbered<N>>(
+    list: &[H],
+    from: usize,
+    shift: u32,
+    part: usize,
+) -> usize {
+    let mut at = from;
+    while at < list.len() {
+        if !begins_before::<N, H>(list[at], list[0], shift, part) {
+            return at;
+        }
+        at += 1;
+    }
+    at
+}
+
+// Whether the struct begins before this part of the numbers from those of the first struct on.
+fn begins_before<N: AddressSpace, H: Numbered<N>>(
+    held: H,
+    first: H,
+    shift: u32,
+    part: usize,
+) -> bool {
+    H::part_of(held.own_number(), first.own_number(), shift) < part
+}

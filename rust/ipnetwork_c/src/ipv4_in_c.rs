@@ -1,0 +1,150 @@
+// Written by scripts/plain out of crates/ipnetwork_c/src/ipv4_in_c.rt
+
+//! The struct of an IPv4 network: the network that it holds, its order, and what lists and columns ask of it.
+
+use crate::fault::{self, OK, PREFIX};
+use crate::guessed::Guessed;
+use crate::listed::Listed;
+use crate::numbered::Numbered;
+use crate::printed_columns::PrintsRow;
+use crate::structs::{Ipv4InC, number_of_four};
+use crate::text_columns::ReadsRow;
+use fosibegan::plain_std::arrayvec::ArrayString;
+use fosibegan::ipnetwork::{Ipv4Addr, Ipv4Network, NETWORK_TEXT_CAPACITY};
+use fosibegan::ipnetwork_blocks::HoldsNetwork;
+use core::cmp::Ordering;
+
+impl Ipv4InC {
+    /// The struct that holds a network.
+    pub(crate) fn of(network: &Ipv4Network) -> Self {
+        Ipv4InC {
+            address: network.ip().octets(),
+            prefix: network.prefix(),
+        }
+    }
+
+    /// The network, if the prefix length is at most 32.
+    pub(crate) fn network(&self) -> Option<Ipv4Network> {
+        Ipv4Network::new_checked(Ipv4Addr::from(self.address), self.prefix)
+    }
+}
+
+impl Ord for Ipv4InC {
+    fn cmp(&self, other: &Ipv4InC) -> Ordering {
+        let first = u32::from_be_bytes(self.address);
+        let second = u32::from_be_bytes(other.address);
+        first.cmp(&second).then(self.prefix.cmp(&other.prefix))
+    }
+}
+
+impl PartialOrd for Ipv4InC {
+    fn partial_cmp(&self, other: &Ipv4InC) -> Option<Ordering> {
+        Some(self.cmp(other))
+    }
+}
+
+impl PartialEq for Ipv4InC {
+    fn eq(&self, other: &Ipv4InC) -> bool {
+        self.cmp(other).is_eq()
+    }
+}
+
+impl Eq for Ipv4InC {
+}
+
+impl HoldsNetwork<Ipv4Network> for Ipv4InC {
+    fn held_network(self) -> Ipv4Network {
+        match Ipv4InC::network(&self) {
+            Some(network) => network,
+            None => unreachable!(),
+        }
+    }
+
+    fn holding(network: Ipv4Network) -> Ipv4InC {
+        let _ = network.ip();
+        Ipv4InC::of(&network)
+    }
+}
+
+impl Listed<Ipv4Network> for Ipv4InC {
+    fn own_address(&self) -> Ipv4Addr {
+        Ipv4Addr::from(self.address)
+    }
+
+    fn fits(&self) -> bool {
+        self.prefix <= 32
+    }
+}
+
+impl Numbered<Ipv4Network> for Ipv4InC {
+    type Number = u32;
+
+    type Octets = [u8; 4];
+
+    fn own_number(&self) -> u32 {
+        number_of_four(&self.address)
+    }
+
+    fn number_of(addr: Ipv4Addr) -> u32 {
+        u32::from(addr)
+    }
+
+    #[inline(always)]
+    fn number_in(octets: &[u8; 4]) -> u32 {
+        number_of_four(octets)
+    }
+
+    #[inline(always)]
+    fn address_in(octets: &[u8; 4]) -> Ipv4Addr {
+        Ipv4Addr::from(*octets)
+    }
+
+    fn is_up_to(first: u32, second: u32) -> bool {
+        first <= second
+    }
+
+    fn has(&self, number: u32) -> bool {
+        let host_bits = u32::from(32 - self.prefix);
+        u64::from(number) >> host_bits == u64::from(number_of_four(&self.address)) >> host_bits
+    }
+
+    fn part_of(number: u32, base: u32, shift: u32) -> usize {
+        (number.saturating_sub(base) >> shift) as usize
+    }
+
+    fn half() -> u32 {
+        31
+    }
+}
+
+impl Guessed<Ipv4Network> for Ipv4InC {
+    #[inline(always)]
+    fn seems_up_to(&self, number: u32) -> bool {
+        number_of_four(&self.address) <= number
+    }
+}
+
+impl ReadsRow for Ipv4InC {
+    fn read_row(&mut self, text: &[u8]) -> u32 {
+        match Ipv4Network::read_bytes(text) {
+            Ok(read) => {
+                *self = Ipv4InC::of(&read);
+                OK
+            }
+            Err(cause) => fault::number_of(cause),
+        }
+    }
+}
+
+impl PrintsRow for Ipv4InC {
+    fn row_fault(&self) -> u32 {
+        if self.prefix <= 32 { OK } else { PREFIX }
+    }
+
+    fn row_text(&self) -> ArrayString<NETWORK_TEXT_CAPACITY> {
+        match self.network() {
+            Some(network) => network.canonical(),
+            None => unreachable!(),
+        }
+    }
+}

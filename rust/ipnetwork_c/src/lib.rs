@@ -1,0 +1,76 @@
+// Written by scripts/plain out of crates/ipnetwork_c/src/lib.rt
+
+//! The library for C: each call of networks of either family as a function that C can call.
+//!
+//! Nothing here allocates. A call that is given a struct whose prefix length is greater than the
+//! width returns `PREFIX`, or `NO_FAMILY` if the family is wrong too; only a search of a set or a
+//! table does not look at every struct, and one of ranges looks at no prefix length. A call that
+//! returns a fault writes nothing, except for the length or number that comes with `SHORT_BUFFER`.
+#![allow(unused_imports, unused_labels, unused_variables, dead_code)]
+
+mod lent;
+mod address;
+mod aggregates;
+mod begun;
+mod block_calls;
+mod column_calls;
+mod columns;
+mod either;
+mod fault;
+mod guessed;
+mod guesses;
+mod halves;
+mod index_making;
+mod ipv4_in_c;
+mod ipv6_in_c;
+mod list_calls;
+mod listed;
+mod lists;
+mod network_calls;
+mod numbered;
+mod order;
+mod printed_columns;
+mod questions;
+mod range_making;
+mod ranges;
+mod search_columns;
+mod set_operations;
+mod sets;
+mod sizes;
+mod structs;
+mod table_making;
+mod tables;
+mod text;
+mod text_columns;
+mod writing;
+
+pub use address::AddressInC;
+pub use structs::{IpInC, IpWithCauseInC, Ipv4InC, Ipv6InC};
+
+/// The version of what C relies on: the names, the structs and the numbers. A change of any of them
+/// changes it.
+#[inline]
+pub fn ipnetwork_abi_version() -> u32 {
+    2
+}
+
+const _: () = {
+    #[unsafe(export_name = "ipnetwork_abi_version")]
+    extern "C" fn called() -> u32 {
+        ipnetwork_abi_version()
+    }
+};
+
+/// The minor version: each call that is added raises it, and a change of `ipnetwork_abi_version`
+/// begins it again at 0.
+#[inline]
+pub fn ipnetwork_abi_minor_version() -> u32 {
+    7
+}
+
+const _: () = {
+    #[unsafe(export_name = "ipnetwork_abi_minor_version")]
+    extern "C" fn called() -> u32 {
+        ipnetwork_abi_minor_version()
+    }
+};

@@ -1,0 +1,79 @@
+// Written by scripts/plain out of crates/ipnetwork_c/src/range_making.rt
+
+//! Tables cut into ranges of addresses that all have the same longest block, in the caller's
+//! memory.
+
+use crate::fault::{OK, PREFIX, SHORT_BUFFER};
+use crate::guessed::Guessed;
+use crate::listed::all_fit;
+use crate::tables::find;
+use fosibegan::ipnetwork_blocks::AddressSpace;
+
+/// The place that stands for no block.
+pub(crate) const NO_PLACE: usize = usize::MAX;
+
+/// Sorts where the blocks begin and end, and asks the blocks for the first address of each range.
+pub(crate) fn make<N: AddressSpace, H: Guessed<N>>(
+    blocks: &[H],
+    ranges: &mut [H],
+    places: &mut [usize],
+    count: &mut usize,
+) -> u32
+{
+    if !all_fit::<N, H>(blocks) {
+        return PREFIX;
+    }
+    if ranges.len() / 2 < blocks.len() || places.len() / 2 < blocks.len() {
+        return SHORT_BUFFER;
+    }
+    let made = put_cuts::<N, H>(blocks, ranges);
+    ranges[..made].sort_unstable();
+    put_places::<N, H>(blocks, &ranges[..made], &mut places[..made]);
+    *count = made;
+    OK
+}
+
+// Puts where each block begins, and where it has ended, and returns how many these are.
+fn put_cuts<N: AddressSpace, H: Guessed<N>>(blocks: &[H], ranges: &mut [H]) -> usize
+{
+    let mut count = 0;
+    for row in 0..blocks.len() {
+        count = put_ends::<N, H>(blocks[row].held_network(), ranges, count);
+    }
+    count
+}
+
+// Puts after so many others where the block begins, and the address after its last, if there is
+// one.
+fn put_ends<N: AddressSpace, H: Guessed<N>>(block: N, ranges: &mut [H], count: usize) -> usize
+{
+    let _ = block.prefix();
+    put_first::<N, H>(block.network(), ranges, count);
+    match N::next_address(block.broadcast()) {
+        Some(next) => {
+            put_first::<N, H>(next, ranges, count + 1);
+            count + 2
+        }
+        None => count + 1,
+    }
+}
+
+// Puts the network of an address alone at a place.
+fn put_first<N: AddressSpace, H: Guessed<N>>(address: N::Addr, ranges: &mut [H], place: usize) {
+    let width = (H::half() + 1) as u8;
+    ranges[place] = H::holding(N::block_at(address, width));
+}
+
+// Puts beside each range the place of the longest block with its first address.
+fn put_places<N: AddressSpace, H: Guessed<N>>(blocks: &[H], ranges: &[H], places: &mut [usize]) {
+    for row in 0..ranges.len() {
+        places[row] = place_of::<N, H>(blocks, ranges[row].own_address());
+    }
+}
+
+// The place of the longest block with the address, or that of no block.
+fn place_of<N: AddressSpace, H: Guessed<N>>(blocks: &[H], address: N::Addr) -> usize {
+    let mut place = NO_PLACE;
+    let _ = find::<N, H>(blocks, &[], address, &mut place);
+    place
+}

@@ -1,0 +1,131 @@
+// Written by scripts/plain out of crates/ipnetwork_c/src/ranges.rt
+
+//! Ranges in the caller's memory, asked for the longest block with an address: one search, whatever
+//! lies in what.
+
+use crate::begun::{begun_at_once, begun_by_halves, guess_by_three};
+use crate::fault::{NO_MEMBER, OK};
+use crate::guessed::Guessed;
+use crate::range_making::NO_PLACE;
+use fosibegan::ipnetwork_blocks::AddressSpace;
+
+/// The place beside the last of the ranges that begins at an address or before it, by an index of
+/// the ranges, or by none: that of no block if there is none.
+#[inline(always)]
+pub(crate) fn place_of<N: AddressSpace, H: Guessed<N>>(
+    address: &H::Octets,
+    ranges: &[H],
+    places: &[usize],
+    index: &[u32],
+) -> usize {
+    let number = H::number_in(address);
+    let guess = guess_by_three::<N, H>(ranges, index, number);
+    place_by_guess::<N, H>(ranges, places, index, number, guess)
+}
+
+/// Puts that place in `place`, if it is that of a block.
+#[inline(always)]
+pub(crate) fn find<N: AddressSpace, H: Guessed<N>>(
+    address: &H::Octets,
+    ranges: &[H],
+    places: &[usize],
+    index: &[u32],
+    place: &mut usize,
+) -> u32 {
+    let number = H::number_in(address);
+    let guess = guess_by_three::<N, H>(ranges, index, number);
+    place_near::<N, H>(ranges, places, index, number, guess, place)
+}
+
+/// The same for the number of an address, with a guess of how many ranges begin up to it.
+#[inline(always)]
+pub(crate) fn place_near<N: AddressSpace, H: Guessed<N>>(
+    ranges: &[H],
+    places: &[usize],
+    index: &[u32],
+    number: H::Number,
+    guess: usize,
+    place: &mut usize,
+) -> u32 {
+    put_found(
+        place_by_guess::<N, H>(ranges, places, index, number, guess),
+        place,
+    )
+}
+
+// The place beside the last of the ranges that begins at the number or before it, with a guess of
+// how many do.
+#[inline(always)]
+fn place_by_guess<N: AddressSpace, H: Guessed<N>>(
+    ranges: &[H],
+    places: &[usize],
+    index: &[u32],
+    number: H::Number,
+    guess: usize,
+) -> usize {
+    match begun_at_once::<N, H>(ranges, number, guess) {
+        Some(count) => found_before(places, count),
+        None => place_by_halves::<N, H>(ranges, places, index, number),
+    }
+}
+
+// The same where the guess is none. It stands apart, so that what it needs costs the others
+// nothing.
+#[inline(never)]
+fn place_by_halves<N: AddressSpace, H: Guessed<N>>(
+    ranges: &[H],
+    places: &[usize],
+    index: &[u32],
+    number: H::Number,
+) -> usize
+{
+    let count = begun_by_halves::<N, H>(ranges, index, number);
+    found_before(places, count)
+}
+
+// The place beside the last of so many ranges, or that of no block.
+#[inline(always)]
+fn found_before(places: &[usize], count: usize) -> usize {
+    let row = count.wrapping_sub(1);
+    if row >= places.len() {
+        return NO_PLACE;
+    }
+    places[row]
+}
+
+// Puts what was found, unless it is the place of no block.
+#[inline(always)]
+fn put_found(found: usize, place: &mut usize) -> u32 {
+    let mut beside = 0;
+    put_or_pass(found != NO_PLACE, found, place, &mut beside)
+}
+
+// Puts the number at `place` if one was found, and else beside it, by one store, so that no branch
+// depends on the address. Not inlined: a compiler that sees that nothing reads what is put beside
+// leaves that out, by a branch that is often guessed wrong. The two reads at the end compile to
+// nothing: they tell the proof which of the two references is `place`.
+#[inline(never)]
+fn put_or_pass(is_found: bool, number: usize, place: &mut usize, beside: &mut usize) -> u32 {
+    let (target, other) = in_order(is_found, place, beside);
+    *target = number;
+    if is_found {
+        let _put = *target;
+        return OK;
+    }
+    let _kept = *other;
+    NO_MEMBER
+}
+
+// Both, the first one first if this holds, and else last.
+#[inline(always)]
+fn in_order<'a>(
+    is_in_order: bool,
+    first: &'a mut usize,
+    second: &'a mut usize,
+) -> (&'a mut usize, &'a mut usize) {
+    if is_in_order {
+        (first, second)
+    } else {
+        (second, first)
+    }
+}

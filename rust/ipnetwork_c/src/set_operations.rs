@@ -1,0 +1,62 @@
+// Written by scripts/plain out of crates/ipnetwork_c/src/set_operations.rt
+
+//! The union, the common part and the difference of two sets, as lists in the caller's memory.
+
+use crate::fault::{NO_SET, OK, PREFIX, SHORT_BUFFER};
+use crate::listed::{Listed, all_fit};
+use crate::writing::{put_blocks, to_usize};
+use fosibegan::ipnetwork_blocks::AddressSpace;
+use fosibegan::ipnetwork_sets::{Difference, Intersection, Union, is_address_set};
+
+/// An operation on two sets.
+#[derive(Clone, Copy)]
+pub(crate) enum Operation {
+    /// What is in one of the two sets or in both.
+    Union,
+    /// What is in both sets.
+    Intersection,
+    /// What is in the first set and not in the second.
+    Difference,
+}
+
+/// Puts the blocks of what an operation leaves of two sets in the front of `blocks`, and their number in `count`.
+pub(crate) fn operate<N: AddressSpace, H: Listed<N>>(
+    operation: Operation,
+    first: &[H],
+    second: &[H],
+    blocks: &mut [H],
+    count: &mut usize,
+) -> u32 {
+    if !all_fit::<N, H>(first) || !all_fit::<N, H>(second) {
+        return PREFIX;
+    }
+    if !is_address_set::<N, H>(first) || !is_address_set::<N, H>(second) {
+        return NO_SET;
+    }
+    let wanted = put_kept::<N, H>(operation, first, second, &mut []);
+    *count = to_usize(wanted);
+    if wanted > blocks.len() as u128 {
+        return SHORT_BUFFER;
+    }
+    put_kept::<N, H>(operation, first, second, blocks);
+    OK
+}
+
+// Puts the blocks of the addresses that the operation keeps into the front of the list, as far as there is room.
+// Returns how many there are, and 2^128 - 1 if there are more.
+fn put_kept<N: AddressSpace, H: Listed<N>>(
+    operation: Operation,
+    first: &[H],
+    second: &[H],
+    list: &mut [H],
+) -> u128 {
+    match operation {
+        Operation::Union => { put_blocks::<N, H, Union<'_, N, H>>(Union::of(first, second), list) }
+        Operation::Intersection => {
+            put_blocks::<N, H, Intersection<'_, N, H>>(Intersection::of(first, second), list)
+        }
+        Operation::Difference => {
+            put_blocks::<N, H, Difference<'_, N, H>>(Difference::of(first, second), list)
+        }
+    }
+}

@@ -1,0 +1,86 @@
+// Written by scripts/plain out of crates/ipnetwork_c/src/sets.rt
+
+//! Lists that are those of sets: the maximal blocks of their union, in ascending order, as `aggregate_held` leaves
+//! them.
+
+use crate::begun::{begun_at_once, begun_by_halves, guess_by_last};
+use crate::fault::{OK, PREFIX};
+use crate::guessed::Guessed;
+use crate::numbered::Numbered;
+use fosibegan::ipnetwork_blocks::AddressSpace;
+
+/// Whether an address lies in the set of a list, as 1 or 0, by an index of the list, or by none. If
+/// the list is not that of a set, an address may be missed. `PREFIX` if the prefix length of the
+/// struct that the search ends at is not one of the family.
+#[inline(always)]
+pub(crate) fn contains<N: AddressSpace, H: Guessed<N>>(
+    list: &[H],
+    index: &[u32],
+    address: &H::Octets,
+    answer: &mut u8,
+) -> u32 {
+    let number = H::number_in(address);
+    let guess = guess_by_last::<N, H>(list, index, number);
+    contains_near::<N, H>(list, index, number, guess, answer)
+}
+
+/// The same for the number of an address, with a guess of how many blocks begin up to it.
+#[inline(always)]
+pub(crate) fn contains_near<N: AddressSpace, H: Guessed<N>>(
+    list: &[H],
+    index: &[u32],
+    number: H::Number,
+    guess: usize,
+    answer: &mut u8,
+) -> u32 {
+    match found_near::<N, H>(list, index, number, guess) {
+        Some(found) => {
+            *answer = found;
+            OK
+        }
+        None => PREFIX,
+    }
+}
+
+// The answer, or none if the prefix length does not fit.
+#[inline(always)]
+fn found_near<N: AddressSpace, H: Numbered<N>>(
+    list: &[H],
+    index: &[u32],
+    number: H::Number,
+    guess: usize,
+) -> Option<u8> {
+    if let Some(count) = begun_at_once::<N, H>(list, number, guess) {
+        return answer_after::<N, H>(list, count, number);
+    }
+    found_by_halves::<N, H>(list, index, number)
+}
+
+// The same, where the search does not end at once.
+#[inline(never)]
+fn found_by_halves<N: AddressSpace, H: Numbered<N>>(
+    list: &[H],
+    index: &[u32],
+    number: H::Number,
+) -> Option<u8>
+{
+    let count = begun_by_halves::<N, H>(list, index, number);
+    answer_after::<N, H>(list, count, number)
+}
+
+// The same, if the search ends after so many structs.
+#[inline(always)]
+fn answer_after<N: AddressSpace, H: Numbered<N>>(
+    list: &[H],
+    count: usize,
+    number: H::Number,
+) -> Option<u8> {
+    if count == 0 {
+        return Some(0);
+    }
+    let last = list[count - 1];
+    if !last.fits() {
+        return None;
+    }
+    Some(u8::from(last.has(number)))
+}

@@ -1,0 +1,145 @@
+// Written by scripts/plain out of crates/ipnetwork_c/src/structs.rt
+
+//! The structs of the header, and the networks that they stand for.
+
+use crate::fault::{NO_FAMILY, PREFIX};
+use fosibegan::ipnetwork::{IpNetwork, Ipv6Addr, Ipv6Network};
+use fosibegan::plain_std::simd::prelude::*;
+
+/// An IPv4 network as C holds it. Nothing is known of its prefix length.
+#[repr(C)]
+#[derive(Clone, Copy)]
+pub struct Ipv4InC {
+    /// The octets of the address in network order.
+    pub address: [u8; 4],
+    /// The prefix length.
+    pub prefix: u8,
+}
+
+/// An IPv6 network as C holds it. Nothing is known of its prefix length.
+#[repr(C)]
+#[derive(Clone, Copy)]
+pub struct Ipv6InC {
+    /// The octets of the address in network order.
+    pub address: [u8; 16],
+    /// The prefix length.
+    pub prefix: u8,
+}
+
+/// The family of an `IpInC` whose network is an IPv4 network.
+pub(crate) const V4: u8 = 4;
+
+/// The family of an `IpInC` whose network is an IPv6 network.
+pub(crate) const V6: u8 = 6;
+
+/// A network of either family as C holds it: the struct of its family. Nothing is known of the family.
+#[repr(C)]
+#[derive(Clone, Copy)]
+pub struct IpInC {
+    /// 4 or 6.
+    pub family: u8,
+    /// The network, if the family is 4.
+    pub v4: Ipv4InC,
+    /// The network, if the family is 6.
+    pub v6: Ipv6InC,
+}
+
+impl IpInC {
+    /// The struct that holds a network.
+    pub(crate) fn of(network: &IpNetwork) -> Self {
+        match network {
+            IpNetwork::V4(network) => IpInC {
+                family: V4,
+                v4: Ipv4InC::of(network),
+                v6: Ipv6InC {
+                    address: [0; 16],
+                    prefix: 0,
+                },
+            },
+            IpNetwork::V6(network) => IpInC {
+                family: V6,
+                v4: Ipv4InC {
+                    address: [0; 4],
+                    prefix: 0,
+                },
+                v6: Ipv6InC::of(network),
+            },
+        }
+    }
+
+    /// The struct that holds an IPv6 network.
+    #[inline(always)]
+    pub(crate) fn of_v6(network: &Ipv6Network) -> Self {
+        IpInC {
+            family: V6,
+            v4: Ipv4InC {
+                address: [0; 4],
+                prefix: 0,
+            },
+            v6: Ipv6InC {
+                address: octets_of(network.ip()),
+                prefix: network.prefix(),
+            },
+        }
+    }
+
+    /// The network of the family that the struct names. `NO_FAMILY` if that is neither 4 nor 6, else `PREFIX` if the
+    /// prefix length is greater than the family's width.
+    pub(crate) fn network(&self) -> Result<IpNetwork, u32> {
+        if self.family == V4 {
+            return match self.v4.network() {
+                Some(network) => Ok(IpNetwork::V4(network)),
+                None => Err(PREFIX),
+            };
+        }
+        if self.family != V6 {
+            return Err(NO_FAMILY);
+        }
+        match self.v6.network() {
+            Some(network) => Ok(IpNetwork::V6(network)),
+            None => Err(PREFIX),
+        }
+    }
+}
+
+/// The same in a column whose texts are read with the cause. C has the struct of the network in its place.
+#[repr(C)]
+#[derive(Clone, Copy)]
+pub struct IpWithCauseInC {
+    /// The network.
+    pub held: IpInC,
+}
+
+/// The IPv6 address of 16 octets, made of its segments: to write a number and read its segments costs more.
+pub(crate) fn address_of(octets: &[u8; 16]) -> Ipv6Addr {
+    let [a, b, c, d, e, f, g, h, i, j, k, l, m, n, o, p] = *octets;
+    Ipv6Addr::new(
+        u16::from_be_bytes([a, b]),
+        u16::from_be_bytes([c, d]),
+        u16::from_be_bytes([e, f]),
+        u16::from_be_bytes([g, h]),
+        u16::from_be_bytes([i, j]),
+        u16::from_be_bytes([k, l]),
+        u16::from_be_bytes([m, n]),
+        u16::from_be_bytes([o, p]),
+    )
+}
+
+/// The number of 4 octets.
+pub(crate) fn number_of_four(octets: &[u8; 4]) -> u32 {
+    u32::from_be_bytes(*octets)
+}
+
+/// The 16 octets of an address, as one vector: so they are stored at once, and else one by one.
+#[inline(always)]
+fn octets_of(address: Ipv6Addr) -> [u8; 16] {
+    let number = u128::from(address);
+    let halves = [(number % (1 << 64)) as u64, (number >> 64) as u64];
+    u64x2::from_array(halves).to_le_bytes().reverse().to_array()
+}
+
+/// The number of 16 octets.
+pub(crate) fn number_of(octets: &[u8; 16]) -> u128 {
+    let [a, b, c, d, e, f, g, h, i, j, k, l, m, n, o, p] = *octets;
+    u128::from_be_bytes([a, b, c, d, e, f, g, h, i, j, k, l, m, n, o, p])
+}

@@ -1,0 +1,308 @@
+"""Sends a source from its crate to a module of a package, for `scripts/plain`: paths, what is in scope, examples."""
+
+import collections
+import re
+
+from erasing import Refused, code_sub, leftover, tokens
+
+WIDTH = 100
+# Modules of std that stand in core as they are, and those that only a program uses.
+CORE = {"cell", "cmp", "error", "fmt", "hash", "marker", "mem", "net", "num", "ops", "str"}
+REAL = {"process"}
+# What a source has in scope by itself, and where the stand-in has it.
+IN_SCOPE = {
+    r"\bVec\b": "vec::Vec",
+    r"\bString\b": "string::String",
+    r"\bHostRuntime\b": "rt::HostRuntime",
+    r"\bAlloc\b": "rt::Alloc",
+    r"\.to_string\((?=\w|&)": "string::ToString",
+    r"\.kit_clone\(": "KitClone",
+    r"\.kit_(?:to_vec|repeat)\(": "vec::ToVec",
+    r"\.kit_(?:concat|join)\(": "vec::Concat",
+    r"\bValue::(?:try_from_str|from_slice|from_str)\(": "serde_json::OfKit",
+    r"\.is_memory\(": "serde_json::ErrorOfKit",
+    r"\bvec!\[in ": "vec",
+    r"\bformat!\(in ": "format",
+    r"\bprintln!\(": "println",
+}
+
+
+class Layout:
+    """What `rust.txt` and `crates.txt` say."""
+
+    def __init__(self, listing, crates):
+        lines = re.findall(r"^(\w+):(.*)$", listing, re.M)
+        self.packages = {package: words.split() for package, words in lines if package not in ("stand_in", "optional", "left_out")}
+        said = {key: words.split() for key, words in lines}
+        self.stand_in, *self.stood_for = said["stand_in"]
+        self.optional = dict(zip(said["optional"][::2], said["optional"][1::2]))
+        self.left_out = set(said["left_out"])
+        self.package_of = {crate: package for package, names in self.packages.items() for crate in names}
+        listing = re.findall(r"^(\w+)( staticlib)?:(.*)$", crates, re.M)
+        self.below = {crate: words.split() for crate, _, words in listing}
+        self.static = {crate for crate, kind, _ in listing if kind}
+
+    def is_package(self, crate):
+        """Whether a crate is its package's root."""
+        return self.package_of[crate] == crate
+
+    def place(self, crate, package):
+        """The path of a crate, seen from a package."""
+        own = self.package_of[crate]
+        first = ["crate"] if own == package else [own]
+        return first if own == crate else [*first, crate]
+
+    def stand_in_from(self, package):
+        own, *rest = self.stand_in.split("::")
+        return ["crate" if own == package else own, *rest]
+
+    def mapped(self, path, crate, package):
+        """A path of a source of `crate`, seen from `package`."""
+        head, rest = path[0], path[1:]
+        if head == "crate":
+            return [*self.place(crate, package), *rest]
+        if head in self.below[crate] or head == crate:
+            if head in self.stood_for:
+                return [*self.stand_in_from(package), *path]
+            return [*self.place(head, package), *rest]
+        if head == "std":
+            if rest and rest[0] in CORE:
+                return ["core", *rest]
+            if rest and rest[0] in REAL:
+                return path
+            return [*self.stand_in_from(package), *rest]
+        return path
+
+
+# Paths
+
+
+def use_paths(tree):
+    """The paths that the tree of a `use` names, each as its words, with the name that it gets or None."""
+    words = [token for kind, token, _ in tokens(tree) if kind not in ("space", "comment")]
+    found = []
+
+    def walk(at, before):
+        path = list(before)
+        while at < len(words):
+            if words[at] == "{":
+                at += 1
+                while words[at] != "}":
+                    at = walk(at, path)
+                    at += words[at] == ","
+                return at + 1
+            if words[at] in (",", "}"):
+                break
+            if words[at] == "as":
+                found.append((path, words[at + 1]))
+                return at + 2
+            if words[at] != "::":
+                path.append(words[at])
+            at += 1
+        found.append((path, None))
+        return at
+
+    walk(0, [])
+    return found
+
+
+def use_lines(head, paths, indent):
+    """`use` items of these paths, in as few lines as fit."""
+    by_parent = collections.OrderedDict()
+    for path, alias in paths:
+        by_parent.setdefault("::".join(path[:-1]), []).append(path[-1] + (f" as {alias}" if alias else ""))
+    lines = []
+    for parent, names in by_parent.items():
+        lead = f"{parent}::" if parent else ""
+        names = sorted(dict.fromkeys(names), key=lambda name: name != "self")
+        if names == ["self"]:
+            lines.append(f"{indent}{head}use {parent};")
+        elif len(names) == 1:
+            lines.append(f"{indent}{head}use {lead}{names[0]};")
+        elif len(line := f"{indent}{head}use {lead}{{{', '.join(names)}}};") <= WIDTH:
+            lines.append(line)
+        else:
+            lines.append(f"{indent}{head}use {lead}{{")
+            row = ""
+            for name in names:
+                if len(indent) + 6 + len(row) + len(name) > WIDTH:
+                    lines.append(f"{indent}    {row.rstrip()}")
+                    row = ""
+                row += f"{name}, "
+            lines += [f"{indent}    {row.rstrip()}", f"{indent}}};"]
+    return "\n".join(lines)
+
+
+USE = re.compile(r"^([ \t]*)((?:#\[[^\]]*\]\s*)*)(pub(?:\([^)]*\))? )?use ([^;]*);[^\n]*\n", re.M)
+
+
+class Source:
+    """A source of a crate, on its way to Rust."""
+
+    def __init__(self, book, crate, file, text, package):
+        self.book, self.layout, self.crate, self.file, self.package = book, book.layout, crate, file, package
+        self.text = text
+        self.dropped = set()
+
+    def mapped(self, path):
+        return self.layout.mapped(path, self.crate, self.package)
+
+    def uses(self):
+        """Sends the paths of each `use` to where they stand; laws go, and what is optional or private is named apart."""
+
+        def new(found):
+            indent, attributes, visibility, tree = found[1], found[2], found[3] or "", found[4]
+            by_head = collections.OrderedDict()
+            for path, alias in use_paths(tree):
+                if self.layout.left_out & set(path):
+                    self.dropped.add(alias or path[-1])
+                    continue
+                if path[:2] == ["std", "marker"] and path[-1] == "Model":
+                    continue
+                name = path[-1]
+                shown, gate = visibility, self.book.gate_of(name, self.package)
+                if visibility == "pub " and name in self.book.private:
+                    shown = "pub(crate) "
+                head = (f'#[cfg(feature = "{gate}")]\n{indent}' if gate and path[0] not in self.layout.optional else "") + shown
+                by_head.setdefault(head, []).append((self.mapped(path), alias))
+            lines = [use_lines(head, paths, indent) for head, paths in by_head.items()]
+            return "".join(f"{indent}{attributes}{line[len(indent):]}\n" for line in lines)
+
+        self.text = USE.sub(new, self.text)
+
+    def laws(self):
+        """Statements that call a law are no code."""
+        names = "|".join(sorted(self.dropped | self.layout.left_out))
+        call = rf"^[ \t]*(?:\w+::)*(?:{names})(?:::\w+)*(?:::<[^;]*>)?\((?:[^;()]|\([^;()]*\))*\);\n"
+        self.text = re.sub(call, "", self.text, flags=re.M)
+        for kind, token, place in tokens(self.text):
+            if kind == "word" and token in self.dropped | self.layout.left_out:
+                raise Refused(f"a law is more than called: {self.text[place:place + 60]!r}")
+
+    def modules(self):
+        """Modules of laws go, and those of what is optional are named as such."""
+
+        def new(found):
+            name = found[2]
+            if name in self.layout.left_out:
+                return ""
+            gate = self.book.gated_modules.get((self.crate, name))
+            return (f'#[cfg(feature = "{gate}")]\n' if gate else "") + found[0]
+
+        self.text = re.sub(r"^((?:pub(?:\([^)]*\))? )?mod (\w+);\n)", new, self.text, flags=re.M)
+
+    def paths(self):
+        """Sends the paths that stand in the code to where they are."""
+        heads = {"std", "crate", self.crate, *self.layout.below[self.crate]}
+        out, before, skip_to = [], "", -1
+        for kind, token, place in tokens(self.text):
+            if place < skip_to:
+                continue
+            follows = re.compile(r"::(\w+)").match(self.text, place + len(token))
+            if kind == "word" and token in heads and follows and before != "::" and not self.in_use(place):
+                path = self.mapped([token, follows[1]])
+                out.append("::".join(path))
+                skip_to = follows.end()
+                before = follows[1]
+                continue
+            out.append(token)
+            if kind not in ("space", "comment"):
+                before = token
+        self.text = "".join(out)
+
+    def in_use(self, place):
+        begin = self.text.rfind("\n", 0, place) + 1
+        return bool(re.match(r"\s*(?:pub(?:\([^)]*\))? )?use\b|.*;.*", self.text[begin:place])) and any(
+            found.start() <= place < found.end() for found in USE.finditer(self.text)
+        )
+
+    def hidden(self):
+        """What has a `requires` is no public call."""
+        for place, name in sorted(self.book.needs[self.file].items(), reverse=True):
+            found = re.search(rf"^([ \t]*)pub ((?:const )?fn {name}\b)", self.text, re.M)
+            if not found:
+                continue
+            if name in self.book.private:
+                lead = self.without_example(found.start())
+                self.text = f"{lead}{found[1]}pub(crate) {found[2]}{self.text[found.end():]}"
+            else:
+                self.text = f"{self.text[:found.start()]}{found[1]}#[doc(hidden)]\n{found[1]}pub {found[2]}{self.text[found.end():]}"
+
+    def without_example(self, end):
+        """The text up to this place, its last comment without examples: no test can call what is not public."""
+        lines = self.text[:end].split("\n")
+        at = len(lines) - 1
+        while at > 0 and re.match(r"\s*(///|#\[)", lines[at - 1]):
+            at -= 1
+        comment = "\n".join(lines[at:])
+        comment = re.sub(r"(?:^[ \t]*///\n)?^[ \t]*/// ```\n(?:[ \t]*///[^\n]*\n)*?[ \t]*/// ```\n", "", comment, flags=re.M)
+        return "\n".join([*lines[:at], comment])
+
+    def examples(self):
+        """The examples of comments, as rustdoc runs them: with names in scope, and without a handle."""
+        out, body = [], None
+        for line in self.text.split("\n"):
+            comment = re.match(r"(\s*//[/!])(?: (.*))?$", line)
+            words = (comment[2] or "") if comment else None
+            if body is None:
+                out.append(line)
+                if words == "```" and self.package is not None:
+                    body = []
+                elif words is not None and words.startswith("```"):
+                    body = None if words == "```" else False
+            elif words is None:
+                raise Refused(f"an example does not end: {line}")
+            elif body is False:
+                out.append(line)
+                body = None if words == "```" else False
+            elif words == "```":
+                out += [f"{comment[1]} {text}".rstrip() for text in self.example(body)]
+                out.append(line)
+                body = None
+            else:
+                body.append(words)
+        self.text = "\n".join(out)
+
+    def example(self, lines):
+        text = "\n".join(lines)
+        text = re.sub(r"\b(assert(?:_eq|_ne)?!\()rt; ", r"\1", text)
+        text = text.replace("rt.alloc()", "Global")
+        heads = {"std", self.crate, *self.layout.below[self.crate], *self.layout.package_of}
+        own = "|".join(sorted(heads))
+
+        def new(found):
+            path = self.layout.mapped([found[1], found[2]], self.crate, None)
+            return "::".join(path)
+
+        text = re.sub(rf"(?<![\w:])({own})::(\w+|\{{)", new, text)
+        lead = [f"# use {self.package}::in_examples::*;"]
+        if re.search(r"\brt\b", text):
+            lead.append("# let rt = HostRuntime::new();")
+        tail = ["# Ok::<(), Fail>(())"] if re.search(r"\?(?![a-z])", text) else []
+        return [*lead, *text.split("\n"), *tail]
+
+    def scope(self):
+        """Names that a source has in scope without naming them."""
+        code = re.sub(r"//[^\n]*", "", self.text)
+        lead = "::".join(self.layout.stand_in_from(self.package))
+        wanted = {path.split("::")[-1]: path for pattern, path in IN_SCOPE.items() if re.search(pattern, code)}
+        named = {alias or path[-1] for found in USE.finditer(code) for path, alias in use_paths(found[4])}
+        named |= set(re.findall(r"\b(?:struct|enum|type|trait) (\w+)", code))
+        lines = "".join(f"use {lead}::{path};\n" for name, path in wanted.items() if name not in named)
+        head = re.match(r"(?:\s*//![^\n]*\n|\s*#!\[[^\]]*\]\n)*", self.text)[0].rstrip("\n")
+        rest = self.text[len(head) :].lstrip("\n")
+        is_use = USE.match(rest)
+        self.text = (f"{head}\n\n" if head else "") + (lines if is_use else f"{lines}\n" if lines else "") + rest
+
+    def written(self):
+        """The source as Rust, in its package."""
+        self.hidden()
+        self.uses()
+        self.modules()
+        self.laws()
+        self.text = code_sub(r"\bprove!\(", "debug_assert!(", self.text)
+        self.paths()
+        self.examples()
+        self.scope()
+        leftover(self.text)
+        return self.text
