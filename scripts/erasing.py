@@ -21,7 +21,7 @@ MODEL = re.compile(r"impl\b[^{;]*?\bModel\s+for\b[^{]*\{")
 CLAUSE = re.compile(r"\*?\s*(?:\w+\s*)?\{")
 # What stays is Rust's own, or has one of these names in the stand-in.
 ATTRIBUTES = {"allow", "cfg", "derive", "doc", "inline", "must_use", "non_exhaustive", "repr", "test", "unsafe"}
-GHOST_WORDS = {"ghost", "requires", "ensures", "Model", "derive_where"}
+GHOST_WORDS = {"ghost", "requires", "ensures", "derive_where"}
 
 
 class Refused(Exception):
@@ -147,7 +147,7 @@ def clones(text):
         text = text[: found.start()] + new + text[end:]
         at = found.start() + len(new)
     # Methods that Rust's slices and options have themselves, without an allocator or a handle.
-    text = code_sub(r"\.(to_vec|concat|join)\((?=[\w&])", r".kit_\1(", text)
+    text = code_sub(r"\.(to_vec|to_string|concat|join)\((?=[\w&])", r".kit_\1(", text)
     text = code_sub(r"\.repeat\((?=(?:alloc|rt\.alloc\(\)),)", ".kit_repeat(", text)
     text = code_sub(r"\.(expect|expect_err)\(&?rt, ", r".\1(", text)
     return code_sub(r"\.clone\(\)", ".kit_clone()", text)

@@ -6,24 +6,30 @@ import re
 from erasing import Refused, code_sub, leftover, tokens
 
 WIDTH = 100
-# Modules of std that stand in core as they are, and those that only a program uses.
+# Modules of Rust's std as they are, which stand in core too, and one that does not.
 CORE = {"cell", "cmp", "error", "fmt", "hash", "marker", "mem", "net", "num", "ops", "str"}
 REAL = {"process"}
+# Kinds of errors that only unstable Rust names.
+UNSTABLE = re.compile(r"^ *ErrorKind::(?:FilesystemLoop|InProgress|Uncategorized),\n", re.M)
 # What a source has in scope by itself, and where the stand-in has it.
 IN_SCOPE = {
     r"\bVec\b": "vec::Vec",
     r"\bString\b": "string::String",
     r"\bHostRuntime\b": "rt::HostRuntime",
     r"\bAlloc\b": "rt::Alloc",
-    r"\.to_string\((?=\w|&)": "string::ToString",
+    r"\.kit_to_string\(": "string::ToString",
     r"\.kit_clone\(": "KitClone",
     r"\.kit_(?:to_vec|repeat)\(": "vec::ToVec",
     r"\.kit_(?:concat|join)\(": "vec::Concat",
     r"\bValue::(?:try_from_str|from_slice|from_str)\(": "serde_json::OfKit",
-    r"\.is_memory\(": "serde_json::ErrorOfKit",
     r"\bvec!\[in ": "vec",
     r"\bformat!\(in ": "format",
     r"\bprintln!\(": "println",
+}
+IN_TESTS = {
+    r"\bassert!\(": "assert",
+    r"\bassert_eq!\(": "assert_eq",
+    r"\bassert_ne!\(": "assert_ne",
 }
 
 
@@ -52,6 +58,10 @@ class Layout:
         first = ["crate"] if own == package else [own]
         return first if own == crate else [*first, crate]
 
+    def is_without_std(self, package):
+        """Whether a package needs no std: the one with the stand-in."""
+        return package == self.stand_in.split("::")[0]
+
     def stand_in_from(self, package):
         own, *rest = self.stand_in.split("::")
         return ["crate" if own == package else own, *rest]
@@ -66,10 +76,8 @@ class Layout:
                 return [*self.stand_in_from(package), *path]
             return [*self.place(head, package), *rest]
         if head == "std":
-            if rest and rest[0] in CORE:
-                return ["core", *rest]
-            if rest and rest[0] in REAL:
-                return path
+            if rest and rest[0] in CORE | REAL:
+                return ["core" if self.is_without_std(package) else "std", *rest]
             return [*self.stand_in_from(package), *rest]
         return path
 
@@ -172,6 +180,8 @@ class Source:
 
     def laws(self):
         """Statements that call a law are no code."""
+        if not self.layout.left_out:
+            return
         names = "|".join(sorted(self.dropped | self.layout.left_out))
         call = rf"^[ \t]*(?:\w+::)*(?:{names})(?:::\w+)*(?:::<[^;]*>)?\((?:[^;()]|\([^;()]*\))*\);\n"
         self.text = re.sub(call, "", self.text, flags=re.M)
@@ -186,7 +196,7 @@ class Source:
             name = found[2]
             if name in self.layout.left_out:
                 return ""
-            gate = self.book.gated_modules.get((self.crate, name))
+            gate = self.book.gate_of_module(self.file, name)
             return (f'#[cfg(feature = "{gate}")]\n' if gate else "") + found[0]
 
         self.text = re.sub(r"^((?:pub(?:\([^)]*\))? )?mod (\w+);\n)", new, self.text, flags=re.M)
@@ -222,11 +232,9 @@ class Source:
             found = re.search(rf"^([ \t]*)pub ((?:const )?fn {name}\b)", self.text, re.M)
             if not found:
                 continue
-            if name in self.book.private:
-                lead = self.without_example(found.start())
-                self.text = f"{lead}{found[1]}pub(crate) {found[2]}{self.text[found.end():]}"
-            else:
-                self.text = f"{self.text[:found.start()]}{found[1]}#[doc(hidden)]\n{found[1]}pub {found[2]}{self.text[found.end():]}"
+            lead = self.without_example(found.start())
+            shown = "pub(crate)" if name in self.book.private else f"#[doc(hidden)]\n{found[1]}pub"
+            self.text = f"{lead}{found[1]}{shown} {found[2]}{self.text[found.end():]}"
 
     def without_example(self, end):
         """The text up to this place, its last comment without examples: no test can call what is not public."""
@@ -267,6 +275,7 @@ class Source:
         text = "\n".join(lines)
         text = re.sub(r"\b(assert(?:_eq|_ne)?!\()rt; ", r"\1", text)
         text = text.replace("rt.alloc()", "Global")
+        text = re.sub(r"\.(to_string|to_vec|repeat)\(Global", r".kit_\1(Global", text)
         heads = {"std", self.crate, *self.layout.below[self.crate], *self.layout.package_of}
         own = "|".join(sorted(heads))
 
@@ -276,16 +285,19 @@ class Source:
 
         text = re.sub(rf"(?<![\w:])({own})::(\w+|\{{)", new, text)
         lead = [f"# use {self.package}::in_examples::*;"]
+        macros = sorted(set(re.findall(r"\b(vec|format|println)!\(?\[?(?:in|&?rt)\b", text)))
+        lead += [f"# use {'::'.join(self.layout.stand_in_from(None))}::{macro};" for macro in macros]
         if re.search(r"\brt\b", text):
             lead.append("# let rt = HostRuntime::new();")
-        tail = ["# Ok::<(), Fail>(())"] if re.search(r"\?(?![a-z])", text) else []
-        return [*lead, *text.split("\n"), *tail]
+        if re.search(r"\?(?![a-z])|return Ok\b", text):
+            return [*lead, "# ended(|| {", *text.split("\n"), "# Ok(())", "# });"]
+        return [*lead, *text.split("\n")]
 
-    def scope(self):
+    def scope(self, in_scope):
         """Names that a source has in scope without naming them."""
         code = re.sub(r"//[^\n]*", "", self.text)
         lead = "::".join(self.layout.stand_in_from(self.package))
-        wanted = {path.split("::")[-1]: path for pattern, path in IN_SCOPE.items() if re.search(pattern, code)}
+        wanted = {path.split("::")[-1]: path for pattern, path in in_scope.items() if re.search(pattern, code)}
         named = {alias or path[-1] for found in USE.finditer(code) for path, alias in use_paths(found[4])}
         named |= set(re.findall(r"\b(?:struct|enum|type|trait) (\w+)", code))
         lines = "".join(f"use {lead}::{path};\n" for name, path in wanted.items() if name not in named)
@@ -293,6 +305,20 @@ class Source:
         rest = self.text[len(head) :].lstrip("\n")
         is_use = USE.match(rest)
         self.text = (f"{head}\n\n" if head else "") + (lines if is_use else f"{lines}\n" if lines else "") + rest
+
+    def written_test(self):
+        """A file of unit tests as Rust. Lists of error kinds are without those that are unstable."""
+        left = len(UNSTABLE.findall(self.text))
+        if left:
+            self.text = UNSTABLE.sub("", self.text)
+            self.text = re.sub(r"(\[ErrorKind; )(\d+)", lambda found: f"{found[1]}{int(found[2]) - left}", self.text)
+        self.uses()
+        self.modules()
+        self.laws()
+        self.paths()
+        self.scope(IN_SCOPE | IN_TESTS)
+        leftover(self.text)
+        return self.text
 
     def written(self):
         """The source as Rust, in its package."""
@@ -303,6 +329,6 @@ class Source:
         self.text = code_sub(r"\bprove!\(", "debug_assert!(", self.text)
         self.paths()
         self.examples()
-        self.scope()
+        self.scope(IN_SCOPE)
         leftover(self.text)
         return self.text

@@ -19,7 +19,7 @@ use cidr_programs::program::log_reader::LogReader;
 use cidr_programs::program::messages::number_text;
 use cidr_programs::program::putting::put_both;
 use fosibegan::plain_std::io::Write;
-use core::mem::replace;
+use std::mem::replace;
 
 /// The exit status if a line was selected.
 const SELECTED: u8 = 0;

@@ -4,7 +4,7 @@
 
 use fosibegan::plain_std::vec::Vec;
 use fosibegan::plain_std::alloc::{AllocError, Global};
-use core::cmp::Reverse;
+use std::cmp::Reverse;
 use fosibegan::plain_std::collections::HashMap;
 
 /// A count, which is greater the earlier it stands, and the text that it is of.

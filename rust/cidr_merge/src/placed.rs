@@ -8,7 +8,7 @@ use crate::text_lines::TextLines;
 use fosibegan::ipnetwork::IpAddr;
 use cidr_programs::lists::Entry;
 use fosibegan::plain_std::alloc::{AllocError, Global};
-use core::cmp::Reverse;
+use std::cmp::Reverse;
 
 /// An address: whether it is an IPv6 address, and its number. The order is that of addresses.
 pub(crate) type Key = (bool, u128);

@@ -12,6 +12,6 @@ pub mod program;
 /// What the examples have in scope.
 #[doc(hidden)]
 pub mod in_examples {
-    pub use crate::{line_addresses, lines, lists, log_programs, program};
+    pub use crate::{line_addresses::*, lines::*, lists::*, log_programs::*, program::*, *};
     pub use fosibegan::in_examples::*;
 }

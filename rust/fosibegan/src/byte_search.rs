@@ -8,12 +8,6 @@ use crate::plain_std::simd::prelude::*;
 
 /// The index of the first byte equal to `byte` at or after the index `from`, or `None`. `from` must be at
 /// most the length of the text.
-///
-/// ```
-/// # use fosibegan::in_examples::*;
-/// let next_dot = find_from(b"10.0.0.0/8", 3, b'.');
-/// assert_eq!(next_dot, Some(4));
-/// ```
 #[inline(always)]
 #[doc(hidden)]
 pub fn find_from(text: &[u8], from: usize, byte: u8) -> Option<usize> {
@@ -28,12 +22,6 @@ pub fn find_from(text: &[u8], from: usize, byte: u8) -> Option<usize> {
 
 /// `find_from` for a byte that is likely to stand some way behind `from`, as a line feed does: 32
 /// bytes are compared at once, and then 64, so that seldom a branch depends on where it stands.
-///
-/// ```
-/// # use fosibegan::in_examples::*;
-/// let feed = find_far(b"10.0.0.0/8\n::/0", 3, b'\n');
-/// assert_eq!(feed, Some(10));
-/// ```
 #[inline(always)]
 #[doc(hidden)]
 pub fn find_far(text: &[u8], from: usize, byte: u8) -> Option<usize> {

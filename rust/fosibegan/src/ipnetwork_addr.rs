@@ -33,8 +33,10 @@ pub use ipv6::Ipv6Addr;
 ///
 /// ```
 /// # use fosibegan::in_examples::*;
+/// # ended(|| {
 /// let longest: Ipv6Addr = "ffff:ffff:ffff:ffff:ffff:ffff:ffff:ffff".parse()?;
 /// assert_eq!(longest.canonical().as_str().len(), ADDRESS_TEXT_CAPACITY);
-/// # Ok::<(), Fail>(())
+/// # Ok(())
+/// # });
 /// ```
 pub const ADDRESS_TEXT_CAPACITY: usize = 39;

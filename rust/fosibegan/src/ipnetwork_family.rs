@@ -33,9 +33,11 @@ pub use network::Network;
 ///
 /// ```
 /// # use fosibegan::in_examples::*;
+/// # ended(|| {
 /// let network: Ipv4Network = "10.1.9.32/255.0.0.0".parse()?;
 /// assert_eq!(network.canonical().as_str(), "10.1.9.32/8");
-/// # Ok::<(), Fail>(())
+/// # Ok(())
+/// # });
 /// ```
 pub type Ipv4Network = Network<Ipv4Addr>;
 
@@ -43,9 +45,11 @@ pub type Ipv4Network = Network<Ipv4Addr>;
 ///
 /// ```
 /// # use fosibegan::in_examples::*;
+/// # ended(|| {
 /// let network: Ipv6Network = "2001:DB8::1/064".parse()?;
 /// assert_eq!(network.canonical().as_str(), "2001:db8::1/64");
-/// # Ok::<(), Fail>(())
+/// # Ok(())
+/// # });
 /// ```
 pub type Ipv6Network = Network<Ipv6Addr>;
 
@@ -53,9 +57,11 @@ pub type Ipv6Network = Network<Ipv6Addr>;
 ///
 /// ```
 /// # use fosibegan::in_examples::*;
+/// # ended(|| {
 /// let members: Ipv4NetworkIterator = "192.0.2.0/24".parse::<Ipv4Network>()?.iter();
 /// assert_eq!(members.count(), 256);
-/// # Ok::<(), Fail>(())
+/// # Ok(())
+/// # });
 /// ```
 pub type Ipv4NetworkIterator = NetworkIterator<Ipv4Addr>;
 
@@ -63,9 +69,11 @@ pub type Ipv4NetworkIterator = NetworkIterator<Ipv4Addr>;
 ///
 /// ```
 /// # use fosibegan::in_examples::*;
+/// # ended(|| {
 /// let members: Ipv6NetworkIterator = "2001:db8::/120".parse::<Ipv6Network>()?.iter();
 /// assert_eq!(members.count(), 256);
-/// # Ok::<(), Fail>(())
+/// # Ok(())
+/// # });
 /// ```
 pub type Ipv6NetworkIterator = NetworkIterator<Ipv6Addr>;
 
@@ -73,8 +81,10 @@ pub type Ipv6NetworkIterator = NetworkIterator<Ipv6Addr>;
 ///
 /// ```
 /// # use fosibegan::in_examples::*;
+/// # ended(|| {
 /// let longest: Ipv6Network = "ffff:ffff:ffff:ffff:ffff:ffff:ffff:ffff/128".parse()?;
 /// assert_eq!(longest.canonical().as_str().len(), NETWORK_TEXT_CAPACITY);
-/// # Ok::<(), Fail>(())
+/// # Ok(())
+/// # });
 /// ```
 pub const NETWORK_TEXT_CAPACITY: usize = 43;

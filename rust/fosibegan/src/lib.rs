@@ -5,16 +5,18 @@
 //! is only for proofs, out of a crate of which every function is proved to meet its contract.
 //!
 //! ```
-//! use fosibegan::{Ipv4Network, PrefixTable};
 //! use fosibegan::plain_std::alloc::Global;
+//! use fosibegan::{Ipv4Network, PrefixTable};
 //!
+//! # fosibegan::in_examples::ended(|| {
 //! let network: Ipv4Network = "10.1.9.32/8".parse()?;
 //! assert!(network.contains("10.255.255.255".parse()?));
 //!
 //! let mut table = PrefixTable::new(Global);
 //! table.insert(network, "inside")?;
 //! assert_eq!(table.lookup("10.1.2.3".parse()?), Some(("10.0.0.0/8".parse()?, "inside")));
-//! # Ok::<(), fosibegan::plain_std::test::Fail>(())
+//! # Ok(())
+//! # });
 //! ```
 //!
 //! What allocates is given [`plain_std::alloc::Global`], and tells with an `AllocError` that there is no memory.
@@ -53,10 +55,10 @@ pub mod in_examples {
     #[cfg(feature = "std")]
     pub use crate::plain_std::rt::HostRuntime;
     #[cfg(feature = "serde")]
-    pub use crate::plain_std::serde_json;
-    pub use crate::plain_std::string::{String, ToString};
-    pub use crate::plain_std::test::Fail;
+    pub use crate::plain_std::serde_json::{self, OfKit as _};
+    pub use crate::plain_std::string::{String, ToString as _};
+    pub use crate::plain_std::test::{Fail, ended};
     pub use crate::plain_std::vec::{Concat, ToVec, Vec};
     pub use crate::plain_std::{KitClone, format, vec};
-    pub use crate::{ipnetwork_addr::*, ipnetwork_family::*, *};
+    pub use crate::{byte_search::*, ipnetwork_addr::*, ipnetwork_family::*, *};
 }

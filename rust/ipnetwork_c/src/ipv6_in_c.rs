@@ -12,7 +12,7 @@ use crate::text_columns::ReadsRow;
 use fosibegan::plain_std::arrayvec::ArrayString;
 use fosibegan::ipnetwork::{Ipv6Addr, Ipv6Network, NETWORK_TEXT_CAPACITY};
 use fosibegan::ipnetwork_blocks::HoldsNetwork;
-use core::cmp::Ordering;
+use std::cmp::Ordering;
 
 impl Ipv6InC {
     /// The struct that holds a network.

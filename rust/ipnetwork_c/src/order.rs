@@ -3,7 +3,7 @@
 //! Orders as numbers.
 
 use fosibegan::ipnetwork::IpNetwork;
-use core::cmp::Ordering;
+use std::cmp::Ordering;
 
 /// -1, 0 or 1 for less, equal or greater.
 pub(crate) fn number_of_order(order: Ordering) -> i32 {

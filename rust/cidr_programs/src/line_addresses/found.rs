@@ -20,17 +20,6 @@ pub struct Found {
 
 /// The first address of a line from an index on, which is at most the length of the line. The rest of the line from
 /// there is looked at as a line of its own.
-///
-/// ```
-/// # use cidr_programs::in_examples::*;
-/// let line = b"SRC=10.1.1.1 DST=[2001:db8::1]:443";
-/// let first = next_address(line, 0);
-/// assert_eq!(first, Some(Found { address: "10.1.1.1".parse()?, start: 4, end: 12, next: 12 }));
-/// let second = next_address(line, 12);
-/// assert_eq!(second, Some(Found { address: "2001:db8::1".parse()?, start: 18, end: 29, next: 29 }));
-/// assert_eq!(next_address(line, 29), None);
-/// # Ok::<(), Fail>(())
-/// ```
 #[doc(hidden)]
 pub fn next_address(line: &[u8], from: usize) -> Option<Found> {
     let mut at = from;

@@ -9,11 +9,13 @@ use fosibegan::ipnetwork_addr::{IpAddr, Ipv4Addr};
 ///
 /// ```
 /// # use cidr_programs::in_examples::*;
+/// # ended(|| {
 /// let mapped: IpAddr = "::ffff:10.1.1.1".parse()?;
 /// assert_eq!(unmapped(mapped), "10.1.1.1".parse()?);
 /// let other: IpAddr = "::10.1.1.1".parse()?;
 /// assert_eq!(unmapped(other), other);
-/// # Ok::<(), Fail>(())
+/// # Ok(())
+/// # });
 /// ```
 pub fn unmapped(address: IpAddr) -> IpAddr {
     match address {

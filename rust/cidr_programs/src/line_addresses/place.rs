@@ -6,12 +6,15 @@
 ///
 /// ```
 /// # use cidr_programs::in_examples::*;
+/// # ended(|| {
 /// let place = Place::Word(3);
 /// let line = b"Nov  3 10.1.1.1";
 /// let Place::Word(number) = place else {
 ///     return Ok(());
 /// };
 /// assert_eq!(word_of(line, number), Some(b"10.1.1.1".as_slice()));
+/// # Ok(())
+/// # });
 /// ```
 #[derive(Debug)]
 pub enum Place<'a> {

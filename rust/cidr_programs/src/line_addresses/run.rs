@@ -42,9 +42,11 @@ pub(crate) fn address_in(run: &[u8]) -> Option<(IpAddr, usize)> {
 ///
 /// ```
 /// # use cidr_programs::in_examples::*;
+/// # ended(|| {
 /// assert_eq!(address_of(b"10.1.1.1"), Some("10.1.1.1".parse()?));
 /// assert_eq!(address_of(b"10.1.1.1."), None);
-/// # Ok::<(), Fail>(())
+/// # Ok(())
+/// # });
 /// ```
 #[inline(always)]
 pub fn address_of(text: &[u8]) -> Option<IpAddr> {

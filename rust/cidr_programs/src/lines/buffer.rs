@@ -87,15 +87,6 @@ impl<'a> Buffer<'a> {
     }
 
     /// Adds these bytes at the end. There must be room for them.
-    ///
-    /// ```
-    /// # use cidr_programs::in_examples::*;
-    /// let mut slice = [0; 9];
-    /// let mut buffer = cidr_programs::lines::buffer::Buffer::new(&mut slice);
-    /// buffer.push_bytes(b"10");
-    /// buffer.push_bytes(b"/8");
-    /// assert_eq!(buffer.as_slice(), b"10/8".as_slice());
-    /// ```
     #[inline(always)]
     #[doc(hidden)]
     pub fn push_bytes(&mut self, bytes: &[u8]) {
@@ -113,15 +104,6 @@ impl<'a> Buffer<'a> {
     }
 
     /// Adds this byte at the end. There must be room for it.
-    ///
-    /// ```
-    /// # use cidr_programs::in_examples::*;
-    /// let mut slice = [0; 9];
-    /// let mut buffer = cidr_programs::lines::buffer::Buffer::new(&mut slice);
-    /// buffer.push(b'o');
-    /// buffer.push(b'k');
-    /// assert_eq!(buffer.as_slice(), b"ok".as_slice());
-    /// ```
     #[inline(always)]
     #[doc(hidden)]
     pub fn push(&mut self, byte: u8) {

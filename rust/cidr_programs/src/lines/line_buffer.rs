@@ -83,13 +83,6 @@ impl<'b> LineBuffer<'b> {
     ///
     /// The buffer must have at least two bytes more than the limit. The longer it is, the fewer reads are made. Its
     /// content is not read before it is written, and is unspecified afterwards.
-    ///
-    /// ```
-    /// # use cidr_programs::in_examples::*;
-    /// let mut room = [0; 10];
-    /// let mut lines = cidr_programs::lines::line_buffer::LineBuffer::new(&mut room, 8);
-    /// assert_eq!(lines.next(), cidr_programs::lines::line_buffer::NextLine::Ask);
-    /// ```
     #[doc(hidden)]
     pub fn new(buffer: &'b mut [u8], limit: usize) -> LineBuffer<'b> {
         LineBuffer {
@@ -208,18 +201,6 @@ impl<'b> LineBuffer<'b> {
     ///
     /// The error means that a read failed, now or earlier; a device that had failed is not called. What was pending is
     /// pending still.
-    ///
-    /// ```
-    /// # use cidr_programs::in_examples::*;
-    /// use cidr_programs::lines::watched::Watched;
-    ///
-    /// let mut reader = Watched::new(b"10.0.0.0/8".as_slice());
-    /// let mut room = [0; 6];
-    /// let mut lines = cidr_programs::lines::line_buffer::LineBuffer::new(&mut room, 4);
-    /// assert_eq!(lines.ask(&mut reader), Ok(6));
-    /// assert_eq!(lines.ask(&mut reader), Ok(4));
-    /// assert_eq!(lines.ask(&mut reader), Ok(0));
-    /// ```
     #[doc(hidden)]
     pub fn ask<R: Read>(&mut self, reader: &mut Watched<R>) -> Result<usize, RunFault> {
         if reader.failed() {

@@ -31,17 +31,6 @@ pub struct LineReader<'b, R> {
 impl<'b, R: Read> LineReader<'b, R> {
     /// The lines of a device, none of which is read yet. A line of more than `limit` bytes, not counting those that end
     /// it, is too long. The buffer must have at least two bytes more than the limit.
-    ///
-    /// ```
-    /// # use cidr_programs::in_examples::*;
-    /// use cidr_programs::lines::line_buffer::NextLine;
-    /// use cidr_programs::lines::line_reader::LineReader;
-    /// use cidr_programs::lines::watched::Watched;
-    ///
-    /// let mut room = [0; 64];
-    /// let mut lines = LineReader::new(Watched::new(b"::1".as_slice()), &mut room, 32);
-    /// assert_eq!(lines.next(), NextLine::Ask);
-    /// ```
     #[doc(hidden)]
     pub fn new(source: Watched<R>, buffer: &'b mut [u8], limit: usize) -> LineReader<'b, R> {
         LineReader {
@@ -113,16 +102,6 @@ impl<'b, R: Read> LineReader<'b, R> {
     ///
     /// The error means that a read failed, now or earlier; a device that had failed is not called. What was pending is
     /// pending still.
-    ///
-    /// ```
-    /// # use cidr_programs::in_examples::*;
-    /// use cidr_programs::lines::line_reader::LineReader;
-    /// use cidr_programs::lines::watched::Watched;
-    ///
-    /// let mut room = [0; 6];
-    /// let mut lines = LineReader::new(Watched::new(b"10.0.0.0/8".as_slice()), &mut room, 4);
-    /// assert_eq!((lines.ask(), lines.ask(), lines.ask()), (Ok(6), Ok(4), Ok(0)));
-    /// ```
     #[doc(hidden)]
     pub fn ask(&mut self) -> Result<usize, RunFault> {
         self.buffer.ask(&mut self.source)

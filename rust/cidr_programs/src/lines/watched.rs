@@ -16,11 +16,13 @@ use fosibegan::plain_std::io::{Read, Write};
 ///
 /// ```
 /// # use cidr_programs::in_examples::*;
+/// # ended(|| {
 /// let mut room = [0; 1];
 /// let mut writer = cidr_programs::lines::watched::Watched::new(room.as_mut_slice());
 /// assert_eq!((writer.write(b"ab")?, writer.failed()), (1, false));
 /// assert_eq!((writer.write(b"b")?, writer.failed()), (0, true));
-/// # Ok::<(), Fail>(())
+/// # Ok(())
+/// # });
 /// ```
 pub struct Watched<D> {
     pub(crate) device: Device<D>,
@@ -44,10 +46,12 @@ impl<D> Watched<D> {
     ///
     /// ```
     /// # use cidr_programs::in_examples::*;
+    /// # ended(|| {
     /// let mut writer = cidr_programs::lines::watched::Watched::new([].as_mut_slice());
     /// assert_eq!(writer.write(b"a")?, 0);
     /// assert!(writer.failed());
-    /// # Ok::<(), Fail>(())
+    /// # Ok(())
+    /// # });
     /// ```
     pub fn failed(&self) -> bool {
         self.device.failed()
@@ -57,10 +61,12 @@ impl<D> Watched<D> {
     ///
     /// ```
     /// # use cidr_programs::in_examples::*;
+    /// # ended(|| {
     /// let mut writer = cidr_programs::lines::watched::Watched::new(Vec::new(Global));
     /// writer.write(b"ok")?;
     /// assert_eq!(writer.into_inner().as_slice(), b"ok".as_slice());
-    /// # Ok::<(), Fail>(())
+    /// # Ok(())
+    /// # });
     /// ```
     pub fn into_inner(self) -> D {
         self.device.into_inner()
@@ -75,11 +81,13 @@ impl<D: Read> Watched<D> {
     ///
     /// ```
     /// # use cidr_programs::in_examples::*;
+    /// # ended(|| {
     /// let mut reader = cidr_programs::lines::watched::Watched::new(b"abc".as_slice());
     /// let mut piece = [0; 2];
     /// assert_eq!(reader.read(&mut piece)?, 2);
     /// assert_eq!(piece, *b"ab");
-    /// # Ok::<(), Fail>(())
+    /// # Ok(())
+    /// # });
     /// ```
     pub fn read(&mut self, buf: &mut [u8]) -> io::Result<usize> {
         self.device.try_read(buf)
@@ -94,10 +102,12 @@ impl<D: Write> Watched<D> {
     ///
     /// ```
     /// # use cidr_programs::in_examples::*;
+    /// # ended(|| {
     /// let mut room = [0; 2];
     /// let mut writer = cidr_programs::lines::watched::Watched::new(room.as_mut_slice());
     /// assert_eq!(writer.write(b"abc")?, 2);
-    /// # Ok::<(), Fail>(())
+    /// # Ok(())
+    /// # });
     /// ```
     pub fn write(&mut self, buf: &[u8]) -> io::Result<usize> {
         self.device.try_write(buf)

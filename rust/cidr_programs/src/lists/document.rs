@@ -3,7 +3,6 @@
 //! Reads a document of JSON as a list.
 
 use fosibegan::plain_std::serde_json::OfKit;
-use fosibegan::plain_std::serde_json::ErrorOfKit;
 use crate::lists::bytes::{BytesFault, read_bytes};
 use crate::lists::list_reader::ListReader;
 use crate::lists::named::ReadFault;

@@ -12,9 +12,11 @@ use fosibegan::ipnetwork::{CidrFault, IpAddr, IpNetwork, cause};
 ///
 /// ```
 /// # use cidr_programs::in_examples::*;
+/// # ended(|| {
 /// let entry = read_entry(b"10.0.0.0/8 # private")?;
 /// assert_eq!(entry, Some(Entry::Network("10.0.0.0/8".parse()?)));
-/// # Ok::<(), Fail>(())
+/// # Ok(())
+/// # });
 /// ```
 #[derive(Clone, Copy, Debug, PartialEq, Eq)]
 pub enum Entry {
@@ -58,10 +60,12 @@ pub enum EntryFault {
 ///
 /// ```
 /// # use cidr_programs::in_examples::*;
+/// # ended(|| {
 /// let (first, last) = ("10.0.0.1".parse()?, "10.0.0.9".parse()?);
 /// assert_eq!(read_entry(b"10.0.0.1 - 10.0.0.9"), Ok(Some(Entry::Range { first, last })));
 /// assert_eq!(read_entry(b"; nothing"), Ok(None));
-/// # Ok::<(), Fail>(())
+/// # Ok(())
+/// # });
 /// ```
 pub fn read_entry(line: &[u8]) -> Result<Option<Entry>, EntryFault> {
     // Does nothing. The proof needs the law: a network text contains no mark of a comment, no blank and no `-`.

@@ -19,13 +19,15 @@ use fosibegan::plain_std::alloc::{AllocError, Global};
 ///
 /// ```
 /// # use cidr_programs::in_examples::*;
+/// # ended(|| {
 /// let mut lists = ListReader::new(Global, Refusals::new());
 /// read_list(&mut lists, 1, &mut cidr_programs::lines::watched::Watched::new(b"10.0.0.0/9\n::1".as_slice()))?;
 /// read_list(&mut lists, 2, &mut cidr_programs::lines::watched::Watched::new(b"10.128.0.0/9".as_slice()))?;
 /// let (v4, v6, _) = lists.into_sets();
 /// assert_eq!(v4.blocks(), ["10.0.0.0/8".parse()?].as_slice());
 /// assert_eq!(v6.blocks(), ["::1/128".parse()?].as_slice());
-/// # Ok::<(), Fail>(())
+/// # Ok(())
+/// # });
 /// ```
 #[derive(Debug)]
 pub struct ListReader {
@@ -67,10 +69,12 @@ impl ListReader {
     ///
     /// ```
     /// # use cidr_programs::in_examples::*;
+    /// # ended(|| {
     /// let mut lists = ListReader::new(Global, Refusals::new());
     /// read_list(&mut lists, 1, &mut cidr_programs::lines::watched::Watched::new(b"10.0.0.0/8".as_slice()))?;
     /// assert!(!lists.is_out_of_memory());
-    /// # Ok::<(), Fail>(())
+    /// # Ok(())
+    /// # });
     /// ```
     pub fn is_out_of_memory(&self) -> bool {
         self.is_out_of_memory
@@ -80,12 +84,14 @@ impl ListReader {
     ///
     /// ```
     /// # use cidr_programs::in_examples::*;
+    /// # ended(|| {
     /// let mut lists = ListReader::new(Global, Refusals::new());
     /// read_list(&mut lists, 1, &mut cidr_programs::lines::watched::Watched::new(b"192.0.2.4-192.0.2.7".as_slice()))?;
     /// let (v4, _, refusals) = lists.into_sets();
     /// assert_eq!(v4.blocks(), ["192.0.2.4/30".parse()?].as_slice());
     /// assert!(refusals.is_empty());
-    /// # Ok::<(), Fail>(())
+    /// # Ok(())
+    /// # });
     /// ```
     pub fn into_sets(self) -> (AddressSet<Ipv4Network>, AddressSet<Ipv6Network>, Refusals) {
         (self.v4.into_set(), self.v6.into_set(), self.refusals)
@@ -97,13 +103,15 @@ impl ListReader {
     ///
     /// ```
     /// # use cidr_programs::in_examples::*;
+    /// # ended(|| {
     /// let mut lists = ListReader::new(Global, Refusals::new());
     /// let list = b"10.0.0.0/8\n192.0.2.7 - 192.0.2.8\n10.1.0.0/16".as_slice();
     /// read_list(&mut lists, 1, &mut cidr_programs::lines::watched::Watched::new(list))?;
     /// let (v4, _, _) = lists.into_networks();
     /// assert_eq!(v4.len(), 4);
     /// assert_eq!(v4[1], "192.0.2.7/32".parse()?);
-    /// # Ok::<(), Fail>(())
+    /// # Ok(())
+    /// # });
     /// ```
     pub fn into_networks(self) -> (Vec<Ipv4Network>, Vec<Ipv6Network>, Refusals) {
         (self.v4.into_vec(), self.v6.into_vec(), self.refusals)

@@ -40,6 +40,7 @@ pub trait OpenLists {
     /// ```
     /// # use cidr_programs::in_examples::*;
     /// # let rt = HostRuntime::new();
+    /// # ended(|| {
     /// use cidr_programs::lines::watched::Watched;
     /// use cidr_programs::lists::OpenLists;
     ///
@@ -47,7 +48,8 @@ pub trait OpenLists {
     /// let list = Watched::new(system.open("-")?);
     /// assert!(!list.failed());
     /// system.close("-", list);
-    /// # Ok::<(), Fail>(())
+    /// # Ok(())
+    /// # });
     /// ```
     fn close(&self, name: &str, list: Watched<Self::List>);
 }

@@ -12,11 +12,13 @@ use fosibegan::plain_std::io::Read;
 ///
 /// ```
 /// # use cidr_programs::in_examples::*;
-/// let line = [b'#'].repeat(Global, LINE_MAX + 1)?;
+/// # ended(|| {
+/// let line = [b'#'].kit_repeat(Global, LINE_MAX + 1)?;
 /// let mut lists = ListReader::new(Global, Refusals::new());
 /// read_list(&mut lists, 1, &mut cidr_programs::lines::watched::Watched::new(line.as_slice()))?;
 /// assert_eq!(lists.into_sets().2.kept()[0].fault, LineFault::Length);
-/// # Ok::<(), Fail>(())
+/// # Ok(())
+/// # });
 /// ```
 pub const LINE_MAX: usize = 1024;
 
@@ -31,13 +33,15 @@ const BUFFER_MAX: usize = 65536;
 ///
 /// ```
 /// # use cidr_programs::in_examples::*;
+/// # ended(|| {
 /// let mut lists = ListReader::new(Global, Refusals::new());
 /// let list = b"# private\n10.0.0.0/8\n10.0.0.0/33\n".as_slice();
 /// read_list(&mut lists, 1, &mut cidr_programs::lines::watched::Watched::new(list))?;
 /// let (v4, _, refusals) = lists.into_sets();
 /// assert_eq!(v4.blocks(), ["10.0.0.0/8".parse()?].as_slice());
 /// assert_eq!(refusals.kept()[0].line, 3);
-/// # Ok::<(), Fail>(())
+/// # Ok(())
+/// # });
 /// ```
 pub fn read_list<R: Read>(
     lists: &mut ListReader,

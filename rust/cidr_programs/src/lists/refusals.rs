@@ -8,12 +8,14 @@ use crate::lists::fault::LineFault;
 ///
 /// ```
 /// # use cidr_programs::in_examples::*;
-/// let list = b"x\n".repeat(Global, 103)?;
+/// # ended(|| {
+/// let list = b"x\n".kit_repeat(Global, 103)?;
 /// let mut lists = ListReader::new(Global, Refusals::new());
 /// read_list(&mut lists, 1, &mut cidr_programs::lines::watched::Watched::new(list.as_slice()))?;
 /// let (_, _, refusals) = lists.into_sets();
 /// assert_eq!(refusals.kept().len(), REFUSALS_MAX);
-/// # Ok::<(), Fail>(())
+/// # Ok(())
+/// # });
 /// ```
 pub const REFUSALS_MAX: usize = 100;
 
@@ -21,12 +23,14 @@ pub const REFUSALS_MAX: usize = 100;
 ///
 /// ```
 /// # use cidr_programs::in_examples::*;
+/// # ended(|| {
 /// let mut lists = ListReader::new(Global, Refusals::new());
 /// read_list(&mut lists, 7, &mut cidr_programs::lines::watched::Watched::new(b"10.0.0.1\n10.0.0.256".as_slice()))?;
 /// let (_, _, refusals) = lists.into_sets();
 /// let fault = LineFault::Entry(EntryFault::Address);
 /// assert_eq!(refusals.kept()[0], Refusal { list: 7, line: 2, fault });
-/// # Ok::<(), Fail>(())
+/// # Ok(())
+/// # });
 /// ```
 #[derive(Clone, Copy, Debug, PartialEq, Eq)]
 pub struct Refusal {
@@ -42,12 +46,14 @@ pub struct Refusal {
 ///
 /// ```
 /// # use cidr_programs::in_examples::*;
-/// let list = b"x\n".repeat(Global, 103)?;
+/// # ended(|| {
+/// let list = b"x\n".kit_repeat(Global, 103)?;
 /// let mut lists = ListReader::new(Global, Refusals::new());
 /// read_list(&mut lists, 1, &mut cidr_programs::lines::watched::Watched::new(list.as_slice()))?;
 /// let (_, _, refusals) = lists.into_sets();
 /// assert_eq!((refusals.kept().len(), refusals.more()), (100, 3));
-/// # Ok::<(), Fail>(())
+/// # Ok(())
+/// # });
 /// ```
 #[derive(Debug)]
 pub struct Refusals {
@@ -93,12 +99,14 @@ impl Refusals {
     ///
     /// ```
     /// # use cidr_programs::in_examples::*;
+    /// # ended(|| {
     /// let mut lists = ListReader::new(Global, Refusals::new());
     /// read_list(&mut lists, 1, &mut cidr_programs::lines::watched::Watched::new(b"1.1.1.1/8/8\nx".as_slice()))?;
     /// let (_, _, refusals) = lists.into_sets();
     /// assert_eq!(refusals.kept()[0].fault.text(), "format");
     /// assert_eq!(refusals.kept()[1].fault.text(), "address");
-    /// # Ok::<(), Fail>(())
+    /// # Ok(())
+    /// # });
     /// ```
     pub fn kept(&self) -> &[Refusal] {
         &self.slots[..self.count]
@@ -108,12 +116,14 @@ impl Refusals {
     ///
     /// ```
     /// # use cidr_programs::in_examples::*;
-    /// let list = b"x\n".repeat(Global, 103)?;
+    /// # ended(|| {
+    /// let list = b"x\n".kit_repeat(Global, 103)?;
     /// let mut lists = ListReader::new(Global, Refusals::new());
     /// read_list(&mut lists, 1, &mut cidr_programs::lines::watched::Watched::new(list.as_slice()))?;
     /// let (_, _, refusals) = lists.into_sets();
     /// assert_eq!(refusals.more(), 3);
-    /// # Ok::<(), Fail>(())
+    /// # Ok(())
+    /// # });
     /// ```
     pub fn more(&self) -> u64 {
         self.more
@@ -123,12 +133,14 @@ impl Refusals {
     ///
     /// ```
     /// # use cidr_programs::in_examples::*;
+    /// # ended(|| {
     /// let mut lists = ListReader::new(Global, Refusals::new());
     /// read_list(&mut lists, 1, &mut cidr_programs::lines::watched::Watched::new(b"::/129".as_slice()))?;
     /// let (_, _, refusals) = lists.into_sets();
     /// assert!(Refusals::new().is_empty());
     /// assert!(!refusals.is_empty());
-    /// # Ok::<(), Fail>(())
+    /// # Ok(())
+    /// # });
     /// ```
     pub fn is_empty(&self) -> bool {
         self.kept().is_empty()

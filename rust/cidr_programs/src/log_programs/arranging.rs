@@ -33,6 +33,7 @@ pub enum Mode {
 ///
 /// ```
 /// # use cidr_programs::in_examples::*;
+/// # ended(|| {
 /// use cidr_programs::log_programs::arranging::arranged;
 /// use cidr_programs::log_programs::grammar::Grammar;
 /// use fosibegan::plain_std::alloc::{AllocError, Global};
@@ -41,7 +42,8 @@ pub enum Mode {
 /// fn count_of<G: Grammar>(alloc: Global, words: &[String]) -> Result<usize, AllocError> {
 ///     Ok(arranged::<G>(alloc, words)?.len())
 /// }
-/// # Ok::<(), Fail>(())
+/// # Ok(())
+/// # });
 /// ```
 pub fn arranged<G: Grammar>(alloc: Global, words: &[String]) -> Result<Vec<String>, AllocError> {
     let mut all = Vec::new(alloc);

@@ -10,13 +10,15 @@ use crate::line_addresses::{Place, address_of, field_of, following, next_address
 ///
 /// ```
 /// # use cidr_programs::in_examples::*;
+/// # ended(|| {
 /// use cidr_programs::line_addresses::Place;
 /// use cidr_programs::log_programs::finding::found_in;
 ///
 /// let line = b"GET 192.0.2.7";
 /// assert_eq!(found_in(&Place::Word(2), line), Some("192.0.2.7".parse()?));
 /// assert_eq!(found_in(&Place::Word(1), line), None);
-/// # Ok::<(), Fail>(())
+/// # Ok(())
+/// # });
 /// ```
 #[inline(always)]
 pub fn found_in(place: &Place<'_>, line: &[u8]) -> Option<IpAddr> {

@@ -7,14 +7,6 @@ use crate::log_programs::grammar::Grammar;
 use crate::program::words::is;
 
 /// The index after the option at an index: an option may take the next word too.
-///
-/// ```
-/// # use cidr_programs::in_examples::*;
-/// // Behind the options of an empty command line.
-/// fn first<G: cidr_programs::log_programs::grammar::Grammar>() -> usize {
-///     cidr_programs::log_programs::options::behind::<G>(&[], 0)
-/// }
-/// ```
 #[doc(hidden)]
 pub fn behind<G: Grammar>(words: &[String], at: usize) -> usize {
     if at < words.len() && G::takes_next(&words[at]) {
@@ -25,14 +17,6 @@ pub fn behind<G: Grammar>(words: &[String], at: usize) -> usize {
 }
 
 /// The option at an index, if there is one.
-///
-/// ```
-/// # use cidr_programs::in_examples::*;
-/// // No option stands in an empty command line.
-/// fn has_option<G: cidr_programs::log_programs::grammar::Grammar>() -> bool {
-///     cidr_programs::log_programs::options::choice_at::<G>(&[], 0).is_some()
-/// }
-/// ```
 #[doc(hidden)]
 pub fn choice_at<G: Grammar>(words: &[String], at: usize) -> Option<G::Choice> {
     if at >= words.len() {

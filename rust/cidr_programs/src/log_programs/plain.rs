@@ -19,9 +19,11 @@ pub fn is_name(word: &String) -> bool {
 ///
 /// ```
 /// # use cidr_programs::in_examples::*;
+/// # ended(|| {
 /// let word = String::from_str(Global, "-v")?;
 /// assert!(!cidr_programs::log_programs::plain::is_plain(&word));
-/// # Ok::<(), Fail>(())
+/// # Ok(())
+/// # });
 /// ```
 pub fn is_plain(word: &String) -> bool {
     is(word, "-") || !word.as_bytes().starts_with(b"-".as_slice())

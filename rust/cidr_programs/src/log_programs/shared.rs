@@ -72,9 +72,11 @@ pub fn takes_value(letter: u8) -> bool {
 ///
 /// ```
 /// # use cidr_programs::in_examples::*;
+/// # ended(|| {
 /// let word = String::from_str(Global, "--after")?;
 /// assert!(cidr_programs::log_programs::shared::takes_next(&word));
-/// # Ok::<(), Fail>(())
+/// # Ok(())
+/// # });
 /// ```
 pub fn takes_next(word: &String) -> bool {
     is(word, "-f") || is(word, "-k") || is(word, "-d") || is(word, "--after")
@@ -84,11 +86,13 @@ pub fn takes_next(word: &String) -> bool {
 ///
 /// ```
 /// # use cidr_programs::in_examples::*;
+/// # ended(|| {
 /// use cidr_programs::log_programs::shared::{Shared, choice_with};
 ///
 /// let name = String::from_str(Global, "-f")?;
 /// assert_eq!(choice_with(&name, b"-"), Some(Shared::Input));
-/// # Ok::<(), Fail>(())
+/// # Ok(())
+/// # });
 /// ```
 pub fn choice_with(name: &String, value: &[u8]) -> Option<Shared> {
     if is(name, "-f") {
@@ -177,11 +181,13 @@ fn after_choice(value: &[u8]) -> Option<Shared> {
 ///
 /// ```
 /// # use cidr_programs::in_examples::*;
+/// # ended(|| {
 /// use cidr_programs::log_programs::usage::Problem;
 ///
 /// let name = String::from_str(Global, "-f")?;
 /// assert_eq!(cidr_programs::log_programs::shared::value_problem(&name), Problem::Name);
-/// # Ok::<(), Fail>(())
+/// # Ok(())
+/// # });
 /// ```
 pub fn value_problem(name: &String) -> Problem {
     if is(name, "-f") {
@@ -234,14 +240,6 @@ pub fn no_options() -> Said {
 }
 
 /// What is said with an option added.
-///
-/// ```
-/// # use cidr_programs::in_examples::*;
-/// use cidr_programs::log_programs::shared::{Shared, no_options, with_choice};
-///
-/// let said = with_choice(no_options(), Shared::Field(3));
-/// assert_eq!(with_choice(said, Shared::Field(1)).field, Some(1));
-/// ```
 #[doc(hidden)]
 pub fn with_choice(said: Said, choice: Shared) -> Said {
     match choice {

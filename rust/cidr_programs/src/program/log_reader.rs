@@ -20,6 +20,8 @@ pub const BUFFER_LEN: usize = LINE_MAX + 2 + 262_144;
 ///
 /// ```
 /// # use cidr_programs::in_examples::*;
+/// # use fosibegan::plain_std::vec;
+/// # ended(|| {
 /// use cidr_programs::lines::output::Output;
 /// use cidr_programs::lines::watched::Watched;
 /// use cidr_programs::program::log_reader::{BUFFER_LEN, LogReader, NextLogLine};
@@ -29,7 +31,8 @@ pub const BUFFER_LEN: usize = LINE_MAX + 2 + 262_144;
 /// let mut output = Output::new(Vec::new(Global), &mut slice);
 /// let mut log = LogReader::new(buffer.as_mut_slice(), false);
 /// assert_eq!(log.next(&mut Watched::new(b"".as_slice()), &mut output), Ok(NextLogLine::End));
-/// # Ok::<(), Fail>(())
+/// # Ok(())
+/// # });
 /// ```
 #[derive(Clone, Copy, Debug, PartialEq, Eq)]
 pub enum NextLogLine {
@@ -49,6 +52,8 @@ pub enum NextLogLine {
 ///
 /// ```
 /// # use cidr_programs::in_examples::*;
+/// # use fosibegan::plain_std::vec;
+/// # ended(|| {
 /// use cidr_programs::lines::line_end::LineEnd;
 /// use cidr_programs::lines::output::Output;
 /// use cidr_programs::lines::watched::Watched;
@@ -61,7 +66,8 @@ pub enum NextLogLine {
 /// let mut log = LogReader::new(buffer.as_mut_slice(), false);
 /// assert_eq!(log.next(&mut reader, &mut output), Ok(NextLogLine::Line(LineEnd::LineFeed)));
 /// assert_eq!(log.line(), b"10.1.1.1 GET".as_slice());
-/// # Ok::<(), Fail>(())
+/// # Ok(())
+/// # });
 /// ```
 pub struct LogReader<'b> {
     lines: LineBuffer<'b>,
@@ -74,15 +80,6 @@ pub struct LogReader<'b> {
 impl<'b> LogReader<'b> {
     /// The lines of a log of which nothing was read yet. If it `hurries`, a line that is too long is told as soon as that
     /// is known, and is then the last.
-    ///
-    /// ```
-    /// # use cidr_programs::in_examples::*;
-    /// use cidr_programs::program::log_reader::{BUFFER_LEN, LogReader};
-    ///
-    /// let mut buffer = vec![in Global; 0u8; BUFFER_LEN]?;
-    /// assert!(LogReader::new(buffer.as_mut_slice(), true).line().is_empty());
-    /// # Ok::<(), Fail>(())
-    /// ```
     #[doc(hidden)]
     pub fn new(buffer: &'b mut [u8], hurries: bool) -> LogReader<'b> {
         LogReader {
@@ -96,11 +93,14 @@ impl<'b> LogReader<'b> {
     ///
     /// ```
     /// # use cidr_programs::in_examples::*;
+    /// # use fosibegan::plain_std::vec;
+    /// # ended(|| {
     /// use cidr_programs::program::log_reader::{BUFFER_LEN, LogReader};
     ///
     /// let mut buffer = vec![in Global; 0u8; BUFFER_LEN]?;
     /// assert!(LogReader::new(buffer.as_mut_slice(), false).line().is_empty());
-    /// # Ok::<(), Fail>(())
+    /// # Ok(())
+    /// # });
     /// ```
     pub fn line(&self) -> &[u8] {
         self.lines.line()
@@ -110,11 +110,14 @@ impl<'b> LogReader<'b> {
     ///
     /// ```
     /// # use cidr_programs::in_examples::*;
+    /// # use fosibegan::plain_std::vec;
+    /// # ended(|| {
     /// use cidr_programs::program::log_reader::{BUFFER_LEN, LogReader};
     ///
     /// let mut buffer = vec![in Global; 0u8; BUFFER_LEN]?;
     /// assert!(LogReader::new(buffer.as_mut_slice(), false).whole_line().is_empty());
-    /// # Ok::<(), Fail>(())
+    /// # Ok(())
+    /// # });
     /// ```
     pub fn whole_line(&self) -> &[u8] {
         self.lines.whole_line()
@@ -128,6 +131,8 @@ impl<'b> LogReader<'b> {
     ///
     /// ```
     /// # use cidr_programs::in_examples::*;
+    /// # use fosibegan::plain_std::vec;
+    /// # ended(|| {
     /// use cidr_programs::lines::line_end::LineEnd;
     /// use cidr_programs::lines::output::Output;
     /// use cidr_programs::lines::watched::Watched;
@@ -140,7 +145,8 @@ impl<'b> LogReader<'b> {
     /// let mut log = LogReader::new(buffer.as_mut_slice(), false);
     /// assert_eq!(log.next(&mut reader, &mut output), Ok(NextLogLine::Line(LineEnd::EndOfInput)));
     /// assert_eq!(log.next(&mut reader, &mut output), Ok(NextLogLine::End));
-    /// # Ok::<(), Fail>(())
+    /// # Ok(())
+    /// # });
     /// ```
     pub fn next<R: Read, W: Write>(
         &mut self,

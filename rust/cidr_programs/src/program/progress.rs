@@ -5,7 +5,7 @@
 use fosibegan::plain_std::rt::HostRuntime;
 use crate::program::messages::number_text;
 use fosibegan::plain_std::arrayvec::ArrayString;
-use core::cell::Cell;
+use std::cell::Cell;
 use fosibegan::plain_std::io::{IsTerminal, Write};
 use fosibegan::plain_std::time::Instant;
 

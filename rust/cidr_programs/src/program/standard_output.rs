@@ -3,7 +3,7 @@
 //! Standard output, which may be a pipe that its reader closes.
 
 use crate::program::progress::Progress;
-use core::cell::Cell;
+use std::cell::Cell;
 use fosibegan::plain_std::io;
 use fosibegan::plain_std::io::{ErrorKind, Stdout, Write};
 
@@ -17,7 +17,7 @@ use fosibegan::plain_std::io::{ErrorKind, Stdout, Write};
 /// use cidr_programs::program::standard_output::StandardOutput;
 /// use fosibegan::plain_std::io::Write;
 ///
-/// let (progress, is_closed) = (Progress::new(&rt, true), core::cell::Cell::new(false));
+/// let (progress, is_closed) = (Progress::new(&rt, true), std::cell::Cell::new(false));
 /// let mut output = StandardOutput::new(rt.stdout(), &progress, &is_closed);
 /// assert!(output.flush().is_ok());
 /// assert!(!is_closed.get());
@@ -37,7 +37,7 @@ impl<'a> StandardOutput<'a> {
     /// use cidr_programs::program::progress::Progress;
     /// use cidr_programs::program::standard_output::StandardOutput;
     ///
-    /// let (progress, is_closed) = (Progress::new(&rt, true), core::cell::Cell::new(false));
+    /// let (progress, is_closed) = (Progress::new(&rt, true), std::cell::Cell::new(false));
     /// let _ = StandardOutput::new(rt.stdout(), &progress, &is_closed);
     /// assert!(!is_closed.get());
     /// ```

@@ -13,7 +13,7 @@ use crate::program::system::System;
 use crate::program::usage::refuse_arguments;
 use crate::program::words::{is, is_only};
 use crate::lines::output::Output;
-use core::cell::Cell;
+use std::cell::Cell;
 use std::process::ExitCode;
 
 /// The most bytes that wait to be written to standard output.
@@ -29,13 +29,6 @@ const CLOSED: u8 = 141;
 /// exit status. If the arguments cannot be read, that is reported instead. If standard output is a
 /// pipe that nobody reads any more, what waits to be reported is dropped, and the exit status is
 /// 141, as a shell shows it for a program that ends at such a write.
-///
-/// ```
-/// # use cidr_programs::in_examples::*;
-/// # let rt = HostRuntime::new();
-/// let usage = "usage: sum FILE\n";
-/// let _ = cidr_programs::program::start::start(&rt, "sum", usage, |_words, _lists, _output, _errors| 0);
-/// ```
 #[doc(hidden)]
 pub fn start<F>(rt: &HostRuntime, program: &str, usage: &str, run: F) -> ExitCode
 where

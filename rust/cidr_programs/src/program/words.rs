@@ -8,10 +8,12 @@ use fosibegan::plain_std::string::String;
 ///
 /// ```
 /// # use cidr_programs::in_examples::*;
+/// # ended(|| {
 /// let mut word = String::new(Global);
 /// word.push_str("--help")?;
 /// assert!(cidr_programs::program::words::is(&word, "--help"));
-/// # Ok::<(), Fail>(())
+/// # Ok(())
+/// # });
 /// ```
 pub fn is(word: &String, text: &str) -> bool {
     word.as_str() == text

@@ -6,9 +6,11 @@
 ///
 /// ```
 /// # use fosibegan::in_examples::*;
+/// # ended(|| {
 /// let network: IpNetwork = "2001:db8::/32".parse()?;
 /// assert_eq!(Ipv4Network::try_from(network), Err(WrongFamily));
-/// # Ok::<(), Fail>(())
+/// # Ok(())
+/// # });
 /// ```
 #[derive(Clone, Copy, Debug, PartialEq, Eq)]
 pub struct WrongFamily;

@@ -11,9 +11,11 @@ use crate::plain_std::alloc::AllocError;
 ///
 /// ```
 /// # use fosibegan::in_examples::*;
+/// # ended(|| {
 /// let mut members = "192.0.2.7/30".parse::<IpNetwork>()?.iter();
 /// assert_eq!(members.next(), "192.0.2.4".parse().ok());
-/// # Ok::<(), Fail>(())
+/// # Ok(())
+/// # });
 /// ```
 #[derive(Debug)]
 pub struct IpNetworkIterator {

@@ -9,9 +9,11 @@ use crate::ipnetwork_family::{IpNetworkError, ipv4_mask_to_prefix, ipv6_mask_to_
 ///
 /// ```
 /// # use fosibegan::in_examples::*;
+/// # ended(|| {
 /// assert_eq!(ip_mask_to_prefix("255.255.240.0".parse()?), Ok(20));
 /// assert_eq!(ip_mask_to_prefix("ffff::".parse()?), Ok(16));
-/// # Ok::<(), Fail>(())
+/// # Ok(())
+/// # });
 /// ```
 pub fn ip_mask_to_prefix(mask: IpAddr) -> Result<u8, IpNetworkError> {
     match mask {

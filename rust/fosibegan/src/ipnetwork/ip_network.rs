@@ -22,9 +22,11 @@ use core::str::FromStr;
 ///
 /// ```
 /// # use fosibegan::in_examples::*;
+/// # ended(|| {
 /// let network: IpNetwork = "10.1.9.32/8".parse()?;
 /// assert_eq!(network, IpNetwork::V4("10.1.9.32/8".parse()?));
-/// # Ok::<(), Fail>(())
+/// # Ok(())
+/// # });
 /// ```
 #[derive(Clone, Copy, Debug, PartialEq, Eq, PartialOrd, Ord, Hash)]
 pub enum IpNetwork {
@@ -42,9 +44,11 @@ impl IpNetwork {
     ///
     /// ```
     /// # use fosibegan::in_examples::*;
+    /// # ended(|| {
     /// let network = IpNetwork::new("2001:db8::1".parse()?, 64)?;
     /// assert_eq!(network.canonical().as_str(), "2001:db8::1/64");
-    /// # Ok::<(), Fail>(())
+    /// # Ok(())
+    /// # });
     /// ```
     pub fn new(ip: IpAddr, prefix: u8) -> Result<Self, IpNetworkError> {
         match ip {
@@ -59,9 +63,11 @@ impl IpNetwork {
     ///
     /// ```
     /// # use fosibegan::in_examples::*;
+    /// # ended(|| {
     /// let network = IpNetwork::with_netmask("10.1.9.32".parse()?, "255.0.0.0".parse()?)?;
     /// assert_eq!(network.prefix(), 8);
-    /// # Ok::<(), Fail>(())
+    /// # Ok(())
+    /// # });
     /// ```
     pub fn with_netmask(netaddr: IpAddr, netmask: IpAddr) -> Result<Self, IpNetworkError> {
         // Does nothing: the proof of this body needs the law.
@@ -75,9 +81,11 @@ impl IpNetwork {
     ///
     /// ```
     /// # use fosibegan::in_examples::*;
+    /// # ended(|| {
     /// let network: IpNetwork = "2001:db8::7/126".parse()?;
     /// assert_eq!(network.ip().canonical().as_str(), "2001:db8::7");
-    /// # Ok::<(), Fail>(())
+    /// # Ok(())
+    /// # });
     /// ```
     pub fn ip(&self) -> IpAddr {
         match self {
@@ -90,9 +98,11 @@ impl IpNetwork {
     ///
     /// ```
     /// # use fosibegan::in_examples::*;
+    /// # ended(|| {
     /// let network: IpNetwork = "2001:db8::7/126".parse()?;
     /// assert_eq!(network.prefix(), 126);
-    /// # Ok::<(), Fail>(())
+    /// # Ok(())
+    /// # });
     /// ```
     pub fn prefix(&self) -> u8 {
         match self {
@@ -105,9 +115,11 @@ impl IpNetwork {
     ///
     /// ```
     /// # use fosibegan::in_examples::*;
+    /// # ended(|| {
     /// let network: IpNetwork = "2001:db8::7/126".parse()?;
     /// assert_eq!(network.mask().canonical().as_str(), "ffff:ffff:ffff:ffff:ffff:ffff:ffff:fffc");
-    /// # Ok::<(), Fail>(())
+    /// # Ok(())
+    /// # });
     /// ```
     pub fn mask(&self) -> IpAddr {
         match self {
@@ -120,9 +132,11 @@ impl IpNetwork {
     ///
     /// ```
     /// # use fosibegan::in_examples::*;
+    /// # ended(|| {
     /// let network: IpNetwork = "2001:db8::7/126".parse()?;
     /// assert_eq!(network.network().canonical().as_str(), "2001:db8::4");
-    /// # Ok::<(), Fail>(())
+    /// # Ok(())
+    /// # });
     /// ```
     pub fn network(&self) -> IpAddr {
         match self {
@@ -135,9 +149,11 @@ impl IpNetwork {
     ///
     /// ```
     /// # use fosibegan::in_examples::*;
+    /// # ended(|| {
     /// let network: IpNetwork = "2001:db8::7/126".parse()?;
     /// assert_eq!(network.broadcast().canonical().as_str(), "2001:db8::7");
-    /// # Ok::<(), Fail>(())
+    /// # Ok(())
+    /// # });
     /// ```
     pub fn broadcast(&self) -> IpAddr {
         match self {
@@ -150,8 +166,10 @@ impl IpNetwork {
     ///
     /// ```
     /// # use fosibegan::in_examples::*;
+    /// # ended(|| {
     /// assert!("10.1.9.32/8".parse::<IpNetwork>()?.is_ipv4());
-    /// # Ok::<(), Fail>(())
+    /// # Ok(())
+    /// # });
     /// ```
     pub fn is_ipv4(&self) -> bool {
         match self {
@@ -164,8 +182,10 @@ impl IpNetwork {
     ///
     /// ```
     /// # use fosibegan::in_examples::*;
+    /// # ended(|| {
     /// assert!("::ffff:10.1.9.32/104".parse::<IpNetwork>()?.is_ipv6());
-    /// # Ok::<(), Fail>(())
+    /// # Ok(())
+    /// # });
     /// ```
     pub fn is_ipv6(&self) -> bool {
         match self {
@@ -179,10 +199,12 @@ impl IpNetwork {
     ///
     /// ```
     /// # use fosibegan::in_examples::*;
+    /// # ended(|| {
     /// let network: IpNetwork = "10.0.0.0/8".parse()?;
     /// assert!(network.contains("10.1.9.32".parse()?));
     /// assert!(!network.contains("::ffff:10.1.9.32".parse()?));
-    /// # Ok::<(), Fail>(())
+    /// # Ok(())
+    /// # });
     /// ```
     pub fn contains(&self, ip: IpAddr) -> bool {
         match (self, ip) {
@@ -196,9 +218,11 @@ impl IpNetwork {
     ///
     /// ```
     /// # use fosibegan::in_examples::*;
+    /// # ended(|| {
     /// let network: IpNetwork = "192.0.2.77/26".parse()?;
     /// assert_eq!(network.size(), NetworkSize::V4(64));
-    /// # Ok::<(), Fail>(())
+    /// # Ok(())
+    /// # });
     /// ```
     pub fn size(&self) -> NetworkSize {
         match self {
@@ -211,9 +235,11 @@ impl IpNetwork {
     ///
     /// ```
     /// # use fosibegan::in_examples::*;
+    /// # ended(|| {
     /// let network: IpNetwork = "2001:db8::7/126".parse()?;
     /// assert_eq!(network.iter().count(), 4);
-    /// # Ok::<(), Fail>(())
+    /// # Ok(())
+    /// # });
     /// ```
     pub fn iter(&self) -> IpNetworkIterator {
         match self {
@@ -227,10 +253,12 @@ impl IpNetwork {
     ///
     /// ```
     /// # use fosibegan::in_examples::*;
+    /// # ended(|| {
     /// let network: IpNetwork = "2001:db8::7/126".parse()?;
     /// assert!(network.is_subnet_of("2001:db8::/32".parse()?));
     /// assert!(!network.is_subnet_of("0.0.0.0/0".parse()?));
-    /// # Ok::<(), Fail>(())
+    /// # Ok(())
+    /// # });
     /// ```
     pub fn is_subnet_of(self, other: IpNetwork) -> bool {
         // The clause `network` of `ip` says that the address fits its family, so it is a member and the set is not
@@ -253,9 +281,11 @@ impl IpNetwork {
     ///
     /// ```
     /// # use fosibegan::in_examples::*;
+    /// # ended(|| {
     /// let network: IpNetwork = "10.0.0.0/8".parse()?;
     /// assert!(network.is_supernet_of("10.1.9.32/16".parse()?));
-    /// # Ok::<(), Fail>(())
+    /// # Ok(())
+    /// # });
     /// ```
     pub fn is_supernet_of(self, other: IpNetwork) -> bool {
         other.is_subnet_of(self)
@@ -265,10 +295,12 @@ impl IpNetwork {
     ///
     /// ```
     /// # use fosibegan::in_examples::*;
+    /// # ended(|| {
     /// let network: IpNetwork = "10.0.0.0/8".parse()?;
     /// assert!(network.overlaps("8.0.0.0/6".parse()?));
     /// assert!(!network.overlaps("::/0".parse()?));
-    /// # Ok::<(), Fail>(())
+    /// # Ok(())
+    /// # });
     /// ```
     pub fn overlaps(self, other: IpNetwork) -> bool {
         match self {
@@ -288,10 +320,12 @@ impl IpNetwork {
     ///
     /// ```
     /// # use fosibegan::in_examples::*;
+    /// # ended(|| {
     /// let network = IpNetwork::read_bytes(b"2001:db8::1/64")?;
     /// assert!(network.is_ipv6());
     /// assert_eq!(IpNetwork::read_bytes(b"10.0.0.0/33"), Err(CidrFault::Addr));
-    /// # Ok::<(), Fail>(())
+    /// # Ok(())
+    /// # });
     /// ```
     pub fn read_bytes(text: &[u8]) -> Result<Self, CidrFault> {
         // Does nothing: the proof of this body needs the laws.
@@ -313,9 +347,11 @@ impl IpNetwork {
     ///
     /// ```
     /// # use fosibegan::in_examples::*;
+    /// # ended(|| {
     /// let refused = IpNetwork::parse(Global, "10.0.0.0/33");
-    /// assert_eq!(refused, Err(IpNetworkError::InvalidAddr("10.0.0.0/33".to_string(Global)?)));
-    /// # Ok::<(), Fail>(())
+    /// assert_eq!(refused, Err(IpNetworkError::InvalidAddr("10.0.0.0/33".kit_to_string(Global)?)));
+    /// # Ok(())
+    /// # });
     /// ```
     pub fn parse(alloc: Global, text: &str) -> Result<Self, IpNetworkError> {
         match IpNetwork::read_bytes(text.as_bytes()) {
@@ -328,9 +364,11 @@ impl IpNetwork {
     ///
     /// ```
     /// # use fosibegan::in_examples::*;
+    /// # ended(|| {
     /// let network: IpNetwork = "2001:DB8::1".parse()?;
     /// assert_eq!(network.canonical().as_str(), "2001:db8::1/128");
-    /// # Ok::<(), Fail>(())
+    /// # Ok(())
+    /// # });
     /// ```
     pub fn canonical(&self) -> ArrayString<NETWORK_TEXT_CAPACITY> {
         match self {
@@ -343,9 +381,11 @@ impl IpNetwork {
     ///
     /// ```
     /// # use fosibegan::in_examples::*;
+    /// # ended(|| {
     /// let network: IpNetwork = "10.1.9.32/255.0.0.0".parse()?;
     /// assert_eq!(network.to_text(Global)?.as_str(), "10.1.9.32/8");
-    /// # Ok::<(), Fail>(())
+    /// # Ok(())
+    /// # });
     /// ```
     pub fn to_text(&self, alloc: Global) -> Result<String, AllocError> {
         String::from_str(alloc, self.canonical().as_str())

@@ -15,10 +15,12 @@ impl IpNetwork {
     ///
     /// ```
     /// # use fosibegan::in_examples::*;
+    /// # ended(|| {
     /// let network: IpNetwork = "10.1.9.32/8".parse()?;
-    /// let text = network.to_value(Global)?.to_string(Global)?;
+    /// let text = network.to_value(Global)?.kit_to_string(Global)?;
     /// assert_eq!(text.as_str(), "\"10.1.9.32/8\"");
-    /// # Ok::<(), Fail>(())
+    /// # Ok(())
+    /// # });
     /// ```
     pub fn to_value(&self, alloc: Global) -> Result<Value, AllocError> {
         Value::try_from_str(alloc, self.canonical().as_str())
@@ -31,10 +33,12 @@ impl IpNetwork {
     ///
     /// ```
     /// # use fosibegan::in_examples::*;
+    /// # ended(|| {
     /// let value = fosibegan::plain_std::serde_json::Value::try_from_str(Global, "10.1.9.32/8")?;
     /// let network = IpNetwork::from_value(Global, &value)?;
     /// assert_eq!(network.prefix(), 8);
-    /// # Ok::<(), Fail>(())
+    /// # Ok(())
+    /// # });
     /// ```
     pub fn from_value(alloc: Global, value: &Value) -> Result<Self, JsonFault> {
         match value.as_str() {

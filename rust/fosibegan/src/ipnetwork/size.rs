@@ -18,10 +18,12 @@ const DECIMAL_MAX: usize = 39;
 ///
 /// ```
 /// # use fosibegan::in_examples::*;
+/// # ended(|| {
 /// let size = "2001:db8::/120".parse::<IpNetwork>()?.size();
 /// assert_eq!(size, NetworkSize::V6(256));
 /// assert_eq!(size, NetworkSize::V4(256));
-/// # Ok::<(), Fail>(())
+/// # Ok(())
+/// # });
 /// ```
 #[derive(Clone, Copy, Debug)]
 pub enum NetworkSize {

@@ -6,13 +6,6 @@ use crate::plain_std::arrayvec::ArrayString;
 
 /// Writes the shortest decimal of a number at the end of a text: one to three bytes. There must be
 /// room for three.
-///
-/// ```
-/// # use fosibegan::in_examples::*;
-/// let mut text = fosibegan::plain_std::arrayvec::ArrayString::<8>::new();
-/// decimal::push_decimal(&mut text, 207);
-/// assert_eq!(text.as_str(), "207");
-/// ```
 #[doc(hidden)]
 pub fn push_decimal<const N: usize>(text: &mut ArrayString<N>, number: u8) {
     if number >= 100 {
@@ -39,13 +32,6 @@ const CHUNK_DIGITS: u8 = 19;
 
 /// Writes the shortest decimal of a number at the end of a text: one to 39 bytes. There must be
 /// room for 39.
-///
-/// ```
-/// # use fosibegan::in_examples::*;
-/// let mut text = fosibegan::plain_std::arrayvec::ArrayString::<39>::new();
-/// decimal::push_number(&mut text, 1 << 64);
-/// assert_eq!(text.as_str(), "18446744073709551616");
-/// ```
 #[inline(always)]
 #[doc(hidden)]
 pub fn push_number<const N: usize>(text: &mut ArrayString<N>, number: u128) {

@@ -9,10 +9,12 @@ use core::fmt;
 ///
 /// ```
 /// # use fosibegan::in_examples::*;
+/// # ended(|| {
 /// assert_eq!(Ipv4Addr::read_bytes(b"192.0.2.01"), Err(AddrParseError::Ipv4));
-/// let text = AddrParseError::Ipv4.to_string(Global)?;
+/// let text = AddrParseError::Ipv4.kit_to_string(Global)?;
 /// assert_eq!(text.as_str(), "invalid IPv4 address syntax");
-/// # Ok::<(), Fail>(())
+/// # Ok(())
+/// # });
 /// ```
 #[derive(Clone, Copy, Debug, PartialEq, Eq)]
 pub enum AddrParseError {

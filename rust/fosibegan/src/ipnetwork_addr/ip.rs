@@ -12,10 +12,12 @@ use core::str::FromStr;
 ///
 /// ```
 /// # use fosibegan::in_examples::*;
+/// # ended(|| {
 /// let v4: IpAddr = "255.255.255.255".parse()?;
 /// let v6: IpAddr = "::".parse()?;
 /// assert!(v4 < v6);
-/// # Ok::<(), Fail>(())
+/// # Ok(())
+/// # });
 /// ```
 #[derive(Clone, Copy, Debug, PartialEq, Eq, PartialOrd, Ord, Hash)]
 pub enum IpAddr {
@@ -53,9 +55,11 @@ impl IpAddr {
     ///
     /// ```
     /// # use fosibegan::in_examples::*;
+    /// # ended(|| {
     /// let address: IpAddr = "2001:DB8:0:0:1:0:0:1".parse()?;
     /// assert_eq!(address.canonical().as_str(), "2001:db8::1:0:0:1");
-    /// # Ok::<(), Fail>(())
+    /// # Ok(())
+    /// # });
     /// ```
     pub fn canonical(&self) -> ArrayString<ADDRESS_TEXT_CAPACITY> {
         match self {

@@ -13,9 +13,11 @@ use core::str::FromStr;
 ///
 /// ```
 /// # use fosibegan::in_examples::*;
+/// # ended(|| {
 /// let address: Ipv4Addr = "192.0.2.1".parse()?;
 /// assert_eq!(u32::from(address), 3_221_225_985);
-/// # Ok::<(), Fail>(())
+/// # Ok(())
+/// # });
 /// ```
 #[derive(Clone, Copy, Debug, PartialEq, Eq, PartialOrd, Ord, Hash)]
 pub struct Ipv4Addr {

@@ -14,9 +14,11 @@ use core::str::FromStr;
 ///
 /// ```
 /// # use fosibegan::in_examples::*;
+/// # ended(|| {
 /// let address: Ipv6Addr = "::1:2".parse()?;
 /// assert_eq!(u128::from(address), 0x1_0002);
-/// # Ok::<(), Fail>(())
+/// # Ok(())
+/// # });
 /// ```
 #[derive(Clone, Copy, Debug)]
 pub struct Ipv6Addr {
@@ -43,9 +45,11 @@ impl Ipv6Addr {
     ///
     /// ```
     /// # use fosibegan::in_examples::*;
+    /// # ended(|| {
     /// let address: Ipv6Addr = "2001:db8::1".parse()?;
     /// assert_eq!(address.segments(), [0x2001, 0xdb8, 0, 0, 0, 0, 0, 1]);
-    /// # Ok::<(), Fail>(())
+    /// # Ok(())
+    /// # });
     /// ```
     pub fn segments(&self) -> [u16; 8] {
         segments::reversed(&self.low_first)
@@ -55,9 +59,11 @@ impl Ipv6Addr {
     ///
     /// ```
     /// # use fosibegan::in_examples::*;
+    /// # ended(|| {
     /// let address: Ipv6Addr = "2001:db8::1".parse()?;
     /// assert_eq!(address.octets(), [32, 1, 13, 184, 0, 0, 0, 0, 0, 0, 0, 0, 0, 0, 0, 1]);
-    /// # Ok::<(), Fail>(())
+    /// # Ok(())
+    /// # });
     /// ```
     pub fn octets(&self) -> [u8; 16] {
         segments::octets_high_first(&self.segments())
@@ -87,9 +93,11 @@ impl Ipv6Addr {
     ///
     /// ```
     /// # use fosibegan::in_examples::*;
+    /// # ended(|| {
     /// let address: Ipv6Addr = "2001:0DB8:0:0:1:0:0:1".parse()?;
     /// assert_eq!(address.canonical().as_str(), "2001:db8::1:0:0:1");
-    /// # Ok::<(), Fail>(())
+    /// # Ok(())
+    /// # });
     /// ```
     #[inline(always)]
     pub fn canonical(&self) -> ArrayString<ADDRESS_TEXT_CAPACITY> {

@@ -15,10 +15,12 @@ use crate::ipnetwork_family::CidrNetwork;
 ///
 /// ```
 /// # use fosibegan::in_examples::*;
+/// # ended(|| {
 /// let mut networks: [Ipv4Network; 2] = ["10.0.0.128/25".parse()?, "10.0.0.0/25".parse()?];
 /// assert_eq!(aggregate_in_place(&mut networks), 1);
 /// assert_eq!(networks[0].canonical().as_str(), "10.0.0.0/24");
-/// # Ok::<(), Fail>(())
+/// # Ok(())
+/// # });
 /// ```
 pub fn aggregate_in_place<N: CidrNetwork>(networks: &mut [N]) -> usize {
     aggregate_held::<N, N>(networks)
@@ -29,10 +31,13 @@ pub fn aggregate_in_place<N: CidrNetwork>(networks: &mut [N]) -> usize {
 ///
 /// ```
 /// # use fosibegan::in_examples::*;
+/// # use fosibegan::plain_std::vec;
+/// # ended(|| {
 /// let mut networks = vec![in Global; "10.128.0.0/9".parse::<Ipv4Network>()?, "10.0.0.0/9".parse()?]?;
 /// aggregate_vec(&mut networks);
 /// assert_eq!(networks.as_slice(), ["10.0.0.0/8".parse()?].as_slice());
-/// # Ok::<(), Fail>(())
+/// # Ok(())
+/// # });
 /// ```
 pub fn aggregate_vec<N: CidrNetwork>(networks: &mut Vec<N>) {
     let count = aggregate_in_place(networks.as_mut_slice());
@@ -44,14 +49,6 @@ pub fn aggregate_vec<N: CidrNetwork>(networks: &mut Vec<N>) {
 /// of the family of `N`. The rest of the slice holds unspecified networks.
 ///
 /// Sorts the slice and goes over it once.
-///
-/// ```
-/// # use fosibegan::in_examples::*;
-/// let mut values: [Ipv6Network; 2] = ["2001:db8:8000::/33".parse()?, "2001:db8::/33".parse()?];
-/// assert_eq!(aggregate_held::<Ipv6Network, Ipv6Network>(&mut values), 1);
-/// assert_eq!(values[0].canonical().as_str(), "2001:db8::/32");
-/// # Ok::<(), Fail>(())
-/// ```
 #[doc(hidden)]
 pub fn aggregate_held<N: CidrNetwork, H: HoldsNetwork<N>>(values: &mut [H]) -> usize {
     clear_host_bits::<N, H>(values);

@@ -14,10 +14,12 @@ use crate::ipnetwork::{IpNetwork, Ipv4Network, Ipv6Network};
 ///
 /// ```
 /// # use fosibegan::in_examples::*;
+/// # ended(|| {
 /// let mut networks: [IpNetwork; 3] = ["2001:db8::/32".parse()?, "10.128.0.0/9".parse()?, "10.0.0.0/9".parse()?];
 /// assert_eq!(aggregate_ip_in_place(&mut networks), 2);
 /// assert_eq!(&networks[..2], ["10.0.0.0/8".parse()?, "2001:db8::/32".parse()?].as_slice());
-/// # Ok::<(), Fail>(())
+/// # Ok(())
+/// # });
 /// ```
 pub fn aggregate_ip_in_place(networks: &mut [IpNetwork]) -> usize {
     let v4_count = put_v4_first(networks);
@@ -33,10 +35,13 @@ pub fn aggregate_ip_in_place(networks: &mut [IpNetwork]) -> usize {
 ///
 /// ```
 /// # use fosibegan::in_examples::*;
+/// # use fosibegan::plain_std::vec;
+/// # ended(|| {
 /// let mut networks = vec![in Global; "2001:db8::/32".parse::<IpNetwork>()?, "10.0.0.0/8".parse()?]?;
 /// aggregate_ip_vec(&mut networks);
 /// assert_eq!(networks.as_slice(), ["10.0.0.0/8".parse()?, "2001:db8::/32".parse()?].as_slice());
-/// # Ok::<(), Fail>(())
+/// # Ok(())
+/// # });
 /// ```
 pub fn aggregate_ip_vec(networks: &mut Vec<IpNetwork>) {
     let count = aggregate_ip_in_place(networks.as_mut_slice());

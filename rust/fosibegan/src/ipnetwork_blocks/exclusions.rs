@@ -11,10 +11,12 @@ use crate::plain_std::alloc::AllocError;
 ///
 /// ```
 /// # use fosibegan::in_examples::*;
+/// # ended(|| {
 /// let network: Ipv4Network = "192.0.2.0/24".parse()?;
 /// let blocks: Exclusion<Ipv4Network> = exclude(network, "192.0.2.128/26".parse()?);
 /// assert!(blocks.eq(["192.0.2.0/25".parse()?, "192.0.2.192/26".parse()?]));
-/// # Ok::<(), Fail>(())
+/// # Ok(())
+/// # });
 /// ```
 pub struct Exclusion<N: AddressSpace> {
     below: RangeBlocks<N>,
@@ -43,11 +45,13 @@ where
 ///
 /// ```
 /// # use fosibegan::in_examples::*;
+/// # ended(|| {
 /// let network: Ipv4Network = "10.0.0.0/30".parse()?;
 /// let mut blocks = exclude(network, "10.0.0.1/32".parse()?);
 /// assert_eq!(blocks.next(), Some("10.0.0.0/32".parse()?));
 /// assert_eq!(blocks.next(), Some("10.0.0.2/31".parse()?));
-/// # Ok::<(), Fail>(())
+/// # Ok(())
+/// # });
 /// ```
 pub fn exclude<N: AddressSpace>(network: N, inner: N) -> Exclusion<N> {
     // The clauses of these calls say that both are networks of addresses of WIDTH bits.

@@ -9,9 +9,11 @@ use crate::ipnetwork_blocks::address_space::AddressSpace;
 ///
 /// ```
 /// # use fosibegan::in_examples::*;
+/// # ended(|| {
 /// let network: Ipv4Network = "192.0.2.128/25".parse()?;
 /// assert_eq!(following(network), Some("192.0.3.0/25".parse()?));
-/// # Ok::<(), Fail>(())
+/// # Ok(())
+/// # });
 /// ```
 pub fn following<N: AddressSpace>(network: N) -> Option<N> {
     match N::next_address(network.broadcast()) {

@@ -12,19 +12,23 @@ use crate::ipnetwork_family::CidrNetwork;
 ///
 /// ```
 /// # use fosibegan::in_examples::*;
+/// # ended(|| {
 /// let network: Ipv4Network = "10.0.0.0/8".parse()?;
 /// let value = <IpNetwork as HoldsNetwork<Ipv4Network>>::holding(network);
 /// assert_eq!(value, "10.0.0.0/8".parse()?);
-/// # Ok::<(), Fail>(())
+/// # Ok(())
+/// # });
 /// ```
 pub trait HoldsNetwork<N: CidrNetwork>: Copy + Ord {
     /// The network that the value holds; it must hold one of the family of `N`.
     ///
     /// ```
     /// # use fosibegan::in_examples::*;
+    /// # ended(|| {
     /// let value: Ipv6Network = "2001:db8::/32".parse()?;
     /// assert_eq!(HoldsNetwork::<Ipv6Network>::held_network(value), value);
-    /// # Ok::<(), Fail>(())
+    /// # Ok(())
+    /// # });
     /// ```
     fn held_network(self) -> N;
 
@@ -32,9 +36,11 @@ pub trait HoldsNetwork<N: CidrNetwork>: Copy + Ord {
     ///
     /// ```
     /// # use fosibegan::in_examples::*;
+    /// # ended(|| {
     /// let network: Ipv6Network = "2001:db8::/32".parse()?;
     /// assert_eq!(<IpNetwork as HoldsNetwork<Ipv6Network>>::holding(network), IpNetwork::V6(network));
-    /// # Ok::<(), Fail>(())
+    /// # Ok(())
+    /// # });
     /// ```
     fn holding(network: N) -> Self;
 }

@@ -10,10 +10,12 @@ use crate::plain_std::alloc::AllocError;
 ///
 /// ```
 /// # use fosibegan::in_examples::*;
+/// # ended(|| {
 /// let mut hosts: Ipv4HostIterator = ipv4_hosts("192.0.2.0/24".parse()?);
 /// assert_eq!(hosts.next(), Some(Ipv4Addr::new(192, 0, 2, 1)));
 /// assert_eq!(hosts.count(), 253);
-/// # Ok::<(), Fail>(())
+/// # Ok(())
+/// # });
 /// ```
 #[derive(Debug)]
 pub struct Ipv4HostIterator {
@@ -27,9 +29,11 @@ pub struct Ipv4HostIterator {
 ///
 /// ```
 /// # use fosibegan::in_examples::*;
+/// # ended(|| {
 /// let mut hosts = ipv4_hosts("10.0.0.4/30".parse()?);
 /// assert_eq!(hosts.next(), Some(Ipv4Addr::new(10, 0, 0, 5)));
-/// # Ok::<(), Fail>(())
+/// # Ok(())
+/// # });
 /// ```
 pub fn ipv4_hosts(network: Ipv4Network) -> Ipv4HostIterator {
     let first = u32::from(network.network());
@@ -52,9 +56,11 @@ pub fn ipv4_hosts(network: Ipv4Network) -> Ipv4HostIterator {
 ///
 /// ```
 /// # use fosibegan::in_examples::*;
+/// # ended(|| {
 /// let mut hosts = ipv6_hosts("2001:db8::/64".parse()?);
 /// assert_eq!(hosts.next(), Some("2001:db8::1".parse()?));
-/// # Ok::<(), Fail>(())
+/// # Ok(())
+/// # });
 /// ```
 pub fn ipv6_hosts(network: Ipv6Network) -> Ipv6NetworkIterator {
     let mut members = network.iter();

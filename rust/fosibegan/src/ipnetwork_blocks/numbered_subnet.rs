@@ -11,10 +11,12 @@ use crate::ipnetwork_blocks::address_space::AddressSpace;
 ///
 /// ```
 /// # use fosibegan::in_examples::*;
+/// # ended(|| {
 /// let network: Ipv4Network = "10.0.0.0/8".parse()?;
 /// assert_eq!(subnet_at(network, 16, 255), Some("10.255.0.0/16".parse()?));
 /// assert_eq!(subnet_at(network, 16, 256), None);
-/// # Ok::<(), Fail>(())
+/// # Ok(())
+/// # });
 /// ```
 pub fn subnet_at<N: AddressSpace>(network: N, prefix: u8, number: u128) -> Option<N> {
     if prefix < network.prefix() || N::WIDTH < prefix {

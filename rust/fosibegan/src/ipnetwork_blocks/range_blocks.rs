@@ -9,11 +9,13 @@ use crate::plain_std::alloc::AllocError;
 ///
 /// ```
 /// # use fosibegan::in_examples::*;
+/// # ended(|| {
 /// let (first, last) = (Ipv4Addr::new(192, 0, 2, 1), Ipv4Addr::new(192, 0, 2, 4));
 /// let mut blocks: RangeBlocks<Ipv4Network> = range_to_blocks(first, last).unwrap();
 /// assert_eq!(blocks.next(), Some("192.0.2.1/32".parse()?));
 /// assert_eq!(blocks.next(), Some("192.0.2.2/31".parse()?));
-/// # Ok::<(), Fail>(())
+/// # Ok(())
+/// # });
 /// ```
 #[derive(Debug)]
 pub struct RangeBlocks<N: AddressSpace> {
@@ -30,11 +32,13 @@ pub struct RangeBlocks<N: AddressSpace> {
 ///
 /// ```
 /// # use fosibegan::in_examples::*;
+/// # ended(|| {
 /// let (first, last) = ("2001:db8::".parse()?, "2001:db8::1:ffff".parse()?);
 /// let blocks = range_to_blocks::<Ipv6Network>(first, last).unwrap();
 /// assert!(blocks.eq(["2001:db8::/111".parse()?]));
 /// assert!(range_to_blocks::<Ipv6Network>(last, first).is_none());
-/// # Ok::<(), Fail>(())
+/// # Ok(())
+/// # });
 /// ```
 pub fn range_to_blocks<N: AddressSpace>(first: N::Addr, last: N::Addr) -> Option<RangeBlocks<N>> {
     if last < first {

@@ -10,9 +10,11 @@ use crate::ipnetwork_blocks::supernets::block;
 ///
 /// ```
 /// # use fosibegan::in_examples::*;
+/// # ended(|| {
 /// let networks: [Ipv4Network; 2] = ["10.0.1.0/24".parse()?, "10.0.2.128/25".parse()?];
 /// assert_eq!(spanning(&networks), Some("10.0.0.0/22".parse()?));
-/// # Ok::<(), Fail>(())
+/// # Ok(())
+/// # });
 /// ```
 pub fn spanning<N: AddressSpace>(networks: &[N]) -> Option<N> {
     if networks.is_empty() {

@@ -10,11 +10,13 @@ use crate::plain_std::alloc::AllocError;
 ///
 /// ```
 /// # use fosibegan::in_examples::*;
+/// # ended(|| {
 /// let mut blocks: SubnetIterator<Ipv4Network> = subnets("10.0.0.0/23".parse()?, 24).unwrap();
 /// assert_eq!(blocks.next(), Some("10.0.0.0/24".parse()?));
 /// assert_eq!(blocks.next(), Some("10.0.1.0/24".parse()?));
 /// assert_eq!(blocks.next(), None);
-/// # Ok::<(), Fail>(())
+/// # Ok(())
+/// # });
 /// ```
 #[derive(Debug)]
 pub struct SubnetIterator<N: AddressSpace> {
@@ -28,10 +30,12 @@ pub struct SubnetIterator<N: AddressSpace> {
 ///
 /// ```
 /// # use fosibegan::in_examples::*;
+/// # ended(|| {
 /// let network: Ipv4Network = "10.0.0.0/8".parse()?;
 /// assert_eq!(subnets(network, 16).unwrap().count(), 256);
 /// assert!(subnets(network, 7).is_none());
-/// # Ok::<(), Fail>(())
+/// # Ok(())
+/// # });
 /// ```
 pub fn subnets<N: AddressSpace>(network: N, prefix: u8) -> Option<SubnetIterator<N>> {
     if prefix < network.prefix() {

@@ -8,9 +8,11 @@ use crate::ipnetwork_family::CidrNetwork;
 ///
 /// ```
 /// # use fosibegan::in_examples::*;
+/// # ended(|| {
 /// let network: Ipv4Network = "192.0.2.129/25".parse()?;
 /// assert_eq!(block(network).canonical().as_str(), "192.0.2.128/25");
-/// # Ok::<(), Fail>(())
+/// # Ok(())
+/// # });
 /// ```
 pub fn block<N: CidrNetwork>(network: N) -> N {
     let Some(block) = N::block(network.ip(), network.prefix()) else {
@@ -24,10 +26,12 @@ pub fn block<N: CidrNetwork>(network: N) -> N {
 ///
 /// ```
 /// # use fosibegan::in_examples::*;
+/// # ended(|| {
 /// let network: Ipv4Network = "192.0.2.129/25".parse()?;
 /// assert_eq!(supernet(network, 24), Some("192.0.2.0/24".parse()?));
 /// assert_eq!(supernet(network, 26), None);
-/// # Ok::<(), Fail>(())
+/// # Ok(())
+/// # });
 /// ```
 pub fn supernet<N: CidrNetwork>(network: N, prefix: u8) -> Option<N> {
     if prefix > network.prefix() {
@@ -41,9 +45,11 @@ pub fn supernet<N: CidrNetwork>(network: N, prefix: u8) -> Option<N> {
 ///
 /// ```
 /// # use fosibegan::in_examples::*;
+/// # ended(|| {
 /// let network: Ipv4Network = "192.0.2.128/25".parse()?;
 /// assert_eq!(sibling(network), Some("192.0.2.0/25".parse()?));
-/// # Ok::<(), Fail>(())
+/// # Ok(())
+/// # });
 /// ```
 pub fn sibling<N: CidrNetwork>(network: N) -> Option<N> {
     let prefix = network.prefix();

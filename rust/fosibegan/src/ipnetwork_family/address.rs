@@ -23,9 +23,11 @@ pub trait Address: Copy + Ord + Hash + Debug {
     ///
     /// ```
     /// # use fosibegan::in_examples::*;
+    /// # ended(|| {
     /// let address = <Ipv4Addr as Address>::read_bytes(b"192.0.2.1")?;
     /// assert_eq!(address, Ipv4Addr::new(192, 0, 2, 1));
-    /// # Ok::<(), Fail>(())
+    /// # Ok(())
+    /// # });
     /// ```
     fn read_bytes(text: &[u8]) -> Result<Self, AddrParseError>;
 

@@ -11,11 +11,13 @@ use crate::ipnetwork_family::{Address, Network};
 ///
 /// ```
 /// # use fosibegan::in_examples::*;
+/// # ended(|| {
 /// fn hosts_hidden<N: CidrNetwork>(network: N) -> bool {
 ///     network.ip() == network.network()
 /// }
 /// assert!(hosts_hidden("10.0.0.0/8".parse::<Ipv4Network>()?));
-/// # Ok::<(), Fail>(())
+/// # Ok(())
+/// # });
 /// ```
 pub trait CidrNetwork: Copy + Ord {
     /// The addresses of the family.
@@ -28,9 +30,11 @@ pub trait CidrNetwork: Copy + Ord {
     ///
     /// ```
     /// # use fosibegan::in_examples::*;
+    /// # ended(|| {
     /// let network: Ipv6Network = "2001:db8::7/126".parse()?;
     /// assert_eq!(CidrNetwork::ip(&network).canonical().as_str(), "2001:db8::7");
-    /// # Ok::<(), Fail>(())
+    /// # Ok(())
+    /// # });
     /// ```
     fn ip(&self) -> Self::Addr;
 
@@ -38,9 +42,11 @@ pub trait CidrNetwork: Copy + Ord {
     ///
     /// ```
     /// # use fosibegan::in_examples::*;
+    /// # ended(|| {
     /// let network: Ipv6Network = "2001:db8::7/126".parse()?;
     /// assert_eq!(CidrNetwork::prefix(&network), 126);
-    /// # Ok::<(), Fail>(())
+    /// # Ok(())
+    /// # });
     /// ```
     fn prefix(&self) -> u8;
 
@@ -48,9 +54,11 @@ pub trait CidrNetwork: Copy + Ord {
     ///
     /// ```
     /// # use fosibegan::in_examples::*;
+    /// # ended(|| {
     /// let network: Ipv6Network = "2001:db8::7/126".parse()?;
     /// assert_eq!(CidrNetwork::network(&network).canonical().as_str(), "2001:db8::4");
-    /// # Ok::<(), Fail>(())
+    /// # Ok(())
+    /// # });
     /// ```
     fn network(&self) -> Self::Addr;
 
@@ -58,9 +66,11 @@ pub trait CidrNetwork: Copy + Ord {
     ///
     /// ```
     /// # use fosibegan::in_examples::*;
+    /// # ended(|| {
     /// let network: Ipv6Network = "2001:db8::7/126".parse()?;
     /// assert_eq!(CidrNetwork::broadcast(&network).canonical().as_str(), "2001:db8::7");
-    /// # Ok::<(), Fail>(())
+    /// # Ok(())
+    /// # });
     /// ```
     fn broadcast(&self) -> Self::Addr;
 
@@ -68,9 +78,11 @@ pub trait CidrNetwork: Copy + Ord {
     ///
     /// ```
     /// # use fosibegan::in_examples::*;
+    /// # ended(|| {
     /// let network: Ipv6Network = "2001:db8::7/126".parse()?;
     /// assert!(CidrNetwork::contains(&network, "2001:db8::5".parse()?));
-    /// # Ok::<(), Fail>(())
+    /// # Ok(())
+    /// # });
     /// ```
     fn contains(&self, ip: Self::Addr) -> bool;
 
@@ -78,9 +90,11 @@ pub trait CidrNetwork: Copy + Ord {
     ///
     /// ```
     /// # use fosibegan::in_examples::*;
+    /// # ended(|| {
     /// let network: Ipv6Network = "2001:db8::7/126".parse()?;
     /// assert!(CidrNetwork::is_subnet_of(network, "2001:db8::/32".parse()?));
-    /// # Ok::<(), Fail>(())
+    /// # Ok(())
+    /// # });
     /// ```
     fn is_subnet_of(self, other: Self) -> bool;
 
@@ -88,9 +102,11 @@ pub trait CidrNetwork: Copy + Ord {
     ///
     /// ```
     /// # use fosibegan::in_examples::*;
+    /// # ended(|| {
     /// let network: Ipv6Network = "2001:db8::7/126".parse()?;
     /// assert!(!CidrNetwork::overlaps(network, "2001:db8::/126".parse()?));
-    /// # Ok::<(), Fail>(())
+    /// # Ok(())
+    /// # });
     /// ```
     fn overlaps(self, other: Self) -> bool;
 
@@ -99,9 +115,11 @@ pub trait CidrNetwork: Copy + Ord {
     ///
     /// ```
     /// # use fosibegan::in_examples::*;
+    /// # ended(|| {
     /// let block = <Ipv6Network as CidrNetwork>::block("2001:db8::7".parse()?, 126);
     /// assert_eq!(block, "2001:db8::4/126".parse().ok());
-    /// # Ok::<(), Fail>(())
+    /// # Ok(())
+    /// # });
     /// ```
     fn block(addr: Self::Addr, prefix: u8) -> Option<Self>;
 }

@@ -55,9 +55,11 @@ pub enum IpNetworkError {
 ///
 /// ```
 /// # use fosibegan::in_examples::*;
-/// let text = NetworkSizeError::NetworkIsTooLarge.to_string(Global)?;
+/// # ended(|| {
+/// let text = NetworkSizeError::NetworkIsTooLarge.kit_to_string(Global)?;
 /// assert_eq!(text.as_str(), "Network is too large to fit into an unsigned 32-bit integer!");
-/// # Ok::<(), Fail>(())
+/// # Ok(())
+/// # });
 /// ```
 #[derive(Clone, Copy, Debug, PartialEq, Eq)]
 pub enum NetworkSizeError {
@@ -87,9 +89,11 @@ impl IpNetworkError {
     ///
     /// ```
     /// # use fosibegan::in_examples::*;
+    /// # ended(|| {
     /// let error = IpNetworkError::from_addr(Global, AddrParseError::Ipv4);
     /// assert_eq!(error.try_clone(Global)?, error);
-    /// # Ok::<(), Fail>(())
+    /// # Ok(())
+    /// # });
     /// ```
     pub fn try_clone(&self, alloc: Global) -> Result<Self, AllocError> {
         match self {
@@ -110,10 +114,12 @@ impl IpNetworkError {
     ///
     /// ```
     /// # use fosibegan::in_examples::*;
+    /// # ended(|| {
     /// let error = IpNetworkError::from_addr(Global, AddrParseError::Ipv6);
-    /// let text = "invalid IPv6 address syntax".to_string(Global)?;
+    /// let text = "invalid IPv6 address syntax".kit_to_string(Global)?;
     /// assert_eq!(error, IpNetworkError::InvalidAddr(text));
-    /// # Ok::<(), Fail>(())
+    /// # Ok(())
+    /// # });
     /// ```
     pub fn from_addr(alloc: Global, error: AddrParseError) -> Self {
         IpNetworkError::invalid_addr(
@@ -135,9 +141,11 @@ impl IpNetworkError {
     ///
     /// ```
     /// # use fosibegan::in_examples::*;
+    /// # ended(|| {
     /// let error = IpNetworkError::from_fault(Global, CidrFault::Addr, AddrParseError::Ip, "10/8");
-    /// assert_eq!(error, IpNetworkError::InvalidAddr("10/8".to_string(Global)?));
-    /// # Ok::<(), Fail>(())
+    /// assert_eq!(error, IpNetworkError::InvalidAddr("10/8".kit_to_string(Global)?));
+    /// # Ok(())
+    /// # });
     /// ```
     pub fn from_fault(alloc: Global, fault: CidrFault, kind: AddrParseError, input: &str) -> Self {
         match fault {

@@ -102,9 +102,11 @@ impl Network<Ipv4Addr> {
     ///
     /// ```
     /// # use fosibegan::in_examples::*;
+    /// # ended(|| {
     /// let network: Ipv4Network = "192.0.2.77/26".parse()?;
     /// assert_eq!(network.size(), 64);
-    /// # Ok::<(), Fail>(())
+    /// # Ok(())
+    /// # });
     /// ```
     pub fn size(&self) -> u32 {
         host_ones(self.prefix()).saturating_add(1)
@@ -115,10 +117,12 @@ impl Network<Ipv4Addr> {
     ///
     /// ```
     /// # use fosibegan::in_examples::*;
+    /// # ended(|| {
     /// let network: Ipv4Network = "192.0.2.77/26".parse()?;
     /// assert_eq!(network.nth(1), Some(Ipv4Addr::new(192, 0, 2, 65)));
     /// assert_eq!(network.nth(64), None);
-    /// # Ok::<(), Fail>(())
+    /// # Ok(())
+    /// # });
     /// ```
     pub fn nth(self, n: u32) -> Option<Ipv4Addr> {
         if n < self.size() {

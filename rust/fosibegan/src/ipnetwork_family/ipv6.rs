@@ -94,9 +94,11 @@ impl Network<Ipv6Addr> {
     ///
     /// ```
     /// # use fosibegan::in_examples::*;
+    /// # ended(|| {
     /// let network: Ipv6Network = "2001:db8::/64".parse()?;
     /// assert_eq!(network.size(), 1 << 64);
-    /// # Ok::<(), Fail>(())
+    /// # Ok(())
+    /// # });
     /// ```
     pub fn size(&self) -> u128 {
         host_ones(self.prefix()).saturating_add(1)
@@ -107,9 +109,11 @@ impl Network<Ipv6Addr> {
     ///
     /// ```
     /// # use fosibegan::in_examples::*;
+    /// # ended(|| {
     /// let network: Ipv6Network = "2001:db8::1/64".parse()?;
     /// assert_eq!(network.nth(0xffff), Some("2001:db8::ffff".parse::<Ipv6Addr>()?));
-    /// # Ok::<(), Fail>(())
+    /// # Ok(())
+    /// # });
     /// ```
     pub fn nth(self, n: u128) -> Option<Ipv6Addr> {
         if n < self.size() {
@@ -124,9 +128,11 @@ impl Network<Ipv6Addr> {
 ///
 /// ```
 /// # use fosibegan::in_examples::*;
+/// # ended(|| {
 /// let mask: Ipv6Addr = "ffff:ffff:ffff:ffff::".parse()?;
 /// assert_eq!(ipv6_mask_to_prefix(mask), Ok(64));
-/// # Ok::<(), Fail>(())
+/// # Ok(())
+/// # });
 /// ```
 pub fn ipv6_mask_to_prefix(mask: Ipv6Addr) -> Result<u8, IpNetworkError> {
     mask_to_prefix(mask)

@@ -9,10 +9,12 @@ use crate::plain_std::alloc::AllocError;
 ///
 /// ```
 /// # use fosibegan::in_examples::*;
+/// # ended(|| {
 /// let mut members = "192.0.2.7/30".parse::<Ipv4Network>()?.iter();
 /// assert_eq!(members.next(), Some(Ipv4Addr::new(192, 0, 2, 4)));
 /// assert_eq!(members.next(), Some(Ipv4Addr::new(192, 0, 2, 5)));
-/// # Ok::<(), Fail>(())
+/// # Ok(())
+/// # });
 /// ```
 #[derive(Debug)]
 pub struct NetworkIterator<A: Address> {

@@ -11,9 +11,11 @@ use crate::plain_std::alloc::{AllocError, Global};
 ///
 /// ```
 /// # use fosibegan::in_examples::*;
+/// # ended(|| {
 /// let value = fosibegan::plain_std::serde_json::from_str::<fosibegan::plain_std::serde_json::Value>(Global, "8")?;
 /// assert_eq!(Ipv4Network::from_value(Global, &value), Err(JsonFault::NotAString));
-/// # Ok::<(), Fail>(())
+/// # Ok(())
+/// # });
 /// ```
 #[derive(Debug, PartialEq, Eq)]
 pub enum JsonFault {
@@ -28,10 +30,12 @@ impl<A: Address> Network<A> {
     ///
     /// ```
     /// # use fosibegan::in_examples::*;
+    /// # ended(|| {
     /// let network: Ipv4Network = "10.1.9.32/8".parse()?;
-    /// let text = network.to_value(Global)?.to_string(Global)?;
+    /// let text = network.to_value(Global)?.kit_to_string(Global)?;
     /// assert_eq!(text.as_str(), "\"10.1.9.32/8\"");
-    /// # Ok::<(), Fail>(())
+    /// # Ok(())
+    /// # });
     /// ```
     pub fn to_value(&self, alloc: Global) -> Result<Value, AllocError> {
         Value::try_from_str(alloc, self.canonical().as_str())
@@ -43,10 +47,12 @@ impl<A: Address> Network<A> {
     ///
     /// ```
     /// # use fosibegan::in_examples::*;
+    /// # ended(|| {
     /// let value = fosibegan::plain_std::serde_json::Value::try_from_str(Global, "10.1.9.32/8")?;
     /// let network = Ipv4Network::from_value(Global, &value)?;
     /// assert_eq!(network.prefix(), 8);
-    /// # Ok::<(), Fail>(())
+    /// # Ok(())
+    /// # });
     /// ```
     pub fn from_value(alloc: Global, value: &Value) -> Result<Self, JsonFault> {
         match value.as_str() {

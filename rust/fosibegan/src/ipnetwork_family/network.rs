@@ -19,9 +19,11 @@ use core::str::FromStr;
 ///
 /// ```
 /// # use fosibegan::in_examples::*;
+/// # ended(|| {
 /// let network: Network<Ipv4Addr> = "192.0.2.77/26".parse()?;
 /// assert_eq!(network.network(), Ipv4Addr::new(192, 0, 2, 64));
-/// # Ok::<(), Fail>(())
+/// # Ok(())
+/// # });
 /// ```
 #[derive(Copy, Debug, PartialEq, Eq, PartialOrd, Ord, Hash)]
 pub struct Network<A: Address> {
@@ -79,9 +81,11 @@ impl<A: Address> Network<A> {
     ///
     /// ```
     /// # use fosibegan::in_examples::*;
+    /// # ended(|| {
     /// let network = Ipv4Network::new(Ipv4Addr::new(10, 1, 9, 32), 8)?;
     /// assert_eq!(network.canonical().as_str(), "10.1.9.32/8");
-    /// # Ok::<(), Fail>(())
+    /// # Ok(())
+    /// # });
     /// ```
     pub fn new(addr: A, prefix: u8) -> Result<Self, IpNetworkError> {
         match Network::new_checked(addr, prefix) {
@@ -95,10 +99,12 @@ impl<A: Address> Network<A> {
     ///
     /// ```
     /// # use fosibegan::in_examples::*;
+    /// # ended(|| {
     /// let mask = Ipv4Addr::new(255, 255, 240, 0);
     /// let network = Ipv4Network::with_netmask(Ipv4Addr::new(10, 1, 9, 32), mask)?;
     /// assert_eq!(network.prefix(), 20);
-    /// # Ok::<(), Fail>(())
+    /// # Ok(())
+    /// # });
     /// ```
     pub fn with_netmask(netaddr: A, netmask: A) -> Result<Self, IpNetworkError> {
         match netmask.prefix_of_mask() {
@@ -111,9 +117,11 @@ impl<A: Address> Network<A> {
     ///
     /// ```
     /// # use fosibegan::in_examples::*;
+    /// # ended(|| {
     /// let network: Ipv4Network = "192.0.2.77/26".parse()?;
     /// assert_eq!(network.ip(), Ipv4Addr::new(192, 0, 2, 77));
-    /// # Ok::<(), Fail>(())
+    /// # Ok(())
+    /// # });
     /// ```
     pub fn ip(&self) -> A {
         self.address
@@ -123,9 +131,11 @@ impl<A: Address> Network<A> {
     ///
     /// ```
     /// # use fosibegan::in_examples::*;
+    /// # ended(|| {
     /// let network: Ipv4Network = "192.0.2.77/26".parse()?;
     /// assert_eq!(network.prefix(), 26);
-    /// # Ok::<(), Fail>(())
+    /// # Ok(())
+    /// # });
     /// ```
     pub fn prefix(&self) -> u8 {
         self.prefix
@@ -135,9 +145,11 @@ impl<A: Address> Network<A> {
     ///
     /// ```
     /// # use fosibegan::in_examples::*;
+    /// # ended(|| {
     /// let network: Ipv4Network = "192.0.2.77/26".parse()?;
     /// assert_eq!(network.mask(), Ipv4Addr::new(255, 255, 255, 192));
-    /// # Ok::<(), Fail>(())
+    /// # Ok(())
+    /// # });
     /// ```
     pub fn mask(&self) -> A {
         A::mask(self.prefix)
@@ -147,9 +159,11 @@ impl<A: Address> Network<A> {
     ///
     /// ```
     /// # use fosibegan::in_examples::*;
+    /// # ended(|| {
     /// let network: Ipv4Network = "192.0.2.77/26".parse()?;
     /// assert_eq!(network.network(), Ipv4Addr::new(192, 0, 2, 64));
-    /// # Ok::<(), Fail>(())
+    /// # Ok(())
+    /// # });
     /// ```
     pub fn network(&self) -> A {
         self.ip().least(self.prefix())
@@ -159,9 +173,11 @@ impl<A: Address> Network<A> {
     ///
     /// ```
     /// # use fosibegan::in_examples::*;
+    /// # ended(|| {
     /// let network: Ipv4Network = "192.0.2.77/26".parse()?;
     /// assert_eq!(network.broadcast(), Ipv4Addr::new(192, 0, 2, 127));
-    /// # Ok::<(), Fail>(())
+    /// # Ok(())
+    /// # });
     /// ```
     pub fn broadcast(&self) -> A {
         self.ip().greatest(self.prefix())
@@ -171,10 +187,12 @@ impl<A: Address> Network<A> {
     ///
     /// ```
     /// # use fosibegan::in_examples::*;
+    /// # ended(|| {
     /// let network: Ipv4Network = "192.0.2.77/26".parse()?;
     /// assert!(network.contains(Ipv4Addr::new(192, 0, 2, 127)));
     /// assert!(!network.contains(Ipv4Addr::new(192, 0, 2, 128)));
-    /// # Ok::<(), Fail>(())
+    /// # Ok(())
+    /// # });
     /// ```
     pub fn contains(&self, ip: A) -> bool {
         ip.law_of_width();
@@ -185,9 +203,11 @@ impl<A: Address> Network<A> {
     ///
     /// ```
     /// # use fosibegan::in_examples::*;
+    /// # ended(|| {
     /// let network: Ipv4Network = "192.0.2.77/26".parse()?;
     /// assert!(network.is_subnet_of("192.0.2.0/24".parse()?));
-    /// # Ok::<(), Fail>(())
+    /// # Ok(())
+    /// # });
     /// ```
     pub fn is_subnet_of(self, other: Network<A>) -> bool {
         other.prefix() <= self.prefix() && other.contains(self.ip())
@@ -197,9 +217,11 @@ impl<A: Address> Network<A> {
     ///
     /// ```
     /// # use fosibegan::in_examples::*;
+    /// # ended(|| {
     /// let network: Ipv4Network = "192.0.2.77/26".parse()?;
     /// assert!(network.is_supernet_of("192.0.2.127/32".parse()?));
-    /// # Ok::<(), Fail>(())
+    /// # Ok(())
+    /// # });
     /// ```
     pub fn is_supernet_of(self, other: Network<A>) -> bool {
         other.is_subnet_of(self)
@@ -209,10 +231,12 @@ impl<A: Address> Network<A> {
     ///
     /// ```
     /// # use fosibegan::in_examples::*;
+    /// # ended(|| {
     /// let network: Ipv4Network = "192.0.2.77/26".parse()?;
     /// assert!(network.overlaps("192.0.0.0/16".parse()?));
     /// assert!(!network.overlaps("192.0.2.0/26".parse()?));
-    /// # Ok::<(), Fail>(())
+    /// # Ok(())
+    /// # });
     /// ```
     pub fn overlaps(self, other: Network<A>) -> bool {
         self.contains(other.ip()) || other.contains(self.ip())
@@ -222,10 +246,12 @@ impl<A: Address> Network<A> {
     ///
     /// ```
     /// # use fosibegan::in_examples::*;
+    /// # ended(|| {
     /// let network: Ipv4Network = "192.0.2.77/31".parse()?;
     /// let mut members = network.iter();
     /// assert_eq!(members.next(), Some(Ipv4Addr::new(192, 0, 2, 76)));
-    /// # Ok::<(), Fail>(())
+    /// # Ok(())
+    /// # });
     /// ```
     pub fn iter(&self) -> NetworkIterator<A> {
         NetworkIterator::between(self.network(), self.broadcast())
@@ -238,10 +264,12 @@ impl<A: Address> Network<A> {
     ///
     /// ```
     /// # use fosibegan::in_examples::*;
+    /// # ended(|| {
     /// let network = Ipv4Network::read_bytes(b"10.1.9.32/255.0.0.0")?;
     /// assert_eq!(network.prefix(), 8);
     /// assert_eq!(Ipv4Network::read_bytes(b"10.1.9.32/33"), Err(CidrFault::Prefix));
-    /// # Ok::<(), Fail>(())
+    /// # Ok(())
+    /// # });
     /// ```
     #[inline(always)]
     pub fn read_bytes(text: &[u8]) -> Result<Self, CidrFault> {
@@ -258,9 +286,11 @@ impl<A: Address> Network<A> {
     ///
     /// ```
     /// # use fosibegan::in_examples::*;
+    /// # ended(|| {
     /// let network = Ipv6Network::parse(Global, "2001:db8::1/64")?;
     /// assert_eq!(network.prefix(), 64);
-    /// # Ok::<(), Fail>(())
+    /// # Ok(())
+    /// # });
     /// ```
     pub fn parse(alloc: Global, text: &str) -> Result<Self, IpNetworkError> {
         match Network::<A>::read_bytes(text.as_bytes()) {
@@ -274,9 +304,11 @@ impl<A: Address> Network<A> {
     ///
     /// ```
     /// # use fosibegan::in_examples::*;
+    /// # ended(|| {
     /// let network: Ipv6Network = "2001:DB8:0:0:1:0:0:1/+064".parse()?;
     /// assert_eq!(network.canonical().as_str(), "2001:db8::1:0:0:1/64");
-    /// # Ok::<(), Fail>(())
+    /// # Ok(())
+    /// # });
     /// ```
     pub fn canonical(&self) -> ArrayString<NETWORK_TEXT_CAPACITY> {
         let mut text = ArrayString::new();
@@ -290,9 +322,11 @@ impl<A: Address> Network<A> {
     ///
     /// ```
     /// # use fosibegan::in_examples::*;
+    /// # ended(|| {
     /// let network: Ipv4Network = "192.0.2.77/26".parse()?;
     /// assert_eq!(network.to_text(Global)?.as_str(), "192.0.2.77/26");
-    /// # Ok::<(), Fail>(())
+    /// # Ok(())
+    /// # });
     /// ```
     pub fn to_text(&self, alloc: Global) -> Result<String, AllocError> {
         String::from_str(alloc, self.canonical().as_str())

@@ -14,12 +14,14 @@ use crate::plain_std::alloc::{AllocError, Global};
 ///
 /// ```
 /// # use fosibegan::in_examples::*;
+/// # ended(|| {
 /// let networks = ["10.0.0.0/8".parse::<Ipv4Network>()?, "192.0.2.0/24".parse()?];
 /// let set = AddressSet::from_networks(Vec::from_array(Global, networks)?);
 /// let index = AddressIndex::from_set(Global, &set)?;
 /// assert!(index.contains(Ipv4Addr::new(10, 1, 2, 3)));
 /// assert!(!index.contains(Ipv4Addr::new(192, 0, 3, 0)));
-/// # Ok::<(), Fail>(())
+/// # Ok(())
+/// # });
 /// ```
 pub struct AddressIndex<N: IndexedNetwork> {
     // The addresses, cut where the set begins or ends.
@@ -33,11 +35,14 @@ impl<N: IndexedNetwork> AddressIndex<N> {
     ///
     /// ```
     /// # use fosibegan::in_examples::*;
+    /// # use fosibegan::plain_std::vec;
+    /// # ended(|| {
     /// let networks = vec![in Global; "2001:db8::/32".parse::<Ipv6Network>()?]?;
     /// let set = AddressSet::from_networks(networks);
     /// let index = AddressIndex::from_set(Global, &set)?;
     /// assert!(index.contains("2001:db8::1".parse()?));
-    /// # Ok::<(), Fail>(())
+    /// # Ok(())
+    /// # });
     /// ```
     pub fn from_set(alloc: Global, set: &AddressSet<N>) -> Result<Self, AllocError> {
         // The clause `set` of this call says that these are the blocks of a set.
@@ -58,10 +63,13 @@ impl<N: IndexedNetwork> AddressIndex<N> {
     ///
     /// ```
     /// # use fosibegan::in_examples::*;
+    /// # use fosibegan::plain_std::vec;
+    /// # ended(|| {
     /// let networks = vec![in Global; "192.0.2.9/25".parse::<Ipv4Network>()?]?;
     /// let index = AddressIndex::from_networks(Global, networks)?;
     /// assert!(index.contains(Ipv4Addr::new(192, 0, 2, 127)));
-    /// # Ok::<(), Fail>(())
+    /// # Ok(())
+    /// # });
     /// ```
     pub fn from_networks(alloc: Global, networks: Vec<N>) -> Result<Self, AllocError> {
         let set = AddressSet::from_networks(networks);
@@ -74,12 +82,15 @@ impl<N: IndexedNetwork> AddressIndex<N> {
     ///
     /// ```
     /// # use fosibegan::in_examples::*;
+    /// # use fosibegan::plain_std::vec;
+    /// # ended(|| {
     /// let networks = vec![in Global; "192.0.2.0/25".parse::<Ipv4Network>()?]?;
     /// let set = AddressSet::from_networks(networks);
     /// let index = AddressIndex::from_set(Global, &set)?;
     /// assert!(index.contains(Ipv4Addr::new(192, 0, 2, 127)));
     /// assert!(!index.contains(Ipv4Addr::new(192, 0, 2, 128)));
-    /// # Ok::<(), Fail>(())
+    /// # Ok(())
+    /// # });
     /// ```
     pub fn contains(&self, addr: N::Addr) -> bool {
         let odd = self.partition.place_of(N::number_of(addr)) % 2 == 1;
@@ -88,18 +99,6 @@ impl<N: IndexedNetwork> AddressIndex<N> {
 
     /// Whether each of the addresses is in the set: its answer is put at the same place. There must
     /// be as many answers as addresses.
-    ///
-    /// ```
-    /// # use fosibegan::in_examples::*;
-    /// let networks = vec![in Global; "192.0.2.0/25".parse::<Ipv4Network>()?]?;
-    /// let set = AddressSet::from_networks(networks);
-    /// let index = AddressIndex::from_set(Global, &set)?;
-    /// let mut answers = [false, true];
-    /// let addrs = [Ipv4Addr::new(192, 0, 2, 127), Ipv4Addr::new(192, 0, 2, 128)];
-    /// index.contains_each(&addrs, &mut answers);
-    /// assert_eq!(answers, [true, false]);
-    /// # Ok::<(), Fail>(())
-    /// ```
     #[doc(hidden)]
     pub fn contains_each(&self, addrs: &[N::Addr], answers: &mut [bool]) {
         for place in 0..addrs.len() {
@@ -115,10 +114,13 @@ impl<N: IndexedNetwork> AddressIndex<N> {
     ///
     /// ```
     /// # use fosibegan::in_examples::*;
+    /// # use fosibegan::plain_std::vec;
+    /// # ended(|| {
     /// let networks = vec![in Global; "192.0.2.0/25".parse::<Ipv4Network>()?]?;
     /// let set = AddressSet::from_networks(networks);
     /// assert_eq!(AddressIndex::from_set(Global, &set)?.range_count(), 3);
-    /// # Ok::<(), Fail>(())
+    /// # Ok(())
+    /// # });
     /// ```
     pub fn range_count(&self) -> usize {
         self.partition.len()

@@ -13,10 +13,12 @@ use crate::plain_std::alloc::{AllocError, Global};
 ///
 /// ```
 /// # use fosibegan::in_examples::*;
+/// # ended(|| {
 /// let networks = ["10.1.9.32/16".parse::<Ipv4Network>()?, "10.0.0.0/8".parse()?];
 /// let index = BlockIndex::from_networks(Global, &networks, 2)?;
 /// assert_eq!(index.lookup(Ipv4Addr::new(10, 1, 9, 32)), Some(("10.1.0.0/16".parse()?, 2)));
-/// # Ok::<(), Fail>(())
+/// # Ok(())
+/// # });
 /// ```
 pub struct BlockIndex<N: IndexedNetwork, V: Copy> {
     // The blocks in their order, each once.
@@ -30,10 +32,12 @@ impl<N: IndexedNetwork, V: Copy> BlockIndex<N, V> {
     ///
     /// ```
     /// # use fosibegan::in_examples::*;
+    /// # ended(|| {
     /// let networks = ["2001:db8::1/32".parse::<Ipv6Network>()?];
     /// let index = BlockIndex::from_networks(Global, &networks, ())?;
     /// assert_eq!(index.lookup("2001:db9::".parse()?), None);
-    /// # Ok::<(), Fail>(())
+    /// # Ok(())
+    /// # });
     /// ```
     pub fn from_networks(alloc: Global, networks: &[N], value: V) -> Result<Self, AllocError> {
         let entries = entries_of_list(alloc, networks, value)?;
@@ -46,11 +50,13 @@ impl<N: IndexedNetwork, V: Copy> BlockIndex<N, V> {
     ///
     /// ```
     /// # use fosibegan::in_examples::*;
+    /// # ended(|| {
     /// let networks = ["10.0.0.0/8".parse::<Ipv4Network>()?];
     /// let index = BlockIndex::from_networks(Global, &networks, 2)?;
     /// assert_eq!(index.lookup(Ipv4Addr::new(10, 1, 9, 32)), Some(("10.0.0.0/8".parse()?, 2)));
     /// assert_eq!(index.lookup(Ipv4Addr::new(11, 0, 0, 0)), None);
-    /// # Ok::<(), Fail>(())
+    /// # Ok(())
+    /// # });
     /// ```
     pub fn lookup(&self, addr: N::Addr) -> Option<(N, V)> {
         self.ranges.lookup(addr)

@@ -25,8 +25,10 @@ pub trait IndexedNetwork: AddressSpace {
     ///
     /// ```
     /// # use fosibegan::in_examples::*;
+    /// # ended(|| {
     /// assert_eq!(Ipv6Network::number_of("::1:2".parse()?), 65538);
-    /// # Ok::<(), Fail>(())
+    /// # Ok(())
+    /// # });
     /// ```
     fn number_of(addr: Self::Addr) -> Self::Number;
 

@@ -15,12 +15,14 @@ use crate::plain_std::alloc::{AllocError, Global};
 ///
 /// ```
 /// # use fosibegan::in_examples::*;
+/// # ended(|| {
 /// let mut table = PrefixTable::new(Global);
 /// table.insert("10.0.0.0/8".parse::<Ipv4Network>()?, 2)?;
 /// table.insert("10.1.0.0/16".parse()?, 3)?;
 /// let index = RouteIndex::from_table(Global, table)?;
 /// assert_eq!(index.lookup(Ipv4Addr::new(10, 1, 9, 32)), Some(("10.1.0.0/16".parse()?, 3)));
-/// # Ok::<(), Fail>(())
+/// # Ok(())
+/// # });
 /// ```
 pub struct RouteIndex<N: IndexedNetwork, V: Copy> {
     table: PrefixTable<N, V>,
@@ -34,11 +36,13 @@ impl<N: IndexedNetwork, V: Copy> RouteIndex<N, V> {
     ///
     /// ```
     /// # use fosibegan::in_examples::*;
+    /// # ended(|| {
     /// let mut table = PrefixTable::new(Global);
     /// table.insert("2001:db8::/32".parse::<Ipv6Network>()?, 2)?;
     /// let index = RouteIndex::from_table(Global, table)?;
     /// assert_eq!(index.lookup("2001:db9::".parse()?), None);
-    /// # Ok::<(), Fail>(())
+    /// # Ok(())
+    /// # });
     /// ```
     pub fn from_table(alloc: Global, table: PrefixTable<N, V>) -> Result<Self, AllocError> {
         let entries = entries_of(alloc, &table)?;
@@ -51,10 +55,12 @@ impl<N: IndexedNetwork, V: Copy> RouteIndex<N, V> {
     ///
     /// ```
     /// # use fosibegan::in_examples::*;
+    /// # ended(|| {
     /// let entries = [("10.0.0.0/8".parse::<Ipv4Network>()?, 2), ("10.1.9.32/16".parse()?, 3)];
     /// let index = RouteIndex::from_entries(Global, &entries)?;
     /// assert_eq!(index.lookup(Ipv4Addr::new(10, 1, 2, 3)), Some(("10.1.0.0/16".parse()?, 3)));
-    /// # Ok::<(), Fail>(())
+    /// # Ok(())
+    /// # });
     /// ```
     pub fn from_entries(alloc: Global, entries: &[(N, V)]) -> Result<Self, AllocError> {
         let table = table_of(alloc, entries)?;
@@ -68,12 +74,14 @@ impl<N: IndexedNetwork, V: Copy> RouteIndex<N, V> {
     ///
     /// ```
     /// # use fosibegan::in_examples::*;
+    /// # ended(|| {
     /// let mut table = PrefixTable::new(Global);
     /// table.insert("10.0.0.0/8".parse::<Ipv4Network>()?, 2)?;
     /// let index = RouteIndex::from_table(Global, table)?;
     /// assert_eq!(index.lookup(Ipv4Addr::new(10, 1, 9, 32)), Some(("10.0.0.0/8".parse()?, 2)));
     /// assert_eq!(index.lookup(Ipv4Addr::new(11, 0, 0, 0)), None);
-    /// # Ok::<(), Fail>(())
+    /// # Ok(())
+    /// # });
     /// ```
     pub fn lookup(&self, addr: N::Addr) -> Option<(N, V)> {
         self.ranges.lookup(addr)
@@ -91,11 +99,13 @@ impl<N: IndexedNetwork, V: Copy> RouteIndex<N, V> {
     ///
     /// ```
     /// # use fosibegan::in_examples::*;
+    /// # ended(|| {
     /// let mut table = PrefixTable::new(Global);
     /// table.insert("10.0.0.0/8".parse::<Ipv4Network>()?, 2)?;
     /// let index = RouteIndex::from_table(Global, table)?;
     /// assert_eq!(index.table().len(), 1);
-    /// # Ok::<(), Fail>(())
+    /// # Ok(())
+    /// # });
     /// ```
     pub fn table(&self) -> &PrefixTable<N, V> {
         &self.table
@@ -105,10 +115,12 @@ impl<N: IndexedNetwork, V: Copy> RouteIndex<N, V> {
     ///
     /// ```
     /// # use fosibegan::in_examples::*;
+    /// # ended(|| {
     /// let table = PrefixTable::<Ipv4Network, u8>::new(Global);
     /// let index = RouteIndex::from_table(Global, table)?;
     /// assert!(index.into_table().is_empty());
-    /// # Ok::<(), Fail>(())
+    /// # Ok(())
+    /// # });
     /// ```
     pub fn into_table(self) -> PrefixTable<N, V> {
         self.table
@@ -125,10 +137,12 @@ impl<N: IndexedNetwork, V: Copy> RouteIndex<N, V> {
     ///
     /// ```
     /// # use fosibegan::in_examples::*;
+    /// # ended(|| {
     /// let mut table = PrefixTable::new(Global);
     /// table.insert("10.0.0.0/8".parse::<Ipv4Network>()?, 2)?;
     /// assert_eq!(RouteIndex::from_table(Global, table)?.range_count(), 3);
-    /// # Ok::<(), Fail>(())
+    /// # Ok(())
+    /// # });
     /// ```
     pub fn range_count(&self) -> usize {
         self.ranges.len()

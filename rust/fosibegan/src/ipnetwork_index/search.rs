@@ -11,16 +11,6 @@ use crate::ipnetwork_index::key::Key;
 ///
 /// The search reads the four keys from there on. Only if all of them are less, it goes on within the
 /// part, in steps that shrink: where n keys lie in a part, it reads some 2 log2(n) of them.
-///
-/// ```
-/// # use fosibegan::in_examples::*;
-/// let keys = [9u32, 20, u32::MAX, u32::MAX, u32::MAX, u32::MAX];
-/// let mut starts = [0, 0, 0, 0];
-/// write_starts(&keys, 9, 2, &mut starts);
-/// assert_eq!(starts, [0, 1, 1, 2]);
-/// assert_eq!(place_of(&keys, &starts, 9, 2, 20), 1);
-/// assert_eq!(place_of(&keys, &starts, 9, 2, 21), 2);
-/// ```
 #[inline(always)]
 #[doc(hidden)]
 pub fn place_of<K: Key>(keys: &[K], starts: &[u32], base: K, shift: u32, key: K) -> usize {

@@ -18,10 +18,12 @@ const DECIMAL_MAX: usize = 39;
 ///
 /// ```
 /// # use fosibegan::in_examples::*;
+/// # ended(|| {
 /// let all = AddressCount::ZERO.add_block("::/0".parse::<Ipv6Network>()?);
 /// let half = AddressCount::ZERO.add_block("8000::/1".parse::<Ipv6Network>()?);
 /// assert_eq!((all, half), (AddressCount::AllOfIpv6, AddressCount::Number(1 << 127)));
-/// # Ok::<(), Fail>(())
+/// # Ok(())
+/// # });
 /// ```
 #[derive(Clone, Copy, Debug)]
 pub enum AddressCount {
@@ -46,9 +48,11 @@ impl AddressCount {
     ///
     /// ```
     /// # use fosibegan::in_examples::*;
+    /// # ended(|| {
     /// let count = AddressCount::ZERO.add_block("192.0.2.0/24".parse::<Ipv4Network>()?);
     /// assert_eq!(count, AddressCount::from(256));
-    /// # Ok::<(), Fail>(())
+    /// # Ok(())
+    /// # });
     /// ```
     pub fn add_block<N: AddressSpace>(self, network: N) -> AddressCount {
         let host_bits = N::WIDTH - network.prefix();

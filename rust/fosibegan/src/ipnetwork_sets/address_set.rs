@@ -13,10 +13,13 @@ use crate::plain_std::alloc::AllocError;
 ///
 /// ```
 /// # use fosibegan::in_examples::*;
+/// # use fosibegan::plain_std::vec;
+/// # ended(|| {
 /// let networks = vec![in Global; "2001:db8:8000::/33".parse::<Ipv6Network>()?, "2001:db8::/33".parse()?]?;
 /// let set = AddressSet::from_networks(networks);
 /// assert_eq!(set.blocks(), ["2001:db8::/32".parse()?].as_slice());
-/// # Ok::<(), Fail>(())
+/// # Ok(())
+/// # });
 /// ```
 #[derive(Debug)]
 pub struct AddressSet<N: AddressSpace> {
@@ -31,10 +34,13 @@ impl<N: AddressSpace> AddressSet<N> {
     ///
     /// ```
     /// # use fosibegan::in_examples::*;
+    /// # use fosibegan::plain_std::vec;
+    /// # ended(|| {
     /// let networks = vec![in Global; "192.0.2.0/25".parse::<Ipv4Network>()?, "192.0.2.128/25".parse()?]?;
     /// let set = AddressSet::from_networks(networks);
     /// assert_eq!(set.blocks()[0].canonical().as_str(), "192.0.2.0/24");
-    /// # Ok::<(), Fail>(())
+    /// # Ok(())
+    /// # });
     /// ```
     pub fn from_networks(mut networks: Vec<N>) -> Self {
         aggregate_vec(&mut networks);
@@ -48,9 +54,12 @@ impl<N: AddressSpace> AddressSet<N> {
     ///
     /// ```
     /// # use fosibegan::in_examples::*;
+    /// # use fosibegan::plain_std::vec;
+    /// # ended(|| {
     /// let halves = vec![in Global; "192.0.2.0/25".parse::<Ipv4Network>()?, "192.0.2.128/25".parse()?]?;
     /// assert!(AddressSet::from_blocks(halves).is_err());
-    /// # Ok::<(), Fail>(())
+    /// # Ok(())
+    /// # });
     /// ```
     pub fn from_blocks(blocks: Vec<N>) -> Result<Self, Vec<N>> {
         if is_address_set::<N, N>(blocks.as_slice()) {
@@ -69,10 +78,13 @@ impl<N: AddressSpace> AddressSet<N> {
     ///
     /// ```
     /// # use fosibegan::in_examples::*;
+    /// # use fosibegan::plain_std::vec;
+    /// # ended(|| {
     /// let networks = vec![in Global; "192.0.2.0/25".parse::<Ipv4Network>()?, "192.0.2.128/25".parse()?]?;
     /// let set = AddressSet::from_networks(networks);
     /// assert_eq!(set.blocks().len(), 1);
-    /// # Ok::<(), Fail>(())
+    /// # Ok(())
+    /// # });
     /// ```
     pub fn blocks(&self) -> &[N] {
         self.blocks.as_slice()
@@ -83,11 +95,13 @@ impl<N: AddressSpace> AddressSet<N> {
     ///
     /// ```
     /// # use fosibegan::in_examples::*;
+    /// # ended(|| {
     /// let halves = ["192.0.2.0/25".parse::<Ipv4Network>()?, "192.0.2.128/25".parse()?];
     /// let networks = Vec::from_array(Global, halves)?;
     /// let blocks = AddressSet::from_networks(networks).into_blocks();
     /// assert_eq!(blocks.as_slice(), ["192.0.2.0/24".parse()?].as_slice());
-    /// # Ok::<(), Fail>(())
+    /// # Ok(())
+    /// # });
     /// ```
     pub fn into_blocks(self) -> Vec<N> {
         let AddressSet { blocks } = self;
@@ -104,11 +118,14 @@ impl<N: AddressSpace> AddressSet<N> {
     ///
     /// ```
     /// # use fosibegan::in_examples::*;
+    /// # use fosibegan::plain_std::vec;
+    /// # ended(|| {
     /// let mut set = AddressSet::from_networks(vec![in Global; "192.0.2.0/25".parse::<Ipv4Network>()?]?);
     /// assert!(set.insert("192.0.2.128/25".parse()?)?);
     /// assert_eq!(set.blocks(), ["192.0.2.0/24".parse()?].as_slice());
     /// assert!(!set.insert("192.0.2.64/26".parse()?)?);
-    /// # Ok::<(), Fail>(())
+    /// # Ok(())
+    /// # });
     /// ```
     pub fn insert(&mut self, network: N) -> Result<bool, AllocError> {
         changes::insert(&mut self.blocks, network)
@@ -123,11 +140,14 @@ impl<N: AddressSpace> AddressSet<N> {
     ///
     /// ```
     /// # use fosibegan::in_examples::*;
+    /// # use fosibegan::plain_std::vec;
+    /// # ended(|| {
     /// let mut set = AddressSet::from_networks(vec![in Global; "192.0.2.0/24".parse::<Ipv4Network>()?]?);
     /// assert!(set.remove("192.0.2.64/26".parse()?)?);
     /// assert_eq!(set.blocks(), ["192.0.2.0/26".parse()?, "192.0.2.128/25".parse()?].as_slice());
     /// assert!(!set.remove("192.0.2.64/27".parse()?)?);
-    /// # Ok::<(), Fail>(())
+    /// # Ok(())
+    /// # });
     /// ```
     pub fn remove(&mut self, network: N) -> Result<bool, AllocError> {
         changes::remove(&mut self.blocks, network)
@@ -148,10 +168,13 @@ impl<N: AddressSpace> AddressSet<N> {
     ///
     /// ```
     /// # use fosibegan::in_examples::*;
+    /// # use fosibegan::plain_std::vec;
+    /// # ended(|| {
     /// let set = AddressSet::from_networks(vec![in Global; "192.0.2.0/25".parse::<Ipv4Network>()?]?);
     /// assert!(set.contains(Ipv4Addr::new(192, 0, 2, 127)));
     /// assert!(!set.contains(Ipv4Addr::new(192, 0, 2, 128)));
-    /// # Ok::<(), Fail>(())
+    /// # Ok(())
+    /// # });
     /// ```
     pub fn contains(&self, addr: N::Addr) -> bool {
         search::contains(self.blocks.as_slice(), addr)
@@ -161,10 +184,13 @@ impl<N: AddressSpace> AddressSet<N> {
     ///
     /// ```
     /// # use fosibegan::in_examples::*;
+    /// # use fosibegan::plain_std::vec;
+    /// # ended(|| {
     /// let set = AddressSet::from_networks(vec![in Global; "192.0.2.0/25".parse::<Ipv4Network>()?]?);
     /// assert!(set.covers("192.0.2.64/26".parse()?));
     /// assert!(!set.covers("192.0.2.0/24".parse()?));
-    /// # Ok::<(), Fail>(())
+    /// # Ok(())
+    /// # });
     /// ```
     pub fn covers(&self, network: N) -> bool {
         search::covers(self.blocks.as_slice(), network)
@@ -174,10 +200,13 @@ impl<N: AddressSpace> AddressSet<N> {
     ///
     /// ```
     /// # use fosibegan::in_examples::*;
+    /// # use fosibegan::plain_std::vec;
+    /// # ended(|| {
     /// let set = AddressSet::from_networks(vec![in Global; "192.0.2.0/25".parse::<Ipv4Network>()?]?);
     /// assert!(set.overlaps("192.0.2.0/24".parse()?));
     /// assert!(!set.overlaps("192.0.2.128/25".parse()?));
-    /// # Ok::<(), Fail>(())
+    /// # Ok(())
+    /// # });
     /// ```
     pub fn overlaps(&self, network: N) -> bool {
         search::overlaps(self.blocks.as_slice(), network)

@@ -15,10 +15,12 @@ use crate::ipnetwork_blocks::AddressSpace;
 ///
 /// ```
 /// # use fosibegan::in_examples::*;
+/// # ended(|| {
 /// let blocks: [Ipv4Network; 2] = ["10.0.0.0/8".parse()?, "192.0.2.0/24".parse()?];
 /// let set = AddressSlice::from_blocks(&blocks).unwrap();
 /// assert!(set.contains(Ipv4Addr::new(192, 0, 2, 1)));
-/// # Ok::<(), Fail>(())
+/// # Ok(())
+/// # });
 /// ```
 #[derive(Debug)]
 pub struct AddressSlice<'a, N: AddressSpace> {
@@ -31,9 +33,11 @@ impl<'a, N: AddressSpace> AddressSlice<'a, N> {
     ///
     /// ```
     /// # use fosibegan::in_examples::*;
+    /// # ended(|| {
     /// let halves: [Ipv4Network; 2] = ["192.0.2.0/25".parse()?, "192.0.2.128/25".parse()?];
     /// assert!(AddressSlice::from_blocks(&halves).is_none());
-    /// # Ok::<(), Fail>(())
+    /// # Ok(())
+    /// # });
     /// ```
     pub fn from_blocks(blocks: &'a [N]) -> Option<Self> {
         if is_address_set::<N, N>(blocks) {
@@ -51,9 +55,11 @@ impl<'a, N: AddressSpace> AddressSlice<'a, N> {
     ///
     /// ```
     /// # use fosibegan::in_examples::*;
+    /// # ended(|| {
     /// let list: [Ipv4Network; 1] = ["192.0.2.0/24".parse()?];
     /// assert_eq!(AddressSlice::from_blocks(&list).unwrap().blocks(), list.as_slice());
-    /// # Ok::<(), Fail>(())
+    /// # Ok(())
+    /// # });
     /// ```
     pub fn blocks(&self) -> &'a [N] {
         self.blocks
@@ -73,10 +79,12 @@ impl<'a, N: AddressSpace> AddressSlice<'a, N> {
     ///
     /// ```
     /// # use fosibegan::in_examples::*;
+    /// # ended(|| {
     /// let list: [Ipv4Network; 1] = ["192.0.2.0/25".parse()?];
     /// let set = AddressSlice::from_blocks(&list).unwrap();
     /// assert!(!set.contains(Ipv4Addr::new(192, 0, 2, 128)));
-    /// # Ok::<(), Fail>(())
+    /// # Ok(())
+    /// # });
     /// ```
     pub fn contains(&self, addr: N::Addr) -> bool {
         search::contains(self.blocks, addr)
@@ -86,10 +94,12 @@ impl<'a, N: AddressSpace> AddressSlice<'a, N> {
     ///
     /// ```
     /// # use fosibegan::in_examples::*;
+    /// # ended(|| {
     /// let list: [Ipv4Network; 1] = ["192.0.2.0/25".parse()?];
     /// let set = AddressSlice::from_blocks(&list).unwrap();
     /// assert!(set.covers("192.0.2.64/26".parse()?));
-    /// # Ok::<(), Fail>(())
+    /// # Ok(())
+    /// # });
     /// ```
     pub fn covers(&self, network: N) -> bool {
         search::covers(self.blocks, network)
@@ -99,10 +109,12 @@ impl<'a, N: AddressSpace> AddressSlice<'a, N> {
     ///
     /// ```
     /// # use fosibegan::in_examples::*;
+    /// # ended(|| {
     /// let list: [Ipv4Network; 1] = ["192.0.2.0/25".parse()?];
     /// let set = AddressSlice::from_blocks(&list).unwrap();
     /// assert!(set.overlaps("192.0.2.0/24".parse()?));
-    /// # Ok::<(), Fail>(())
+    /// # Ok(())
+    /// # });
     /// ```
     pub fn overlaps(&self, network: N) -> bool {
         search::overlaps(self.blocks, network)
@@ -113,11 +125,13 @@ impl<'a, N: AddressSpace> AddressSlice<'a, N> {
     ///
     /// ```
     /// # use fosibegan::in_examples::*;
+    /// # ended(|| {
     /// let list: [Ipv4Network; 1] = ["192.0.2.0/25".parse()?];
     /// let others: [Ipv4Network; 1] = ["192.0.2.0/26".parse()?];
     /// let common = AddressSlice::from_blocks(&list).unwrap().intersection(&AddressSlice::from_blocks(&others).unwrap());
     /// assert!(common.eq(others));
-    /// # Ok::<(), Fail>(())
+    /// # Ok(())
+    /// # });
     /// ```
     pub fn intersection(&self, other: &AddressSlice<'a, N>) -> Intersection<'a, N> {
         Intersection::of(self.blocks(), other.blocks())
@@ -128,11 +142,13 @@ impl<'a, N: AddressSpace> AddressSlice<'a, N> {
     ///
     /// ```
     /// # use fosibegan::in_examples::*;
+    /// # ended(|| {
     /// let list: [Ipv4Network; 1] = ["192.0.2.0/25".parse()?];
     /// let others: [Ipv4Network; 1] = ["192.0.2.0/26".parse()?];
     /// let left = AddressSlice::from_blocks(&list).unwrap().difference(&AddressSlice::from_blocks(&others).unwrap());
     /// assert!(left.eq(["192.0.2.64/26".parse()?]));
-    /// # Ok::<(), Fail>(())
+    /// # Ok(())
+    /// # });
     /// ```
     pub fn difference(&self, other: &AddressSlice<'a, N>) -> Difference<'a, N> {
         Difference::of(self.blocks(), other.blocks())
@@ -143,10 +159,12 @@ impl<'a, N: AddressSpace> AddressSlice<'a, N> {
     ///
     /// ```
     /// # use fosibegan::in_examples::*;
+    /// # ended(|| {
     /// let list: [Ipv4Network; 1] = ["192.0.2.0/25".parse()?];
     /// let mut free = AddressSlice::from_blocks(&list).unwrap().free_in("192.0.2.0/24".parse()?);
     /// assert_eq!(free.next(), Some("192.0.2.128/25".parse()?));
-    /// # Ok::<(), Fail>(())
+    /// # Ok(())
+    /// # });
     /// ```
     pub fn free_in(&self, network: N) -> Difference<'a, N> {
         Difference::within(network, self.blocks())
@@ -157,11 +175,13 @@ impl<'a, N: AddressSpace> AddressSlice<'a, N> {
     ///
     /// ```
     /// # use fosibegan::in_examples::*;
+    /// # ended(|| {
     /// let list: [Ipv4Network; 1] = ["192.0.2.0/25".parse()?];
     /// let others: [Ipv4Network; 1] = ["192.0.2.128/25".parse()?];
     /// let both = AddressSlice::from_blocks(&list).unwrap().union_blocks(&AddressSlice::from_blocks(&others).unwrap());
     /// assert!(both.eq(["192.0.2.0/24".parse()?]));
-    /// # Ok::<(), Fail>(())
+    /// # Ok(())
+    /// # });
     /// ```
     pub fn union_blocks(&self, other: &AddressSlice<'a, N>) -> Union<'a, N> {
         Union::of(self.blocks(), other.blocks())
@@ -171,11 +191,13 @@ impl<'a, N: AddressSpace> AddressSlice<'a, N> {
     ///
     /// ```
     /// # use fosibegan::in_examples::*;
+    /// # ended(|| {
     /// let list: [Ipv4Network; 1] = ["192.0.2.0/25".parse()?];
     /// let others: [Ipv4Network; 1] = ["192.0.2.0/26".parse()?];
     /// let (wide, narrow) = (AddressSlice::from_blocks(&list).unwrap(), AddressSlice::from_blocks(&others).unwrap());
     /// assert!(narrow.is_subset_of(&wide) && !wide.is_subset_of(&narrow));
-    /// # Ok::<(), Fail>(())
+    /// # Ok(())
+    /// # });
     /// ```
     pub fn is_subset_of(&self, other: &AddressSlice<'a, N>) -> bool {
         let mut left = self.difference(other);
@@ -186,11 +208,13 @@ impl<'a, N: AddressSpace> AddressSlice<'a, N> {
     ///
     /// ```
     /// # use fosibegan::in_examples::*;
+    /// # ended(|| {
     /// let list: [Ipv4Network; 1] = ["192.0.2.0/25".parse()?];
     /// let others: [Ipv4Network; 1] = ["192.0.2.128/25".parse()?];
     /// let set = AddressSlice::from_blocks(&list).unwrap();
     /// assert!(set.is_disjoint_from(&AddressSlice::from_blocks(&others).unwrap()));
-    /// # Ok::<(), Fail>(())
+    /// # Ok(())
+    /// # });
     /// ```
     pub fn is_disjoint_from(&self, other: &AddressSlice<'a, N>) -> bool {
         let mut common = self.intersection(other);
@@ -203,9 +227,12 @@ impl<N: AddressSpace> AddressSet<N> {
     ///
     /// ```
     /// # use fosibegan::in_examples::*;
+    /// # use fosibegan::plain_std::vec;
+    /// # ended(|| {
     /// let set = AddressSet::from_networks(vec![in Global; "192.0.2.0/25".parse::<Ipv4Network>()?]?);
     /// assert!(set.as_slice().contains(Ipv4Addr::new(192, 0, 2, 127)));
-    /// # Ok::<(), Fail>(())
+    /// # Ok(())
+    /// # });
     /// ```
     pub fn as_slice(&self) -> AddressSlice<'_, N> {
         AddressSlice::of_blocks(self.blocks())

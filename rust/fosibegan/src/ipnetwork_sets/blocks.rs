@@ -13,22 +13,28 @@ use crate::ipnetwork_blocks::AddressSpace;
 ///
 /// ```
 /// # use fosibegan::in_examples::*;
+/// # use fosibegan::plain_std::vec;
+/// # ended(|| {
 /// let set = AddressSet::from_networks(vec![in Global; "192.0.2.0/25".parse::<Ipv4Network>()?]?);
 /// let other = AddressSet::from_networks(vec![in Global; "192.0.2.0/26".parse()?]?);
 /// let mut blocks = set.difference(&other);
 /// assert_eq!(SetBlocks::next_block(&mut blocks), Some("192.0.2.64/26".parse()?));
-/// # Ok::<(), Fail>(())
+/// # Ok(())
+/// # });
 /// ```
 pub trait SetBlocks<N: AddressSpace> {
     /// The next block; `None` after the last.
     ///
     /// ```
     /// # use fosibegan::in_examples::*;
+    /// # use fosibegan::plain_std::vec;
+    /// # ended(|| {
     /// let set = AddressSet::from_networks(vec![in Global; "192.0.2.0/25".parse::<Ipv4Network>()?]?);
     /// let mut blocks = set.iter();
     /// assert_eq!(blocks.next_block(), Some("192.0.2.0/25".parse()?));
     /// assert_eq!(blocks.next_block(), None);
-    /// # Ok::<(), Fail>(())
+    /// # Ok(())
+    /// # });
     /// ```
     fn next_block(&mut self) -> Option<N>;
 }
@@ -37,10 +43,13 @@ pub trait SetBlocks<N: AddressSpace> {
 ///
 /// ```
 /// # use fosibegan::in_examples::*;
+/// # use fosibegan::plain_std::vec;
+/// # ended(|| {
 /// let set = AddressSet::from_networks(vec![in Global; "192.0.2.0/25".parse::<Ipv4Network>()?]?);
 /// let blocks: Blocks<'_, Ipv4Network> = set.iter();
 /// assert!(blocks.eq(["192.0.2.0/25".parse()?]));
-/// # Ok::<(), Fail>(())
+/// # Ok(())
+/// # });
 /// ```
 #[derive(Debug)]
 pub struct Blocks<'a, N: AddressSpace> {
@@ -52,10 +61,13 @@ impl<N: AddressSpace> AddressSet<N> {
     ///
     /// ```
     /// # use fosibegan::in_examples::*;
+    /// # use fosibegan::plain_std::vec;
+    /// # ended(|| {
     /// let set = AddressSet::from_networks(vec![in Global; "192.0.2.0/25".parse::<Ipv4Network>()?]?);
     /// let mut blocks = set.iter();
     /// assert_eq!(blocks.next(), Some("192.0.2.0/25".parse()?));
-    /// # Ok::<(), Fail>(())
+    /// # Ok(())
+    /// # });
     /// ```
     pub fn iter(&self) -> Blocks<'_, N> {
         self.as_slice().iter()
@@ -67,9 +79,11 @@ impl<'a, N: AddressSpace> AddressSlice<'a, N> {
     ///
     /// ```
     /// # use fosibegan::in_examples::*;
+    /// # ended(|| {
     /// let list: [Ipv4Network; 1] = ["192.0.2.0/25".parse()?];
     /// assert!(AddressSlice::from_blocks(&list).unwrap().iter().eq(list));
-    /// # Ok::<(), Fail>(())
+    /// # Ok(())
+    /// # });
     /// ```
     pub fn iter(&self) -> Blocks<'a, N> {
         Blocks {

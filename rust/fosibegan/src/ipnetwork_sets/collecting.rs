@@ -16,9 +16,12 @@ use crate::plain_std::alloc::AllocError;
 ///
 /// ```
 /// # use fosibegan::in_examples::*;
+/// # use fosibegan::plain_std::vec;
+/// # ended(|| {
 /// let set = AddressSet::from_networks(vec![in Global; "192.0.2.0/25".parse::<Ipv4Network>()?]?);
 /// assert!(collected(set.iter(), Vec::new(Global))? == set);
-/// # Ok::<(), Fail>(())
+/// # Ok(())
+/// # });
 /// ```
 pub fn collected<N: AddressSpace, B: SetBlocks<N>>(
     mut blocks: B,
@@ -39,9 +42,12 @@ impl<N: AddressSpace> AddressSet<N> {
     ///
     /// ```
     /// # use fosibegan::in_examples::*;
+    /// # use fosibegan::plain_std::vec;
+    /// # ended(|| {
     /// let set = AddressSet::from_networks(vec![in Global; "192.0.2.0/25".parse::<Ipv4Network>()?]?);
     /// assert!(set.copied(Vec::new(Global))? == set);
-    /// # Ok::<(), Fail>(())
+    /// # Ok(())
+    /// # });
     /// ```
     pub fn copied(&self, memory: Vec<N>) -> Result<Self, AllocError> {
         self.iter().into_set(memory)
@@ -54,13 +60,16 @@ impl<'a, N: AddressSpace> Blocks<'a, N> {
     ///
     /// ```
     /// # use fosibegan::in_examples::*;
+    /// # use fosibegan::plain_std::vec;
+    /// # ended(|| {
     /// let networks = vec![in Global; "192.0.2.0/25".parse::<Ipv4Network>()?, "198.51.100.0/24".parse()?]?;
     /// let set = AddressSet::from_networks(networks);
     /// let mut blocks = set.iter();
     /// assert_eq!(blocks.next(), Some("192.0.2.0/25".parse()?));
     /// let rest = blocks.into_set(Vec::new(Global))?;
     /// assert_eq!(rest.blocks(), ["198.51.100.0/24".parse()?].as_slice());
-    /// # Ok::<(), Fail>(())
+    /// # Ok(())
+    /// # });
     /// ```
     pub fn into_set(self, memory: Vec<N>) -> Result<AddressSet<N>, AllocError> {
         collected(self, memory)
@@ -73,11 +82,14 @@ impl<'a, N: AddressSpace> Intersection<'a, N> {
     ///
     /// ```
     /// # use fosibegan::in_examples::*;
+    /// # use fosibegan::plain_std::vec;
+    /// # ended(|| {
     /// let set = AddressSet::from_networks(vec![in Global; "192.0.2.0/25".parse::<Ipv4Network>()?]?);
     /// let other = AddressSet::from_networks(vec![in Global; "192.0.2.64/26".parse()?]?);
     /// let common = set.intersection(&other).into_set(Vec::new(Global))?;
     /// assert_eq!(common.blocks(), ["192.0.2.64/26".parse()?].as_slice());
-    /// # Ok::<(), Fail>(())
+    /// # Ok(())
+    /// # });
     /// ```
     pub fn into_set(self, memory: Vec<N>) -> Result<AddressSet<N>, AllocError> {
         collected(self, memory)
@@ -90,11 +102,14 @@ impl<'a, N: AddressSpace> Difference<'a, N> {
     ///
     /// ```
     /// # use fosibegan::in_examples::*;
+    /// # use fosibegan::plain_std::vec;
+    /// # ended(|| {
     /// let set = AddressSet::from_networks(vec![in Global; "192.0.2.0/25".parse::<Ipv4Network>()?]?);
     /// let other = AddressSet::from_networks(vec![in Global; "192.0.2.64/26".parse()?]?);
     /// let left = set.difference(&other).into_set(Vec::new(Global))?;
     /// assert_eq!(left.blocks(), ["192.0.2.0/26".parse()?].as_slice());
-    /// # Ok::<(), Fail>(())
+    /// # Ok(())
+    /// # });
     /// ```
     pub fn into_set(self, memory: Vec<N>) -> Result<AddressSet<N>, AllocError> {
         collected(self, memory)
@@ -107,11 +122,14 @@ impl<'a, N: AddressSpace> Union<'a, N> {
     ///
     /// ```
     /// # use fosibegan::in_examples::*;
+    /// # use fosibegan::plain_std::vec;
+    /// # ended(|| {
     /// let set = AddressSet::from_networks(vec![in Global; "192.0.2.0/25".parse::<Ipv4Network>()?]?);
     /// let other = AddressSet::from_networks(vec![in Global; "192.0.2.128/25".parse()?]?);
     /// let both = set.union_blocks(&other).into_set(Vec::new(Global))?;
     /// assert_eq!(both.blocks(), ["192.0.2.0/24".parse()?].as_slice());
-    /// # Ok::<(), Fail>(())
+    /// # Ok(())
+    /// # });
     /// ```
     pub fn into_set(self, memory: Vec<N>) -> Result<AddressSet<N>, AllocError> {
         collected(self, memory)

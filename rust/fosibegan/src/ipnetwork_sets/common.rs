@@ -12,11 +12,14 @@ use core::marker::PhantomData;
 ///
 /// ```
 /// # use fosibegan::in_examples::*;
+/// # use fosibegan::plain_std::vec;
+/// # ended(|| {
 /// let set = AddressSet::from_networks(vec![in Global; "192.0.2.0/25".parse::<Ipv4Network>()?]?);
 /// let other = AddressSet::from_networks(vec![in Global; "192.0.0.0/16".parse()?]?);
 /// let common: Intersection<'_, Ipv4Network> = set.intersection(&other);
 /// assert!(common.eq(["192.0.2.0/25".parse()?]));
-/// # Ok::<(), Fail>(())
+/// # Ok(())
+/// # });
 /// ```
 #[derive(Debug)]
 pub struct Intersection<'a, N: AddressSpace, H: HoldsNetwork<N> = N> {
@@ -27,15 +30,6 @@ pub struct Intersection<'a, N: AddressSpace, H: HoldsNetwork<N> = N> {
 
 impl<'a, N: AddressSpace, H: HoldsNetwork<N>> Intersection<'a, N, H> {
     /// The blocks of the addresses that are in both of the sets of two lists.
-    ///
-    /// ```
-    /// # use fosibegan::in_examples::*;
-    /// let list: [Ipv4Network; 1] = ["192.0.2.0/25".parse()?];
-    /// let others: [Ipv4Network; 1] = ["192.0.2.64/26".parse()?];
-    /// let common = Intersection::<'_, Ipv4Network, Ipv4Network>::of(&list, &others);
-    /// assert!(common.eq(others));
-    /// # Ok::<(), Fail>(())
-    /// ```
     #[doc(hidden)]
     pub fn of(first: &'a [H], second: &'a [H]) -> Self {
         Intersection {

@@ -13,9 +13,12 @@ impl<N: AddressSpace> AddressSet<N> {
     ///
     /// ```
     /// # use fosibegan::in_examples::*;
+    /// # use fosibegan::plain_std::vec;
+    /// # ended(|| {
     /// let set = AddressSet::from_networks(vec![in Global; "0.0.0.0/1".parse::<Ipv4Network>()?]?);
     /// assert_eq!(set.complement().next(), Some("128.0.0.0/1".parse()?));
-    /// # Ok::<(), Fail>(())
+    /// # Ok(())
+    /// # });
     /// ```
     pub fn complement(&self) -> Difference<'_, N> {
         self.as_slice().complement()
@@ -28,9 +31,11 @@ impl<'a, N: AddressSpace> AddressSlice<'a, N> {
     ///
     /// ```
     /// # use fosibegan::in_examples::*;
+    /// # ended(|| {
     /// let list: [Ipv4Network; 1] = ["0.0.0.0/1".parse()?];
     /// assert!(AddressSlice::from_blocks(&list).unwrap().complement().eq(["128.0.0.0/1".parse()?]));
-    /// # Ok::<(), Fail>(())
+    /// # Ok(())
+    /// # });
     /// ```
     pub fn complement(&self) -> Difference<'a, N> {
         self.free_in(N::whole())

@@ -12,9 +12,12 @@ impl<N: AddressSpace> AddressSet<N> {
     ///
     /// ```
     /// # use fosibegan::in_examples::*;
+    /// # use fosibegan::plain_std::vec;
+    /// # ended(|| {
     /// let set = AddressSet::from_networks(vec![in Global; "192.0.2.0/25".parse::<Ipv4Network>()?]?);
     /// assert_eq!(set.address_count(), AddressCount::from(128));
-    /// # Ok::<(), Fail>(())
+    /// # Ok(())
+    /// # });
     /// ```
     pub fn address_count(&self) -> AddressCount {
         self.as_slice().address_count()
@@ -26,9 +29,11 @@ impl<'a, N: AddressSpace> AddressSlice<'a, N> {
     ///
     /// ```
     /// # use fosibegan::in_examples::*;
+    /// # ended(|| {
     /// let list: [Ipv4Network; 1] = ["192.0.2.0/25".parse()?];
     /// assert_eq!(AddressSlice::from_blocks(&list).unwrap().address_count(), AddressCount::from(128));
-    /// # Ok::<(), Fail>(())
+    /// # Ok(())
+    /// # });
     /// ```
     pub fn address_count(&self) -> AddressCount {
         count_blocks(self.blocks())

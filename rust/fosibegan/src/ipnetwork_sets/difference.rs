@@ -11,11 +11,14 @@ use crate::ipnetwork_blocks::{AddressSpace, HoldsNetwork, block};
 ///
 /// ```
 /// # use fosibegan::in_examples::*;
+/// # use fosibegan::plain_std::vec;
+/// # ended(|| {
 /// let set = AddressSet::from_networks(vec![in Global; "192.0.2.0/25".parse::<Ipv4Network>()?]?);
 /// let other = AddressSet::from_networks(vec![in Global; "192.0.2.32/27".parse()?]?);
 /// let left: Difference<'_, Ipv4Network> = set.difference(&other);
 /// assert!(left.eq(["192.0.2.0/27".parse()?, "192.0.2.64/26".parse()?]));
-/// # Ok::<(), Fail>(())
+/// # Ok(())
+/// # });
 /// ```
 #[derive(Debug)]
 pub struct Difference<'a, N: AddressSpace, H: HoldsNetwork<N> = N> {
@@ -33,15 +36,6 @@ struct Part<N: AddressSpace> {
 
 impl<'a, N: AddressSpace, H: HoldsNetwork<N>> Difference<'a, N, H> {
     /// The blocks of the addresses that the set of the first list has and that of the cut one has not.
-    ///
-    /// ```
-    /// # use fosibegan::in_examples::*;
-    /// let list: [Ipv4Network; 1] = ["192.0.2.0/25".parse()?];
-    /// let others: [Ipv4Network; 1] = ["192.0.2.64/26".parse()?];
-    /// let left = Difference::<'_, Ipv4Network, Ipv4Network>::of(&list, &others);
-    /// assert!(left.eq(["192.0.2.0/26".parse()?]));
-    /// # Ok::<(), Fail>(())
-    /// ```
     #[doc(hidden)]
     pub fn of(first: &'a [H], cut: &'a [H]) -> Self {
         Difference {

@@ -12,10 +12,13 @@ impl<N: AddressSpace> AddressSet<N> {
     ///
     /// ```
     /// # use fosibegan::in_examples::*;
+    /// # use fosibegan::plain_std::vec;
+    /// # ended(|| {
     /// let set = AddressSet::from_networks(vec![in Global; "192.0.2.0/25".parse::<Ipv4Network>()?]?);
     /// let free = set.first_free("192.0.2.0/24".parse()?, 28);
     /// assert_eq!(free, Some("192.0.2.128/28".parse()?));
-    /// # Ok::<(), Fail>(())
+    /// # Ok(())
+    /// # });
     /// ```
     pub fn first_free(&self, network: N, prefix: u8) -> Option<N> {
         let mut free = self.free_in(network);

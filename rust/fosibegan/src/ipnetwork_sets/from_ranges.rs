@@ -14,10 +14,12 @@ impl<N: AddressSpace> AddressSet<N> {
     ///
     /// ```
     /// # use fosibegan::in_examples::*;
+    /// # ended(|| {
     /// let ranges = [(Ipv4Addr::new(192, 0, 2, 0), Ipv4Addr::new(192, 0, 2, 127))];
     /// let set = AddressSet::<Ipv4Network>::from_ranges(&ranges, Vec::new(Global))?;
     /// assert_eq!(set.blocks()[0].canonical().as_str(), "192.0.2.0/25");
-    /// # Ok::<(), Fail>(())
+    /// # Ok(())
+    /// # });
     /// ```
     pub fn from_ranges(
         ranges: &[(N::Addr, N::Addr)],
@@ -37,10 +39,12 @@ impl<N: AddressSpace> AddressSet<N> {
 ///
 /// ```
 /// # use fosibegan::in_examples::*;
+/// # ended(|| {
 /// let mut networks = Vec::<Ipv4Network>::new(Global);
 /// push_range(&mut networks, Ipv4Addr::new(192, 0, 2, 1), Ipv4Addr::new(192, 0, 2, 3))?;
 /// assert_eq!(networks.len(), 2);
-/// # Ok::<(), Fail>(())
+/// # Ok(())
+/// # });
 /// ```
 pub fn push_range<N: AddressSpace>(
     networks: &mut Vec<N>,

@@ -16,10 +16,13 @@ impl<N: AddressSpace> AddressSet<N> {
     ///
     /// ```
     /// # use fosibegan::in_examples::*;
+    /// # use fosibegan::plain_std::vec;
+    /// # ended(|| {
     /// let set = AddressSet::from_networks(vec![in Global; "192.0.2.0/25".parse::<Ipv4Network>()?]?);
     /// let other = AddressSet::from_networks(vec![in Global; "192.0.2.0/26".parse()?]?);
     /// assert_eq!(set.intersection(&other).next(), Some("192.0.2.0/26".parse()?));
-    /// # Ok::<(), Fail>(())
+    /// # Ok(())
+    /// # });
     /// ```
     pub fn intersection<'a>(&'a self, other: &'a AddressSet<N>) -> Intersection<'a, N> {
         Intersection::of(self.blocks(), other.blocks())
@@ -30,10 +33,13 @@ impl<N: AddressSpace> AddressSet<N> {
     ///
     /// ```
     /// # use fosibegan::in_examples::*;
+    /// # use fosibegan::plain_std::vec;
+    /// # ended(|| {
     /// let set = AddressSet::from_networks(vec![in Global; "192.0.2.0/25".parse::<Ipv4Network>()?]?);
     /// let other = AddressSet::from_networks(vec![in Global; "192.0.2.0/26".parse()?]?);
     /// assert_eq!(set.difference(&other).next(), Some("192.0.2.64/26".parse()?));
-    /// # Ok::<(), Fail>(())
+    /// # Ok(())
+    /// # });
     /// ```
     pub fn difference<'a>(&'a self, other: &'a AddressSet<N>) -> Difference<'a, N> {
         Difference::of(self.blocks(), other.blocks())
@@ -46,9 +52,12 @@ impl<N: AddressSpace> AddressSet<N> {
     ///
     /// ```
     /// # use fosibegan::in_examples::*;
+    /// # use fosibegan::plain_std::vec;
+    /// # ended(|| {
     /// let set = AddressSet::from_networks(vec![in Global; "192.0.2.0/25".parse::<Ipv4Network>()?]?);
     /// assert_eq!(set.free_in("192.0.2.0/24".parse()?).next(), Some("192.0.2.128/25".parse()?));
-    /// # Ok::<(), Fail>(())
+    /// # Ok(())
+    /// # });
     /// ```
     pub fn free_in(&self, network: N) -> Difference<'_, N> {
         Difference::within(network, self.blocks())
@@ -59,10 +68,13 @@ impl<N: AddressSpace> AddressSet<N> {
     ///
     /// ```
     /// # use fosibegan::in_examples::*;
+    /// # use fosibegan::plain_std::vec;
+    /// # ended(|| {
     /// let set = AddressSet::from_networks(vec![in Global; "192.0.2.0/25".parse::<Ipv4Network>()?]?);
     /// let other = AddressSet::from_networks(vec![in Global; "192.0.2.128/25".parse()?]?);
     /// assert_eq!(set.union_blocks(&other).next(), Some("192.0.2.0/24".parse()?));
-    /// # Ok::<(), Fail>(())
+    /// # Ok(())
+    /// # });
     /// ```
     pub fn union_blocks<'a>(&'a self, other: &'a AddressSet<N>) -> Union<'a, N> {
         Union::of(self.blocks(), other.blocks())
@@ -73,10 +85,13 @@ impl<N: AddressSpace> AddressSet<N> {
     ///
     /// ```
     /// # use fosibegan::in_examples::*;
+    /// # use fosibegan::plain_std::vec;
+    /// # ended(|| {
     /// let set = AddressSet::from_networks(vec![in Global; "192.0.2.0/25".parse::<Ipv4Network>()?]?);
     /// let other = AddressSet::from_networks(vec![in Global; "192.0.2.128/25".parse()?]?);
     /// assert!(set.union(&other, Vec::new(Global))?.covers("192.0.2.0/24".parse()?));
-    /// # Ok::<(), Fail>(())
+    /// # Ok(())
+    /// # });
     /// ```
     pub fn union(&self, other: &AddressSet<N>, memory: Vec<N>) -> Result<Self, AllocError> {
         self.union_blocks(other).into_set(memory)
@@ -86,11 +101,14 @@ impl<N: AddressSpace> AddressSet<N> {
     ///
     /// ```
     /// # use fosibegan::in_examples::*;
+    /// # use fosibegan::plain_std::vec;
+    /// # ended(|| {
     /// let set = AddressSet::from_networks(vec![in Global; "192.0.2.0/25".parse::<Ipv4Network>()?]?);
     /// let other = AddressSet::from_networks(vec![in Global; "192.0.2.0/26".parse()?]?);
     /// assert!(other.is_subset_of(&set));
     /// assert!(!set.is_subset_of(&other));
-    /// # Ok::<(), Fail>(())
+    /// # Ok(())
+    /// # });
     /// ```
     pub fn is_subset_of(&self, other: &AddressSet<N>) -> bool {
         self.as_slice().is_subset_of(&other.as_slice())
@@ -100,10 +118,13 @@ impl<N: AddressSpace> AddressSet<N> {
     ///
     /// ```
     /// # use fosibegan::in_examples::*;
+    /// # use fosibegan::plain_std::vec;
+    /// # ended(|| {
     /// let set = AddressSet::from_networks(vec![in Global; "192.0.2.0/25".parse::<Ipv4Network>()?]?);
     /// let other = AddressSet::from_networks(vec![in Global; "192.0.2.128/25".parse()?]?);
     /// assert!(set.is_disjoint_from(&other));
-    /// # Ok::<(), Fail>(())
+    /// # Ok(())
+    /// # });
     /// ```
     pub fn is_disjoint_from(&self, other: &AddressSet<N>) -> bool {
         self.as_slice().is_disjoint_from(&other.as_slice())

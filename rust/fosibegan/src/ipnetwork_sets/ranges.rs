@@ -16,11 +16,14 @@ use crate::ipnetwork_blocks::AddressSpace;
 ///
 /// ```
 /// # use fosibegan::in_examples::*;
+/// # use fosibegan::plain_std::vec;
+/// # ended(|| {
 /// let networks = vec![in Global; "10.0.0.0/31".parse::<Ipv4Network>()?, "10.0.0.2/32".parse()?]?;
 /// let set = AddressSet::from_networks(networks);
 /// let ranges: Ranges<Ipv4Network, Blocks<'_, Ipv4Network>> = set.ranges();
 /// assert!(ranges.eq([(Ipv4Addr::new(10, 0, 0, 0), Ipv4Addr::new(10, 0, 0, 2))]));
-/// # Ok::<(), Fail>(())
+/// # Ok(())
+/// # });
 /// ```
 #[derive(Debug)]
 pub struct Ranges<N: AddressSpace, B: SetBlocks<N>> {
@@ -33,10 +36,12 @@ impl<N: AddressSpace, B: SetBlocks<N>> Ranges<N, B> {
     ///
     /// ```
     /// # use fosibegan::in_examples::*;
+    /// # ended(|| {
     /// let list: [Ipv4Network; 1] = ["192.0.2.0/24".parse()?];
     /// let mut ranges = Ranges::of(AddressSlice::from_blocks(&list).unwrap().iter());
     /// assert_eq!(ranges.next(), Some((Ipv4Addr::new(192, 0, 2, 0), Ipv4Addr::new(192, 0, 2, 255))));
-    /// # Ok::<(), Fail>(())
+    /// # Ok(())
+    /// # });
     /// ```
     pub fn of(mut blocks: B) -> Self {
         let ahead = blocks.next_block();
@@ -75,11 +80,14 @@ impl<N: AddressSpace> AddressSet<N> {
     ///
     /// ```
     /// # use fosibegan::in_examples::*;
+    /// # use fosibegan::plain_std::vec;
+    /// # ended(|| {
     /// let networks = vec![in Global; "192.0.2.0/25".parse::<Ipv4Network>()?, "192.0.2.128/25".parse()?]?;
     /// let set = AddressSet::from_networks(networks);
     /// let range = (Ipv4Addr::new(192, 0, 2, 0), Ipv4Addr::new(192, 0, 2, 255));
     /// assert_eq!(set.ranges().next(), Some(range));
-    /// # Ok::<(), Fail>(())
+    /// # Ok(())
+    /// # });
     /// ```
     pub fn ranges(&self) -> Ranges<N, Blocks<'_, N>> {
         Ranges::of(self.iter())
@@ -92,10 +100,12 @@ impl<'a, N: AddressSpace> AddressSlice<'a, N> {
     ///
     /// ```
     /// # use fosibegan::in_examples::*;
+    /// # ended(|| {
     /// let list: [Ipv4Network; 1] = ["192.0.2.0/24".parse()?];
     /// let range = (Ipv4Addr::new(192, 0, 2, 0), Ipv4Addr::new(192, 0, 2, 255));
     /// assert_eq!(AddressSlice::from_blocks(&list).unwrap().ranges().next(), Some(range));
-    /// # Ok::<(), Fail>(())
+    /// # Ok(())
+    /// # });
     /// ```
     pub fn ranges(&self) -> Ranges<N, Blocks<'a, N>> {
         Ranges::of(self.iter())
@@ -107,11 +117,14 @@ impl<'a, N: AddressSpace> Intersection<'a, N> {
     ///
     /// ```
     /// # use fosibegan::in_examples::*;
+    /// # use fosibegan::plain_std::vec;
+    /// # ended(|| {
     /// let set = AddressSet::from_networks(vec![in Global; "192.0.2.0/25".parse::<Ipv4Network>()?]?);
     /// let other = AddressSet::from_networks(vec![in Global; "192.0.2.64/26".parse()?]?);
     /// let range = (Ipv4Addr::new(192, 0, 2, 64), Ipv4Addr::new(192, 0, 2, 127));
     /// assert_eq!(set.intersection(&other).ranges().next(), Some(range));
-    /// # Ok::<(), Fail>(())
+    /// # Ok(())
+    /// # });
     /// ```
     pub fn ranges(self) -> Ranges<N, Intersection<'a, N>> {
         Ranges::of(self)
@@ -123,11 +136,14 @@ impl<'a, N: AddressSpace> Difference<'a, N> {
     ///
     /// ```
     /// # use fosibegan::in_examples::*;
+    /// # use fosibegan::plain_std::vec;
+    /// # ended(|| {
     /// let set = AddressSet::from_networks(vec![in Global; "192.0.2.0/25".parse::<Ipv4Network>()?]?);
     /// let other = AddressSet::from_networks(vec![in Global; "192.0.2.0/32".parse()?]?);
     /// let range = (Ipv4Addr::new(192, 0, 2, 1), Ipv4Addr::new(192, 0, 2, 127));
     /// assert_eq!(set.difference(&other).ranges().next(), Some(range));
-    /// # Ok::<(), Fail>(())
+    /// # Ok(())
+    /// # });
     /// ```
     pub fn ranges(self) -> Ranges<N, Difference<'a, N>> {
         Ranges::of(self)
@@ -139,11 +155,14 @@ impl<'a, N: AddressSpace> Union<'a, N> {
     ///
     /// ```
     /// # use fosibegan::in_examples::*;
+    /// # use fosibegan::plain_std::vec;
+    /// # ended(|| {
     /// let set = AddressSet::from_networks(vec![in Global; "192.0.2.0/25".parse::<Ipv4Network>()?]?);
     /// let other = AddressSet::from_networks(vec![in Global; "192.0.2.128/32".parse()?]?);
     /// let range = (Ipv4Addr::new(192, 0, 2, 0), Ipv4Addr::new(192, 0, 2, 128));
     /// assert_eq!(set.union_blocks(&other).ranges().next(), Some(range));
-    /// # Ok::<(), Fail>(())
+    /// # Ok(())
+    /// # });
     /// ```
     pub fn ranges(self) -> Ranges<N, Union<'a, N>> {
         Ranges::of(self)

@@ -11,11 +11,14 @@ use crate::ipnetwork_blocks::{AddressSpace, HoldsNetwork, RangeBlocks, range_to_
 ///
 /// ```
 /// # use fosibegan::in_examples::*;
+/// # use fosibegan::plain_std::vec;
+/// # ended(|| {
 /// let set = AddressSet::from_networks(vec![in Global; "192.0.2.0/25".parse::<Ipv4Network>()?]?);
 /// let other = AddressSet::from_networks(vec![in Global; "192.0.3.0/24".parse()?]?);
 /// let blocks: Union<'_, Ipv4Network> = set.union_blocks(&other);
 /// assert!(blocks.eq(["192.0.2.0/25".parse()?, "192.0.3.0/24".parse()?]));
-/// # Ok::<(), Fail>(())
+/// # Ok(())
+/// # });
 /// ```
 pub struct Union<'a, N: AddressSpace, H: HoldsNetwork<N> = N> {
     run: Option<RangeBlocks<N>>,
@@ -40,15 +43,6 @@ where
 
 impl<'a, N: AddressSpace, H: HoldsNetwork<N>> Union<'a, N, H> {
     /// The blocks of the addresses that one of the sets of two lists has, or both.
-    ///
-    /// ```
-    /// # use fosibegan::in_examples::*;
-    /// let list: [Ipv4Network; 1] = ["192.0.2.0/25".parse()?];
-    /// let others: [Ipv4Network; 1] = ["192.0.2.128/25".parse()?];
-    /// let both = Union::<'_, Ipv4Network, Ipv4Network>::of(&list, &others);
-    /// assert!(both.eq(["192.0.2.0/24".parse()?]));
-    /// # Ok::<(), Fail>(())
-    /// ```
     #[doc(hidden)]
     pub fn of(first: &'a [H], second: &'a [H]) -> Self {
         Union {

@@ -11,13 +11,15 @@ use crate::plain_std::collections::btree_map::Iter;
 ///
 /// ```
 /// # use fosibegan::in_examples::*;
+/// # ended(|| {
 /// let mut table = PrefixTable::new(Global);
 /// table.insert("10.1.0.0/16".parse::<Ipv4Network>()?, 3)?;
 /// table.insert("10.0.0.0/8".parse()?, 2)?;
 /// let mut entries = table.iter();
 /// assert_eq!(entries.next(), Some(("10.0.0.0/8".parse()?, 2)));
 /// assert_eq!(entries.next(), Some(("10.1.0.0/16".parse()?, 3)));
-/// # Ok::<(), Fail>(())
+/// # Ok(())
+/// # });
 /// ```
 pub struct Entries<'a, N: CidrNetwork, V: Copy> {
     left: Iter<'a, N, V>,

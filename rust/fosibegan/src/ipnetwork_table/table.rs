@@ -18,11 +18,13 @@ use core::fmt::{Debug, Formatter, Write};
 ///
 /// ```
 /// # use fosibegan::in_examples::*;
+/// # ended(|| {
 /// let mut table = PrefixTable::new(Global);
 /// table.insert("10.0.0.0/8".parse::<Ipv4Network>()?, 2)?;
 /// table.insert("10.1.0.0/16".parse()?, 3)?;
 /// assert_eq!(table.lookup(Ipv4Addr::new(10, 1, 9, 32)), Some(("10.1.0.0/16".parse()?, 3)));
-/// # Ok::<(), Fail>(())
+/// # Ok(())
+/// # });
 /// ```
 pub struct PrefixTable<N: CidrNetwork, V: Copy> {
     values: Values<N, V>,
@@ -59,10 +61,12 @@ impl<N: CidrNetwork, V: Copy> PrefixTable<N, V> {
     ///
     /// ```
     /// # use fosibegan::in_examples::*;
+    /// # ended(|| {
     /// let mut table = PrefixTable::new(Global);
     /// table.insert("10.0.0.0/8".parse::<Ipv4Network>()?, 2)?;
     /// assert_eq!(table.len(), 1);
-    /// # Ok::<(), Fail>(())
+    /// # Ok(())
+    /// # });
     /// ```
     pub fn len(&self) -> usize {
         self.values.len()
@@ -72,10 +76,12 @@ impl<N: CidrNetwork, V: Copy> PrefixTable<N, V> {
     ///
     /// ```
     /// # use fosibegan::in_examples::*;
+    /// # ended(|| {
     /// let mut table = PrefixTable::new(Global);
     /// table.insert("10.0.0.0/8".parse::<Ipv4Network>()?, 2)?;
     /// assert!(!table.is_empty());
-    /// # Ok::<(), Fail>(())
+    /// # Ok(())
+    /// # });
     /// ```
     pub fn is_empty(&self) -> bool {
         self.len() == 0
@@ -85,11 +91,13 @@ impl<N: CidrNetwork, V: Copy> PrefixTable<N, V> {
     ///
     /// ```
     /// # use fosibegan::in_examples::*;
+    /// # ended(|| {
     /// let mut table = PrefixTable::new(Global);
     /// table.insert("10.0.0.0/8".parse::<Ipv4Network>()?, 2)?;
     /// assert_eq!(table.get("10.1.9.32/8".parse()?), Some(2));
     /// assert_eq!(table.get("10.0.0.0/9".parse()?), None);
-    /// # Ok::<(), Fail>(())
+    /// # Ok(())
+    /// # });
     /// ```
     pub fn get(&self, net: N) -> Option<V> {
         let mut steps = 0;
@@ -100,10 +108,12 @@ impl<N: CidrNetwork, V: Copy> PrefixTable<N, V> {
     ///
     /// ```
     /// # use fosibegan::in_examples::*;
+    /// # ended(|| {
     /// let mut table = PrefixTable::new(Global);
     /// table.insert("10.0.0.0/8".parse::<Ipv4Network>()?, 2)?;
     /// assert!(table.contains_key("10.1.9.32/8".parse()?));
-    /// # Ok::<(), Fail>(())
+    /// # Ok(())
+    /// # });
     /// ```
     pub fn contains_key(&self, net: N) -> bool {
         self.get(net).is_some()
@@ -114,10 +124,12 @@ impl<N: CidrNetwork, V: Copy> PrefixTable<N, V> {
     ///
     /// ```
     /// # use fosibegan::in_examples::*;
+    /// # ended(|| {
     /// let mut table = PrefixTable::new(Global);
     /// table.insert("10.0.0.0/8".parse::<Ipv4Network>()?, 2)?;
     /// assert_eq!(table.iter().next(), Some(("10.0.0.0/8".parse()?, 2)));
-    /// # Ok::<(), Fail>(())
+    /// # Ok(())
+    /// # });
     /// ```
     pub fn iter(&self) -> Entries<'_, N, V> {
         self.values.entries()
@@ -127,11 +139,13 @@ impl<N: CidrNetwork, V: Copy> PrefixTable<N, V> {
     ///
     /// ```
     /// # use fosibegan::in_examples::*;
+    /// # ended(|| {
     /// let mut table = PrefixTable::new(Global);
     /// table.insert("10.0.0.0/8".parse::<Ipv4Network>()?, 2)?;
     /// table.clear();
     /// assert_eq!(table.len(), 0);
-    /// # Ok::<(), Fail>(())
+    /// # Ok(())
+    /// # });
     /// ```
     pub fn clear(&mut self) {
         self.values.clear();
@@ -144,10 +158,12 @@ impl<N: CidrNetwork, V: Copy> PrefixTable<N, V> {
     ///
     /// ```
     /// # use fosibegan::in_examples::*;
+    /// # ended(|| {
     /// let mut table = PrefixTable::new(Global);
     /// table.insert("10.0.0.0/8".parse::<Ipv4Network>()?, 2)?;
     /// assert_eq!(table.insert("10.1.9.32/8".parse()?, 7)?, Some(2));
-    /// # Ok::<(), Fail>(())
+    /// # Ok(())
+    /// # });
     /// ```
     pub fn insert(&mut self, net: N, value: V) -> Result<Option<V>, AllocError> {
         self.insert_block(key_of(net), value)
@@ -170,11 +186,13 @@ impl<N: CidrNetwork, V: Copy> PrefixTable<N, V> {
     ///
     /// ```
     /// # use fosibegan::in_examples::*;
+    /// # ended(|| {
     /// let mut table = PrefixTable::new(Global);
     /// table.insert("10.0.0.0/8".parse::<Ipv4Network>()?, 2)?;
     /// assert_eq!(table.remove("10.1.9.32/8".parse()?), Some(2));
     /// assert_eq!(table.remove("10.1.9.32/8".parse()?), None);
-    /// # Ok::<(), Fail>(())
+    /// # Ok(())
+    /// # });
     /// ```
     pub fn remove(&mut self, net: N) -> Option<V> {
         self.remove_block(key_of(net))
@@ -196,11 +214,13 @@ impl<N: CidrNetwork, V: Copy> PrefixTable<N, V> {
     ///
     /// ```
     /// # use fosibegan::in_examples::*;
+    /// # ended(|| {
     /// let mut table = PrefixTable::new(Global);
     /// table.insert("10.0.0.0/8".parse::<Ipv4Network>()?, 2)?;
     /// assert_eq!(table.lookup(Ipv4Addr::new(10, 1, 9, 32)), Some(("10.0.0.0/8".parse()?, 2)));
     /// assert_eq!(table.lookup(Ipv4Addr::new(11, 0, 0, 0)), None);
-    /// # Ok::<(), Fail>(())
+    /// # Ok(())
+    /// # });
     /// ```
     pub fn lookup(&self, addr: N::Addr) -> Option<(N, V)> {
         let mut steps = 0;
@@ -250,12 +270,14 @@ impl<N: CidrNetwork, V: Copy> PrefixTable<N, V> {
     ///
     /// ```
     /// # use fosibegan::in_examples::*;
+    /// # ended(|| {
     /// let mut table = PrefixTable::new(Global);
     /// table.insert("10.0.0.0/8".parse::<Ipv4Network>()?, 2)?;
     /// let (found, steps) = table.lookup_steps(Ipv4Addr::new(10, 1, 9, 32));
     /// assert_eq!(found, Some(("10.0.0.0/8".parse()?, 2)));
     /// assert_eq!(steps, 25);
-    /// # Ok::<(), Fail>(())
+    /// # Ok(())
+    /// # });
     /// ```
     pub fn lookup_steps(&self, addr: N::Addr) -> (Option<(N, V)>, u32) {
         let mut steps = 0;

@@ -69,11 +69,11 @@ impl Write for String {
 
 /// `to_string`, with an allocator.
 pub trait ToString {
-    fn to_string(&self, alloc: Global) -> Result<String, AllocError>;
+    fn kit_to_string(&self, alloc: Global) -> Result<String, AllocError>;
 }
 
 impl<T: Display + ?Sized> ToString for T {
-    fn to_string(&self, alloc: Global) -> Result<String, AllocError> {
+    fn kit_to_string(&self, alloc: Global) -> Result<String, AllocError> {
         formatted(alloc, format_args!("{self}"))
     }
 }

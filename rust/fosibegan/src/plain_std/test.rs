@@ -1,26 +1,23 @@
 //! How a test or an example ends that passes on any error.
-use core::fmt;
+use core::fmt::{Debug, Display};
 
-/// Stands for any error: making one ends the test, and shows the error.
-#[derive(Debug)]
+/// Stands for any error: that which makes one ends the test, and shows what it was.
 pub struct Fail(());
 
 impl Fail {
     /// Ends the test, and shows why.
-    pub fn new(why: impl fmt::Display) -> Self {
+    #[track_caller]
+    pub fn new(why: impl Display) -> Self {
         panic!("{why}")
     }
 }
 
-impl<E: fmt::Debug + Any> From<E> for Fail {
+impl<E: Debug> From<E> for Fail {
     #[track_caller]
     fn from(error: E) -> Self {
         panic!("{error:?}")
     }
 }
-
-/// What is no `Fail` itself.
-pub trait Any {}
 
 /// Runs a test.
 pub fn ended(test: impl FnOnce() -> Result<(), Fail>) {

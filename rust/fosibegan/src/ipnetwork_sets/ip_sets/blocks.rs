@@ -11,11 +11,14 @@ use crate::ipnetwork::{IpNetwork, Ipv4Network, Ipv6Network};
 ///
 /// ```
 /// # use fosibegan::in_examples::*;
+/// # use fosibegan::plain_std::vec;
+/// # ended(|| {
 /// let v4 = vec![in Global; "192.0.2.0/24".parse::<Ipv4Network>()?]?;
 /// let set = IpAddressSet::from_lists(v4, Vec::new(Global));
 /// let blocks: IpBlocks<fosibegan::ipnetwork_sets::Blocks<'_, Ipv4Network>, fosibegan::ipnetwork_sets::Blocks<'_, Ipv6Network>> = set.iter();
 /// assert!(blocks.eq(["192.0.2.0/24".parse()?]));
-/// # Ok::<(), Fail>(())
+/// # Ok(())
+/// # });
 /// ```
 #[derive(Debug)]
 pub struct IpBlocks<V4: SetBlocks<Ipv4Network>, V6: SetBlocks<Ipv6Network>> {

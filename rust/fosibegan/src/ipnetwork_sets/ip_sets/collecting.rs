@@ -15,10 +15,13 @@ impl IpAddressSet {
     ///
     /// ```
     /// # use fosibegan::in_examples::*;
+    /// # use fosibegan::plain_std::vec;
+    /// # ended(|| {
     /// let v4 = vec![in Global; "192.0.2.0/25".parse::<Ipv4Network>()?]?;
     /// let set = IpAddressSet::from_lists(v4, Vec::new(Global));
     /// assert!(set.copied(Vec::new(Global), Vec::new(Global))? == set);
-    /// # Ok::<(), Fail>(())
+    /// # Ok(())
+    /// # });
     /// ```
     pub fn copied(
         &self,
@@ -35,6 +38,8 @@ impl<V4: SetBlocks<Ipv4Network>, V6: SetBlocks<Ipv6Network>> IpBlocks<V4, V6> {
     ///
     /// ```
     /// # use fosibegan::in_examples::*;
+    /// # use fosibegan::plain_std::vec;
+    /// # ended(|| {
     /// let v4 = vec![in Global; "192.0.2.0/25".parse::<Ipv4Network>()?]?;
     /// let set = IpAddressSet::from_lists(v4, Vec::new(Global));
     /// let blocks = set.iter();
@@ -45,7 +50,8 @@ impl<V4: SetBlocks<Ipv4Network>, V6: SetBlocks<Ipv6Network>> IpBlocks<V4, V6> {
     /// assert!(rest.is_empty());
     /// let both = set.union_blocks(&set).into_set(Vec::new(Global), Vec::new(Global))?;
     /// assert!(both == set);
-    /// # Ok::<(), Fail>(())
+    /// # Ok(())
+    /// # });
     /// ```
     pub fn into_set(
         self,

@@ -10,12 +10,15 @@ impl IpAddressSet {
     ///
     /// ```
     /// # use fosibegan::in_examples::*;
+    /// # use fosibegan::plain_std::vec;
+    /// # ended(|| {
     /// let v6 = vec![in Global; "::/0".parse::<Ipv6Network>()?]?;
     /// let set = IpAddressSet::from_lists(vec![in Global; "192.0.2.0/25".parse::<Ipv4Network>()?]?, v6);
     /// let (v4, v6) = set.address_counts();
     /// assert_eq!(v4, fosibegan::ipnetwork_sets::AddressCount::from(128));
     /// assert_eq!(v6, fosibegan::ipnetwork_sets::AddressCount::AllOfIpv6);
-    /// # Ok::<(), Fail>(())
+    /// # Ok(())
+    /// # });
     /// ```
     pub fn address_counts(&self) -> (AddressCount, AddressCount) {
         (self.v4().address_count(), self.v6().address_count())
@@ -25,10 +28,13 @@ impl IpAddressSet {
     ///
     /// ```
     /// # use fosibegan::in_examples::*;
+    /// # use fosibegan::plain_std::vec;
+    /// # ended(|| {
     /// let v6 = vec![in Global; "::/0".parse::<Ipv6Network>()?]?;
     /// let set = IpAddressSet::from_lists(vec![in Global; "192.0.2.0/25".parse::<Ipv4Network>()?]?, v6);
     /// assert_eq!(set.len(), 2);
-    /// # Ok::<(), Fail>(())
+    /// # Ok(())
+    /// # });
     /// ```
     pub fn len(&self) -> usize {
         self.v4().blocks().len() + self.v6().blocks().len()

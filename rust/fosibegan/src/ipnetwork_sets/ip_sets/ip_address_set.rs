@@ -14,10 +14,12 @@ use crate::plain_std::alloc::AllocError;
 ///
 /// ```
 /// # use fosibegan::in_examples::*;
+/// # ended(|| {
 /// let networks = ["2001:db8::/32".parse::<IpNetwork>()?, "192.0.2.0/25".parse()?, "192.0.2.128/25".parse()?];
 /// let set = IpAddressSet::from_networks(&networks, Vec::new(Global), Vec::new(Global))?;
 /// assert!(set.iter().eq(["192.0.2.0/24".parse()?, "2001:db8::/32".parse()?]));
-/// # Ok::<(), Fail>(())
+/// # Ok(())
+/// # });
 /// ```
 #[derive(Debug)]
 pub struct IpAddressSet {
@@ -34,10 +36,12 @@ impl IpAddressSet {
     ///
     /// ```
     /// # use fosibegan::in_examples::*;
+    /// # ended(|| {
     /// let networks = ["::1/128".parse::<IpNetwork>()?, "10.1.2.3/8".parse()?];
     /// let set = IpAddressSet::from_networks(&networks, Vec::new(Global), Vec::new(Global))?;
     /// assert!(set.iter().eq(["10.0.0.0/8".parse()?, "::1/128".parse()?]));
-    /// # Ok::<(), Fail>(())
+    /// # Ok(())
+    /// # });
     /// ```
     pub fn from_networks(
         networks: &[IpNetwork],
@@ -59,10 +63,13 @@ impl IpAddressSet {
     ///
     /// ```
     /// # use fosibegan::in_examples::*;
+    /// # use fosibegan::plain_std::vec;
+    /// # ended(|| {
     /// let v4 = vec![in Global; "192.0.2.0/25".parse::<Ipv4Network>()?, "192.0.2.128/25".parse()?]?;
     /// let set = IpAddressSet::from_lists(v4, vec![in Global; "::1/64".parse::<Ipv6Network>()?]?);
     /// assert!(set.iter().eq(["192.0.2.0/24".parse()?, "::/64".parse()?]));
-    /// # Ok::<(), Fail>(())
+    /// # Ok(())
+    /// # });
     /// ```
     pub fn from_lists(v4: Vec<Ipv4Network>, v6: Vec<Ipv6Network>) -> Self {
         IpAddressSet::from_parts(AddressSet::from_networks(v4), AddressSet::from_networks(v6))
@@ -72,10 +79,13 @@ impl IpAddressSet {
     ///
     /// ```
     /// # use fosibegan::in_examples::*;
+    /// # use fosibegan::plain_std::vec;
+    /// # ended(|| {
     /// let v4 = AddressSet::from_networks(vec![in Global; "192.0.2.0/24".parse::<Ipv4Network>()?]?);
     /// let v6 = AddressSet::from_networks(Vec::<Ipv6Network>::new(Global));
     /// assert!(IpAddressSet::from_parts(v4, v6).iter().eq(["192.0.2.0/24".parse()?]));
-    /// # Ok::<(), Fail>(())
+    /// # Ok(())
+    /// # });
     /// ```
     pub fn from_parts(v4: AddressSet<Ipv4Network>, v6: AddressSet<Ipv6Network>) -> Self {
         // The clauses of these calls say that they are lists of sets.
@@ -88,11 +98,14 @@ impl IpAddressSet {
     ///
     /// ```
     /// # use fosibegan::in_examples::*;
+    /// # use fosibegan::plain_std::vec;
+    /// # ended(|| {
     /// let v4 = vec![in Global; "192.0.2.0/24".parse::<Ipv4Network>()?]?;
     /// let (v4, v6) = IpAddressSet::from_lists(v4, Vec::new(Global)).into_parts();
     /// assert_eq!(v4.blocks(), ["192.0.2.0/24".parse()?].as_slice());
     /// assert!(v6.is_empty());
-    /// # Ok::<(), Fail>(())
+    /// # Ok(())
+    /// # });
     /// ```
     pub fn into_parts(self) -> (AddressSet<Ipv4Network>, AddressSet<Ipv6Network>) {
         (self.v4, self.v6)
@@ -102,11 +115,14 @@ impl IpAddressSet {
     ///
     /// ```
     /// # use fosibegan::in_examples::*;
+    /// # use fosibegan::plain_std::vec;
+    /// # ended(|| {
     /// let v4 = vec![in Global; "192.0.2.0/24".parse::<Ipv4Network>()?]?;
     /// let set = IpAddressSet::from_lists(v4, Vec::new(Global));
     /// let range = (Ipv4Addr::new(192, 0, 2, 0), Ipv4Addr::new(192, 0, 2, 255));
     /// assert!(set.v4().ranges().eq([range]));
-    /// # Ok::<(), Fail>(())
+    /// # Ok(())
+    /// # });
     /// ```
     pub fn v4(&self) -> &AddressSet<Ipv4Network> {
         &self.v4
@@ -116,10 +132,13 @@ impl IpAddressSet {
     ///
     /// ```
     /// # use fosibegan::in_examples::*;
+    /// # use fosibegan::plain_std::vec;
+    /// # ended(|| {
     /// let v6 = vec![in Global; "::ffff:192.0.2.0/120".parse::<Ipv6Network>()?]?;
     /// let set = IpAddressSet::from_lists(Vec::new(Global), v6);
     /// assert_eq!(set.v6().address_count(), fosibegan::ipnetwork_sets::AddressCount::from(256));
-    /// # Ok::<(), Fail>(())
+    /// # Ok(())
+    /// # });
     /// ```
     pub fn v6(&self) -> &AddressSet<Ipv6Network> {
         &self.v6
@@ -129,10 +148,13 @@ impl IpAddressSet {
     ///
     /// ```
     /// # use fosibegan::in_examples::*;
+    /// # use fosibegan::plain_std::vec;
+    /// # ended(|| {
     /// let v6 = vec![in Global; "::1/128".parse::<Ipv6Network>()?]?;
     /// let set = IpAddressSet::from_lists(vec![in Global; "192.0.2.0/24".parse::<Ipv4Network>()?]?, v6);
     /// assert!(set.iter().eq(["192.0.2.0/24".parse()?, "::1/128".parse()?]));
-    /// # Ok::<(), Fail>(())
+    /// # Ok(())
+    /// # });
     /// ```
     pub fn iter(&self) -> IpBlocks<Blocks<'_, Ipv4Network>, Blocks<'_, Ipv6Network>> {
         IpBlocks::of(self.v4.iter(), self.v6.iter())
@@ -144,12 +166,15 @@ impl IpAddressSet {
     ///
     /// ```
     /// # use fosibegan::in_examples::*;
+    /// # use fosibegan::plain_std::vec;
+    /// # ended(|| {
     /// let v4 = vec![in Global; "192.0.2.0/25".parse::<Ipv4Network>()?]?;
     /// let mut set = IpAddressSet::from_lists(v4, Vec::new(Global));
     /// assert!(set.insert("192.0.2.128/25".parse()?)?);
     /// assert!(set.insert("2001:db8::/32".parse()?)?);
     /// assert!(set.iter().eq(["192.0.2.0/24".parse()?, "2001:db8::/32".parse()?]));
-    /// # Ok::<(), Fail>(())
+    /// # Ok(())
+    /// # });
     /// ```
     pub fn insert(&mut self, network: IpNetwork) -> Result<bool, AllocError> {
         match network {
@@ -164,12 +189,15 @@ impl IpAddressSet {
     ///
     /// ```
     /// # use fosibegan::in_examples::*;
+    /// # use fosibegan::plain_std::vec;
+    /// # ended(|| {
     /// let v4 = vec![in Global; "192.0.2.0/24".parse::<Ipv4Network>()?]?;
     /// let mut set = IpAddressSet::from_lists(v4, vec![in Global; "::1/128".parse::<Ipv6Network>()?]?);
     /// assert!(set.remove("192.0.2.0/25".parse()?)?);
     /// assert!(!set.remove("2001:db8::/32".parse()?)?);
     /// assert!(set.iter().eq(["192.0.2.128/25".parse()?, "::1/128".parse()?]));
-    /// # Ok::<(), Fail>(())
+    /// # Ok(())
+    /// # });
     /// ```
     pub fn remove(&mut self, network: IpNetwork) -> Result<bool, AllocError> {
         match network {
@@ -192,11 +220,14 @@ impl IpAddressSet {
     ///
     /// ```
     /// # use fosibegan::in_examples::*;
+    /// # use fosibegan::plain_std::vec;
+    /// # ended(|| {
     /// let v4 = vec![in Global; "192.0.2.0/24".parse::<Ipv4Network>()?]?;
     /// let set = IpAddressSet::from_lists(v4, Vec::new(Global));
     /// assert!(set.contains("192.0.2.9".parse()?));
     /// assert!(!set.contains("::ffff:192.0.2.9".parse()?));
-    /// # Ok::<(), Fail>(())
+    /// # Ok(())
+    /// # });
     /// ```
     pub fn contains(&self, addr: IpAddr) -> bool {
         match addr {
@@ -210,11 +241,14 @@ impl IpAddressSet {
     ///
     /// ```
     /// # use fosibegan::in_examples::*;
+    /// # use fosibegan::plain_std::vec;
+    /// # ended(|| {
     /// let v6 = vec![in Global; "2001:db8::/33".parse::<Ipv6Network>()?]?;
     /// let set = IpAddressSet::from_lists(Vec::new(Global), v6);
     /// assert!(set.covers("2001:db8:7fff::/48".parse()?));
     /// assert!(!set.covers("2001:db8::/32".parse()?));
-    /// # Ok::<(), Fail>(())
+    /// # Ok(())
+    /// # });
     /// ```
     pub fn covers(&self, network: IpNetwork) -> bool {
         match network {
@@ -228,11 +262,14 @@ impl IpAddressSet {
     ///
     /// ```
     /// # use fosibegan::in_examples::*;
+    /// # use fosibegan::plain_std::vec;
+    /// # ended(|| {
     /// let v4 = vec![in Global; "192.0.2.0/25".parse::<Ipv4Network>()?]?;
     /// let set = IpAddressSet::from_lists(v4, Vec::new(Global));
     /// assert!(set.overlaps("192.0.2.0/24".parse()?));
     /// assert!(!set.overlaps("::/0".parse()?));
-    /// # Ok::<(), Fail>(())
+    /// # Ok(())
+    /// # });
     /// ```
     pub fn overlaps(&self, network: IpNetwork) -> bool {
         match network {

@@ -21,12 +21,15 @@ impl IpAddressSet {
     ///
     /// ```
     /// # use fosibegan::in_examples::*;
+    /// # use fosibegan::plain_std::vec;
+    /// # ended(|| {
     /// let v4 = vec![in Global; "192.0.2.0/25".parse::<Ipv4Network>()?]?;
     /// let set = IpAddressSet::from_lists(v4, Vec::new(Global));
     /// let v4 = vec![in Global; "192.0.2.0/26".parse::<Ipv4Network>()?]?;
     /// let other = IpAddressSet::from_lists(v4, Vec::new(Global));
     /// assert_eq!(set.intersection(&other).next(), Some("192.0.2.0/26".parse()?));
-    /// # Ok::<(), Fail>(())
+    /// # Ok(())
+    /// # });
     /// ```
     pub fn intersection<'a>(&'a self, other: &'a IpAddressSet) -> Common<'a> {
         IpBlocks::of(
@@ -40,12 +43,15 @@ impl IpAddressSet {
     ///
     /// ```
     /// # use fosibegan::in_examples::*;
+    /// # use fosibegan::plain_std::vec;
+    /// # ended(|| {
     /// let v4 = vec![in Global; "192.0.2.0/25".parse::<Ipv4Network>()?]?;
     /// let set = IpAddressSet::from_lists(v4, Vec::new(Global));
     /// let v4 = vec![in Global; "192.0.2.0/26".parse::<Ipv4Network>()?]?;
     /// let other = IpAddressSet::from_lists(v4, Vec::new(Global));
     /// assert_eq!(set.difference(&other).next(), Some("192.0.2.64/26".parse()?));
-    /// # Ok::<(), Fail>(())
+    /// # Ok(())
+    /// # });
     /// ```
     pub fn difference<'a>(&'a self, other: &'a IpAddressSet) -> Left<'a> {
         IpBlocks::of(
@@ -59,10 +65,13 @@ impl IpAddressSet {
     ///
     /// ```
     /// # use fosibegan::in_examples::*;
+    /// # use fosibegan::plain_std::vec;
+    /// # ended(|| {
     /// let v4 = vec![in Global; "0.0.0.0/1".parse::<Ipv4Network>()?]?;
     /// let set = IpAddressSet::from_lists(v4, Vec::new(Global));
     /// assert!(set.complement().eq(["128.0.0.0/1".parse()?, "::/0".parse()?]));
-    /// # Ok::<(), Fail>(())
+    /// # Ok(())
+    /// # });
     /// ```
     pub fn complement(&self) -> Left<'_> {
         IpBlocks::of(self.v4().complement(), self.v6().complement())
@@ -73,12 +82,15 @@ impl IpAddressSet {
     ///
     /// ```
     /// # use fosibegan::in_examples::*;
+    /// # use fosibegan::plain_std::vec;
+    /// # ended(|| {
     /// let v4 = vec![in Global; "192.0.2.0/25".parse::<Ipv4Network>()?]?;
     /// let set = IpAddressSet::from_lists(v4, Vec::new(Global));
     /// let v4 = vec![in Global; "192.0.2.128/25".parse::<Ipv4Network>()?]?;
     /// let other = IpAddressSet::from_lists(v4, Vec::new(Global));
     /// assert_eq!(set.union_blocks(&other).next(), Some("192.0.2.0/24".parse()?));
-    /// # Ok::<(), Fail>(())
+    /// # Ok(())
+    /// # });
     /// ```
     pub fn union_blocks<'a>(&'a self, other: &'a IpAddressSet) -> Either<'a> {
         IpBlocks::of(
@@ -93,13 +105,16 @@ impl IpAddressSet {
     ///
     /// ```
     /// # use fosibegan::in_examples::*;
+    /// # use fosibegan::plain_std::vec;
+    /// # ended(|| {
     /// let v4 = vec![in Global; "192.0.2.0/25".parse::<Ipv4Network>()?]?;
     /// let set = IpAddressSet::from_lists(v4, Vec::new(Global));
     /// let v6 = vec![in Global; "::1/128".parse::<Ipv6Network>()?]?;
     /// let other = IpAddressSet::from_lists(Vec::new(Global), v6);
     /// let union = set.union(&other, Vec::new(Global), Vec::new(Global))?;
     /// assert!(union.iter().eq(["192.0.2.0/25".parse()?, "::1/128".parse()?]));
-    /// # Ok::<(), Fail>(())
+    /// # Ok(())
+    /// # });
     /// ```
     pub fn union(
         &self,
@@ -114,13 +129,16 @@ impl IpAddressSet {
     ///
     /// ```
     /// # use fosibegan::in_examples::*;
+    /// # use fosibegan::plain_std::vec;
+    /// # ended(|| {
     /// let v4 = vec![in Global; "192.0.2.0/25".parse::<Ipv4Network>()?]?;
     /// let set = IpAddressSet::from_lists(v4, Vec::new(Global));
     /// let v4 = vec![in Global; "192.0.2.0/26".parse::<Ipv4Network>()?]?;
     /// let other = IpAddressSet::from_lists(v4, Vec::new(Global));
     /// assert!(other.is_subset_of(&set));
     /// assert!(!set.is_subset_of(&other));
-    /// # Ok::<(), Fail>(())
+    /// # Ok(())
+    /// # });
     /// ```
     pub fn is_subset_of(&self, other: &IpAddressSet) -> bool {
         self.v4().is_subset_of(other.v4()) && self.v6().is_subset_of(other.v6())
@@ -130,12 +148,15 @@ impl IpAddressSet {
     ///
     /// ```
     /// # use fosibegan::in_examples::*;
+    /// # use fosibegan::plain_std::vec;
+    /// # ended(|| {
     /// let v4 = vec![in Global; "0.0.0.0/0".parse::<Ipv4Network>()?]?;
     /// let set = IpAddressSet::from_lists(v4, Vec::new(Global));
     /// let v6 = vec![in Global; "::/0".parse::<Ipv6Network>()?]?;
     /// let other = IpAddressSet::from_lists(Vec::new(Global), v6);
     /// assert!(set.is_disjoint_from(&other));
-    /// # Ok::<(), Fail>(())
+    /// # Ok(())
+    /// # });
     /// ```
     pub fn is_disjoint_from(&self, other: &IpAddressSet) -> bool {
         self.v4().is_disjoint_from(other.v4()) && self.v6().is_disjoint_from(other.v6())
