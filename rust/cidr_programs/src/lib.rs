@@ -1,7 +1,7 @@
 //! What the programs `cidr`, `cidr_merge`, `cidr_filter` and `cidr_join` share: lines, lists of networks, addresses of
 //! logs, command lines. Not for other use: nothing here is kept stable. Made of proved sources, and tested.
 #![forbid(unsafe_code)]
-#![allow(unused_imports, unused_labels, unused_variables, dead_code)]
+#![allow(unused_imports, unused_labels, unused_variables, dead_code, clippy::complexity, clippy::style)]
 
 pub mod line_addresses;
 pub mod lines;
