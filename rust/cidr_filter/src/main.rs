@@ -1,7 +1,8 @@
 // Written by scripts/plain out of crates/cidr_filter/src/main.rt
 
 //! The lines of logs whose address is in a list of networks.
-#![allow(unused_imports, unused_labels, unused_variables, dead_code, clippy::complexity, clippy::style)]
+#![allow(unused_imports, unused_labels, unused_variables, dead_code)]
+#![allow(clippy::complexity, clippy::style, clippy::large_enum_variant, clippy::non_canonical_clone_impl)]
 #![forbid(unsafe_code)]
 
 use fosibegan::plain_std::rt::HostRuntime;

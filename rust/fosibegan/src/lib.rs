@@ -22,7 +22,9 @@
 //! What allocates is given [`plain_std::alloc::Global`], and tells with an `AllocError` that there is no memory.
 #![no_std]
 #![deny(unsafe_code)]
-#![allow(unused_imports, unused_labels, unused_variables, dead_code, clippy::complexity, clippy::style)]
+// The sources have the forms that their proofs need.
+#![allow(unused_imports, unused_labels, unused_variables, dead_code)]
+#![allow(clippy::complexity, clippy::style, clippy::large_enum_variant, clippy::non_canonical_clone_impl)]
 
 #[cfg(not(target_pointer_width = "64"))]
 compile_error!("this library is made of sources that are proved for a `usize` of 64 bits, and of no other width");
