@@ -90,7 +90,8 @@ def rust_times(run, name, source, *more):
     crate = ["rustc", "--edition", edition[1] if edition else "2018", *RUSTC[3:], "--cap-lints", "allow"]
     crate += ["--crate-type", "rlib", "--crate-name", "ipnetwork", "-o", library]
     said([*crate, source / "src/lib.rs", *more])
-    said([*RUSTC, "--extern", f"ipnetwork={library}", "-o", speed, TOP / "bindings/rust/patched/plain/examples/speed.rs"])
+    where = ["--extern", f"ipnetwork={library}", "-L", run.folder]
+    said([*RUSTC, *where, "-o", speed, TOP / "rust/patched/plain/examples/speed.rs"])
     row = re.compile(r"^(\w+), (IPv.), (this crate|plain Rust) +([\d.]+) ns$", re.M)
     times = {which: {} for which in ("this crate", "plain Rust")}
     for call, family, which, time in row.findall(said([speed])):
@@ -99,12 +100,13 @@ def rust_times(run, name, source, *more):
 
 
 def from_rust(run, rows):
-    need("crates/ipnetwork_c/out/libipnetwork_c.a")
     tools("rustc")
     calls = {"read4": ("parse", "IPv4"), "read6": ("parse", "IPv6"), "has4": ("contains", "IPv4"), "has6": ("contains", "IPv6"),
              "print6": ("print", "IPv6")}
-    where = ["-L", f"native={LIBRARY.parent}", "-l", "static=ipnetwork_c"]
-    ours = rust_times(run, "ours", TOP / "bindings/rust/ipnetwork", *where)
+    below = run.folder / "libfosibegan.rlib"
+    library = ["rustc", "--edition", "2024", *RUSTC[3:], "--crate-type", "rlib", "--crate-name", "fosibegan"]
+    said([*library, "-o", below, TOP / "rust/fosibegan/src/lib.rs"])
+    ours = rust_times(run, "ours", TOP / "rust/ipnetwork", "--extern", f"fosibegan={below}")
     own, plain = ours["this crate"], ours["plain Rust"]
     rows.add_own("Rust", {column: own.get(call) for column, call in calls.items()})
     rows.add_peer("`std::net`", {column: plain.get(call) for column, call in calls.items()})

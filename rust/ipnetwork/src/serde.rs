@@ -24,13 +24,13 @@ string!(IpNetwork);
 
 impl Serialize for Ipv4Network {
     fn serialize<S: Serializer>(&self, serializer: S) -> Result<S::Ok, S::Error> {
-        self.with_text(|text| serializer.serialize_str(text))
+        serializer.serialize_str(self.canonical().as_str())
     }
 }
 
 impl Serialize for Ipv6Network {
     fn serialize<S: Serializer>(&self, serializer: S) -> Result<S::Ok, S::Error> {
-        self.with_text(|text| serializer.serialize_str(text))
+        serializer.serialize_str(self.canonical().as_str())
     }
 }
 

@@ -6,7 +6,6 @@ use std::cell::RefCell;
 use std::fmt::Write;
 use std::net::{Ipv4Addr, Ipv6Addr};
 
-#[path = "../../../examples/measure/mod.rs"]
 mod measure;
 
 use measure::{measure, read, rows, texts};
