@@ -323,6 +323,9 @@ class Source:
     def written(self):
         """The source as Rust, in its package."""
         self.hidden()
+        for name in self.book.gated_items(self.text):
+            gate = self.book.gate_of(name, self.package)
+            self.text = re.sub(rf"^((?:pub )?fn {name}\b)", rf'#[cfg(feature = "{gate}")]\n\1', self.text, flags=re.M)
         self.uses()
         self.modules()
         self.laws()

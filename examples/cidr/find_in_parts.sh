@@ -8,7 +8,8 @@
 # ROUTES is a file of lines such as `add 10.0.0.0/8 1`. The status is 0 unless a part failed. Without GNU parallel, the
 # parts are answered one after the other.
 set -eu -o pipefail
-program=$(cd "$(dirname "$0")/../.." && pwd)/crates/cidr/out/cidr
+. "$(dirname "$0")/../program.sh"
+program=$(program_of cidr)
 routes=$1
 if [ ! -r "$routes" ]; then
     echo "$routes: cannot read" >&2

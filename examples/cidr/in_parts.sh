@@ -6,5 +6,6 @@
 #
 # With `--sshlogin ONE,TWO` the parts go to these machines, which need the program at the same path.
 set -eu
-program=$(cd "$(dirname "$0")/../.." && pwd)/crates/cidr/out/cidr
+. "$(dirname "$0")/../program.sh"
+program=$(program_of cidr)
 exec parallel --quote --pipe --keep-order --block 64M "$@" "$program"

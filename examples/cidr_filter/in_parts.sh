@@ -11,7 +11,8 @@
 set -eu -o pipefail
 top=$(cd "$(dirname "$0")/../.." && pwd)
 . "$top/examples/log_in_parts.sh"
-program=$top/crates/cidr_filter/out/cidr_filter
+. "$(dirname "$0")/../program.sh"
+program=$(program_of cidr_filter)
 valued=" -f -e -k -d -m --after --bad "
 
 counts=

@@ -12,6 +12,7 @@ its part, nothing behind it is printed, and the status is 2; with --tally nothin
 """
 
 import collections
+import os
 import pathlib
 import re
 import subprocess
@@ -19,7 +20,13 @@ import sys
 
 from dask.distributed import Client, LocalCluster
 
-PROGRAM = pathlib.Path(__file__).resolve().parents[2] / "crates/cidr_join/out/cidr_join"
+TOP = pathlib.Path(__file__).resolve().parents[2]
+# As examples/program.sh finds it.
+NAMED = os.environ.get("CIDR_PROGRAMS", TOP / "crates/cidr_join/out")
+PROGRAM = next(
+    (found for found in (pathlib.Path(NAMED) / "cidr_join", TOP / "rust/target/release/cidr_join") if found.exists()),
+    "cidr_join",
+)
 
 
 def refuse(why):

@@ -14,7 +14,8 @@
 set -eu -o pipefail
 top=$(cd "$(dirname "$0")/../.." && pwd)
 . "$top/examples/log_in_parts.sh"
-program=$top/crates/cidr_join/out/cidr_join
+. "$(dirname "$0")/../program.sh"
+program=$(program_of cidr_join)
 valued=" -f -k -d --after --group "
 
 tally=

@@ -9,7 +9,8 @@
 # printed, and the status is 2; it is reported with its number in its part, and other parts may go unread. The merges of
 # the parts wait in a file of the folder TMPDIR, or else /tmp.
 set -eu -o pipefail
-program=$(cd "$(dirname "$0")/../.." && pwd)/crates/cidr_merge/out/cidr_merge
+. "$(dirname "$0")/../program.sh"
+program=$(program_of cidr_merge)
 parts=$(mktemp)
 trap 'rm -f "$parts"' EXIT
 if command -v parallel > /dev/null; then

@@ -1,14 +1,23 @@
+//! What a program may use of the system: its standard streams, its words, memory.
 use crate::plain_std::alloc::Global;
+use crate::plain_std::env::{FillError, text};
+use crate::plain_std::string::String;
 use core::fmt::Arguments;
-use ::std::io::{self, IsTerminal as _, Read, Write};
+use std::io::{self, IsTerminal as _, Read, Write};
+use std::vec::Vec;
 
-/// Stands for what the kit's runtime gives leave to.
+pub use crate::plain_std::env::Env;
+
+/// Stands for what the sources' own runtime gives leave to.
 #[derive(Debug)]
 pub struct HostRuntime(());
 
+/// What has an allocator.
 pub trait Alloc {
+    /// Its type.
     type A;
 
+    /// The allocator.
     fn alloc(&self) -> Self::A;
 }
 
@@ -20,72 +29,92 @@ impl Alloc for HostRuntime {
     }
 }
 
-pub trait Env {}
+impl<R> Alloc for (R, Global) {
+    type A = Global;
 
-impl Env for HostRuntime {}
+    fn alloc(&self) -> Global {
+        self.1
+    }
+}
 
+impl Env for HostRuntime {
+    fn arg(&self, i: usize, buf: &mut [u8]) -> Result<usize, FillError> {
+        let word = std::env::args_os().nth(i).ok_or(FillError::NotPresent)?;
+        let bytes = word.as_encoded_bytes();
+        let room = buf.get_mut(..bytes.len()).ok_or(FillError::TooLong)?;
+        room.copy_from_slice(bytes);
+        Ok(bytes.len())
+    }
+
+    fn words(&self) -> io::Result<Vec<String>> {
+        std::env::args_os().map(|word| text(word.as_encoded_bytes())).collect()
+    }
+}
+
+#[allow(clippy::new_without_default)]
 impl HostRuntime {
-    #[allow(clippy::new_without_default)]
+    /// The runtime of this process.
     pub fn new() -> Self {
         HostRuntime(())
     }
 
+    /// The allocator.
     pub fn alloc(&self) -> Global {
         Global
     }
 
+    /// Standard input.
     pub fn stdin(&self) -> Stdin {
         Stdin::new()
     }
 
+    /// Standard output.
     pub fn stdout(&self) -> Stdout {
         Stdout::new()
     }
 
+    /// Standard error.
     pub fn stderr(&self) -> Stderr {
         Stderr::new()
     }
 
+    /// Prints a line to standard error.
     pub fn eprintln(&self, text: &str) -> io::Result<()> {
         writeln!(io::stderr(), "{text}")
     }
 }
 
+/// Prints a line to standard output.
 pub fn print_line(_: &HostRuntime, text: Arguments<'_>) -> io::Result<()> {
     writeln!(io::stdout(), "{text}")
 }
 
-/// What a read or a write of the file of this number says. Rust's own streams would wait with what is written, and take a
-/// closed one for an empty one.
+/// A copy of the descriptor of a stream, as a file: a read or a write of it is one of the system, and says what that says.
+/// Rust's own streams would keep what is written, and take a closed one for an empty one.
 #[cfg(unix)]
-mod streams {
-    use ::std::fs::File;
-    use ::std::io;
-    use ::std::os::fd::AsFd;
-
-    pub fn of(stream: impl AsFd) -> io::Result<File> {
-        Ok(File::from(stream.as_fd().try_clone_to_owned()?))
-    }
+fn descriptor(stream: impl std::os::fd::AsFd) -> io::Result<std::fs::File> {
+    Ok(std::fs::File::from(stream.as_fd().try_clone_to_owned()?))
 }
 
 macro_rules! streams {
-    ($($name:ident $call:ident)*) => {$(
+    ($($(#[$doc:meta])* $name:ident $call:ident)*) => {$(
+        $(#[$doc])*
         #[cfg(unix)]
         #[derive(Debug)]
-        pub struct $name(io::Result<::std::fs::File>);
+        pub struct $name(io::Result<std::fs::File>);
 
         #[cfg(unix)]
         impl $name {
             fn new() -> Self {
-                $name(streams::of(io::$call()))
+                $name(descriptor(io::$call()))
             }
 
-            #[allow(dead_code)]
-            fn inner(&mut self) -> io::Result<&mut std::fs::File> {
+            fn device(&mut self) -> io::Result<&mut std::fs::File> {
                 self.0.as_mut().map_err(|error| error.kind().into())
             }
         }
 
+        $(#[$doc])*
         #[cfg(not(unix))]
         #[derive(Debug)]
         pub struct $name(io::$name);
@@ -96,13 +125,13 @@ macro_rules! streams {
                 $name(io::$call())
             }
 
-            #[allow(dead_code)]
-            fn inner(&mut self) -> io::Result<&mut io::$name> {
+            fn device(&mut self) -> io::Result<&mut io::$name> {
                 Ok(&mut self.0)
             }
         }
 
         impl $name {
+            /// Whether the stream is a terminal.
             pub fn is_terminal(&self) -> bool {
                 io::$call().is_terminal()
             }
@@ -110,30 +139,37 @@ macro_rules! streams {
     )*};
 }
 
-streams!(Stdin stdin Stdout stdout Stderr stderr);
+streams!(
+    /// Standard input.
+    Stdin stdin
+    /// Standard output.
+    Stdout stdout
+    /// Standard error.
+    Stderr stderr
+);
 
 impl Read for Stdin {
     fn read(&mut self, room: &mut [u8]) -> io::Result<usize> {
-        self.inner()?.read(room)
+        self.device()?.read(room)
     }
 }
 
 impl Write for Stdout {
     fn write(&mut self, bytes: &[u8]) -> io::Result<usize> {
-        self.inner()?.write(bytes)
+        self.device()?.write(bytes)
     }
 
     fn flush(&mut self) -> io::Result<()> {
-        self.inner()?.flush()
+        self.device()?.flush()
     }
 }
 
 impl Write for Stderr {
     fn write(&mut self, bytes: &[u8]) -> io::Result<usize> {
-        self.inner()?.write(bytes)
+        self.device()?.write(bytes)
     }
 
     fn flush(&mut self) -> io::Result<()> {
-        self.inner()?.flush()
+        self.device()?.flush()
     }
 }

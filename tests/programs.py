@@ -1,0 +1,43 @@
+"""Where the programs are that the tests run: those of the folder that the environment variable CIDR_PROGRAMS names, else
+the proved ones, crates/NAME/out/NAME."""
+
+import os
+import pathlib
+import subprocess
+import sys
+
+TOP = pathlib.Path(__file__).resolve().parent.parent
+# Where cargo builds the plain ones.
+PLAIN = TOP / "rust/target/release"
+
+
+def folder():
+    """The folder that is named, or None."""
+    named = os.environ.get("CIDR_PROGRAMS")
+    return pathlib.Path(named).absolute() if named else None
+
+
+def program(name):
+    """A program that is built."""
+    found = folder() / name if folder() else TOP / "crates" / name / "out" / name
+    if not found.exists():
+        made = "scripts/build_plain" if folder() == PLAIN else "`make proved`"
+        sys.exit(f"there is no {found}, which {made} builds")
+    return str(found)
+
+
+def asked(name):
+    """The program that the command line `[--plain] [PROGRAM]` names, and whether it is plain Rust. With no word it is
+    proved and built where it is not there."""
+    words = sys.argv[1:]
+    is_plain = "--plain" in words
+    words = [word for word in words if word != "--plain"]
+    if words:
+        return os.path.abspath(words[0]), is_plain
+    if is_plain and not folder():
+        os.environ["CIDR_PROGRAMS"] = str(PLAIN)
+    crate = TOP / "crates" / name
+    if not folder() and not (crate / "out" / name).exists():
+        how = {"stdin": subprocess.DEVNULL, "stdout": sys.stderr, "check": True}
+        subprocess.run(["rt", "run", "--", "--version"], cwd=crate, **how)
+    return program(name), is_plain
