@@ -1,8 +1,13 @@
-# What people type. The proofs need rt, the command of the Rattle kit, and python3; the library for C needs cc too.
+# What people type. What is proved needs rt, the command of the Rattle kit, and python3; what is plain Rust needs cargo; the
+# library for C and the tests need cc and python3 too.
 #
-#   make example                          proves and builds cidr, and answers examples/cidr/questions.txt
-#   make                                  proves and builds the four programs and the library for C
+#   make example                          answers examples/cidr/questions.txt, by cidr as plain Rust, or where there is no
+#                                         cargo, by the proved one
+#   make plain                            builds the four programs and the library for C as plain Rust, in rust/target
 #   make test                             the same, and then every test by its script
+#   make proved                           proves and builds cidr, and answers the example by it
+#   make                                  proves and builds the four programs and the library for C
+#   make test-proved                      the same, and then every test by its script
 #   make try                              the answers of the example from a program that is not proved, and not kept
 #   make sqlite                           builds the extension of SQLite, of the library for C that is built
 #   make wasm                             proves the library for C for WebAssembly, and builds its modules
@@ -13,7 +18,7 @@
 #   make install PREFIX=/usr DESTDIR=/tmp/package
 #                                         installs what is built: the programs, their manual pages and completions, the
 #                                         library for C with its header, and the extension of SQLite; with STATIC=1 the
-#                                         programs of make static
+#                                         programs of make static, with PLAIN=1 what make plain builds
 #   make uninstall PREFIX=/usr DESTDIR=/tmp/package
 #   make deb                              Debian packages of what is built, in bindings/out/deb
 #   make check-install                    installs into a new folder, compiles the example of C there and removes it again
@@ -37,7 +42,8 @@ MAJOR := $(shell sed -n 's/^.define IPNETWORK_ABI_VERSION //p' bindings/c/ipnetw
 MINOR := $(shell sed -n 's/^.define IPNETWORK_ABI_MINOR_VERSION //p' bindings/c/ipnetwork.h)
 VERSION = $(MAJOR).$(MINOR)
 OUT = bindings/out
-ARCHIVE = crates/ipnetwork_c/out/libipnetwork_c.a
+PLAIN_OUT = rust/target/release
+ARCHIVE = $(if $(PLAIN),$(PLAIN_OUT),crates/ipnetwork_c/out)/libipnetwork_c.a
 SHARED = $(OUT)/libipnetwork_c.so.$(VERSION)
 SONAME = libipnetwork_c.so.$(MAJOR)
 EXTENSION = $(OUT)/cidr.so
@@ -45,9 +51,9 @@ PROGRAMS = cidr cidr_merge cidr_filter cidr_join
 # The folder of the kit, if the first rt of the PATH is that of a kit.
 KIT ?= $(shell command -v rt > /dev/null && dirname "$$(dirname "$$(readlink -f "$$(command -v rt)")")")
 # The file of a program that is installed.
-built = $(if $(STATIC),$(OUT)/static,crates/$(1)/out)/$(1)
+built = $(if $(PLAIN),$(PLAIN_OUT),$(if $(STATIC),$(OUT)/static,crates/$(1)/out))/$(1)
 
-.PHONY: all example test try library shared sqlite wasm js calculator static install install-library uninstall deb \
+.PHONY: all example proved plain test test-proved try library shared sqlite wasm js calculator static install install-library uninstall deb \
     check-install
 
 # Says by name what is not here, before anything is proved.
@@ -60,13 +66,33 @@ all:
 	$(MAKE) shared
 
 example:
+	@if command -v cargo > /dev/null; then \
+	    scripts/build_plain cidr && $(PLAIN_OUT)/cidr < examples/cidr/questions.txt && \
+	    echo "This is plain Rust, made of the proved sources; make proved proves the program, by rt." >&2; \
+	elif command -v rt > /dev/null; then \
+	    $(MAKE) proved; \
+	else \
+	    echo "make example needs cargo, or rt (README, Install)" >&2; exit 1; \
+	fi
+
+proved:
 	$(call tools,rt python3)
 	scripts/prove cidr
 	crates/cidr/out/cidr < examples/cidr/questions.txt
 
+# What cidr_merge needs of serde may be lacking: the others are then built.
+plain:
+	$(call tools,cargo cc)
+	scripts/build_plain
+	$(MAKE) PLAIN=1 shared
+
 test:
+	$(call tools,cargo python3 cc nm)
+	tests/all
+
+test-proved:
 	$(call tools,rt python3 cc nm)
-	tests/all $(MAKE) all
+	tests/all --proved $(MAKE) all
 
 try:
 	$(call tools,rt)
