@@ -204,8 +204,24 @@ uninstall:
 
 .PHONY: deb
 deb:
-	$(call tools,python3 cc objdump dpkg-deb)
-	scripts/deb $(OUT)/deb
+	$(call tools,python3 $(if $(ARM64),aarch64-linux-gnu-gcc,cc objdump) dpkg-deb)
+	scripts/deb $(if $(ARM64),$(OUT)/deb/arm64 arm64,$(OUT)/deb)
 
 check-install:
 	bindings/check_install
+
+# Linux on ARM64: make arm64 proves the library for C and the programs for it, and builds them, the wheel for Python and
+# the extension of SQLite, into bindings/out/aarch64. make install and make deb take what is there, with ARM64=1; with
+# STATIC=1 besides, make install takes the programs that have glibc in them.
+.PHONY: arm64
+arm64:
+	$(call tools,rt python3 aarch64-linux-gnu-gcc)
+	scripts/prove $(PROGRAMS) ipnetwork_c
+	scripts/arm64
+
+ifdef ARM64
+ARCHIVE = $(OUT)/aarch64/libipnetwork_c.a
+SHARED = $(OUT)/aarch64/libipnetwork_c.so.$(VERSION)
+EXTENSION = $(OUT)/aarch64/cidr.so
+built = $(OUT)/aarch64/$(if $(STATIC),static/)$(1)
+endif

@@ -2,7 +2,8 @@
 source distribution, which has the static library and the headers, so that it builds where it is unpacked.
 
 It needs no other package, and so no network: only cc with its objdump, and the static library, as `rt lib` in
-crates/ipnetwork_c makes it. The environment variable IPNETWORK_C_LIB names another folder that has libipnetwork_c.a.
+crates/ipnetwork_c makes it. The environment variable IPNETWORK_C_LIB names another folder that has libipnetwork_c.a,
+CC and OBJDUMP other tools than these two: scripts/arm64 makes the wheel for ARM64 by them.
 
 Where the headers of Python are (Debian: python3-dev), the wheel has the extension `_native`, which from Python 3.11 on
 serves all later versions; else it has the library as a shared one, which the package calls by ctypes, and any Python may
@@ -53,7 +54,7 @@ def _archive() -> pathlib.Path:
 
 def _cc(*arguments: str) -> None:
     try:
-        subprocess.run(["cc", *arguments], check=True)
+        subprocess.run([os.environ.get("CC", "cc"), *arguments], check=True)
     except FileNotFoundError:
         raise SystemExit("there is no cc, which links the library: install a C compiler (Debian: gcc)") from None
 
@@ -85,7 +86,8 @@ def platform_of(library: pathlib.Path) -> str:
     """The platform in the tag of a wheel, by the versions of glibc that a library of it asks for (PEP 600)."""
     platform = re.sub(r"[-.]", "_", sysconfig.get_platform())
     try:
-        symbols = subprocess.run(["objdump", "-T", str(library)], check=True, capture_output=True, text=True).stdout
+        words = [os.environ.get("OBJDUMP", "objdump"), "-T", str(library)]
+        symbols = subprocess.run(words, check=True, capture_output=True, text=True).stdout
     except FileNotFoundError:
         return platform
     least = max([17, *(int(minor) for minor in re.findall(r"\bGLIBC_2\.(\d+)", symbols))])
