@@ -4,13 +4,14 @@ row is as it should be, and what was got."""
 
 import ipaddress
 import json
+import os
 import random
 import re
 import subprocess
 
 from cidr_filter_inputs import lacking
 
-SECONDS = 60
+SECONDS = int(os.environ.get("TEST_SECONDS", 60))
 LIST = ["10.0.0.0/8", "192.0.2.0/24", "2001:db8::/32"]
 
 

@@ -8,7 +8,7 @@ import random
 import subprocess
 import threading
 
-SECONDS = 60
+SECONDS = int(os.environ.get("TEST_SECONDS", 60))
 PIPES = {"stdout": subprocess.PIPE, "stderr": subprocess.PIPE}
 LOGS = ("one", "two", "none_of_ten", "three", "nothing")
 # The options of a run, of each kind one or none.

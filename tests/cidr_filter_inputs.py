@@ -10,7 +10,7 @@ import shutil
 import subprocess
 import time
 
-SECONDS = 60
+SECONDS = int(os.environ.get("TEST_SECONDS", 60))
 SIZES = (250000, 500000, 1000000)
 HERE = os.path.dirname(os.path.dirname(os.path.abspath(__file__)))
 IN_PARTS = os.path.join(HERE, "examples", "cidr_filter", "in_parts.sh")

@@ -6,7 +6,7 @@ import os
 import random
 import subprocess
 
-SECONDS = 60
+SECONDS = int(os.environ.get("TEST_SECONDS", 60))
 KINDS = {4: ipaddress.IPv4Address, 6: ipaddress.IPv6Address}
 
 

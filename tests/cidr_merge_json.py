@@ -7,7 +7,7 @@ import os
 import random
 import subprocess
 
-SECONDS = 60
+SECONDS = int(os.environ.get("TEST_SECONDS", 60))
 LONGEST = 1 << 30
 
 # Three documents in the shapes that providers publish.

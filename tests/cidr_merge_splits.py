@@ -6,7 +6,7 @@ import os
 import random
 import subprocess
 
-SECONDS = 60
+SECONDS = int(os.environ.get("TEST_SECONDS", 60))
 LIMIT = 1000000
 
 
