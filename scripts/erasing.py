@@ -21,6 +21,7 @@ MODEL = re.compile(r"impl\b[^{;]*?\bModel\s+for\b[^{]*\{")
 CLAUSE = re.compile(r"\*?\s*(?:\w+\s*)?\{")
 # What stays is Rust's own, or has one of these names in the stand-in.
 ATTRIBUTES = {"allow", "cfg", "derive", "doc", "inline", "must_use", "non_exhaustive", "repr", "test", "unsafe"}
+WIDTH = 100
 GHOST_WORDS = {"ghost", "requires", "ensures", "derive_where"}
 
 
@@ -241,6 +242,36 @@ def for_c(text):
     return text
 
 
+def pushes(text):
+    """Calls of `push` in a row, in which nothing can fail, are one call: so there is one question whether there is room."""
+    call = re.compile(r"^([ \t]*)(\w+)\.push(?=\()", re.M)
+    at = 0
+    while found := call.search(text, at):
+        receiver, given, end = found[2], [], found.start()
+        while (each := call.match(text, end)) and each[2] == receiver:
+            close = matching(text, each.end(), "()")
+            argument = text[each.end() + 1 : close - 1]
+            if text[close : close + 2] != ";\n" or re.search(rf"\b{receiver}\b", argument):
+                break
+            given.append(argument)
+            end = close + 2
+        if len(given) > 1:
+            made = f"{found[1]}{receiver}.push_all([{', '.join(given)}]);\n"
+            if len(made) > WIDTH + 1:
+                rows = "".join(f"{found[1]}    {argument},\n" for argument in given)
+                made = f"{found[1]}{receiver}.push_all([\n{rows}{found[1]}]);\n"
+            text = text[: found.start()] + made + text[end:]
+        at = found.end()
+    return text
+
+
+def texts(text):
+    """The bytes of a text, and a text that is put behind another one, are taken as they stand: `as_str` would look at each
+    byte first, whether it is one of a text."""
+    text = code_sub(r"\.as_str\(\)\s*\.as_bytes\(\)", ".as_bytes()", text)
+    return code_sub(r"\.push_str\(([\w.()]+)\.as_str\(\)\)", r".push_text(&\1)", text)
+
+
 def slices(text):
     """A parameter that is a list of the kit's, lent to be read, is a slice: of a list of Rust's as well."""
     return code_sub(r"(\w: )&Vec<(\w+)>", r"\1&[\2]", text)
@@ -257,7 +288,7 @@ def laid(text):
 def erased(text):
     """The source as Rust. Its paths are those of the source."""
     text = without_ghosts(text)
-    for step in (drops, wheres, formatters, clones, roots, for_c, slices):
+    for step in (drops, wheres, formatters, clones, roots, for_c, pushes, texts, slices):
         text = step(text)
     return laid(text)
 

@@ -3,9 +3,8 @@
 import collections
 import re
 
-from erasing import Refused, code_sub, leftover, tokens
+from erasing import WIDTH, Refused, code_sub, leftover, tokens
 
-WIDTH = 100
 # Modules of Rust's std as they are, which stand in core too, and one that does not.
 CORE = {"cell", "cmp", "error", "fmt", "hash", "marker", "mem", "net", "num", "ops", "str"}
 REAL = {"process"}

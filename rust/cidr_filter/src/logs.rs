@@ -156,7 +156,7 @@ fn write_end<W: Write>(
 
 // Writes a number and a line feed.
 fn write_number<W: Write>(number: u64, output: &mut Output<'_, W>) -> Result<(), RunFault> {
-    put_both(number_text(number).as_str().as_bytes(), b"\n", output)
+    put_both(number_text(number).as_bytes(), b"\n", output)
 }
 
 // The exit status by whether the selected lines end the run, whether a log could not be opened, and

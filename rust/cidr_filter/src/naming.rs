@@ -56,5 +56,5 @@ fn put_number<W: Write>(
 
 // Writes a number and a colon.
 fn put_decimal<W: Write>(number: u64, output: &mut Output<'_, W>) -> Result<(), RunFault> {
-    put_both(number_text(number).as_str().as_bytes(), b":", output)
+    put_both(number_text(number).as_bytes(), b":", output)
 }

@@ -81,7 +81,7 @@ fn put_mark<W: Write>(
 // Writes a block, or a minus sign for none, and a tab.
 fn put_block<W: Write>(block: Option<IpNetwork>, output: &mut Output<'_, W>) -> Result<(), RunFault> {
     match block {
-        Some(block) => put_both(block.canonical().as_str().as_bytes(), b"\t", output),
+        Some(block) => put_both(block.canonical().as_bytes(), b"\t", output),
         None => put_both(b"-", b"\t", output),
     }
 }

@@ -80,7 +80,7 @@ fn count_found(
     }
     match found {
         Found::Network(network) => {
-            tally.count(alloc, network.canonical().as_str().as_bytes(), count)
+            tally.count(alloc, network.canonical().as_bytes(), count)
         }
         Found::Value(value) => tally.count(alloc, value.bytes(), count),
         Found::Nothing => tally.count(alloc, b"-", count),

@@ -24,7 +24,7 @@ pub(crate) fn print_line<W: Write>(
     match found {
         Found::Network(network) => {
             let text = network.canonical();
-            let mark = text.as_str().as_bytes();
+            let mark = text.as_bytes();
             print_with(line, whole, end, join.last, mark, output)
         }
         Found::Value(value) => print_with(line, whole, end, join.last, value.bytes(), output),

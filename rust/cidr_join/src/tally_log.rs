@@ -84,7 +84,7 @@ fn count_line(
     }
     match join.find(address) {
         Found::Network(network) => {
-            counts.count_text(alloc, network.canonical().as_str().as_bytes())
+            counts.count_text(alloc, network.canonical().as_bytes())
         }
         Found::Value(value) => counts.count_text(alloc, value.bytes()),
         Found::Nothing => counts.count_text(alloc, b"-"),

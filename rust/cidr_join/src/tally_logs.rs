@@ -147,7 +147,7 @@ fn put_rows<W: Write>(rows: &[Row], output: &mut Output<'_, W>) -> Result<(), Ru
 fn put_row<W: Write>(row: &Row, output: &mut Output<'_, W>) -> Result<(), RunFault> {
     let count = number_text(row.0.0);
     put_four(
-        count.as_str().as_bytes(),
+        count.as_bytes(),
         b"\t",
         row.1.as_slice(),
         b"\n",

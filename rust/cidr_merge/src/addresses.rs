@@ -20,6 +20,6 @@ pub(crate) fn print_addresses<A: Address, W: Write>(
 
 // Prints an address on a line.
 fn put_address<A: Address, W: Write>(address: A, output: &mut Output<'_, W>) -> Result<(), RunFault> {
-    output.put(address.canonical().as_str().as_bytes())?;
+    output.put(address.canonical().as_bytes())?;
     output.put(b"\n")
 }

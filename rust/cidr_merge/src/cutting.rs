@@ -44,7 +44,7 @@ fn put_network<A: Address, W: Write>(
     network: Network<A>,
     output: &mut Output<'_, W>,
 ) -> Result<(), RunFault> {
-    output.put(network.canonical().as_str().as_bytes())?;
+    output.put(network.canonical().as_bytes())?;
     output.put(b"\n")
 }
 

@@ -129,7 +129,7 @@ fn texts(version: Version) -> FamilyTexts {
 
 // Writes the canonical text of an address at the end of a text.
 fn push_address<A: Address>(text: &mut Element, address: A) {
-    text.push_str(address.canonical().as_str());
+    text.push_text(&address.canonical());
 }
 
 // Writes the canonical text of a block at the end of a text.

@@ -87,7 +87,6 @@ fn print_after<A: Address, W: Write>(
         Export::Addresses => print_addresses(block.iter(), output),
         _ => output.put(
             elements::element(export, version, block)
-                .as_str()
                 .as_bytes(),
         ),
     }

@@ -50,7 +50,7 @@ impl<'a, A: Address> Parts for Sweep<'a, Network<A>> {
         output: &mut Output<'_, W>,
     ) -> Result<(), RunFault> {
         output.put(sign_of(operation, side).as_bytes())?;
-        output.put(block.canonical().as_str().as_bytes())?;
+        output.put(block.canonical().as_bytes())?;
         output.put(b"\n")
     }
 }
@@ -74,9 +74,9 @@ impl<'a, A: Address> Parts for Ranges<Network<A>, Sweep<'a, Network<A>>> {
         output: &mut Output<'_, W>,
     ) -> Result<(), RunFault> {
         output.put(sign_of(operation, side).as_bytes())?;
-        output.put(range.0.canonical().as_str().as_bytes())?;
+        output.put(range.0.canonical().as_bytes())?;
         output.put(b" - ")?;
-        output.put(range.1.canonical().as_str().as_bytes())?;
+        output.put(range.1.canonical().as_bytes())?;
         output.put(b"\n")
     }
 }

@@ -33,7 +33,7 @@ pub(crate) fn addresses_of(
 ) -> Result<Vec<IpAddr>, SoughtFault> {
     let mut addresses = Vec::new(alloc);
     for place in 0..words.len() {
-        let Ok(address) = IpAddr::read_bytes(words[place].as_str().as_bytes()) else {
+        let Ok(address) = IpAddr::read_bytes(words[place].as_bytes()) else {
             return Err(SoughtFault::NotAnAddress(first + place));
         };
         let Ok(_) = addresses.push(address) else {

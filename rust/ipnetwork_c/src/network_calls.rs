@@ -87,7 +87,7 @@ pub fn ipnetwork_v4_canonical(
     length: &mut usize,
 ) -> u32 {
     match network.network() {
-        Some(network) => text::tell(network.canonical().as_str().as_bytes(), buffer, length),
+        Some(network) => text::tell(network.canonical().as_bytes(), buffer, length),
         None => PREFIX,
     }
 }
@@ -107,7 +107,7 @@ pub fn ipnetwork_v6_canonical(
     length: &mut usize,
 ) -> u32 {
     match network.network() {
-        Some(network) => text::tell(network.canonical().as_str().as_bytes(), buffer, length),
+        Some(network) => text::tell(network.canonical().as_bytes(), buffer, length),
         None => PREFIX,
     }
 }

@@ -48,7 +48,7 @@ impl PrintsRow for AddressInC {
             unreachable!()
         };
         let mut text = ArrayString::new();
-        text.push_str(address.canonical().as_str());
+        text.push_text(&address.canonical());
         text
     }
 }
@@ -98,7 +98,7 @@ fn put_texts<R: PrintsRow>(rows: &[R], texts: &mut [u8], offsets: &mut [u32]) {
     let mut end = 0;
     offsets[0] = 0;
     for row in 0..rows.len() {
-        end = put_at(rows[row].row_text().as_str().as_bytes(), texts, end);
+        end = put_at(rows[row].row_text().as_bytes(), texts, end);
         offsets[row + 1] = end as u32;
     }
 }

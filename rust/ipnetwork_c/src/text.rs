@@ -25,10 +25,10 @@ pub(crate) fn tell(text: &[u8], buffer: &mut [u8], length: &mut usize) -> u32 {
 
 /// The canonical text of a network of either family, as `tell` puts it.
 pub(crate) fn tell_network(network: &IpNetwork, buffer: &mut [u8], length: &mut usize) -> u32 {
-    tell(network.canonical().as_str().as_bytes(), buffer, length)
+    tell(network.canonical().as_bytes(), buffer, length)
 }
 
 /// The canonical text of an address of either family, as `tell` puts it.
 pub(crate) fn tell_address(address: &IpAddr, buffer: &mut [u8], length: &mut usize) -> u32 {
-    tell(address.canonical().as_str().as_bytes(), buffer, length)
+    tell(address.canonical().as_bytes(), buffer, length)
 }

@@ -24,11 +24,11 @@ pub(crate) fn ends(word: &[u8], replies: &mut Buffer<'_>) {
 /// Writes the ends of a network, its mask and its size, with blanks between: at most three addresses of
 /// 39 bytes, a number of 39 digits and three blanks.
 fn push_ends(network: IpNetwork, text: &mut Answer) {
-    text.push_str(network.network().canonical().as_str());
+    text.push_text(&network.network().canonical());
     text.push(' ');
-    text.push_str(network.broadcast().canonical().as_str());
+    text.push_text(&network.broadcast().canonical());
     text.push(' ');
-    text.push_str(network.mask().canonical().as_str());
+    text.push_text(&network.mask().canonical());
     text.push(' ');
     push_number(text, u128::from(network.size()));
 }

@@ -20,7 +20,7 @@ pub(crate) fn canonical_text(groups: &[u16; 8]) -> ArrayString<ADDRESS_TEXT_CAPA
     if is_mapped(groups) {
         let last = Ipv4Addr::from(last_two(groups)).canonical();
         text.push_str("::ffff:");
-        text.push_str(last.as_str());
+        text.push_text(&last);
         return text;
     }
     let (start, len) = longest_run(groups);

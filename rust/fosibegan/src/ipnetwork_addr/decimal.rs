@@ -9,12 +9,9 @@ use crate::plain_std::arrayvec::ArrayString;
 #[doc(hidden)]
 pub fn push_decimal<const N: usize>(text: &mut ArrayString<N>, number: u8) {
     if number >= 100 {
-        text.push(digit(number / 100));
-        text.push(digit(number / 10 % 10));
-        text.push(digit(number % 10));
+        text.push_all([digit(number / 100), digit(number / 10 % 10), digit(number % 10)]);
     } else if number >= 10 {
-        text.push(digit(number / 10));
-        text.push(digit(number % 10));
+        text.push_all([digit(number / 10), digit(number % 10)]);
     } else {
         text.push(digit(number));
     }
@@ -76,6 +73,5 @@ fn push_padded<const N: usize>(text: &mut ArrayString<N>, number: u64, count: u8
     }
     push_padded(text, number / 100, count - 2);
     let two = (number % 100) as u8;
-    text.push(digit(two / 10));
-    text.push(digit(two % 10));
+    text.push_all([digit(two / 10), digit(two % 10)]);
 }

@@ -20,17 +20,20 @@ pub(crate) fn push_groups(text: &mut ArrayString<ADDRESS_TEXT_CAPACITY>, groups:
 #[inline(always)]
 fn push_hex(text: &mut ArrayString<ADDRESS_TEXT_CAPACITY>, group: u16) {
     if group >= 0x1000 {
-        text.push(hex_digit(group / 0x1000));
-        text.push(hex_digit(group / 0x100 % 16));
-        text.push(hex_digit(group / 0x10 % 16));
-        text.push(hex_digit(group % 16));
+        text.push_all([
+            hex_digit(group / 0x1000),
+            hex_digit(group / 0x100 % 16),
+            hex_digit(group / 0x10 % 16),
+            hex_digit(group % 16),
+        ]);
     } else if group >= 0x100 {
-        text.push(hex_digit(group / 0x100));
-        text.push(hex_digit(group / 0x10 % 16));
-        text.push(hex_digit(group % 16));
+        text.push_all([
+            hex_digit(group / 0x100),
+            hex_digit(group / 0x10 % 16),
+            hex_digit(group % 16),
+        ]);
     } else if group >= 0x10 {
-        text.push(hex_digit(group / 0x10));
-        text.push(hex_digit(group % 16));
+        text.push_all([hex_digit(group / 0x10), hex_digit(group % 16)]);
     } else {
         text.push(hex_digit(group));
     }

@@ -312,7 +312,7 @@ impl<A: Address> Network<A> {
     /// ```
     pub fn canonical(&self) -> ArrayString<NETWORK_TEXT_CAPACITY> {
         let mut text = ArrayString::new();
-        text.push_str(self.ip().canonical().as_str());
+        text.push_text(&self.ip().canonical());
         text.push('/');
         push_decimal(&mut text, self.prefix());
         text

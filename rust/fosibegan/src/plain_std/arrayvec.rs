@@ -1,9 +1,10 @@
 //! Texts and lists of a fixed room: the calls of the crate `arrayvec` 0.7 that the sources make.
 
+use crate::plain_std::simd::ascii;
 use core::fmt;
 use core::ops::Deref;
 
-/// A text of at most `N` bytes.
+/// A text of at most `N` bytes. Those behind it are zeros.
 #[derive(Clone, Copy)]
 pub struct ArrayString<const N: usize> {
     bytes: [u8; N],
@@ -15,16 +16,38 @@ impl<const N: usize> ArrayString<N> {
     #[inline]
     #[allow(clippy::new_without_default)]
     pub const fn new() -> Self {
-        ArrayString { bytes: [0; N], len: 0 }
+        ArrayString {
+            bytes: [0; N],
+            len: 0,
+        }
     }
 
     /// Puts a character behind the text. Panics where there is no room.
-    #[inline]
+    #[inline(always)]
     pub fn push(&mut self, char: char) {
-        if char.is_ascii() {
-            self.bytes[self.len] = char as u8;
-            self.len += 1;
-        } else {
+        self.push_all([char]);
+    }
+
+    /// Puts characters behind the text, one after the other. Panics where there is no room.
+    #[inline(always)]
+    pub fn push_all<const M: usize>(&mut self, chars: [char; M]) {
+        let at = self.len;
+        let bits = chars.iter().fold(0, |bits, char| bits | u32::from(*char));
+        if bits >= 128 {
+            return self.push_any(&chars);
+        }
+        assert!(M <= N && at <= N - M, "there is no room for what is pushed");
+        for (place, char) in chars.iter().enumerate() {
+            self.bytes[at + place] = *char as u8;
+        }
+        self.len = at + M;
+    }
+
+    /// `push_all`, of any characters.
+    #[cold]
+    #[inline(never)]
+    fn push_any(&mut self, chars: &[char]) {
+        for char in chars {
             self.push_str(char.encode_utf8(&mut [0; 4]));
         }
     }
@@ -32,8 +55,28 @@ impl<const N: usize> ArrayString<N> {
     /// Puts another text behind it. Panics where there is no room.
     #[inline]
     pub fn push_str(&mut self, text: &str) {
-        self.bytes[self.len..self.len + text.len()].copy_from_slice(text.as_bytes());
-        self.len += text.len();
+        self.push_bytes(text.as_bytes());
+    }
+
+    /// Puts another text of this kind behind it. Panics where there is no room.
+    #[inline]
+    pub fn push_text<const M: usize>(&mut self, text: &ArrayString<M>) {
+        if M <= N && self.len <= N - M {
+            // Behind both texts are zeros, and to copy some that are known to be so many takes no call.
+            self.bytes[self.len..self.len + M].copy_from_slice(&text.bytes);
+            self.len += text.len;
+        } else {
+            self.push_bytes(text.as_bytes());
+        }
+    }
+
+    /// Puts the bytes of a text behind it. Panics where there is no room.
+    #[inline]
+    fn push_bytes(&mut self, bytes: &[u8]) {
+        let at = self.len;
+        let end = at + bytes.len();
+        self.bytes[at..end].copy_from_slice(bytes);
+        self.len = end;
     }
 
     /// Puts another text behind it, or gives it back and changes nothing where there is no room.
@@ -48,10 +91,25 @@ impl<const N: usize> ArrayString<N> {
     /// The text.
     #[inline]
     pub fn as_str(&self) -> &str {
+        match ascii(&self.bytes) {
+            Some(all) => &all[..self.len],
+            None => self.as_str_of_any(),
+        }
+    }
+
+    /// `as_str`, of any characters.
+    #[cold]
+    fn as_str_of_any(&self) -> &str {
         match core::str::from_utf8(&self.bytes[..self.len]) {
             Ok(text) => text,
             Err(_) => unreachable!("only whole texts are pushed"),
         }
+    }
+
+    /// The bytes of the text.
+    #[inline]
+    pub fn as_bytes(&self) -> &[u8] {
+        &self.bytes[..self.len]
     }
 
     /// The length in bytes.
@@ -69,7 +127,7 @@ impl<const N: usize> ArrayString<N> {
     /// Takes away all of the text.
     #[inline]
     pub fn clear(&mut self) {
-        self.len = 0;
+        *self = ArrayString::new();
     }
 }
 
@@ -125,7 +183,10 @@ impl<T: Copy + Default, const N: usize> ArrayVec<T, N> {
     #[inline]
     #[allow(clippy::new_without_default)]
     pub fn new() -> Self {
-        ArrayVec { items: [T::default(); N], len: 0 }
+        ArrayVec {
+            items: [T::default(); N],
+            len: 0,
+        }
     }
 
     /// Puts a value behind the list. Panics where there is no room.
@@ -160,5 +221,74 @@ impl<T, const N: usize> Deref for ArrayVec<T, N> {
 
     fn deref(&self) -> &[T] {
         &self.items[..self.len]
+    }
+}
+
+#[cfg(test)]
+mod tests {
+    use super::*;
+
+    #[test]
+    fn texts_behind_one_another() {
+        let mut text = ArrayString::<12>::new();
+        text.push('a');
+        text.push_all(['b', 'ä', 'c']);
+        text.push_all(['d', 'e']);
+        text.push_str("fö");
+        assert_eq!((text.as_str(), text.len()), ("abäcdefö", 10));
+        let mut other = ArrayString::<2>::new();
+        other.push_str("gh");
+        text.push_text(&other);
+        assert_eq!(text.as_str(), "abäcdefögh");
+        assert_eq!(text.try_push_str("i"), Err("i"));
+        assert_eq!(text.as_bytes(), "abäcdefögh".as_bytes());
+        text.clear();
+        assert_eq!((text.as_str(), text.is_empty()), ("", true));
+        text.push_text(&other);
+        text.push_text(&other);
+        assert_eq!(text.as_str(), "ghgh");
+    }
+
+    /// A text that has more room than is left, and fits.
+    #[test]
+    fn a_text_with_more_room() {
+        let mut wide = ArrayString::<40>::new();
+        wide.push_str("10.0.0.0");
+        for room in 0..4 {
+            let mut text = ArrayString::<12>::new();
+            text.push_str(&"    "[..room]);
+            text.push_text(&wide);
+            text.push('/');
+            assert_eq!(text.as_str(), format_of(room));
+        }
+    }
+
+    fn format_of(blanks: usize) -> &'static str {
+        &"    10.0.0.0/"[4 - blanks..]
+    }
+
+    #[test]
+    #[should_panic]
+    fn no_room_for_a_character() {
+        let mut text = ArrayString::<2>::new();
+        text.push_all(['a', 'b']);
+        text.push('c');
+    }
+
+    #[test]
+    #[should_panic]
+    fn no_room_for_characters() {
+        let mut text = ArrayString::<2>::new();
+        text.push('a');
+        text.push_all(['b', 'c']);
+    }
+
+    #[test]
+    #[should_panic]
+    fn no_room_for_a_text() {
+        let mut text = ArrayString::<2>::new();
+        let mut other = ArrayString::<3>::new();
+        other.push_str("abc");
+        text.push_text(&other);
     }
 }
