@@ -20,7 +20,7 @@ GHOST_ATTRIBUTE = re.compile(r"#!?\[(?:tactic|cycle)\b[^\]]*\]")
 MODEL = re.compile(r"impl\b[^{;]*?\bModel\s+for\b[^{]*\{")
 CLAUSE = re.compile(r"\*?\s*(?:\w+\s*)?\{")
 # What stays is Rust's own, or has one of these names in the stand-in.
-ATTRIBUTES = {"allow", "cfg", "derive", "doc", "inline", "must_use", "non_exhaustive", "repr", "test", "unsafe"}
+ATTRIBUTES = {"allow", "cfg", "derive", "doc", "inline", "must_use", "non_exhaustive", "repr", "test", "export_name"}
 WIDTH = 100
 GHOST_WORDS = {"ghost", "requires", "ensures", "derive_where"}
 
@@ -232,7 +232,7 @@ def for_c(text):
         call = f"{found[2]}({', '.join(passed)})"
         is_lent = passed != [each.split(":")[0] for each in taken]
         made = (
-            f'\n\nconst _: () = {{\n    #[unsafe(export_name = "{found[2]}")]\n'
+            f'\n\nconst _: () = {{\n    #[export_name = "{found[2]}"]\n'
             f'    {"unsafe " if is_lent else ""}extern "C" fn called({", ".join(taken)}) {gives} {{\n'
             f"        {f'unsafe {{ {call} }}' if is_lent else call}\n    }}\n}};"
         )

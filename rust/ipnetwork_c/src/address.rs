@@ -62,7 +62,7 @@ pub fn ipnetwork_address_read(text: &[u8], address: &mut AddressInC) -> u32 {
 }
 
 const _: () = {
-    #[unsafe(export_name = "ipnetwork_address_read")]
+    #[export_name = "ipnetwork_address_read"]
     unsafe extern "C" fn called(text: *const u8, text_length: usize, address: &mut AddressInC) -> u32 {
         unsafe { ipnetwork_address_read(crate::lent::lent(text, text_length), address) }
     }
@@ -84,7 +84,7 @@ pub fn ipnetwork_address_canonical(
 }
 
 const _: () = {
-    #[unsafe(export_name = "ipnetwork_address_canonical")]
+    #[export_name = "ipnetwork_address_canonical"]
     unsafe extern "C" fn called(address: &AddressInC, buffer: *mut u8, buffer_length: usize, length: &mut usize) -> u32 {
         unsafe { ipnetwork_address_canonical(address, crate::lent::lent_mut(buffer, buffer_length), length) }
     }

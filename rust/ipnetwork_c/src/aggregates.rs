@@ -21,7 +21,7 @@ pub fn ipnetwork_v4_aggregate(networks: &mut [Ipv4InC], count: &mut usize) -> u3
 }
 
 const _: () = {
-    #[unsafe(export_name = "ipnetwork_v4_aggregate")]
+    #[export_name = "ipnetwork_v4_aggregate"]
     unsafe extern "C" fn called(networks: *mut Ipv4InC, networks_length: usize, count: &mut usize) -> u32 {
         unsafe { ipnetwork_v4_aggregate(crate::lent::lent_mut(networks, networks_length), count) }
     }
@@ -38,7 +38,7 @@ pub fn ipnetwork_v6_aggregate(networks: &mut [Ipv6InC], count: &mut usize) -> u3
 }
 
 const _: () = {
-    #[unsafe(export_name = "ipnetwork_v6_aggregate")]
+    #[export_name = "ipnetwork_v6_aggregate"]
     unsafe extern "C" fn called(networks: *mut Ipv6InC, networks_length: usize, count: &mut usize) -> u32 {
         unsafe { ipnetwork_v6_aggregate(crate::lent::lent_mut(networks, networks_length), count) }
     }

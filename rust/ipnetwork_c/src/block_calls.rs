@@ -57,7 +57,7 @@ pub fn ipnetwork_v4_subnet_at(
 }
 
 const _: () = {
-    #[unsafe(export_name = "ipnetwork_v4_subnet_at")]
+    #[export_name = "ipnetwork_v4_subnet_at"]
     extern "C" fn called(network: &Ipv4InC, prefix: u8, number: u32, subnet: &mut Ipv4InC) -> u32 {
         ipnetwork_v4_subnet_at(network, prefix, number, subnet)
     }
@@ -87,7 +87,7 @@ pub fn ipnetwork_v6_subnet_at(
 }
 
 const _: () = {
-    #[unsafe(export_name = "ipnetwork_v6_subnet_at")]
+    #[export_name = "ipnetwork_v6_subnet_at"]
     extern "C" fn called(network: &Ipv6InC, prefix: u8, number: &[u8; 16], subnet: &mut Ipv6InC) -> u32 {
         ipnetwork_v6_subnet_at(network, prefix, number, subnet)
     }

@@ -26,7 +26,7 @@ pub fn ipnetwork_v4_contains_column(
 }
 
 const _: () = {
-    #[unsafe(export_name = "ipnetwork_v4_contains_column")]
+    #[export_name = "ipnetwork_v4_contains_column"]
     unsafe extern "C" fn called(network: &Ipv4InC, addresses: *const [u8; 4], addresses_length: usize, answers: *mut u8, answers_length: usize) -> u32 {
         unsafe { ipnetwork_v4_contains_column(network, crate::lent::lent(addresses, addresses_length), crate::lent::lent_mut(answers, answers_length)) }
     }
@@ -43,7 +43,7 @@ pub fn ipnetwork_v6_contains_column(
 }
 
 const _: () = {
-    #[unsafe(export_name = "ipnetwork_v6_contains_column")]
+    #[export_name = "ipnetwork_v6_contains_column"]
     unsafe extern "C" fn called(network: &Ipv6InC, addresses: *const [u8; 16], addresses_length: usize, answers: *mut u8, answers_length: usize) -> u32 {
         unsafe { ipnetwork_v6_contains_column(network, crate::lent::lent(addresses, addresses_length), crate::lent::lent_mut(answers, answers_length)) }
     }
@@ -73,7 +73,7 @@ pub fn ipnetwork_v4_index_contains_column(
 }
 
 const _: () = {
-    #[unsafe(export_name = "ipnetwork_v4_index_contains_column")]
+    #[export_name = "ipnetwork_v4_index_contains_column"]
     unsafe extern "C" fn called(blocks: *const Ipv4InC, blocks_length: usize, index: *const u32, index_length: usize, addresses: *const [u8; 4], addresses_length: usize, answers: *mut u8, answers_length: usize, faults: *mut u8, faults_length: usize) -> u32 {
         unsafe { ipnetwork_v4_index_contains_column(crate::lent::lent(blocks, blocks_length), crate::lent::lent(index, index_length), crate::lent::lent(addresses, addresses_length), crate::lent::lent_mut(answers, answers_length), crate::lent::lent_mut(faults, faults_length)) }
     }
@@ -99,7 +99,7 @@ pub fn ipnetwork_v6_index_contains_column(
 }
 
 const _: () = {
-    #[unsafe(export_name = "ipnetwork_v6_index_contains_column")]
+    #[export_name = "ipnetwork_v6_index_contains_column"]
     unsafe extern "C" fn called(blocks: *const Ipv6InC, blocks_length: usize, index: *const u32, index_length: usize, addresses: *const [u8; 16], addresses_length: usize, answers: *mut u8, answers_length: usize, faults: *mut u8, faults_length: usize) -> u32 {
         unsafe { ipnetwork_v6_index_contains_column(crate::lent::lent(blocks, blocks_length), crate::lent::lent(index, index_length), crate::lent::lent(addresses, addresses_length), crate::lent::lent_mut(answers, answers_length), crate::lent::lent_mut(faults, faults_length)) }
     }
@@ -119,7 +119,7 @@ pub fn ipnetwork_v4_table_find_column(
 }
 
 const _: () = {
-    #[unsafe(export_name = "ipnetwork_v4_table_find_column")]
+    #[export_name = "ipnetwork_v4_table_find_column"]
     unsafe extern "C" fn called(blocks: *const Ipv4InC, blocks_length: usize, addresses: *const [u8; 4], addresses_length: usize, indexes: *mut usize, indexes_length: usize, faults: *mut u8, faults_length: usize) -> u32 {
         unsafe { ipnetwork_v4_table_find_column(crate::lent::lent(blocks, blocks_length), crate::lent::lent(addresses, addresses_length), crate::lent::lent_mut(indexes, indexes_length), crate::lent::lent_mut(faults, faults_length)) }
     }
@@ -137,7 +137,7 @@ pub fn ipnetwork_v6_table_find_column(
 }
 
 const _: () = {
-    #[unsafe(export_name = "ipnetwork_v6_table_find_column")]
+    #[export_name = "ipnetwork_v6_table_find_column"]
     unsafe extern "C" fn called(blocks: *const Ipv6InC, blocks_length: usize, addresses: *const [u8; 16], addresses_length: usize, indexes: *mut usize, indexes_length: usize, faults: *mut u8, faults_length: usize) -> u32 {
         unsafe { ipnetwork_v6_table_find_column(crate::lent::lent(blocks, blocks_length), crate::lent::lent(addresses, addresses_length), crate::lent::lent_mut(indexes, indexes_length), crate::lent::lent_mut(faults, faults_length)) }
     }
@@ -159,7 +159,7 @@ pub fn ipnetwork_v4_index_find_column(
 }
 
 const _: () = {
-    #[unsafe(export_name = "ipnetwork_v4_index_find_column")]
+    #[export_name = "ipnetwork_v4_index_find_column"]
     unsafe extern "C" fn called(blocks: *const Ipv4InC, blocks_length: usize, index: *const u32, index_length: usize, addresses: *const [u8; 4], addresses_length: usize, places: *mut usize, places_length: usize, faults: *mut u8, faults_length: usize) -> u32 {
         unsafe { ipnetwork_v4_index_find_column(crate::lent::lent(blocks, blocks_length), crate::lent::lent(index, index_length), crate::lent::lent(addresses, addresses_length), crate::lent::lent_mut(places, places_length), crate::lent::lent_mut(faults, faults_length)) }
     }
@@ -178,7 +178,7 @@ pub fn ipnetwork_v6_index_find_column(
 }
 
 const _: () = {
-    #[unsafe(export_name = "ipnetwork_v6_index_find_column")]
+    #[export_name = "ipnetwork_v6_index_find_column"]
     unsafe extern "C" fn called(blocks: *const Ipv6InC, blocks_length: usize, index: *const u32, index_length: usize, addresses: *const [u8; 16], addresses_length: usize, places: *mut usize, places_length: usize, faults: *mut u8, faults_length: usize) -> u32 {
         unsafe { ipnetwork_v6_index_find_column(crate::lent::lent(blocks, blocks_length), crate::lent::lent(index, index_length), crate::lent::lent(addresses, addresses_length), crate::lent::lent_mut(places, places_length), crate::lent::lent_mut(faults, faults_length)) }
     }
@@ -201,7 +201,7 @@ pub fn ipnetwork_v4_ranges_find_column(
 }
 
 const _: () = {
-    #[unsafe(export_name = "ipnetwork_v4_ranges_find_column")]
+    #[export_name = "ipnetwork_v4_ranges_find_column"]
     unsafe extern "C" fn called(ranges: *const Ipv4InC, ranges_length: usize, range_places: *const usize, range_places_length: usize, index: *const u32, index_length: usize, addresses: *const [u8; 4], addresses_length: usize, places: *mut usize, places_length: usize, faults: *mut u8, faults_length: usize) -> u32 {
         unsafe { ipnetwork_v4_ranges_find_column(crate::lent::lent(ranges, ranges_length), crate::lent::lent(range_places, range_places_length), crate::lent::lent(index, index_length), crate::lent::lent(addresses, addresses_length), crate::lent::lent_mut(places, places_length), crate::lent::lent_mut(faults, faults_length)) }
     }
@@ -221,7 +221,7 @@ pub fn ipnetwork_v6_ranges_find_column(
 }
 
 const _: () = {
-    #[unsafe(export_name = "ipnetwork_v6_ranges_find_column")]
+    #[export_name = "ipnetwork_v6_ranges_find_column"]
     unsafe extern "C" fn called(ranges: *const Ipv6InC, ranges_length: usize, range_places: *const usize, range_places_length: usize, index: *const u32, index_length: usize, addresses: *const [u8; 16], addresses_length: usize, places: *mut usize, places_length: usize, faults: *mut u8, faults_length: usize) -> u32 {
         unsafe { ipnetwork_v6_ranges_find_column(crate::lent::lent(ranges, ranges_length), crate::lent::lent(range_places, range_places_length), crate::lent::lent(index, index_length), crate::lent::lent(addresses, addresses_length), crate::lent::lent_mut(places, places_length), crate::lent::lent_mut(faults, faults_length)) }
     }
@@ -242,7 +242,7 @@ pub fn ipnetwork_v4_read_column(
 }
 
 const _: () = {
-    #[unsafe(export_name = "ipnetwork_v4_read_column")]
+    #[export_name = "ipnetwork_v4_read_column"]
     unsafe extern "C" fn called(texts: *const u8, texts_length: usize, offsets: *const u32, offsets_length: usize, networks: *mut Ipv4InC, networks_length: usize, faults: *mut u8, faults_length: usize) -> u32 {
         unsafe { ipnetwork_v4_read_column(crate::lent::lent(texts, texts_length), crate::lent::lent(offsets, offsets_length), crate::lent::lent_mut(networks, networks_length), crate::lent::lent_mut(faults, faults_length)) }
     }
@@ -260,7 +260,7 @@ pub fn ipnetwork_v6_read_column(
 }
 
 const _: () = {
-    #[unsafe(export_name = "ipnetwork_v6_read_column")]
+    #[export_name = "ipnetwork_v6_read_column"]
     unsafe extern "C" fn called(texts: *const u8, texts_length: usize, offsets: *const u32, offsets_length: usize, networks: *mut Ipv6InC, networks_length: usize, faults: *mut u8, faults_length: usize) -> u32 {
         unsafe { ipnetwork_v6_read_column(crate::lent::lent(texts, texts_length), crate::lent::lent(offsets, offsets_length), crate::lent::lent_mut(networks, networks_length), crate::lent::lent_mut(faults, faults_length)) }
     }
@@ -278,7 +278,7 @@ pub fn ipnetwork_read_column(
 }
 
 const _: () = {
-    #[unsafe(export_name = "ipnetwork_read_column")]
+    #[export_name = "ipnetwork_read_column"]
     unsafe extern "C" fn called(texts: *const u8, texts_length: usize, offsets: *const u32, offsets_length: usize, networks: *mut IpInC, networks_length: usize, faults: *mut u8, faults_length: usize) -> u32 {
         unsafe { ipnetwork_read_column(crate::lent::lent(texts, texts_length), crate::lent::lent(offsets, offsets_length), crate::lent::lent_mut(networks, networks_length), crate::lent::lent_mut(faults, faults_length)) }
     }
@@ -296,7 +296,7 @@ pub fn ipnetwork_read_with_cause_column(
 }
 
 const _: () = {
-    #[unsafe(export_name = "ipnetwork_read_with_cause_column")]
+    #[export_name = "ipnetwork_read_with_cause_column"]
     unsafe extern "C" fn called(texts: *const u8, texts_length: usize, offsets: *const u32, offsets_length: usize, networks: *mut IpWithCauseInC, networks_length: usize, faults: *mut u8, faults_length: usize) -> u32 {
         unsafe { ipnetwork_read_with_cause_column(crate::lent::lent(texts, texts_length), crate::lent::lent(offsets, offsets_length), crate::lent::lent_mut(networks, networks_length), crate::lent::lent_mut(faults, faults_length)) }
     }
@@ -314,7 +314,7 @@ pub fn ipnetwork_address_read_column(
 }
 
 const _: () = {
-    #[unsafe(export_name = "ipnetwork_address_read_column")]
+    #[export_name = "ipnetwork_address_read_column"]
     unsafe extern "C" fn called(texts: *const u8, texts_length: usize, offsets: *const u32, offsets_length: usize, addresses: *mut AddressInC, addresses_length: usize, faults: *mut u8, faults_length: usize) -> u32 {
         unsafe { ipnetwork_address_read_column(crate::lent::lent(texts, texts_length), crate::lent::lent(offsets, offsets_length), crate::lent::lent_mut(addresses, addresses_length), crate::lent::lent_mut(faults, faults_length)) }
     }
@@ -336,7 +336,7 @@ pub fn ipnetwork_v4_print_column(
 }
 
 const _: () = {
-    #[unsafe(export_name = "ipnetwork_v4_print_column")]
+    #[export_name = "ipnetwork_v4_print_column"]
     unsafe extern "C" fn called(networks: *const Ipv4InC, networks_length: usize, texts: *mut u8, texts_length: usize, offsets: *mut u32, offsets_length: usize, length: &mut usize) -> u32 {
         unsafe { ipnetwork_v4_print_column(crate::lent::lent(networks, networks_length), crate::lent::lent_mut(texts, texts_length), crate::lent::lent_mut(offsets, offsets_length), length) }
     }
@@ -354,7 +354,7 @@ pub fn ipnetwork_v6_print_column(
 }
 
 const _: () = {
-    #[unsafe(export_name = "ipnetwork_v6_print_column")]
+    #[export_name = "ipnetwork_v6_print_column"]
     unsafe extern "C" fn called(networks: *const Ipv6InC, networks_length: usize, texts: *mut u8, texts_length: usize, offsets: *mut u32, offsets_length: usize, length: &mut usize) -> u32 {
         unsafe { ipnetwork_v6_print_column(crate::lent::lent(networks, networks_length), crate::lent::lent_mut(texts, texts_length), crate::lent::lent_mut(offsets, offsets_length), length) }
     }
@@ -373,7 +373,7 @@ pub fn ipnetwork_print_column(
 }
 
 const _: () = {
-    #[unsafe(export_name = "ipnetwork_print_column")]
+    #[export_name = "ipnetwork_print_column"]
     unsafe extern "C" fn called(networks: *const IpInC, networks_length: usize, texts: *mut u8, texts_length: usize, offsets: *mut u32, offsets_length: usize, length: &mut usize) -> u32 {
         unsafe { ipnetwork_print_column(crate::lent::lent(networks, networks_length), crate::lent::lent_mut(texts, texts_length), crate::lent::lent_mut(offsets, offsets_length), length) }
     }
@@ -392,7 +392,7 @@ pub fn ipnetwork_address_print_column(
 }
 
 const _: () = {
-    #[unsafe(export_name = "ipnetwork_address_print_column")]
+    #[export_name = "ipnetwork_address_print_column"]
     unsafe extern "C" fn called(addresses: *const AddressInC, addresses_length: usize, texts: *mut u8, texts_length: usize, offsets: *mut u32, offsets_length: usize, length: &mut usize) -> u32 {
         unsafe { ipnetwork_address_print_column(crate::lent::lent(addresses, addresses_length), crate::lent::lent_mut(texts, texts_length), crate::lent::lent_mut(offsets, offsets_length), length) }
     }

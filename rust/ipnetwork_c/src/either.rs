@@ -22,7 +22,7 @@ pub fn ipnetwork_read(text: &[u8], network: &mut IpInC) -> u32 {
 }
 
 const _: () = {
-    #[unsafe(export_name = "ipnetwork_read")]
+    #[export_name = "ipnetwork_read"]
     unsafe extern "C" fn called(text: *const u8, text_length: usize, network: &mut IpInC) -> u32 {
         unsafe { ipnetwork_read(crate::lent::lent(text, text_length), network) }
     }
@@ -40,7 +40,7 @@ pub fn ipnetwork_read_with_cause(text: &[u8], network: &mut IpInC) -> u32 {
 }
 
 const _: () = {
-    #[unsafe(export_name = "ipnetwork_read_with_cause")]
+    #[export_name = "ipnetwork_read_with_cause"]
     unsafe extern "C" fn called(text: *const u8, text_length: usize, network: &mut IpInC) -> u32 {
         unsafe { ipnetwork_read_with_cause(crate::lent::lent(text, text_length), network) }
     }
@@ -138,7 +138,7 @@ pub fn ipnetwork_contains(network: &IpInC, address: &[u8], answer: &mut u8) -> u
 }
 
 const _: () = {
-    #[unsafe(export_name = "ipnetwork_contains")]
+    #[export_name = "ipnetwork_contains"]
     unsafe extern "C" fn called(network: &IpInC, address: *const u8, address_length: usize, answer: &mut u8) -> u32 {
         unsafe { ipnetwork_contains(network, crate::lent::lent(address, address_length), answer) }
     }

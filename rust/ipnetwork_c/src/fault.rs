@@ -63,7 +63,7 @@ pub fn ipnetwork_fault_text(fault: u32, buffer: &mut [u8], length: &mut usize) -
 }
 
 const _: () = {
-    #[unsafe(export_name = "ipnetwork_fault_text")]
+    #[export_name = "ipnetwork_fault_text"]
     unsafe extern "C" fn called(fault: u32, buffer: *mut u8, buffer_length: usize, length: &mut usize) -> u32 {
         unsafe { ipnetwork_fault_text(fault, crate::lent::lent_mut(buffer, buffer_length), length) }
     }

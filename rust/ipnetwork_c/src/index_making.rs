@@ -17,7 +17,7 @@ pub fn ipnetwork_index_size(block_count: usize, index_length: &mut usize) -> u32
 }
 
 const _: () = {
-    #[unsafe(export_name = "ipnetwork_index_size")]
+    #[export_name = "ipnetwork_index_size"]
     extern "C" fn called(block_count: usize, index_length: &mut usize) -> u32 {
         ipnetwork_index_size(block_count, index_length)
     }
@@ -34,7 +34,7 @@ pub fn ipnetwork_v4_index_make(blocks: &[Ipv4InC], index: &mut [u32]) -> u32 {
 }
 
 const _: () = {
-    #[unsafe(export_name = "ipnetwork_v4_index_make")]
+    #[export_name = "ipnetwork_v4_index_make"]
     unsafe extern "C" fn called(blocks: *const Ipv4InC, blocks_length: usize, index: *mut u32, index_length: usize) -> u32 {
         unsafe { ipnetwork_v4_index_make(crate::lent::lent(blocks, blocks_length), crate::lent::lent_mut(index, index_length)) }
     }
@@ -48,7 +48,7 @@ pub fn ipnetwork_v6_index_make(blocks: &[Ipv6InC], index: &mut [u32]) -> u32 {
 }
 
 const _: () = {
-    #[unsafe(export_name = "ipnetwork_v6_index_make")]
+    #[export_name = "ipnetwork_v6_index_make"]
     unsafe extern "C" fn called(blocks: *const Ipv6InC, blocks_length: usize, index: *mut u32, index_length: usize) -> u32 {
         unsafe { ipnetwork_v6_index_make(crate::lent::lent(blocks, blocks_length), crate::lent::lent_mut(index, index_length)) }
     }

@@ -56,7 +56,7 @@ pub fn ipnetwork_abi_version() -> u32 {
 }
 
 const _: () = {
-    #[unsafe(export_name = "ipnetwork_abi_version")]
+    #[export_name = "ipnetwork_abi_version"]
     extern "C" fn called() -> u32 {
         ipnetwork_abi_version()
     }
@@ -70,7 +70,7 @@ pub fn ipnetwork_abi_minor_version() -> u32 {
 }
 
 const _: () = {
-    #[unsafe(export_name = "ipnetwork_abi_minor_version")]
+    #[export_name = "ipnetwork_abi_minor_version"]
     extern "C" fn called() -> u32 {
         ipnetwork_abi_minor_version()
     }

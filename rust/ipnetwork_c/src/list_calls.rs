@@ -21,7 +21,7 @@ pub fn ipnetwork_v4_list_contains(
 }
 
 const _: () = {
-    #[unsafe(export_name = "ipnetwork_v4_list_contains")]
+    #[export_name = "ipnetwork_v4_list_contains"]
     unsafe extern "C" fn called(networks: *const Ipv4InC, networks_length: usize, address: &[u8; 4], answer: &mut u8) -> u32 {
         unsafe { ipnetwork_v4_list_contains(crate::lent::lent(networks, networks_length), address, answer) }
     }
@@ -38,7 +38,7 @@ pub fn ipnetwork_v6_list_contains(
 }
 
 const _: () = {
-    #[unsafe(export_name = "ipnetwork_v6_list_contains")]
+    #[export_name = "ipnetwork_v6_list_contains"]
     unsafe extern "C" fn called(networks: *const Ipv6InC, networks_length: usize, address: &[u8; 16], answer: &mut u8) -> u32 {
         unsafe { ipnetwork_v6_list_contains(crate::lent::lent(networks, networks_length), address, answer) }
     }
@@ -58,7 +58,7 @@ pub fn ipnetwork_v4_set_contains(
 }
 
 const _: () = {
-    #[unsafe(export_name = "ipnetwork_v4_set_contains")]
+    #[export_name = "ipnetwork_v4_set_contains"]
     unsafe extern "C" fn called(blocks: *const Ipv4InC, blocks_length: usize, address: &[u8; 4], answer: &mut u8) -> u32 {
         unsafe { ipnetwork_v4_set_contains(crate::lent::lent(blocks, blocks_length), address, answer) }
     }
@@ -75,7 +75,7 @@ pub fn ipnetwork_v6_set_contains(
 }
 
 const _: () = {
-    #[unsafe(export_name = "ipnetwork_v6_set_contains")]
+    #[export_name = "ipnetwork_v6_set_contains"]
     unsafe extern "C" fn called(blocks: *const Ipv6InC, blocks_length: usize, address: &[u8; 16], answer: &mut u8) -> u32 {
         unsafe { ipnetwork_v6_set_contains(crate::lent::lent(blocks, blocks_length), address, answer) }
     }
@@ -95,7 +95,7 @@ pub fn ipnetwork_v4_index_contains(
 }
 
 const _: () = {
-    #[unsafe(export_name = "ipnetwork_v4_index_contains")]
+    #[export_name = "ipnetwork_v4_index_contains"]
     unsafe extern "C" fn called(blocks: *const Ipv4InC, blocks_length: usize, index: *const u32, index_length: usize, address: &[u8; 4], answer: &mut u8) -> u32 {
         unsafe { ipnetwork_v4_index_contains(crate::lent::lent(blocks, blocks_length), crate::lent::lent(index, index_length), address, answer) }
     }
@@ -113,7 +113,7 @@ pub fn ipnetwork_v6_index_contains(
 }
 
 const _: () = {
-    #[unsafe(export_name = "ipnetwork_v6_index_contains")]
+    #[export_name = "ipnetwork_v6_index_contains"]
     unsafe extern "C" fn called(blocks: *const Ipv6InC, blocks_length: usize, index: *const u32, index_length: usize, address: &[u8; 16], answer: &mut u8) -> u32 {
         unsafe { ipnetwork_v6_index_contains(crate::lent::lent(blocks, blocks_length), crate::lent::lent(index, index_length), address, answer) }
     }
@@ -133,7 +133,7 @@ pub fn ipnetwork_v4_table_find(
 }
 
 const _: () = {
-    #[unsafe(export_name = "ipnetwork_v4_table_find")]
+    #[export_name = "ipnetwork_v4_table_find"]
     unsafe extern "C" fn called(blocks: *const Ipv4InC, blocks_length: usize, address: &[u8; 4], index: &mut usize) -> u32 {
         unsafe { ipnetwork_v4_table_find(crate::lent::lent(blocks, blocks_length), address, index) }
     }
@@ -150,7 +150,7 @@ pub fn ipnetwork_v6_table_find(
 }
 
 const _: () = {
-    #[unsafe(export_name = "ipnetwork_v6_table_find")]
+    #[export_name = "ipnetwork_v6_table_find"]
     unsafe extern "C" fn called(blocks: *const Ipv6InC, blocks_length: usize, address: &[u8; 16], index: &mut usize) -> u32 {
         unsafe { ipnetwork_v6_table_find(crate::lent::lent(blocks, blocks_length), address, index) }
     }
@@ -169,7 +169,7 @@ pub fn ipnetwork_v4_index_find(
 }
 
 const _: () = {
-    #[unsafe(export_name = "ipnetwork_v4_index_find")]
+    #[export_name = "ipnetwork_v4_index_find"]
     unsafe extern "C" fn called(blocks: *const Ipv4InC, blocks_length: usize, index: *const u32, index_length: usize, address: &[u8; 4], place: &mut usize) -> u32 {
         unsafe { ipnetwork_v4_index_find(crate::lent::lent(blocks, blocks_length), crate::lent::lent(index, index_length), address, place) }
     }
@@ -187,7 +187,7 @@ pub fn ipnetwork_v6_index_find(
 }
 
 const _: () = {
-    #[unsafe(export_name = "ipnetwork_v6_index_find")]
+    #[export_name = "ipnetwork_v6_index_find"]
     unsafe extern "C" fn called(blocks: *const Ipv6InC, blocks_length: usize, index: *const u32, index_length: usize, address: &[u8; 16], place: &mut usize) -> u32 {
         unsafe { ipnetwork_v6_index_find(crate::lent::lent(blocks, blocks_length), crate::lent::lent(index, index_length), address, place) }
     }
@@ -210,7 +210,7 @@ pub fn ipnetwork_v4_ranges_find(
 }
 
 const _: () = {
-    #[unsafe(export_name = "ipnetwork_v4_ranges_find")]
+    #[export_name = "ipnetwork_v4_ranges_find"]
     unsafe extern "C" fn called(ranges: *const Ipv4InC, ranges_length: usize, places: *const usize, places_length: usize, index: *const u32, index_length: usize, address: &[u8; 4], place: &mut usize) -> u32 {
         unsafe { ipnetwork_v4_ranges_find(crate::lent::lent(ranges, ranges_length), crate::lent::lent(places, places_length), crate::lent::lent(index, index_length), address, place) }
     }
@@ -229,7 +229,7 @@ pub fn ipnetwork_v6_ranges_find(
 }
 
 const _: () = {
-    #[unsafe(export_name = "ipnetwork_v6_ranges_find")]
+    #[export_name = "ipnetwork_v6_ranges_find"]
     unsafe extern "C" fn called(ranges: *const Ipv6InC, ranges_length: usize, places: *const usize, places_length: usize, index: *const u32, index_length: usize, address: &[u8; 16], place: &mut usize) -> u32 {
         unsafe { ipnetwork_v6_ranges_find(crate::lent::lent(ranges, ranges_length), crate::lent::lent(places, places_length), crate::lent::lent(index, index_length), address, place) }
     }
@@ -249,7 +249,7 @@ pub fn ipnetwork_v4_ranges_place(
 }
 
 const _: () = {
-    #[unsafe(export_name = "ipnetwork_v4_ranges_place")]
+    #[export_name = "ipnetwork_v4_ranges_place"]
     unsafe extern "C" fn called(ranges: *const Ipv4InC, ranges_length: usize, places: *const usize, places_length: usize, index: *const u32, index_length: usize, address: &[u8; 4]) -> usize {
         unsafe { ipnetwork_v4_ranges_place(crate::lent::lent(ranges, ranges_length), crate::lent::lent(places, places_length), crate::lent::lent(index, index_length), address) }
     }
@@ -267,7 +267,7 @@ pub fn ipnetwork_v6_ranges_place(
 }
 
 const _: () = {
-    #[unsafe(export_name = "ipnetwork_v6_ranges_place")]
+    #[export_name = "ipnetwork_v6_ranges_place"]
     unsafe extern "C" fn called(ranges: *const Ipv6InC, ranges_length: usize, places: *const usize, places_length: usize, index: *const u32, index_length: usize, address: &[u8; 16]) -> usize {
         unsafe { ipnetwork_v6_ranges_place(crate::lent::lent(ranges, ranges_length), crate::lent::lent(places, places_length), crate::lent::lent(index, index_length), address) }
     }
@@ -288,7 +288,7 @@ pub fn ipnetwork_v4_union(
 }
 
 const _: () = {
-    #[unsafe(export_name = "ipnetwork_v4_union")]
+    #[export_name = "ipnetwork_v4_union"]
     unsafe extern "C" fn called(first: *const Ipv4InC, first_length: usize, second: *const Ipv4InC, second_length: usize, blocks: *mut Ipv4InC, blocks_length: usize, count: &mut usize) -> u32 {
         unsafe { ipnetwork_v4_union(crate::lent::lent(first, first_length), crate::lent::lent(second, second_length), crate::lent::lent_mut(blocks, blocks_length), count) }
     }
@@ -306,7 +306,7 @@ pub fn ipnetwork_v6_union(
 }
 
 const _: () = {
-    #[unsafe(export_name = "ipnetwork_v6_union")]
+    #[export_name = "ipnetwork_v6_union"]
     unsafe extern "C" fn called(first: *const Ipv6InC, first_length: usize, second: *const Ipv6InC, second_length: usize, blocks: *mut Ipv6InC, blocks_length: usize, count: &mut usize) -> u32 {
         unsafe { ipnetwork_v6_union(crate::lent::lent(first, first_length), crate::lent::lent(second, second_length), crate::lent::lent_mut(blocks, blocks_length), count) }
     }
@@ -324,7 +324,7 @@ pub fn ipnetwork_v4_intersection(
 }
 
 const _: () = {
-    #[unsafe(export_name = "ipnetwork_v4_intersection")]
+    #[export_name = "ipnetwork_v4_intersection"]
     unsafe extern "C" fn called(first: *const Ipv4InC, first_length: usize, second: *const Ipv4InC, second_length: usize, blocks: *mut Ipv4InC, blocks_length: usize, count: &mut usize) -> u32 {
         unsafe { ipnetwork_v4_intersection(crate::lent::lent(first, first_length), crate::lent::lent(second, second_length), crate::lent::lent_mut(blocks, blocks_length), count) }
     }
@@ -342,7 +342,7 @@ pub fn ipnetwork_v6_intersection(
 }
 
 const _: () = {
-    #[unsafe(export_name = "ipnetwork_v6_intersection")]
+    #[export_name = "ipnetwork_v6_intersection"]
     unsafe extern "C" fn called(first: *const Ipv6InC, first_length: usize, second: *const Ipv6InC, second_length: usize, blocks: *mut Ipv6InC, blocks_length: usize, count: &mut usize) -> u32 {
         unsafe { ipnetwork_v6_intersection(crate::lent::lent(first, first_length), crate::lent::lent(second, second_length), crate::lent::lent_mut(blocks, blocks_length), count) }
     }
@@ -361,7 +361,7 @@ pub fn ipnetwork_v4_difference(
 }
 
 const _: () = {
-    #[unsafe(export_name = "ipnetwork_v4_difference")]
+    #[export_name = "ipnetwork_v4_difference"]
     unsafe extern "C" fn called(first: *const Ipv4InC, first_length: usize, second: *const Ipv4InC, second_length: usize, blocks: *mut Ipv4InC, blocks_length: usize, count: &mut usize) -> u32 {
         unsafe { ipnetwork_v4_difference(crate::lent::lent(first, first_length), crate::lent::lent(second, second_length), crate::lent::lent_mut(blocks, blocks_length), count) }
     }
@@ -379,7 +379,7 @@ pub fn ipnetwork_v6_difference(
 }
 
 const _: () = {
-    #[unsafe(export_name = "ipnetwork_v6_difference")]
+    #[export_name = "ipnetwork_v6_difference"]
     unsafe extern "C" fn called(first: *const Ipv6InC, first_length: usize, second: *const Ipv6InC, second_length: usize, blocks: *mut Ipv6InC, blocks_length: usize, count: &mut usize) -> u32 {
         unsafe { ipnetwork_v6_difference(crate::lent::lent(first, first_length), crate::lent::lent(second, second_length), crate::lent::lent_mut(blocks, blocks_length), count) }
     }
@@ -399,7 +399,7 @@ pub fn ipnetwork_v4_range_to_blocks(
 }
 
 const _: () = {
-    #[unsafe(export_name = "ipnetwork_v4_range_to_blocks")]
+    #[export_name = "ipnetwork_v4_range_to_blocks"]
     unsafe extern "C" fn called(first: &[u8; 4], last: &[u8; 4], blocks: *mut Ipv4InC, blocks_length: usize, count: &mut usize) -> u32 {
         unsafe { ipnetwork_v4_range_to_blocks(first, last, crate::lent::lent_mut(blocks, blocks_length), count) }
     }
@@ -417,7 +417,7 @@ pub fn ipnetwork_v6_range_to_blocks(
 }
 
 const _: () = {
-    #[unsafe(export_name = "ipnetwork_v6_range_to_blocks")]
+    #[export_name = "ipnetwork_v6_range_to_blocks"]
     unsafe extern "C" fn called(first: &[u8; 16], last: &[u8; 16], blocks: *mut Ipv6InC, blocks_length: usize, count: &mut usize) -> u32 {
         unsafe { ipnetwork_v6_range_to_blocks(first, last, crate::lent::lent_mut(blocks, blocks_length), count) }
     }
@@ -438,7 +438,7 @@ pub fn ipnetwork_v4_table_make(
 }
 
 const _: () = {
-    #[unsafe(export_name = "ipnetwork_v4_table_make")]
+    #[export_name = "ipnetwork_v4_table_make"]
     unsafe extern "C" fn called(networks: *const Ipv4InC, networks_length: usize, blocks: *mut Ipv4InC, blocks_length: usize, places: *mut usize, places_length: usize) -> u32 {
         unsafe { ipnetwork_v4_table_make(crate::lent::lent(networks, networks_length), crate::lent::lent_mut(blocks, blocks_length), crate::lent::lent_mut(places, places_length)) }
     }
@@ -455,7 +455,7 @@ pub fn ipnetwork_v6_table_make(
 }
 
 const _: () = {
-    #[unsafe(export_name = "ipnetwork_v6_table_make")]
+    #[export_name = "ipnetwork_v6_table_make"]
     unsafe extern "C" fn called(networks: *const Ipv6InC, networks_length: usize, blocks: *mut Ipv6InC, blocks_length: usize, places: *mut usize, places_length: usize) -> u32 {
         unsafe { ipnetwork_v6_table_make(crate::lent::lent(networks, networks_length), crate::lent::lent_mut(blocks, blocks_length), crate::lent::lent_mut(places, places_length)) }
     }
@@ -480,7 +480,7 @@ pub fn ipnetwork_v4_ranges_make(
 }
 
 const _: () = {
-    #[unsafe(export_name = "ipnetwork_v4_ranges_make")]
+    #[export_name = "ipnetwork_v4_ranges_make"]
     unsafe extern "C" fn called(blocks: *const Ipv4InC, blocks_length: usize, ranges: *mut Ipv4InC, ranges_length: usize, places: *mut usize, places_length: usize, count: &mut usize) -> u32 {
         unsafe { ipnetwork_v4_ranges_make(crate::lent::lent(blocks, blocks_length), crate::lent::lent_mut(ranges, ranges_length), crate::lent::lent_mut(places, places_length), count) }
     }
@@ -498,7 +498,7 @@ pub fn ipnetwork_v6_ranges_make(
 }
 
 const _: () = {
-    #[unsafe(export_name = "ipnetwork_v6_ranges_make")]
+    #[export_name = "ipnetwork_v6_ranges_make"]
     unsafe extern "C" fn called(blocks: *const Ipv6InC, blocks_length: usize, ranges: *mut Ipv6InC, ranges_length: usize, places: *mut usize, places_length: usize, count: &mut usize) -> u32 {
         unsafe { ipnetwork_v6_ranges_make(crate::lent::lent(blocks, blocks_length), crate::lent::lent_mut(ranges, ranges_length), crate::lent::lent_mut(places, places_length), count) }
     }

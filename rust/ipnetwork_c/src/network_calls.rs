@@ -18,7 +18,7 @@ pub fn ipnetwork_v4_read(text: &[u8], network: &mut Ipv4InC) -> u32 {
 }
 
 const _: () = {
-    #[unsafe(export_name = "ipnetwork_v4_read")]
+    #[export_name = "ipnetwork_v4_read"]
     unsafe extern "C" fn called(text: *const u8, text_length: usize, network: &mut Ipv4InC) -> u32 {
         unsafe { ipnetwork_v4_read(crate::lent::lent(text, text_length), network) }
     }
@@ -31,7 +31,7 @@ pub fn ipnetwork_v6_read(text: &[u8], network: &mut Ipv6InC) -> u32 {
 }
 
 const _: () = {
-    #[unsafe(export_name = "ipnetwork_v6_read")]
+    #[export_name = "ipnetwork_v6_read"]
     unsafe extern "C" fn called(text: *const u8, text_length: usize, network: &mut Ipv6InC) -> u32 {
         unsafe { ipnetwork_v6_read(crate::lent::lent(text, text_length), network) }
     }
@@ -51,7 +51,7 @@ pub fn ipnetwork_v4_new(address: &[u8; 4], prefix: u8, network: &mut Ipv4InC) ->
 }
 
 const _: () = {
-    #[unsafe(export_name = "ipnetwork_v4_new")]
+    #[export_name = "ipnetwork_v4_new"]
     extern "C" fn called(address: &[u8; 4], prefix: u8, network: &mut Ipv4InC) -> u32 {
         ipnetwork_v4_new(address, prefix, network)
     }
@@ -71,7 +71,7 @@ pub fn ipnetwork_v6_new(address: &[u8; 16], prefix: u8, network: &mut Ipv6InC) -
 }
 
 const _: () = {
-    #[unsafe(export_name = "ipnetwork_v6_new")]
+    #[export_name = "ipnetwork_v6_new"]
     extern "C" fn called(address: &[u8; 16], prefix: u8, network: &mut Ipv6InC) -> u32 {
         ipnetwork_v6_new(address, prefix, network)
     }
@@ -93,7 +93,7 @@ pub fn ipnetwork_v4_canonical(
 }
 
 const _: () = {
-    #[unsafe(export_name = "ipnetwork_v4_canonical")]
+    #[export_name = "ipnetwork_v4_canonical"]
     unsafe extern "C" fn called(network: &Ipv4InC, buffer: *mut u8, buffer_length: usize, length: &mut usize) -> u32 {
         unsafe { ipnetwork_v4_canonical(network, crate::lent::lent_mut(buffer, buffer_length), length) }
     }
@@ -113,7 +113,7 @@ pub fn ipnetwork_v6_canonical(
 }
 
 const _: () = {
-    #[unsafe(export_name = "ipnetwork_v6_canonical")]
+    #[export_name = "ipnetwork_v6_canonical"]
     unsafe extern "C" fn called(network: &Ipv6InC, buffer: *mut u8, buffer_length: usize, length: &mut usize) -> u32 {
         unsafe { ipnetwork_v6_canonical(network, crate::lent::lent_mut(buffer, buffer_length), length) }
     }
@@ -134,7 +134,7 @@ pub fn ipnetwork_v4_contains(
 }
 
 const _: () = {
-    #[unsafe(export_name = "ipnetwork_v4_contains")]
+    #[export_name = "ipnetwork_v4_contains"]
     extern "C" fn called(network: &Ipv4InC, address: &[u8; 4], answer: &mut u8) -> u32 {
         ipnetwork_v4_contains(network, address, answer)
     }
@@ -155,7 +155,7 @@ pub fn ipnetwork_v6_contains(
 }
 
 const _: () = {
-    #[unsafe(export_name = "ipnetwork_v6_contains")]
+    #[export_name = "ipnetwork_v6_contains"]
     extern "C" fn called(network: &Ipv6InC, address: &[u8; 16], answer: &mut u8) -> u32 {
         ipnetwork_v6_contains(network, address, answer)
     }
@@ -172,7 +172,7 @@ pub fn ipnetwork_v4_network(network: &Ipv4InC, address: &mut [u8; 4]) -> u32 {
 }
 
 const _: () = {
-    #[unsafe(export_name = "ipnetwork_v4_network")]
+    #[export_name = "ipnetwork_v4_network"]
     extern "C" fn called(network: &Ipv4InC, address: &mut [u8; 4]) -> u32 {
         ipnetwork_v4_network(network, address)
     }
@@ -189,7 +189,7 @@ pub fn ipnetwork_v6_network(network: &Ipv6InC, address: &mut [u8; 16]) -> u32 {
 }
 
 const _: () = {
-    #[unsafe(export_name = "ipnetwork_v6_network")]
+    #[export_name = "ipnetwork_v6_network"]
     extern "C" fn called(network: &Ipv6InC, address: &mut [u8; 16]) -> u32 {
         ipnetwork_v6_network(network, address)
     }
@@ -206,7 +206,7 @@ pub fn ipnetwork_v4_broadcast(network: &Ipv4InC, address: &mut [u8; 4]) -> u32 {
 }
 
 const _: () = {
-    #[unsafe(export_name = "ipnetwork_v4_broadcast")]
+    #[export_name = "ipnetwork_v4_broadcast"]
     extern "C" fn called(network: &Ipv4InC, address: &mut [u8; 4]) -> u32 {
         ipnetwork_v4_broadcast(network, address)
     }
@@ -223,7 +223,7 @@ pub fn ipnetwork_v6_broadcast(network: &Ipv6InC, address: &mut [u8; 16]) -> u32 
 }
 
 const _: () = {
-    #[unsafe(export_name = "ipnetwork_v6_broadcast")]
+    #[export_name = "ipnetwork_v6_broadcast"]
     extern "C" fn called(network: &Ipv6InC, address: &mut [u8; 16]) -> u32 {
         ipnetwork_v6_broadcast(network, address)
     }
@@ -241,7 +241,7 @@ pub fn ipnetwork_v4_mask(network: &Ipv4InC, mask: &mut [u8; 4]) -> u32 {
 }
 
 const _: () = {
-    #[unsafe(export_name = "ipnetwork_v4_mask")]
+    #[export_name = "ipnetwork_v4_mask"]
     extern "C" fn called(network: &Ipv4InC, mask: &mut [u8; 4]) -> u32 {
         ipnetwork_v4_mask(network, mask)
     }
@@ -258,7 +258,7 @@ pub fn ipnetwork_v6_mask(network: &Ipv6InC, mask: &mut [u8; 16]) -> u32 {
 }
 
 const _: () = {
-    #[unsafe(export_name = "ipnetwork_v6_mask")]
+    #[export_name = "ipnetwork_v6_mask"]
     extern "C" fn called(network: &Ipv6InC, mask: &mut [u8; 16]) -> u32 {
         ipnetwork_v6_mask(network, mask)
     }
@@ -275,7 +275,7 @@ pub fn ipnetwork_v4_prefix_of_mask(mask: &[u8; 4], prefix: &mut u8) -> u32 {
 }
 
 const _: () = {
-    #[unsafe(export_name = "ipnetwork_v4_prefix_of_mask")]
+    #[export_name = "ipnetwork_v4_prefix_of_mask"]
     extern "C" fn called(mask: &[u8; 4], prefix: &mut u8) -> u32 {
         ipnetwork_v4_prefix_of_mask(mask, prefix)
     }
@@ -292,7 +292,7 @@ pub fn ipnetwork_v6_prefix_of_mask(mask: &[u8; 16], prefix: &mut u8) -> u32 {
 }
 
 const _: () = {
-    #[unsafe(export_name = "ipnetwork_v6_prefix_of_mask")]
+    #[export_name = "ipnetwork_v6_prefix_of_mask"]
     extern "C" fn called(mask: &[u8; 16], prefix: &mut u8) -> u32 {
         ipnetwork_v6_prefix_of_mask(mask, prefix)
     }
@@ -316,7 +316,7 @@ pub fn ipnetwork_v4_is_subnet_of(
 }
 
 const _: () = {
-    #[unsafe(export_name = "ipnetwork_v4_is_subnet_of")]
+    #[export_name = "ipnetwork_v4_is_subnet_of"]
     extern "C" fn called(inner: &Ipv4InC, outer: &Ipv4InC, answer: &mut u8) -> u32 {
         ipnetwork_v4_is_subnet_of(inner, outer, answer)
     }
@@ -339,7 +339,7 @@ pub fn ipnetwork_v6_is_subnet_of(
 }
 
 const _: () = {
-    #[unsafe(export_name = "ipnetwork_v6_is_subnet_of")]
+    #[export_name = "ipnetwork_v6_is_subnet_of"]
     extern "C" fn called(inner: &Ipv6InC, outer: &Ipv6InC, answer: &mut u8) -> u32 {
         ipnetwork_v6_is_subnet_of(inner, outer, answer)
     }
@@ -358,7 +358,7 @@ pub fn ipnetwork_v4_overlaps(one: &Ipv4InC, other: &Ipv4InC, answer: &mut u8) ->
 }
 
 const _: () = {
-    #[unsafe(export_name = "ipnetwork_v4_overlaps")]
+    #[export_name = "ipnetwork_v4_overlaps"]
     extern "C" fn called(one: &Ipv4InC, other: &Ipv4InC, answer: &mut u8) -> u32 {
         ipnetwork_v4_overlaps(one, other, answer)
     }
@@ -377,7 +377,7 @@ pub fn ipnetwork_v6_overlaps(one: &Ipv6InC, other: &Ipv6InC, answer: &mut u8) ->
 }
 
 const _: () = {
-    #[unsafe(export_name = "ipnetwork_v6_overlaps")]
+    #[export_name = "ipnetwork_v6_overlaps"]
     extern "C" fn called(one: &Ipv6InC, other: &Ipv6InC, answer: &mut u8) -> u32 {
         ipnetwork_v6_overlaps(one, other, answer)
     }
@@ -397,7 +397,7 @@ pub fn ipnetwork_v4_compare(one: &Ipv4InC, other: &Ipv4InC, order: &mut i32) -> 
 }
 
 const _: () = {
-    #[unsafe(export_name = "ipnetwork_v4_compare")]
+    #[export_name = "ipnetwork_v4_compare"]
     extern "C" fn called(one: &Ipv4InC, other: &Ipv4InC, order: &mut i32) -> u32 {
         ipnetwork_v4_compare(one, other, order)
     }
@@ -416,7 +416,7 @@ pub fn ipnetwork_v6_compare(one: &Ipv6InC, other: &Ipv6InC, order: &mut i32) -> 
 }
 
 const _: () = {
-    #[unsafe(export_name = "ipnetwork_v6_compare")]
+    #[export_name = "ipnetwork_v6_compare"]
     extern "C" fn called(one: &Ipv6InC, other: &Ipv6InC, order: &mut i32) -> u32 {
         ipnetwork_v6_compare(one, other, order)
     }

@@ -55,7 +55,7 @@ pub fn ipnetwork_canonical(network: &IpInC, buffer: &mut [u8], length: &mut usiz
 }
 
 const _: () = {
-    #[unsafe(export_name = "ipnetwork_canonical")]
+    #[export_name = "ipnetwork_canonical"]
     unsafe extern "C" fn called(network: &IpInC, buffer: *mut u8, buffer_length: usize, length: &mut usize) -> u32 {
         unsafe { ipnetwork_canonical(network, crate::lent::lent_mut(buffer, buffer_length), length) }
     }
@@ -68,7 +68,7 @@ pub fn ipnetwork_network(network: &IpInC, address: &mut AddressInC) -> u32 {
 }
 
 const _: () = {
-    #[unsafe(export_name = "ipnetwork_network")]
+    #[export_name = "ipnetwork_network"]
     extern "C" fn called(network: &IpInC, address: &mut AddressInC) -> u32 {
         ipnetwork_network(network, address)
     }
@@ -81,7 +81,7 @@ pub fn ipnetwork_broadcast(network: &IpInC, address: &mut AddressInC) -> u32 {
 }
 
 const _: () = {
-    #[unsafe(export_name = "ipnetwork_broadcast")]
+    #[export_name = "ipnetwork_broadcast"]
     extern "C" fn called(network: &IpInC, address: &mut AddressInC) -> u32 {
         ipnetwork_broadcast(network, address)
     }
@@ -94,7 +94,7 @@ pub fn ipnetwork_mask(network: &IpInC, mask: &mut AddressInC) -> u32 {
 }
 
 const _: () = {
-    #[unsafe(export_name = "ipnetwork_mask")]
+    #[export_name = "ipnetwork_mask"]
     extern "C" fn called(network: &IpInC, mask: &mut AddressInC) -> u32 {
         ipnetwork_mask(network, mask)
     }
@@ -108,7 +108,7 @@ pub fn ipnetwork_is_subnet_of(inner: &IpInC, outer: &IpInC, answer: &mut u8) -> 
 }
 
 const _: () = {
-    #[unsafe(export_name = "ipnetwork_is_subnet_of")]
+    #[export_name = "ipnetwork_is_subnet_of"]
     extern "C" fn called(inner: &IpInC, outer: &IpInC, answer: &mut u8) -> u32 {
         ipnetwork_is_subnet_of(inner, outer, answer)
     }
@@ -121,7 +121,7 @@ pub fn ipnetwork_overlaps(one: &IpInC, other: &IpInC, answer: &mut u8) -> u32 {
 }
 
 const _: () = {
-    #[unsafe(export_name = "ipnetwork_overlaps")]
+    #[export_name = "ipnetwork_overlaps"]
     extern "C" fn called(one: &IpInC, other: &IpInC, answer: &mut u8) -> u32 {
         ipnetwork_overlaps(one, other, answer)
     }
@@ -135,7 +135,7 @@ pub fn ipnetwork_compare(one: &IpInC, other: &IpInC, order: &mut i32) -> u32 {
 }
 
 const _: () = {
-    #[unsafe(export_name = "ipnetwork_compare")]
+    #[export_name = "ipnetwork_compare"]
     extern "C" fn called(one: &IpInC, other: &IpInC, order: &mut i32) -> u32 {
         ipnetwork_compare(one, other, order)
     }

@@ -90,7 +90,7 @@ pub fn ipnetwork_v4_size(network: &Ipv4InC, size: &mut u64) -> u32 {
 }
 
 const _: () = {
-    #[unsafe(export_name = "ipnetwork_v4_size")]
+    #[export_name = "ipnetwork_v4_size"]
     extern "C" fn called(network: &Ipv4InC, size: &mut u64) -> u32 {
         ipnetwork_v4_size(network, size)
     }
@@ -108,7 +108,7 @@ pub fn ipnetwork_v6_size(network: &Ipv6InC, size: &mut [u8; 17]) -> u32 {
 }
 
 const _: () = {
-    #[unsafe(export_name = "ipnetwork_v6_size")]
+    #[export_name = "ipnetwork_v6_size"]
     extern "C" fn called(network: &Ipv6InC, size: &mut [u8; 17]) -> u32 {
         ipnetwork_v6_size(network, size)
     }
@@ -131,7 +131,7 @@ pub fn ipnetwork_v4_nth(network: &Ipv4InC, n: u32, address: &mut [u8; 4]) -> u32
 }
 
 const _: () = {
-    #[unsafe(export_name = "ipnetwork_v4_nth")]
+    #[export_name = "ipnetwork_v4_nth"]
     extern "C" fn called(network: &Ipv4InC, n: u32, address: &mut [u8; 4]) -> u32 {
         ipnetwork_v4_nth(network, n, address)
     }
@@ -153,7 +153,7 @@ pub fn ipnetwork_v6_nth(network: &Ipv6InC, n: &[u8; 16], address: &mut [u8; 16])
 }
 
 const _: () = {
-    #[unsafe(export_name = "ipnetwork_v6_nth")]
+    #[export_name = "ipnetwork_v6_nth"]
     extern "C" fn called(network: &Ipv6InC, n: &[u8; 16], address: &mut [u8; 16]) -> u32 {
         ipnetwork_v6_nth(network, n, address)
     }
