@@ -23,6 +23,7 @@ IN_SCOPE = {
     r"\bValue::(?:try_from_str|from_slice|from_str)\(": "serde_json::OfKit",
     r"\bvec!\[in ": "vec",
     r"\bformat!\(in ": "format",
+    r"\bprint!\(": "print",
     r"\bprintln!\(": "println",
 }
 IN_TESTS = {
@@ -201,29 +202,35 @@ class Source:
         self.text = re.sub(r"^((?:pub(?:\([^)]*\))? )?mod (\w+);\n)", new, self.text, flags=re.M)
 
     def paths(self):
-        """Sends the paths that stand in the code to where they are."""
+        """Sends the paths that stand in the code, outside of `use`, to where they are."""
         heads = {"std", "crate", self.crate, *self.layout.below[self.crate]}
+        path = re.compile(rf"({'|'.join(sorted(heads))})::(\w+)")
+        parts, at = [], 0
+        for found in [*USE.finditer(self.text), None]:
+            end = found.start() if found else len(self.text)
+            parts.append(self.with_paths(self.text[at:end], path))
+            if found:
+                parts.append(found[0])
+                at = found.end()
+        self.text = "".join(parts)
+
+    def with_paths(self, text, path):
+        """A piece of code with its paths where they are."""
+        if not path.search(text):
+            return text
         out, before, skip_to = [], "", -1
-        for kind, token, place in tokens(self.text):
+        for kind, token, place in tokens(text):
             if place < skip_to:
                 continue
-            follows = re.compile(r"::(\w+)").match(self.text, place + len(token))
-            if kind == "word" and token in heads and follows and before != "::" and not self.in_use(place):
-                path = self.mapped([token, follows[1]])
-                out.append("::".join(path))
-                skip_to = follows.end()
-                before = follows[1]
+            found = path.match(text, place) if kind == "word" and before != "::" else None
+            if found:
+                out.append("::".join(self.mapped([found[1], found[2]])))
+                before, skip_to = found[2], found.end()
                 continue
             out.append(token)
             if kind not in ("space", "comment"):
                 before = token
-        self.text = "".join(out)
-
-    def in_use(self, place):
-        begin = self.text.rfind("\n", 0, place) + 1
-        return bool(re.match(r"\s*(?:pub(?:\([^)]*\))? )?use\b|.*;.*", self.text[begin:place])) and any(
-            found.start() <= place < found.end() for found in USE.finditer(self.text)
-        )
+        return "".join(out)
 
     def hidden(self):
         """What has a `requires` is no public call."""

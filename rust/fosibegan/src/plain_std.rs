@@ -26,7 +26,7 @@ pub mod time;
 
 #[doc(hidden)]
 pub use crate::{
-    plain_format as format, plain_println as println, plain_vec as vec, plain_assert as assert,
+    plain_format as format, plain_print as print, plain_println as println, plain_vec as vec, plain_assert as assert,
     plain_assert_eq as assert_eq, plain_assert_ne as assert_ne,
 };
 
@@ -73,6 +73,14 @@ macro_rules! plain_assert_eq {
 macro_rules! plain_assert_ne {
     ($rt:ident; $($fact:tt)*) => { ::core::assert_ne!($($fact)*) };
     ($($fact:tt)*) => { ::core::assert_ne!($($fact)*) };
+}
+
+#[doc(hidden)]
+#[macro_export]
+macro_rules! plain_print {
+    ($rt:expr; $($text:tt)*) => {
+        $crate::plain_std::rt::print(&$rt, ::core::format_args!($($text)*))
+    };
 }
 
 #[doc(hidden)]

@@ -78,10 +78,20 @@ impl HostRuntime {
         Stderr::new()
     }
 
+    /// The lines of standard input, without their ends.
+    pub fn lines(&self, _: Global) -> impl Iterator<Item = io::Result<String>> {
+        io::stdin().lines().map(|line| Ok(String::from_str(Global, &line?)?))
+    }
+
     /// Prints a line to standard error.
     pub fn eprintln(&self, text: &str) -> io::Result<()> {
         writeln!(io::stderr(), "{text}")
     }
+}
+
+/// Prints to standard output.
+pub fn print(_: &HostRuntime, text: Arguments<'_>) -> io::Result<()> {
+    io::stdout().write_fmt(text)
 }
 
 /// Prints a line to standard output.

@@ -76,10 +76,12 @@ impl<T> Vec<T> {
         self.0.clear();
     }
 
+    /// Sorts the list. Rust's own sort has no way to tell that there is no memory: it is asked for before, and given back.
     pub fn sort(&mut self) -> Result<(), AllocError>
     where
         T: Ord,
     {
+        rust_alloc::vec::Vec::<T>::new().try_reserve_exact(self.0.len())?;
         self.0.sort();
         Ok(())
     }
