@@ -16,7 +16,7 @@ import plain_programs  # noqa: E402
 HERE = pathlib.Path(__file__).resolve().parent
 ENDED = "memory allocation of "
 # What std has: the words of a command line, and for each insert into a tree some nodes.
-MOST_ENDED = 40
+MOST_ENDED = 200
 
 ended_runs = 0
 
