@@ -1,0 +1,103 @@
+# The part of `rust/check --all` over other compilers and machines; that script reads this file.
+
+# VERSION COMMAND..: a command with the compiler of this version.
+by() {
+    local version="$1"
+    shift
+    RUSTC="$rustcs/$version/rustc" CARGO_TARGET_DIR="$out/target_$version" "$@"
+}
+# With overflow checks, and somewhat optimised: what runs under qemu takes ten times as long.
+export CARGO_PROFILE_DEV_OPT_LEVEL=1 CARGO_PROFILE_TEST_OPT_LEVEL=1 CARGO_PROFILE_DEV_DEBUG=0
+export CARGO_PROFILE_RELEASE_LTO=off CARGO_PROFILE_RELEASE_CODEGEN_UNITS=16
+tests="$out/with_tests"
+rm -rf "$tests"
+../scripts/plain --tests --to "$tests"
+rm -f "$tests"/*/Cargo.lock
+# PACKAGE ARGUMENT..: the unit tests of a package that has serde, and how many passed. The hash of an IPv6 address is the
+# same on each machine, and that of a u128 is not, so that a test of both is for little-endian ones.
+units() {
+    local package="$1"
+    shift
+    crates_in "$registry"
+    quiet units.log cargo test --offline --config "$out/sources.toml" --manifest-path "$tests/$package/Cargo.toml" "$@"
+    passed=$((passed + $(awk '/^test result: ok/ { count += $4 } END { print count + 0 }' "$out/units.log")))
+}
+# ARGUMENT..: the unit tests of all packages.
+all_units() {
+    passed=0
+    for package in fosibegan cidr_programs; do
+        units "$package" --features serde --tests "$@"
+    done
+    units cidr_merge "$@"
+    for package in cidr cidr_filter cidr_join; do
+        quiet units.log cargo test --offline --manifest-path "$tests/Cargo.toml" -p "$package" "$@"
+        passed=$((passed + $(awk '/^test result: ok/ { count += $4 } END { print count + 0 }' "$out/units.log")))
+    done
+}
+
+step "other compilers"
+versions="$(cd "$rustcs" 2> /dev/null && ls -d */rustc 2> /dev/null | sed 's|/rustc||' | sort -V || true)"
+least="$(echo "$versions" | head -n 1)"
+[ -n "$versions" ] || skip "other compilers and machines" "rustc in the folders of $rustcs" \
+    "rustc-web, which rust/unpack_rustc unpacks"
+for version in $versions; do
+    by "$version" quiet compiler.log cargo check --offline --locked --workspace
+    if [ "$serde" = yes ]; then
+        by "$version" all_units
+        echo "rustc $version: the packages are built, $passed unit tests passed"
+    else
+        echo "rustc $version: the packages are built"
+    fi
+done
+
+step "a usize of 32 bits"
+width=i686-unknown-linux-gnu
+if [ -n "$least" ] && [ -d "$rustcs/$least/root/usr/lib/rustlib/$width" ]; then
+    if by "$least" cargo check --offline --locked -p fosibegan --target "$width" > "$out/width.log" 2>&1; then
+        fail "the library should not be built for a usize of 32 bits"
+    fi
+    grep -o 'error: this library is made of.*' "$out/width.log" || { cat "$out/width.log" >&2; fail "rustc should say why"; }
+else
+    skip "a usize of 32 bits" "std of $width in $rustcs" "libstd-rust-web-dev:i386, which rust/unpack_rustc unpacks"
+fi
+
+# NAME ARCHITECTURE TARGET ARGUMENT..: unit tests and programs for another machine. The arguments go to the unit tests.
+machine() {
+    local name="$1" architecture="$2" target="$3" variable
+    shift 3
+    step "$name"
+    if [ -z "$least" ] || [ ! -d "$rustcs/$least/root/usr/lib/rustlib/$target" ]; then
+        skip "$name" "std of $target in $rustcs" "libstd-rust-web-dev, which rust/unpack_rustc unpacks"
+        return
+    fi
+    here "$name" "$architecture-linux-gnu-gcc" "gcc-$architecture-linux-gnu" || return 0
+    here "$name" "qemu-$architecture-static" qemu-user-static || return 0
+    if [ "$serde" = no ]; then
+        skip "$name" "serde_json in $registry" librust-serde-json-dev
+        return
+    fi
+    variable="CARGO_TARGET_$(echo "$target" | tr 'a-z-' 'A-Z_')"
+    export "${variable}_LINKER=$architecture-linux-gnu-gcc"
+    export "${variable}_RUNNER=qemu-$architecture-static -L /usr/$architecture-linux-gnu"
+    by "$least" all_units --target "$target" -- "$@"
+    echo "$name: $passed unit tests passed, with overflow checks"
+    local programs="$out/programs_$architecture" program at
+    mkdir -p "$programs"
+    by "$least" quiet programs.log cargo build --offline --locked --release --target "$target"
+    by "$least" quiet programs.log of_package build cidr_merge --release --target "$target"
+    for program in cidr cidr_merge cidr_filter cidr_join; do
+        at="$out/target_$least/$target/release/$program"
+        printf '#!/bin/sh\nexec qemu-%s-static -L /usr/%s-linux-gnu %s "$@"\n' "$architecture" "$architecture" "$at" \
+            > "$programs/$program"
+        chmod +x "$programs/$program"
+    done
+    for program in cidr cidr_merge cidr_filter cidr_join; do
+        CIDR_PROGRAMS="$programs" quiet programs.log "../tests/$program" --plain
+        echo "$name: tests/$program: $(tail -n 1 "$out/programs.log")"
+    done
+}
+machine arm64 aarch64 aarch64-unknown-linux-gnu
+machine "s390x, big-endian" s390x s390x-unknown-linux-gnu --skip each_group_is_hashed
+
+step "exchanged arguments of the library for C"
+python3 ../bindings/c/exchanged.py cc -std=c11 -O1 "$library.a"

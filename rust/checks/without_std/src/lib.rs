@@ -1,0 +1,42 @@
+//! Has what std has once in each program: the handler of panics, and the allocator. Were std linked below, the handler
+//! would be a second one, which rustc refuses.
+#![no_std]
+
+use core::alloc::{GlobalAlloc, Layout};
+use core::slice;
+
+use fosibegan::ipnetwork_index::AddressIndex;
+use fosibegan::plain_std::alloc::Global;
+use fosibegan::plain_std::vec::Vec;
+use fosibegan::{AddressSet, IpNetwork, Ipv4Network, PrefixTable};
+
+#[panic_handler]
+fn panic(_: &core::panic::PanicInfo<'_>) -> ! {
+    loop {}
+}
+
+struct Refusing;
+
+// SAFETY: it gives no memory, as an allocator may, and so gets none back.
+unsafe impl GlobalAlloc for Refusing {
+    unsafe fn alloc(&self, _: Layout) -> *mut u8 {
+        core::ptr::null_mut()
+    }
+
+    unsafe fn dealloc(&self, _: *mut u8, _: Layout) {}
+}
+
+#[global_allocator]
+static REFUSING: Refusing = Refusing;
+
+/// Reads a network, and asks a table, a set and an index about it.
+#[no_mangle]
+pub extern "C" fn without_std(byte: &u8, network: &Ipv4Network) -> u8 {
+    let read = IpNetwork::read_bytes(slice::from_ref(byte)).map_or(0, |network| network.prefix());
+    let mut table = PrefixTable::new(Global);
+    let kept = table.insert(*network, read).is_ok();
+    let found = table.lookup(network.ip()).is_some();
+    let set = AddressSet::from_networks(Vec::new(Global));
+    let indexed = AddressIndex::<Ipv4Network>::from_set(Global, &set).is_ok();
+    u8::from(kept) + u8::from(found) + u8::from(indexed)
+}
