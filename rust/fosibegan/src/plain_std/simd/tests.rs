@@ -226,7 +226,7 @@ fn sums_of_products() {
     for _ in 0..TIMES {
         let (a, b) = (random.bytes::<16>(), random.bytes::<16>());
         let product = |lane| u32::from(a[lane]) * u32::from(b[lane]);
-        let sums = [0, 4, 8, 12].map(|first| (first..first + 4).map(product).sum());
+        let sums: [u32; 4] = [0, 4, 8, 12].map(|first| (first..first + 4).map(product).sum());
         let found = u8x16::from_array(a).dot4(u8x16::from_array(b));
         assert_eq!(found.to_array(), sums, "{a:?} by {b:?}");
     }
