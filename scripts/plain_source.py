@@ -8,8 +8,8 @@ from erasing import WIDTH, Refused, code_sub, leftover, tokens
 # Modules of Rust's std as they are, which stand in core too, and one that does not.
 CORE = {"cell", "cmp", "error", "fmt", "hash", "marker", "mem", "net", "num", "ops", "str"}
 REAL = {"process"}
-# Kinds of errors that only unstable Rust names.
-UNSTABLE = re.compile(r"^ *ErrorKind::(?:FilesystemLoop|InProgress|Uncategorized),\n", re.M)
+# Kinds of errors that only unstable Rust names, or Rust from 1.87 on.
+UNSTABLE = re.compile(r"^ *ErrorKind::(?:FilesystemLoop|InProgress|InvalidFilename|Uncategorized),\n", re.M)
 # What a source has in scope by itself, and where the stand-in has it.
 IN_SCOPE = {
     r"\bVec\b": "vec::Vec",
