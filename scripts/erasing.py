@@ -265,6 +265,19 @@ def pushes(text):
     return text
 
 
+def inlined(text):
+    """What writes at the end of a text of a fixed room is better put where it is called: the length then needs no memory."""
+    head = re.compile(r"((?:^[ \t]*#\[[^\n]*\n)*)^([ \t]*)((?:pub(?:\([a-z]+\))? )?fn \w+(?:<[^()]*>)?)(?=\()", re.M)
+
+    def new(found):
+        end = matching(text, found.end(), "()")
+        if "#[inline" in found[1] or "&mut ArrayString<" not in text[found.end() : end]:
+            return found[0]
+        return f"{found[1]}{found[2]}#[inline]\n{found[2]}{found[3]}"
+
+    return head.sub(new, text)
+
+
 def texts(text):
     """The bytes of a text, and a text that is put behind another one, are taken as they stand: `as_str` would look at each
     byte first, whether it is one of a text."""
@@ -288,7 +301,7 @@ def laid(text):
 def erased(text):
     """The source as Rust. Its paths are those of the source."""
     text = without_ghosts(text)
-    for step in (drops, wheres, formatters, clones, roots, for_c, pushes, texts, slices):
+    for step in (drops, wheres, formatters, clones, roots, for_c, pushes, inlined, texts, slices):
         text = step(text)
     return laid(text)
 

@@ -42,6 +42,7 @@ impl Counts {
 }
 
 // Writes a count of addresses at the end of a text.
+#[inline]
 fn push_count(text: &mut ArrayString<80>, count: AddressCount) {
     match count {
         AddressCount::Number(number) => push_number(text, number),

@@ -6,6 +6,7 @@ use crate::plain_std::arrayvec::ArrayString;
 
 /// Writes the shortest decimal of a number at the end of a text: one to three bytes. There must be
 /// room for three.
+#[inline]
 #[doc(hidden)]
 pub fn push_decimal<const N: usize>(text: &mut ArrayString<N>, number: u8) {
     if number >= 100 {
@@ -47,6 +48,7 @@ pub fn push_number<const N: usize>(text: &mut ArrayString<N>, number: u128) {
 }
 
 /// Writes the shortest decimal of a number: one to 20 bytes.
+#[inline]
 fn push_shortest<const N: usize>(text: &mut ArrayString<N>, number: u64) {
     push_padded(text, number, digit_count(number));
 }
@@ -63,6 +65,7 @@ fn digit_count(number: u64) -> u8 {
 }
 
 /// Writes the last digits of a number, this many, zeros among them.
+#[inline]
 fn push_padded<const N: usize>(text: &mut ArrayString<N>, number: u64, count: u8) {
     if count == 0 {
         return;

@@ -6,6 +6,7 @@ use crate::ipnetwork_addr::ADDRESS_TEXT_CAPACITY;
 use crate::plain_std::arrayvec::ArrayString;
 
 /// Writes groups in shortest lower-case hex, with `:` between them.
+#[inline]
 pub(crate) fn push_groups(text: &mut ArrayString<ADDRESS_TEXT_CAPACITY>, groups: &[u16]) {
     if let [first, rest @ ..] = groups {
         push_hex(text, *first);
