@@ -28,6 +28,11 @@ impl String {
         Ok(())
     }
 
+    /// The same of a text of any kind.
+    pub fn push_text(&mut self, text: &impl AsRef<str>) -> Result<(), AllocError> {
+        self.push_str(text.as_ref())
+    }
+
     pub fn push(&mut self, char: char) -> Result<(), AllocError> {
         self.push_str(char.encode_utf8(&mut [0; 4]))
     }
@@ -51,6 +56,12 @@ impl ::core::ops::Deref for String {
     type Target = str;
 
     fn deref(&self) -> &str {
+        &self.0
+    }
+}
+
+impl AsRef<str> for String {
+    fn as_ref(&self) -> &str {
         &self.0
     }
 }
