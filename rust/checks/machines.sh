@@ -36,7 +36,7 @@ all_units() {
 }
 
 step "other compilers"
-versions="$(cd "$rustcs" 2> /dev/null && ls -d */rustc 2> /dev/null | sed 's|/rustc||' | sort -V || true)"
+versions="$(cd "$rustcs" 2> /dev/null && ls -d [0-9]*/rustc 2> /dev/null | sed 's|/rustc||' | sort -V || true)"
 least="$(echo "$versions" | head -n 1)"
 [ -n "$versions" ] || skip "other compilers and machines" "rustc in the folders of $rustcs" \
     "rustc-web, which rust/unpack_rustc unpacks"
@@ -60,6 +60,35 @@ if [ -n "$least" ] && [ -d "$rustcs/$least/root/usr/lib/rustlib/$width" ]; then
 else
     skip "a usize of 32 bits" "std of $width in $rustcs" "libstd-rust-web-dev:i386, which rust/unpack_rustc unpacks"
 fi
+
+# Runs of the programs, in examples/recipes.
+runs='cidr_merge union allowed.txt denied.txt
+cidr_merge minus denied.txt -- today.txt
+cidr_merge common denied.txt -- today.txt
+cidr_merge check --strict wrong.txt
+cidr_merge union --json denied.txt today.txt
+cidr_filter -f allowed.txt access.log
+cidr_filter -v -a -f denied.txt auth.log firewall.log
+cidr_filter --longest -a -f today.txt -e 203.0.113.0/24 auth.log access.log
+cidr_join -f today.txt access.log
+cidr_join --tally -f denied.txt access.log
+cidr no_argument'
+# FOLDER [SUFFIX]: compares what the programs of this folder, whose names end so, print in these runs, and their status,
+# with what those that are built here do.
+same_answers() {
+    local program words where
+    while read -r program words; do
+        for where in "$out/target/debug/$program" "$1/$program${2:-}"; do
+            # shellcheck disable=SC2086
+            (cd ../examples/recipes && "$where" $words < ../cidr/questions.txt && echo 0 || echo $?) \
+                > "$out/answer_$([ "$where" = "$1/$program${2:-}" ] && echo there || echo here)" 2> "$out/errors"
+        done
+        diff "$out/answer_here" "$out/answer_there" > "$out/differences" ||
+            { cat "$out/differences" >&2; fail "$1/$program $words answers otherwise than here"; }
+    done <<< "$runs"
+}
+cargo build --offline --locked --quiet
+[ "$serde" = no ] || of_package build cidr_merge
 
 # NAME ARCHITECTURE TARGET ARGUMENT..: unit tests and programs for another machine. The arguments go to the unit tests.
 machine() {
@@ -91,13 +120,51 @@ machine() {
             > "$programs/$program"
         chmod +x "$programs/$program"
     done
-    for program in cidr cidr_merge cidr_filter cidr_join; do
-        CIDR_PROGRAMS="$programs" quiet programs.log "../tests/$program" --plain
-        echo "$name: tests/$program: $(tail -n 1 "$out/programs.log")"
-    done
+    same_answers "$programs"
+    CIDR_PROGRAMS="$programs" quiet programs.log ../tests/cidr --plain
+    echo "$name: the programs answer as here; tests/cidr: $(tail -n 1 "$out/programs.log")"
 }
 machine arm64 aarch64 aarch64-unknown-linux-gnu
 machine "s390x, big-endian" s390x s390x-unknown-linux-gnu --skip each_group_is_hashed
+
+# Debian has Rust's std for Windows of 1.63 alone. It takes a copy in which what later Rust brought is replaced: so the
+# language is that of 1.63 with `let .. else` and blocks of constants, and all else that is newer are calls of std.
+step "Windows, under wine"
+old="$rustcs/old/rustc"
+windows=x86_64-pc-windows-gnu
+if [ ! -x "$old" ]; then
+    skip Windows "$old" "rustc and libstd-rust-dev-windows, which rust/unpack_rustc unpacks"
+elif here Windows x86_64-w64-mingw32-gcc gcc-mingw-w64-x86-64-win32 && here Windows wine "wine, wine64"; then
+    rm -rf "$out/old"
+    cp -r "$tests" "$out/old"
+    python3 checks/older.py "$out/old"
+    # NAME ROOT ARGUMENT..: compiles a crate with Debian's rustc 1.63 for Windows.
+    older() {
+        local name="$1" root="$2"
+        shift 2
+        RUSTC_BOOTSTRAP=1 quiet old.log "$old" --edition 2021 -O -C overflow-checks=on --target "$windows" \
+            "-Zcrate-attr=feature(let_else, inline_const, int_roundings, io_error_more)" -C panic=unwind \
+            -C linker=x86_64-w64-mingw32-gcc -L "$out/old" --crate-name "$name" "$out/old/$root" --out-dir "$out/old" "$@"
+    }
+    library="--extern fosibegan=$out/old/libfosibegan.rlib"
+    older fosibegan fosibegan/src/lib.rs --crate-type rlib --cfg 'feature="std"'
+    older cidr_programs cidr_programs/src/lib.rs --crate-type rlib $library
+    for program in cidr cidr_filter cidr_join; do
+        older "$program" "$program/src/main.rs" $library --extern cidr_programs="$out/old/libcidr_programs.rlib"
+    done
+    older units fosibegan/tests/units/main.rs --test $library
+    export WINEPREFIX="$out/wine" WINEDEBUG=-all
+    quiet wine.log wine "$out/old/units.exe"
+    echo "Windows: $(sed -n 's/^test result: ok. \([0-9]* passed\).*/\1/p' "$out/wine.log") of the unit tests of the library"
+    wine "$out/old/cidr.exe" < ../examples/cidr/questions.txt 2> "$out/errors" > "$out/windows"
+    "$out/target/debug/cidr" < ../examples/cidr/questions.txt | cmp - "$out/windows"
+    for program in cidr_filter cidr_join; do
+        wine "$out/old/$program.exe" -f ../examples/recipes/today.txt ../examples/recipes/access.log \
+            > "$out/windows" 2> "$out/errors"
+        "$out/target/debug/$program" -f ../examples/recipes/today.txt ../examples/recipes/access.log | cmp - "$out/windows"
+    done
+    echo "Windows: cidr, cidr_filter and cidr_join print the bytes that they print here"
+fi
 
 step "exchanged arguments of the library for C"
 python3 ../bindings/c/exchanged.py cc -std=c11 -O1 "$library.a"
