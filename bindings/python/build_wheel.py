@@ -1,15 +1,19 @@
 """Makes the wheel of the package ipnetwork and of the library that it calls, for `pip install ./bindings/python`, and the
-source distribution, which has the static library and the headers, so that it builds where it is unpacked.
+source distribution, which has the static libraries that are proved, the sources of the one that is not, and the
+headers, so that it builds where it is unpacked.
 
-It needs no other package, and so no network: only cc with its objdump, and the static library, as `rt lib` in
-crates/ipnetwork_c makes it. The environment variable IPNETWORK_C_LIB names another folder that has libipnetwork_c.a,
-CC and OBJDUMP other tools than these two: scripts/arm64 makes the wheel for ARM64 by them.
+It needs no other package, and so no network: only cc with its objdump, and a library. That is, in this order: the one of
+the folder that the environment variable IPNETWORK_C_LIB names; on Linux on x86-64 and ARM64 the proved one, as `rt lib`
+in crates/ipnetwork_c and `make arm64` make it; and everywhere else, and where that is not there, the one of cargo, of
+plain Rust, which is built here. A line on standard error says which it is. CC and OBJDUMP name other tools than those
+two: scripts/arm64 makes the wheel for ARM64 by them.
 
-Where the headers of Python are (Debian: python3-dev), the wheel has the extension `_native`, which from Python 3.11 on
-serves all later versions; else it has the library as a shared one, which the package calls by ctypes, and any Python may
-take it. The tag of the wheel, such as manylinux_2_17, says which glibc is the least that its library can be loaded with:
-2.17 or later, since every pip knows that. `build_wheel.py --sdist FOLDER` writes the source distribution into a folder,
-and `build_wheel.py FOLDER` builds the extension alone, for tests.
+On Linux, where the headers of Python are (Debian: python3-dev), the wheel has the extension `_native`, which from Python
+3.11 on serves all later versions; else it has the library as a shared one, which the package calls by ctypes, and any
+Python may take it. The tag of the wheel, such as manylinux_2_17, says which glibc is the least that its library can be
+loaded with: 2.17 or later, since every pip knows that. On other systems the wheel has the shared library of cargo, and
+its tag says the system that Python was built for. `build_wheel.py --sdist FOLDER` writes the source distribution into a
+folder, and `build_wheel.py FOLDER` builds the extension alone, for tests.
 """
 
 import base64
@@ -18,6 +22,7 @@ import io
 import os
 import pathlib
 import re
+import shutil
 import subprocess
 import sys
 import sysconfig
@@ -30,13 +35,23 @@ HERE = pathlib.Path(__file__).resolve().parent
 UNPACKED = (HERE / "PKG-INFO").is_file()
 TOP = HERE if UNPACKED else HERE.parent.parent
 HEADERS = HERE / "c" if UNPACKED else HERE.parent / "c"
-ARCHIVES = HERE / "c" if UNPACKED else TOP / "crates" / "ipnetwork_c" / "out"
+RUST = HERE / "rust" if UNPACKED else TOP / "rust"
+PLATFORM = sysconfig.get_platform()
+LINUX = PLATFORM.startswith("linux")
+# The folders of the library that is proved, by the platform that it is proved for.
+PROVED = {
+    "linux-x86_64": HERE / "c" / "x86_64" if UNPACKED else TOP / "crates" / "ipnetwork_c" / "out",
+    "linux-aarch64": HERE / "c" / "aarch64" if UNPACKED else TOP / "bindings" / "out" / "aarch64",
+}
+PLAIN = "plain Rust, made of the proved sources, and tested; not proved"
+ARCHIVE = "libipnetwork_c.a"
+SHARED = {"darwin": "libipnetwork_c.dylib", "win32": "ipnetwork_c.dll"}.get(sys.platform, "libipnetwork_c.so")
 NAME, VERSION = "ipnetwork", (TOP / "VERSION").read_text().strip()
 LICENSES = ("LICENSE-MIT", "LICENSE-APACHE", "NOTICE")
 METADATA = f"""Metadata-Version: 2.1
 Name: {NAME}
 Version: {VERSION}
-Summary: IP networks in CIDR notation, by a proved library
+Summary: IP networks in CIDR notation, by a library of proved sources
 License: MIT OR Apache-2.0
 Requires-Python: >=3.9
 """
@@ -45,11 +60,53 @@ THREADED = bool(sysconfig.get_config_var("Py_GIL_DISABLED"))  # a Python with fr
 STABLE = sys.version_info >= (3, 11) and not THREADED  # from this version on the stable ABI has buffers
 
 
-def _archive() -> pathlib.Path:
-    archive = pathlib.Path(os.environ.get("IPNETWORK_C_LIB", ARCHIVES)) / "libipnetwork_c.a"
-    if not archive.is_file():
-        raise SystemExit(f"{archive} is not there: run `rt lib` in crates/ipnetwork_c, or set IPNETWORK_C_LIB to its folder")
-    return archive
+def _say(words: str) -> None:
+    print(f"{NAME}: {words}", file=sys.stderr, flush=True)
+
+
+def _by_cargo() -> pathlib.Path:
+    """The folder of the library of plain Rust, which cargo builds."""
+    command = ["cargo", "build", "--quiet", "--release", "--offline", "--locked", "-p", "ipnetwork_c"]
+    # Where cargo puts the library, whatever the environment says of other builds.
+    target = RUST / "target"
+    settings = {name: value for name, value in os.environ.items() if name != "CARGO_BUILD_TARGET"}
+    try:
+        subprocess.run([*command, "--target-dir", str(target)], cwd=RUST, env=settings, check=True, stdout=sys.stderr)
+    except subprocess.CalledProcessError as failed:
+        raise SystemExit(f"{NAME}: cargo does not build the library (it needs Rust 1.81 or later): {failed}") from None
+    return target / "release"
+
+
+def _what_lacks() -> str:
+    """What to do where there is no library."""
+    proved = PROVED.get(PLATFORM)
+    if not proved:
+        lacks = f"none is proved for {PLATFORM}"
+    elif UNPACKED:
+        lacks = f"this source distribution has no proved one for {PLATFORM}"
+    else:
+        makes = "`rt lib` in crates/ipnetwork_c" if PLATFORM == "linux-x86_64" else "`make arm64`"
+        lacks = f"{proved / ARCHIVE} is not there, which {makes} proves and makes by rt"
+    cargo = "there is no cargo, which makes one of plain Rust (Debian: cargo; 1.81 or later)"
+    return f"there is no library: {lacks}, and {cargo}"
+
+
+def _library() -> pathlib.Path:
+    """The library that the package is made of: on Linux the static one, else the shared one."""
+    file = ARCHIVE if LINUX else SHARED
+    asked, proved = os.environ.get("IPNETWORK_C_LIB"), PROVED.get(PLATFORM)
+    if asked:
+        library, kind = pathlib.Path(asked) / file, "which IPNETWORK_C_LIB names"
+    elif proved and (proved / file).is_file():
+        library, kind = proved / file, "proved"
+    elif shutil.which("cargo"):
+        library, kind = _by_cargo() / file, PLAIN
+    else:
+        raise SystemExit(f"{NAME}: {_what_lacks()}")
+    if not library.is_file():
+        raise SystemExit(f"{NAME}: {library} is not there, {kind}")
+    _say(f"the library is {library}: {kind}")
+    return library
 
 
 def _cc(*arguments: str) -> None:
@@ -60,15 +117,18 @@ def _cc(*arguments: str) -> None:
 
 
 def link_shared(folder: pathlib.Path) -> pathlib.Path:
-    """The shared library, linked from the static one into a folder."""
-    shared = folder / "libipnetwork_c.so"
-    _cc("-shared", "-Wl,--whole-archive", str(_archive()), "-Wl,--no-whole-archive", "-o", str(shared))
+    """The shared library in a folder: on Linux linked from the static one, else that of cargo."""
+    shared, library = folder / SHARED, _library()
+    if LINUX:
+        _cc("-shared", "-Wl,--whole-archive", str(library), "-Wl,--no-whole-archive", "-o", str(shared))
+    else:
+        shutil.copyfile(library, shared)
     return shared
 
 
 def has_headers() -> bool:
     """Whether an extension of this Python can be compiled."""
-    return (pathlib.Path(sysconfig.get_paths()["include"]) / "Python.h").is_file()
+    return LINUX and (pathlib.Path(sysconfig.get_paths()["include"]) / "Python.h").is_file()
 
 
 def compile_native(folder: pathlib.Path) -> pathlib.Path:
@@ -78,13 +138,15 @@ def compile_native(folder: pathlib.Path) -> pathlib.Path:
     stable = ["-DPy_LIMITED_API=0x030B0000"] if STABLE else []
     flags = ["-std=c11", "-O2", "-Wall", "-Wextra", "-Werror", "-Wno-cast-function-type", "-fPIC", "-shared", "-fvisibility=hidden"]
     paths = [f"-I{sysconfig.get_paths()['include']}", f"-I{HEADERS}", str(HERE / "ipnetwork" / "_native.c")]
-    _cc(*flags, *stable, *paths, str(_archive()), "-o", str(native))
+    _cc(*flags, *stable, *paths, str(_library()), "-o", str(native))
     return native
 
 
 def platform_of(library: pathlib.Path) -> str:
-    """The platform in the tag of a wheel, by the versions of glibc that a library of it asks for (PEP 600)."""
-    platform = re.sub(r"[-.]", "_", sysconfig.get_platform())
+    """The platform in the tag of a wheel: on Linux by the versions of glibc that a library of it asks for (PEP 600)."""
+    platform = re.sub(r"[-.]", "_", PLATFORM)
+    if not LINUX:
+        return platform
     try:
         words = [os.environ.get("OBJDUMP", "objdump"), "-T", str(library)]
         symbols = subprocess.run(words, check=True, capture_output=True, text=True).stdout
@@ -126,6 +188,35 @@ def build_wheel(wheel_directory, config_settings=None, metadata_directory=None):
     return name
 
 
+def _proved() -> dict[str, bytes]:
+    """The proved libraries that are there, by their names in a source distribution; a line for each says so."""
+    held = {}
+    for platform, folder in PROVED.items():
+        library = folder / ARCHIVE
+        if library.is_file():
+            held[f"c/{platform.split('-')[1]}/{ARCHIVE}"] = library.read_bytes()
+        _say(f"the source distribution has {'the' if library.is_file() else 'no'} proved library for {platform}")
+    return held
+
+
+def _rust() -> dict[str, bytes]:
+    """What cargo makes the library of, by the names in a source distribution: a workspace of two packages."""
+    packages = ["fosibegan", "ipnetwork_c"]
+    settings, locked = (RUST / "Cargo.toml").read_text(), (RUST / "Cargo.lock").read_text()
+    workspace = '[workspace]\nresolver = "2"\nmembers = ["ipnetwork_c"]\nexclude = ["fosibegan", "target"]\n\n'
+    head, *blocks = locked.split("[[package]]\n")
+    kept = [block.rstrip() for block in blocks if block.split('"')[1] in packages]
+    files = {
+        "rust/Cargo.toml": (workspace + settings[settings.index("[profile.release]") :]).encode(),
+        "rust/Cargo.lock": (head + "\n\n".join("[[package]]\n" + block for block in kept) + "\n").encode(),
+    }
+    for package in packages:
+        listed = [RUST / package / name for name in ("Cargo.toml", *LICENSES[:2])]
+        for file in [*listed, *sorted((RUST / package / "src").rglob("*.rs"))]:
+            files[file.relative_to(RUST.parent).as_posix()] = file.read_bytes()
+    return files
+
+
 def build_sdist(sdist_directory, config_settings=None):
     """Writes the source distribution into a folder, and gives its file name."""
     base = f"{NAME}-{VERSION}"
@@ -136,7 +227,8 @@ def build_sdist(sdist_directory, config_settings=None):
         **{name: (TOP / name).read_bytes() for name in ("VERSION", *LICENSES)},
         **{f"ipnetwork/{file.name}": file.read_bytes() for file in sources},
         **{f"c/{name}": (HEADERS / name).read_bytes() for name in ("ipnetwork.h", "ranges.h")},
-        "c/libipnetwork_c.a": _archive().read_bytes(),
+        **_proved(),
+        **_rust(),
     }
     with tarfile.open(pathlib.Path(sdist_directory) / f"{base}.tar.gz", "w:gz", format=tarfile.PAX_FORMAT) as archive:
         for path, content in files.items():

@@ -75,9 +75,9 @@ CORE: str = "ctypes" if _core.__name__.endswith("ctypes") else "native"
 
 if CORE == "ctypes" and not _ASKED:
     warnings.warn(
-        "ipnetwork was built without the headers of Python, and calls its library by ctypes: the "
-        "answers are the same, and a call takes five to twenty times as long; bindings/README.md "
-        "says how to build its extension",
+        "ipnetwork was built without its extension, which needs Linux and the headers of Python, "
+        "and calls its library by ctypes: the answers are the same, and a call takes five to twenty "
+        "times as long; bindings/README.md says how to build the extension",
         RuntimeWarning,
         stacklevel=2,
     )

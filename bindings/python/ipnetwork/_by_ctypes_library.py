@@ -1,19 +1,22 @@
 # mypy: ignore-errors
 """The shared library, loaded by ``ctypes``, and the structs of its header.
 
-It is looked for beside this file, as ``libipnetwork_c.so``, or at IPNETWORK_LIBRARY.
+It is looked for beside this file, as ``libipnetwork_c.so`` (``libipnetwork_c.dylib`` on macOS,
+``ipnetwork_c.dll`` on Windows), or at IPNETWORK_LIBRARY.
 """
 
 from __future__ import annotations
 
 import ctypes
 import os
+import sys
 from typing import TYPE_CHECKING
 
 if TYPE_CHECKING:
     from _typeshed import ReadableBuffer
 
 ADDRESS = 17  # the bytes of a struct ipnetwork_address
+NAMES = {"darwin": "libipnetwork_c.dylib", "win32": "ipnetwork_c.dll"}
 
 
 class V4(ctypes.Structure):
@@ -34,13 +37,14 @@ def _declare(library: ctypes.CDLL, name: str, arguments: list[type]) -> None:
 
 
 def _load() -> ctypes.CDLL:
-    beside = os.path.join(os.path.dirname(os.path.abspath(__file__)), "libipnetwork_c.so")
+    name = NAMES.get(sys.platform, "libipnetwork_c.so")
+    beside = os.path.join(os.path.dirname(os.path.abspath(__file__)), name)
     path = os.environ.get("IPNETWORK_LIBRARY", beside)
     if not os.path.exists(path):
         raise ImportError(
             f"the library is not there, neither as _native beside {__file__} nor as {path}: "
             "install the package by `pip install ./bindings/python`, after `rt lib` in "
-            "crates/ipnetwork_c, or set IPNETWORK_LIBRARY to the path of libipnetwork_c.so, as "
+            f"crates/ipnetwork_c or with cargo, or set IPNETWORK_LIBRARY to the path of {name}, as "
             "bindings/README.md says"
         )
     library = ctypes.CDLL(path)
