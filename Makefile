@@ -13,6 +13,8 @@
 #   make wasm                             proves the library for C for WebAssembly, and builds its modules
 #   make js                               builds the package for JavaScript, of the module that make wasm makes
 #   make calculator                       does both, and writes the page web/out/subnets.html over the package
+#   make arm64                            proves the library for C and the programs for Linux on ARM64, and builds them, the
+#                                         wheel for Python and the extension of SQLite; into bindings/out/aarch64
 #   make static                           links the programs that are built once more, with the C library in each, so that
 #                                         they need no file where they run; into bindings/out/static
 #   make install PREFIX=/usr DESTDIR=/tmp/package
