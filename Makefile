@@ -12,6 +12,8 @@
 #   make sqlite                           builds the extension of SQLite, of the library for C that is built
 #   make wasm                             proves the library for C for WebAssembly, and builds its modules
 #   make js                               builds the package for JavaScript, of the module that make wasm makes
+#   make go                               writes the package for Go as a module, which can be vendored, with the libraries for
+#                                         Linux that are built, or with the one of cargo; into bindings/out/go
 #   make calculator                       does both, and writes the page web/out/subnets.html over the package
 #   make arm64                            proves the library for C and the programs for Linux on ARM64, and builds them, the
 #                                         wheel for Python and the extension of SQLite; into bindings/out/aarch64
@@ -128,6 +130,12 @@ js:
 	$(call tools,node)
 	rm -rf $(OUT)/js
 	node bindings/js/build.mjs $(OUT)/ipnetwork_js.wasm $(OUT)/js
+
+# The package for Go with its libraries, as scripts/go_module says.
+.PHONY: go
+go:
+	$(call tools,python3)
+	scripts/go_module
 
 # A subnet calculator in one page that works from a disk.
 calculator:

@@ -1,4 +1,4 @@
-//go:build linux && (amd64 || arm64) && go1.24
+//go:build cgo && go1.24
 
 package ipnetwork
 

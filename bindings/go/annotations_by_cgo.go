@@ -1,8 +1,8 @@
-//go:build linux && go1.24 && (arm64 || (amd64 && !ipnetwork_direct))
+//go:build cgo && go1.24 && !(linux && amd64 && ipnetwork_direct)
 
 package ipnetwork
 
-// The same of the functions that are called by cgo, on x86-64 unless the tag ipnetwork_direct is given.
+// The same of the functions that are called by cgo, on Linux on x86-64 unless the tag ipnetwork_direct is given.
 
 /*
 #cgo noescape ipnetwork_go_of_address

@@ -1,4 +1,4 @@
-//go:build linux && (arm64 || (amd64 && !ipnetwork_direct))
+//go:build cgo && !(linux && amd64 && ipnetwork_direct)
 
 package ipnetwork
 

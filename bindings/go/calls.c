@@ -1,4 +1,4 @@
-//go:build linux && (amd64 || arm64)
+//go:build cgo
 
 #include "calls.h"
 #include "ranges.h"

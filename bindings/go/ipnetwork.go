@@ -1,6 +1,7 @@
-//go:build linux && (amd64 || arm64)
+//go:build cgo
 
-// Package ipnetwork reads, prints and asks IP networks in CIDR notation, by a library whose functions are proved.
+// Package ipnetwork reads, prints and asks IP networks in CIDR notation, by a library whose functions are proved on
+// Linux on x86-64 and ARM64; elsewhere it is made of the proved sources.
 // Addresses are those of net/netip.
 //
 // A network keeps the host bits of its address. Its members are the addresses that share the first bits of its address,
@@ -13,13 +14,10 @@
 // With the build tag ipnetwork_direct (go build -tags ipnetwork_direct) such a question runs on the stack of the goroutine
 // that asks it, which saves most of the time that a call by cgo takes. That rests on what Go's runtime does and does not
 // promise, and on the stack that the functions of C need as they are compiled: bindings/README.md says what it is. On
-// ARM64 the tag changes nothing.
+// other machines and systems the tag changes nothing.
 package ipnetwork
 
 /*
-#cgo CFLAGS: -std=c11 -I${SRCDIR}/../c
-#cgo amd64 LDFLAGS: ${SRCDIR}/../../crates/ipnetwork_c/out/libipnetwork_c.a
-#cgo arm64 LDFLAGS: ${SRCDIR}/../out/aarch64/libipnetwork_c.a
 #include "calls.h"
 
 // A text of any length, which is a network or an address.
