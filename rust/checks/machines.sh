@@ -13,6 +13,9 @@ tests="$out/with_tests"
 rm -rf "$tests"
 ../scripts/plain --tests --to "$tests"
 rm -f "$tests"/*/Cargo.lock
+# In tests `str` is a type, as from Rust 1.87 on, and not a module.
+grep -rlE '(^|[^:])\bstr::from_utf8\(' "$tests"/*/src/tests* "$tests"/*/tests |
+    xargs sed -i -E 's/(^|[^:])\bstr::from_utf8\(/\1std::str::from_utf8(/'
 # PACKAGE ARGUMENT..: the unit tests of a package that has serde, and how many passed. The hash of an IPv6 address is the
 # same on each machine, and that of a u128 is not, so that a test of both is for little-endian ones.
 units() {
