@@ -1,7 +1,7 @@
 """Which tests fail of wrong bodies, for `tests/edits`: by cargo on plain Rust, or by `rt try --test`.
 
-scripts/plain writes the crates of rust.txt once, with their unit tests. Of each wrong body it writes again the files that
-this one changes, and cargo compiles what they change.
+scripts/plain writes the crates of rust.txt once, with their unit tests. Of each wrong body it writes again the files
+that this one changes, and cargo compiles what they change.
 """
 
 import concurrent.futures
@@ -136,25 +136,30 @@ class PlainBuild:
         except NotJudged as why:
             hint = "" if registry() else "; serde_json is of crates.io, or of Debian's package librust-serde-json-dev"
             sys.exit(f"tests/edits: {package} as it stands: {why}{hint}")
-        tests = re.findall(r"^(\S+): test$", said_of(program, ["--list"], 60), re.M)
-        began = time.monotonic()
-        if failed := failed_of(program, tests, 300):
-            sys.exit(f"tests/edits: {package} as it stands: {failed[0]} fails")
-        progress(f"{package} as it stands: {len(tests)} tests pass")
-        self.tests[package] = tests
-        # A wrong body may be slower, and so may the machine.
-        self.limits[package] = 5 + 10 * (time.monotonic() - began)
+        self.tests[package] = re.findall(r"^(\S+): test$", said_of(program, ["--list"], 60), re.M)
+        for crate in self.layout.packages[package]:
+            began = time.monotonic()
+            if failed := failed_of(program, list(self.names_of(crate)), 300):
+                sys.exit(f"tests/edits: {crate} as it stands: {failed[0]} fails")
+            # A wrong body may be slower, and so may the machine.
+            self.limits[crate] = 5 + 10 * (time.monotonic() - began)
+        progress(f"{package} as it stands: {len(self.tests[package])} tests pass")
         self.put(edit)
+
+    def names_of(self, crate):
+        """The tests of a crate as its program has them, each with its name from the crate."""
+        head = "tests::" if self.layout.is_package(crate) else f"of_{crate}::"
+        tests = self.tests[self.layout.package_of[crate]]
+        return {it: "tests::" + it.removeprefix(head) for it in tests if it.startswith(head)}
 
     def failed(self, crate, names=None):
         """The tests of a crate that fail as it stands in the folder: of these names, if there are any."""
         package = self.layout.package_of[crate]
         if package not in self.tests:
             self.learn(package)
-        head = "tests::" if self.layout.is_package(crate) else f"of_{crate}::"
-        names_of = {it: "tests::" + it.removeprefix(head) for it in self.tests[package] if it.startswith(head)}
+        names_of = self.names_of(crate)
         asked = [it for it in names_of if names is None or names_of[it] in names]
-        return [names_of[it] for it in failed_of(self.built(package), asked, self.limits[package])]
+        return [names_of[it] for it in failed_of(self.built(package), asked, self.limits[crate])]
 
 
 def of_a_member(manifest):
@@ -211,9 +216,12 @@ class Tests:
         try:
             self.build.put(edit)
             failed = self.build.failed(edit.crate, names)
-            if not failed and is_asked_above:
-                return self.failing_above(edit)
-            return None, failed
+            return self.failing_above(edit) if not failed and is_asked_above else (None, failed)
+        except NotJudged as why:
+            if not shutil.which("rt"):
+                raise
+            progress(f"{edit.crate}/{edit.name}: by rt, since of plain Rust {why}")
+            return None, failed_by_rt(edit, self.copy)
         finally:
             self.build.put(None)
 
