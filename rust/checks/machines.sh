@@ -69,12 +69,13 @@ runs='cidr_merge union allowed.txt denied.txt
 cidr_merge minus denied.txt -- today.txt
 cidr_merge common denied.txt -- today.txt
 cidr_merge check --strict wrong.txt
-cidr_merge union --json denied.txt today.txt
+cidr_merge union --json aws.json
 cidr_filter -f allowed.txt access.log
 cidr_filter -v -a -f denied.txt auth.log firewall.log
 cidr_filter --longest -a -f today.txt -e 203.0.113.0/24 auth.log access.log
 cidr_join -f today.txt access.log
-cidr_join --tally -f denied.txt access.log
+cidr_join --group 24,64 access.log
+cidr_join --tally --group 24,64 access.log
 cidr no_argument'
 # FOLDER [SUFFIX]: compares what the programs of this folder, whose names end so, print in these runs, and their status,
 # with what those that are built here do.
@@ -149,22 +150,23 @@ elif here Windows x86_64-w64-mingw32-gcc gcc-mingw-w64-x86-64-win32 && here Wind
             "-Zcrate-attr=feature(let_else, inline_const, int_roundings, io_error_more)" -C panic=unwind \
             -C linker=x86_64-w64-mingw32-gcc -L "$out/old" --crate-name "$name" "$out/old/$root" --out-dir "$out/old" "$@"
     }
-    library="--extern fosibegan=$out/old/libfosibegan.rlib"
+    below="--extern fosibegan=$out/old/libfosibegan.rlib"
     older fosibegan fosibegan/src/lib.rs --crate-type rlib --cfg 'feature="std"'
-    older cidr_programs cidr_programs/src/lib.rs --crate-type rlib $library
+    older cidr_programs cidr_programs/src/lib.rs --crate-type rlib $below
     for program in cidr cidr_filter cidr_join; do
-        older "$program" "$program/src/main.rs" $library --extern cidr_programs="$out/old/libcidr_programs.rlib"
+        older "$program" "$program/src/main.rs" $below --extern cidr_programs="$out/old/libcidr_programs.rlib"
     done
-    older units fosibegan/tests/units/main.rs --test $library
+    older units fosibegan/tests/units/main.rs --test $below
     export WINEPREFIX="$out/wine" WINEDEBUG=-all
     quiet wine.log wine "$out/old/units.exe"
     echo "Windows: $(sed -n 's/^test result: ok. \([0-9]* passed\).*/\1/p' "$out/wine.log") of the unit tests of the library"
     wine "$out/old/cidr.exe" < ../examples/cidr/questions.txt 2> "$out/errors" > "$out/windows"
     "$out/target/debug/cidr" < ../examples/cidr/questions.txt | cmp - "$out/windows"
-    for program in cidr_filter cidr_join; do
-        wine "$out/old/$program.exe" -f ../examples/recipes/today.txt ../examples/recipes/access.log \
-            > "$out/windows" 2> "$out/errors"
-        "$out/target/debug/$program" -f ../examples/recipes/today.txt ../examples/recipes/access.log | cmp - "$out/windows"
+    for words in "cidr_filter -a -f today.txt access.log" "cidr_join --tally --group 24,64 access.log"; do
+        # shellcheck disable=SC2086
+        (cd ../examples/recipes && wine "$out/old/${words%% *}.exe" ${words#* } > "$out/windows" 2> "$out/errors")
+        # shellcheck disable=SC2086
+        (cd ../examples/recipes && "$out/target/debug/${words%% *}" ${words#* }) | cmp - "$out/windows"
     done
     echo "Windows: cidr, cidr_filter and cidr_join print the bytes that they print here"
 fi
