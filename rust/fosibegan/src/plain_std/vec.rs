@@ -97,6 +97,10 @@ impl<T> Vec<T> {
         self.0.truncate(count);
     }
 
+    pub fn shrink_to_fit(&mut self) {
+        self.0.shrink_to_fit();
+    }
+
     pub fn as_slice(&self) -> &[T] {
         &self.0
     }
