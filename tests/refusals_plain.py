@@ -73,5 +73,5 @@ def runs_of(repository, run_of, crate_in, inputs, words, files, refused):
                     sys.exit(f"tests/refusals: {program.name} is ended by Rust's std more than {MOST_ENDED} times")
             offsets[group] = offset
             told, _, count = ran.stderr.rpartition("allocations: ")
-            runs[case] = run_of(ran.stdout.rstrip("\n").split("\n"), int(count) - offset, told, ran.returncode)
+            runs[case] = run_of(ran.stdout.rstrip("\n").split("\n"), int(count), told, ran.returncode, offset)
         return runs

@@ -2,7 +2,7 @@
 pub use rust_alloc::collections::*;
 #[cfg(feature = "std")]
 pub use ::std::collections::*;
-use crate::plain_std::alloc::{AllocFailed, Global};
+use crate::plain_std::alloc::{has_memory, AllocFailed, Global};
 use core::mem::size_of;
 use rust_alloc::collections::btree_map::Entry;
 
@@ -30,7 +30,7 @@ impl<K: Ord, V> BTreeMap<K, V> {
         let most = self.most_of_an_insert();
         match self.0.entry(key) {
             Entry::Occupied(mut kept) => Ok(Some(kept.insert(value))),
-            Entry::Vacant(free) if has_memory(most) => {
+            Entry::Vacant(free) if has_memory::<u8>(most) => {
                 free.insert(value);
                 Ok(None)
             }
@@ -45,11 +45,6 @@ impl<K: Ord, V> BTreeMap<K, V> {
         let levels = (usize::BITS - self.0.len().leading_zeros()).div_ceil(2).min(LEVELS) as usize;
         node * (levels + 2)
     }
-}
-
-/// Whether there is memory for so many bytes.
-fn has_memory(bytes: usize) -> bool {
-    rust_alloc::vec::Vec::<u8>::new().try_reserve_exact(bytes).is_ok()
 }
 
 impl<K, V> ::core::ops::Deref for BTreeMap<K, V> {

@@ -1,4 +1,4 @@
-use crate::plain_std::alloc::{AllocError, AllocFailed, Global};
+use crate::plain_std::alloc::{has_memory, AllocError, AllocFailed, Global};
 use core::ops::{Deref, DerefMut};
 
 /// A list whose growth can fail.
@@ -81,7 +81,9 @@ impl<T> Vec<T> {
     where
         T: Ord,
     {
-        rust_alloc::vec::Vec::<T>::new().try_reserve_exact(self.0.len())?;
+        if !has_memory::<T>(self.0.len()) {
+            return Err(AllocError);
+        }
         self.0.sort();
         Ok(())
     }
