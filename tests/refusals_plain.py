@@ -1,8 +1,8 @@
 """The runs of `tests/refusals` on the plain Rust build: a library that is loaded before the C library refuses a request.
 
-Rust's own std ends a program that is refused memory where it has no way to tell: for the words of the command line, a node
-of a tree, the buffer of a sort. For the two last the sources' std asks before, in one piece that is given back, and what
-it asks is refused here. A run that is ended so is not judged: the next request takes its place."""
+Rust's own std ends a program that is refused memory where it has no way to tell: for the words of the command line, the
+buffer of its standard output, and that of a sort. For the last the sources' std asks before, in one piece that is given
+back, and what it asks is refused here. A run that is ended so is not judged: the next request takes its place."""
 
 import os
 import pathlib
@@ -15,7 +15,7 @@ import plain_programs  # noqa: E402
 
 HERE = pathlib.Path(__file__).resolve().parent
 ENDED = "memory allocation of "
-# What std has: the words of a command line, and for each insert into a tree some nodes.
+# More than std has.
 MOST_ENDED = 200
 
 ended_runs = 0

@@ -13,6 +13,8 @@ pub mod string;
 pub mod test;
 pub mod vec;
 
+mod tree;
+
 #[cfg(feature = "std")]
 pub mod env;
 #[cfg(feature = "std")]
