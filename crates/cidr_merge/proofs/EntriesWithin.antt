@@ -14,7 +14,8 @@ use Rattle.ipnetwork_blocks.proofs.LeastLists.{contains_cons, contains_head, con
 use Rattle.ipnetwork_blocks.proofs.LeastLists.{contains_nil}
 use Rattle.cidr_merge.specs.EntriesWithin.{HasAllOf, LiesInAnother, TellsWithin, TellsNotWithin}
 use Rattle.cidr_merge.specs.EntriesWithin.{IsToldWithin, EachWithinAnotherIsTold}
-use Rattle.cidr_merge.specs.Overlaps.{Listed, listed_cmp, is_up_to, reaches, relation, pair_text}
+use Rattle.cidr_merge.specs.Overlaps.{Listed, listed_cmp, lists_entries, is_up_to, reaches}
+use Rattle.cidr_merge.specs.Overlaps.{relation, pair_text}
 use Rattle.cidr_merge.specs.Repetitions.{is_same, further, other_of, overlap_with}
 use Rattle.cidr_merge.specs.Repetitions.{repetitions_after, repetitions}
 use Rattle.cidr_merge.proofs.FilledEntries.{IsFilled, all_by_ends, first_within, last_within}
@@ -377,8 +378,8 @@ each_is_told names (first ∷ others) entry behind sorted filled = (
 
 pub each_within_another_is_told : {Z : Type 0} (names : List (String Z))
     → EachWithinAnotherIsTold names
-each_within_another_is_told names texts found before entry behind h in_order =
+each_within_another_is_told names texts before entry behind in_order =
     each_is_told names before entry behind in_order.ordered
-    (λ one c. lists_filled 0 texts found h one (Contains-permutation
-    (before ++ entry ∷ behind) found one (IsPermutation-sym found
+    (λ one c. lists_filled texts one (Contains-permutation
+    (before ++ entry ∷ behind) (lists_entries texts) one (IsPermutation-sym (lists_entries texts)
     (before ++ entry ∷ behind) in_order.same) c))

@@ -22,7 +22,7 @@ use Rattle.cidr_merge.specs.declared.command_line.Operation.TheVariants.{Differ}
 use Rattle.cidr_merge.specs.declared.command_line.Form.TheVariants.{Blocks, Counts, Exported}
 use Rattle.cidr_merge.specs.declared.exports.Export.TheVariants.{Csv}
 use Rattle.cidr_merge.specs.declared.reading.Sets.{Sets}
-use Rattle.cidr_merge.specs.declared.sides.Side.TheVariants.{First, Second}
+use Rattle.cidr_merge.specs.declared.merge_join.Side.TheVariants.{First, Second}
 
 -- ---- what is printed
 

@@ -1,24 +1,35 @@
 -- Which addresses entries have: those of lists have one each, at least.
-use Rattle.std.proofs.Common.{◌≡◌, ◌+◌, ℕ, true, List, [], ◌∷◌, refl, subst, inl, inr}
-use Rattle.std.specs.Prelude.{◌⊎◌, Some}
-use Rattle.std.specs.List.{Contains}
-use Rattle.std.specs.Str.Lines.{lines}
+use Rattle.std.proofs.Common.{◌≡◌, ℕ, Bool, true, false, List, [], ◌∷◌, length, refl, subst, inl}
+use Rattle.std.proofs.Common.{inr}
+use Rattle.std.specs.Prelude.{◌⊎◌, if◌then◌else◌, nat_lt, Option, None, Some, Result, Ok, Err}
+use Rattle.std.specs.List.{Contains, after_first, before_first, flat_map, position_or_len}
+use Rattle.std.proofs.lemmas.Bool.{leb-true}
 use Rattle.std.proofs.lemmas.List.Elements.{Contains-append_cases}
+use Rattle.ipnetwork_addr.specs.Computed.Either.{ip_of}
 use Rattle.ipnetwork_addr.specs.Either.{IsAddrAtMost}
 use Rattle.ipnetwork_addr.specs.declared.ip.IpAddr.{IpAddr}
 use Rattle.ipnetwork_addr.specs.declared.ip.IpAddr.TheVariants.{V4, V6}
 use Rattle.ipnetwork_blocks.proofs.LeastLists.{contains_cons, contains_nil}
 use Rattle.ipnetwork_family.specs.Network.{low, high}
+use Rattle.ipnetwork_family.specs.declared.error.CidrFault.{CidrFault}
 use Rattle.ipnetwork_sets.proofs.Placed.{low_before_high}
-use Rattle.lists.specs.declared.entry.Entry.{Entry}
-use Rattle.lists.specs.declared.entry.Entry.TheVariants.{Network, Range}
-use Rattle.cidr_merge.specs.EntriesWithin.{HasAllOf}
-use Rattle.cidr_merge.specs.Findings.{LineSays}
-use Rattle.cidr_merge.specs.InTurn.{InTurn}
-use Rattle.cidr_merge.specs.Overlaps.{Listed, ends_of, listed, LineEntries, LinesEntries}
-use Rattle.cidr_merge.specs.Overlaps.{ListsEntries, is_up_to}
-use Rattle.cidr_merge.proofs.ListedOrder.{of_le, le_of, up_to_all, up_to_itself}
+use Rattle.ipnetwork.specs.Computed.IpNetworkText.{ip_network_of}
+use Rattle.ipnetwork.specs.declared.ip_network.IpNetwork.{IpNetwork}
 use Rattle.ipnetwork.specs.declared.ip_network.IpNetwork.TheVariants as networks
+use Rattle.lists.specs.Entries.{entry_text, is_dash}
+use Rattle.lists.specs.Lines.{trimmed}
+use Rattle.lists.specs.declared.entry.Entry.{Entry}
+use Rattle.lists.specs.declared.entry.Entry.TheVariants.{Range}
+use Rattle.lists.specs.declared.entry.EntryFault.{EntryFault}
+use Rattle.lists.specs.declared.fault.LineFault.{LineFault}
+use Rattle.lists.specs.declared.fault.LineFault.TheVariants as faults
+use Rattle.cidr_merge.specs.EntriesWithin.{HasAllOf}
+use Rattle.cidr_merge.specs.NumberedLines.{NumberedLine, as_said, entry_or_none, is_range}
+use Rattle.cidr_merge.specs.NumberedLines.{network_entry, numbered_lines, range_between, reading_of}
+use Rattle.cidr_merge.specs.NumberedLines.{some_entry, text_entry}
+use Rattle.cidr_merge.specs.Overlaps.{Listed, ends_of, entries_by, is_up_to, line_entries, listed}
+use Rattle.cidr_merge.specs.Overlaps.{lists_entries}
+use Rattle.cidr_merge.proofs.ListedOrder.{of_le, le_of, up_to_all, up_to_itself}
 
 -- ---- addresses
 
@@ -66,49 +77,79 @@ last_within entry other full all =
 
 -- ---- the entries of lists have addresses
 
-entry_filled : (line : List ℕ) (entry : Entry) → LineSays line (Some entry)
-    → is_up_to (ends_of entry).0 (ends_of entry).1 ≡ true
-entry_filled line (Network (networks.V4 n)) h = of_le (low 32 n) (high 32 n) (low_before_high 32 n)
-entry_filled line (Network (networks.V6 n)) h =
-    of_le (low 128 n) (high 128 n) (low_before_high 128 n)
-entry_filled line (Range (V4 first) (V4 last)) h = of_le first last h.1.1.2
-entry_filled line (Range (V4 first) (V6 last)) h = refl
-entry_filled line (Range (V6 first) (V4 last)) h = absurd h.1.1.2
-entry_filled line (Range (V6 first) (V6 last)) h = of_le first last h.1.1.2
+abbrev IsFilledEntry : Entry → Type 0
+IsFilledEntry entry = is_up_to (ends_of entry).0 (ends_of entry).1 ≡ true
 
-line_filled : (list number : ℕ) (line : List ℕ) (found : List Listed)
-    → LineEntries list number line found → (one : Listed) → Contains found one → IsFilled one
-line_filled list number line found (inl h) one c =
-    by (contains_cons (listed list number h.0) [] one
-    (subst (λ (l : List Listed). Contains l one) h.2 c)) where
-      by : ((listed list number h.0 ≡ one) ⊎ Contains [] one) → IsFilled one
-      by (inl e) = subst IsFilled e (entry_filled line h.0 h.1)
-      by (inr d) = absurd (contains_nil one d)
-line_filled list number line found (inr (inl h)) one c =
-    absurd (contains_nil one (subst (λ (l : List Listed). Contains l one) h.1 c))
-line_filled list number line found (inr (inr h)) one c =
-    absurd (contains_nil one (subst (λ (l : List Listed). Contains l one) h.2 c))
+-- what a text names has one
+abbrev IsFilledText : Result Entry EntryFault → Type 0
+IsFilledText (Ok entry) = IsFilledEntry entry
+IsFilledText (Err fault) = Unit {0}
 
-either_filled : (one others : List Listed) (entry : Listed)
-    → (Contains one entry → IsFilled entry) → (Contains others entry → IsFilled entry)
-    → (Contains one entry ⊎ Contains others entry) → IsFilled entry
-either_filled one others entry f g (inl c) = f c
-either_filled one others entry f g (inr c) = g c
+one_of_two : (b : Bool) (x y : Result Entry EntryFault) → (b ≡ true → IsFilledText x)
+    → IsFilledText y → IsFilledText (if b then x else y)
+one_of_two true x y h k = h refl
+one_of_two false x y h k = k
 
-in_turn_filled : {X : Type 0} (Of : ℕ → X → List Listed → Type 0)
-    → ((number : ℕ) (item : X) (found : List Listed) → Of number item found → (one : Listed)
-    → Contains found one → IsFilled one)
-    → (number : ℕ) (items : List X) (found : List Listed) → InTurn Of number items found
-    → (one : Listed) → Contains found one → IsFilled one
-in_turn_filled Of each number [] found h one c =
-    absurd (contains_nil one (subst (λ (l : List Listed). Contains l one) h c))
-in_turn_filled Of each number (item ∷ items) found h one c =
-    either_filled h.0 h.1 one (each number item h.0 h.2 one)
-    (in_turn_filled Of each (1 + number) items h.1 h.3 one)
-    (Contains-append_cases h.0 h.1 one (subst (λ (l : List Listed). Contains l one) h.4 c))
+in_order : (first last : IpAddr) → is_range first last ≡ true → is_up_to first last ≡ true
+in_order (V4 first) (V4 last) e = of_le first last (leb-true first last e)
+in_order (V4 first) (V6 last) e = refl
+in_order (V6 first) (V4 last) e = cc
+in_order (V6 first) (V6 last) e = of_le first last (leb-true first last e)
 
-pub lists_filled : (list : ℕ) (texts : List (List ℕ)) (found : List Listed)
-    → ListsEntries list texts found → (one : Listed) → Contains found one → IsFilled one
-lists_filled =
-    in_turn_filled (λ list text. LinesEntries list 1 (lines text))
-    (λ list text. in_turn_filled (LineEntries list) (line_filled list) 1 (lines text))
+range_filled : (first last : Option IpAddr) → IsFilledText (range_between first last)
+range_filled None last = tt
+range_filled (Some first) None = tt
+range_filled (Some first) (Some last) =
+    one_of_two (is_range first last) (Ok (Range first last)) _ (in_order first last) tt
+
+network_filled : (text : List ℕ) (r : Result IpNetwork CidrFault)
+    → IsFilledText (network_entry text r)
+network_filled text (Ok (networks.V4 n)) = of_le (low 32 n) (high 32 n) (low_before_high 32 n)
+network_filled text (Ok (networks.V6 n)) = of_le (low 128 n) (high 128 n) (low_before_high 128 n)
+network_filled text (Err cause) = tt
+
+text_filled : (text : List ℕ) → IsFilledText (text_entry text)
+text_filled text =
+    one_of_two (nat_lt (position_or_len is_dash text) (length text)) _ _
+    (λ dash. range_filled (ip_of (trimmed (before_first is_dash text)))
+    (ip_of (trimmed (after_first is_dash text)))) (network_filled text (ip_network_of text))
+
+-- what a line says
+abbrev AreFilledBy : Result (Option Entry) LineFault → Type 0
+AreFilledBy said =
+    (list number : ℕ) (one : Listed) → Contains (entries_by list number said) one → IsFilled one
+
+none_filled : (one : Listed) → Contains [] one → IsFilled one
+none_filled one c = absurd (contains_nil one c)
+
+some_filled : (r : Result Entry EntryFault) → IsFilledText r
+    → AreFilledBy (as_said (some_entry r))
+some_filled (Ok entry) h list number one c =
+    by (contains_cons (listed list number entry) [] one c) where
+      by : ((listed list number entry ≡ one) ⊎ Contains [] one) → IsFilled one
+      by (inl e) = subst IsFilled e h
+      by (inr d) = none_filled one d
+some_filled (Err fault) h list number one c = none_filled one c
+
+entry_filled : (text : List ℕ) → AreFilledBy (as_said (entry_or_none text))
+entry_filled [] list number one c = none_filled one c
+entry_filled (byte ∷ text) list number one c =
+    some_filled (text_entry (byte ∷ text)) (text_filled (byte ∷ text)) list number one c
+
+line_filled : (line : List ℕ) (b : Bool)
+    → AreFilledBy (if b then Err faults.Length else as_said (reading_of line))
+line_filled line true list number one c = none_filled one c
+line_filled line false list number one c = entry_filled (entry_text line) list number one c
+
+lines_filled : (lines : List NumberedLine) (one : Listed) → Contains (flat_map line_entries lines) one
+    → IsFilled one
+lines_filled [] one c = none_filled one c
+lines_filled (line ∷ lines) one c =
+    elim (Contains-append_cases (line_entries line) (flat_map line_entries lines) one c) [
+      | inl d ↦ line_filled line.text (nat_lt 1024 (length line.text)) line.list line.number one d
+      | inr d ↦ lines_filled lines one d
+    ]
+
+pub lists_filled : (texts : List (List ℕ)) (one : Listed) → Contains (lists_entries texts) one
+    → IsFilled one
+lists_filled texts = lines_filled (numbered_lines 0 texts)

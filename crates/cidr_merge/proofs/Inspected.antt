@@ -18,7 +18,7 @@ use Rattle.program.specs.Messages.{Tells}
 use Rattle.program.specs.Told.{name_at, fault_text}
 use Rattle.program.specs.Usage.{usage_text}
 use Rattle.cidr_merge.specs.CommandLines.{options_len, options_of, lists_of}
-use Rattle.cidr_merge.specs.Findings.{ListsFindings, IsFound}
+use Rattle.cidr_merge.specs.Findings.{lists_findings, IsFound}
 use Rattle.cidr_merge.specs.InspectionRuns.{findings_status, EndsChecking, EndsFinding, EndsUnless}
 use Rattle.cidr_merge.specs.InspectionRuns.{EndsInspecting, WritesFindings}
 use Rattle.cidr_merge.specs.Inspections.{inspection_fault}
@@ -76,7 +76,7 @@ findings_written findings end mid (Err fault) found status tells f s wrote works
 
 pub checked : {Z W E T : Type 0} (names : List (String Z)) (texts : List (List ℕ))
     (end : Ending W E) (mid : Written W) (written : Result T RunFault) (found : Bool) (status : ℕ)
-    → TellsFound (ListsFindings false names texts) end.output mid found
+    → TellsFound (lists_findings false names texts) end.output mid found
     → status ≡ (if found then 1 else 0)
     → OnOk written (Appends mid.holds end.output_after.holds mid.waits)
     → OnOk written (IsFalse end.output_after.failed)
@@ -84,10 +84,7 @@ pub checked : {Z W E T : Type 0} (names : List (String Z)) (texts : List (List �
     → end.status ≡ status_of written status → Tells end.errors end.errors_after (end_text written)
     → EndsChecking names texts end
 checked names texts end mid written found status h s wrote works failed is told =
-    elim (findings_written h.0 end mid written found status h.2 h.3 s wrote works failed is told) [
-      | inl fails ↦ inl fails
-      | inr writes ↦ inr (h.0, h.1, writes)
-    ]
+    findings_written _ end mid written found status h.0 h.1 s wrote works failed is told
 
 -- ---- what the words say
 

@@ -13,7 +13,7 @@ use Rattle.cidr_merge.specs.EntriesWithin.{HasAllOf, LiesInAnother, TellsWithin,
 use Rattle.cidr_merge.specs.EntriesWithin.{IsToldWithin, EachWithinAnotherIsTold}
 use Rattle.cidr_merge.specs.Inspections.{inspection_called}
 use Rattle.cidr_merge.specs.Laws.{NoOtherForm, NoOtherInspection, NoOtherOperation, NoOtherOption}
-use Rattle.cidr_merge.specs.Overlaps.{Listed, ListsEntries, IsInOrder}
+use Rattle.cidr_merge.specs.Overlaps.{Listed, lists_entries, IsInOrder}
 use Rattle.cidr_merge.specs.Parts.{UnionPrints, HaveLines, AreShort, UnionsOfPartsPrintTheSame}
 use Rattle.cidr_merge.specs.Repetitions.{repetitions}
 use Rattle.cidr_merge.proofs.CheckExamples.{entry}
@@ -93,14 +93,13 @@ lies_in_the_first = inl (entry 0 9 1, contains_head (entry 0 9 1) (entry 1 2 2 �
   has_all (V6 address) h = absurd h.1
 
 pub the_third_is_told : {Z : Type 0} (names : List (String Z)) → EachWithinAnotherIsTold names
-    → (texts : List (List ℕ)) (found : List Listed)
-    → ListsEntries 0 texts found → IsInOrder found (entry 0 9 1 ∷ entry 1 2 2 ∷ entry 3 4 3 ∷ [])
+    → (texts : List (List ℕ)) → IsInOrder (lists_entries texts) (entry 0 9 1 ∷ entry 1 2 2 ∷ entry 3 4 3 ∷ [])
     → (own others : List (List ℕ)) × (repetitions names
     (entry 0 9 1 ∷ entry 1 2 2 ∷ entry 3 4 3 ∷ [])
     ≡ repetitions names (entry 0 9 1 ∷ entry 1 2 2 ∷ []) ++ own ++ others)
     × TellsWithin names (entry 0 9 1 ∷ entry 1 2 2 ∷ []) (entry 3 4 3) own
-the_third_is_told {Z} names law texts found h sorted =
-    let r = law texts found (entry 0 9 1 ∷ entry 1 2 2 ∷ []) (entry 3 4 3) [] h sorted in
+the_third_is_told {Z} names law texts sorted =
+    let r = law texts (entry 0 9 1 ∷ entry 1 2 2 ∷ []) (entry 3 4 3) [] sorted in
     (r.0, r.1, r.3, within r.0 r.4)
   where
     within : (own : List (List ℕ))
@@ -117,12 +116,11 @@ no_finding_of_the_third names (inr h) = h.0 lies_in_the_first
 
 -- of two entries with the same addresses the first is not told
 pub the_first_of_two_is_not_told : {Z : Type 0} (names : List (String Z))
-    → EachWithinAnotherIsTold names → (texts : List (List ℕ)) (found : List Listed)
-    → ListsEntries 0 texts found → IsInOrder found (entry 1 2 1 ∷ entry 1 2 2 ∷ [])
+    → EachWithinAnotherIsTold names → (texts : List (List ℕ)) → IsInOrder (lists_entries texts) (entry 1 2 1 ∷ entry 1 2 2 ∷ [])
     → (own others : List (List ℕ)) × (repetitions names (entry 1 2 1 ∷ entry 1 2 2 ∷ []) ≡ own
     ++ others) × TellsNotWithin names [] (entry 1 2 1) own
-the_first_of_two_is_not_told {Z} names law texts found h sorted =
-    let r = law texts found [] (entry 1 2 1) (entry 1 2 2 ∷ []) h sorted in
+the_first_of_two_is_not_told {Z} names law texts sorted =
+    let r = law texts [] (entry 1 2 1) (entry 1 2 2 ∷ []) sorted in
     (r.0, r.1, r.3, apart r.0 r.4)
   where
     same : (other : Listed) → ((entry 1 2 2 ≡ other) ⊎ Contains [] other)
@@ -141,12 +139,11 @@ the_first_of_two_is_not_told {Z} names law texts found h sorted =
 
 -- of two entries side by side the last is not told as lying in the first
 pub the_last_of_two_is_not_told : {Z : Type 0} (names : List (String Z))
-    → EachWithinAnotherIsTold names → (texts : List (List ℕ)) (found : List Listed)
-    → ListsEntries 0 texts found → IsInOrder found (entry 0 4 1 ∷ entry 5 9 2 ∷ [])
+    → EachWithinAnotherIsTold names → (texts : List (List ℕ)) → IsInOrder (lists_entries texts) (entry 0 4 1 ∷ entry 5 9 2 ∷ [])
     → TellsNotWithin names (entry 0 4 1 ∷ []) (entry 5 9 2)
     (repetitions names (entry 0 4 1 ∷ entry 5 9 2 ∷ []))
-the_last_of_two_is_not_told {Z} names law texts found h sorted =
-    let r = law texts found (entry 0 4 1 ∷ []) (entry 5 9 2) [] h sorted in apart r.0 r.2 r.4
+the_last_of_two_is_not_told {Z} names law texts sorted =
+    let r = law texts (entry 0 4 1 ∷ []) (entry 5 9 2) [] sorted in apart r.0 r.2 r.4
   where
     beyond : (other : Listed) → ((entry 0 4 1 ≡ other) ⊎ Contains [] other)
         → ¬ (HasAllOf other (entry 5 9 2))

@@ -1,15 +1,13 @@
 pub mod CheckExamples
-pub mod Checks
 pub mod Cuts
 pub mod EntriesWithin
-pub mod EntryLists
 pub mod Examples
 pub mod OverlapExamples
 pub mod ExportExamples
 pub mod ExportTexts
 pub mod Faults
 pub mod FilledEntries
-pub mod InTurn
+pub mod Found
 pub mod Inspected
 pub mod KeptEntries
 pub mod LawExamples
@@ -17,6 +15,7 @@ pub mod Lengths
 pub mod ListedOrder
 pub mod Merging
 pub mod Names
+pub mod NumberedExamples
 pub mod Options
 pub mod OverlapEnds
 pub mod OverlapPairs
@@ -26,11 +25,11 @@ pub mod Places
 pub mod Printed
 pub mod Putting
 pub mod ReadInTurn
+pub mod Readings
 pub mod RepeatedEntries
 pub mod Requests
 pub mod Runs
 pub mod SearchEnds
-pub mod Searches
 pub mod SoughtWords
 pub mod SplitFaults
 pub mod Splitting

@@ -5,17 +5,18 @@ use Rattle.std.proofs.Common.{get_or, filter, append_assoc, append-nil}
 use Rattle.std.specs.Prelude.{String}
 use Rattle.std.specs.List.{concat, SwappedAt}
 use Rattle.std.specs.List.Sorted.{IsSorted}
+use Rattle.std.proofs.lemmas.List.Folds.{concat-append}
 use Rattle.std.proofs.lemmas.List.{take_more, map_push, length-map, get_or_default}
 use Rattle.lines.specs.Outputs.{Written}
 use Rattle.program.specs.Messages.{Tells}
-use Rattle.program.proofs.Told.{tells_same}
+use Rattle.program.proofs.Told.{tells_more, tells_same}
 use Rattle.cidr_merge.specs.Overlaps.{Listed, reaches, pair_text, pairs_with, pairs_after}
 use Rattle.cidr_merge.specs.Overlaps.{listed_cmp}
 use Rattle.cidr_merge.specs.Private.Entries.{listed_as, overlaps, KeepsReaching}
 use Rattle.cidr_merge.specs.Private.Reported.{TellsFound}
 use Rattle.cidr_merge.specs.declared.placed.Placed.{Placed}
 use Rattle.cidr_merge.proofs.Places.{up_to_next}
-use Rattle.cidr_merge.proofs.Checks.{tells_findings, found_more}
+use Rattle.cidr_merge.proofs.Found.{tells_both}
 use Rattle.cidr_merge.proofs.KeptEntries.{Swept, swept_more, as_it_was, same_further}
 use Rattle.cidr_merge.proofs.ListedOrder.{overlaps_falls}
 
@@ -64,9 +65,10 @@ pairs_with_more names later before index one old mid new l is h k =
     (ap concat (sym (map_push text done (listed_as one))
     ∙ ap (map text) (sym (map_push listed_as (take index before) one)
     ∙ ap (map listed_as) (sym (up_to_next before index one l is)))))
-    (tells_findings old mid new (map text done) (text (listed_as one) ∷ []) h
+    (subst (λ (t : List ℕ). Tells old new t) (sym (concat-append (map text done) (text (listed_as one) ∷ [])))
+    (tells_more old mid new (concat (map text done)) (concat (text (listed_as one) ∷ [])) h
     (tells_same mid new (text (listed_as one)) (concat (text (listed_as one) ∷ []))
-    (sym (append-nil (text (listed_as one)))) k))
+    (sym (append-nil (text (listed_as one)))) k)))
 
 pub pairs_with_next : {Z W : Type 0} (names : List (String Z)) (later : Placed)
     (before : List Placed) (index : ℕ) (other : Placed) (old mid new : Written W)
@@ -84,7 +86,7 @@ pairs_with_next names later before index other old mid new l h k =
 abbrev pub PairsTold : {Z W : Type 0} → List (String Z) → List Placed → Written W → Written W → Bool
     → Type 0
 PairsTold names entries old new found =
-    TellsFound (λ findings. findings ≡ pairs_after names [] (map listed_as entries)) old new found
+    TellsFound (pairs_after names [] (map listed_as entries)) old new found
 
 pub pairs_told_more : {Z W : Type 0} (names : List (String Z))
     (entries now mid kept_ones : List Placed) (kept place count : ℕ) (later : Placed)
@@ -107,17 +109,15 @@ pairs_told_more names entries now mid kept_ones kept place count later old betwe
     (take place entries))) in
     let some : more ≡ not (length texts == 0) =
     m ∙ ap (λ n. not (n == 0)) (sym (length-map (map listed_as kept_ones)
-    (pair_text names (listed_as later)) ∙ length-map kept_ones listed_as)) in (
-      h.0 ++ texts,
-      ap (λ l. l ++ texts) h.1
-          ∙ ap (λ l. pairs_after names [] (map listed_as (take place entries)) ++ l) pairs
-          ∙ sym (pairs_more names [] (map listed_as (take place entries)) (listed_as later))
-          ∙ ap (pairs_after names []) (sym (map_push listed_as (take place entries) later)
-          ∙ ap (map listed_as) (ap (λ y. take place entries ++ y ∷ []) is
-          ∙ sym (take_more entries place later l))),
-      tells_findings old between new h.0 texts h.2 told,
-      found_more h.0 texts found more both h.3 some b,
-    )
+    (pair_text names (listed_as later)) ∙ length-map kept_ones listed_as)) in
+    subst (λ found. TellsFound found old new both)
+    (ap (λ l. pairs_after names [] (map listed_as (take place entries)) ++ l) pairs
+    ∙ sym (pairs_more names [] (map listed_as (take place entries)) (listed_as later))
+    ∙ ap (pairs_after names []) (sym (map_push listed_as (take place entries) later)
+    ∙ ap (map listed_as) (ap (λ y. take place entries ++ y ∷ []) is
+    ∙ sym (take_more entries place later l))))
+    (tells_both (pairs_after names [] (map listed_as (take place entries))) texts old between new
+    found more both h (told, some) b)
 
 -- an entry more was swept, and told with those that it overlaps
 pairs_step : {Z W : Type 0} (names : List (String Z)) (old now mid new : List Placed)

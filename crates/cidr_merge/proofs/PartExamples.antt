@@ -19,16 +19,16 @@ use Rattle.program.specs.Usage.{usage_text}
 use Rattle.ipnetwork_addr.specs.declared.ip.IpAddr.{IpAddr}
 use Rattle.lists.specs.declared.named.ReadFault.{ReadFault}
 use Rattle.cidr_merge.specs.Answers.{IsAnswer}
-use Rattle.cidr_merge.specs.CommandLines.{has, stands, operation_named, options_of, lists_of}
+use Rattle.cidr_merge.specs.CommandLines.{has, word_at_is, operation_named, options_of, lists_of}
 use Rattle.cidr_merge.specs.CommandLines.{before_dashes, behind_dashes, are_options, are_lists}
 use Rattle.cidr_merge.specs.CommandLines.{are_sides, usual_of, form_of, shape_of, can_print, AreFor}
 use Rattle.cidr_merge.specs.CommandLines.{Says, AreForNone}
 use Rattle.cidr_merge.specs.Endings.{EndsAs}
 use Rattle.cidr_merge.specs.FindRuns.{sought_fault_text, EndsFindUnless, EndsFind}
 use Rattle.cidr_merge.specs.FindWords.{sought_of, searched_of, find_fault, AreAddresses}
-use Rattle.cidr_merge.specs.FindWords.{StopsAtWord}
-use Rattle.cidr_merge.specs.Findings.{ListsFindings}
-use Rattle.cidr_merge.specs.Finds.{ListsReport}
+use Rattle.cidr_merge.specs.FindWords.{StopsAtWord, with_addresses}
+use Rattle.cidr_merge.specs.Findings.{lists_findings}
+use Rattle.cidr_merge.specs.Finds.{lists_matches, lists_refusals}
 use Rattle.cidr_merge.specs.InspectionRuns.{EndsUnless}
 use Rattle.cidr_merge.specs.Inspections.{inspection_of, inspection_fault}
 use Rattle.cidr_merge.specs.Parts.{UnionPrints, HaveLines, AreShort}
@@ -48,7 +48,7 @@ use Rattle.cidr_merge.specs.declared.command_line.Operation.TheVariants.{Union}
 use Rattle.cidr_merge.specs.declared.command_line.Request.{Request}
 use Rattle.cidr_merge.specs.declared.inspections.Inspection.TheVariants.{Check}
 use Rattle.cidr_merge.specs.declared.reading.Sets.{Sets}
-use Rattle.cidr_merge.specs.declared.sought.SoughtFault.{SoughtFault}
+use Rattle.cidr_merge.specs.declared.query.QueryFault.{QueryFault}
 use Rattle.cidr_merge.specs.declared.usage.UsageFault.{UsageFault}
 
 -- ---- command lines
@@ -155,9 +155,9 @@ what_a_failed_writer_is end h = h
 pub what_a_run_does : {Z W E : Type 0} (program help version usage : List ℕ) (known : KnownLists)
     (words : List (String Z)) (end : Ending W E)
     → text_asked help version words ≡ None → EndsAs program help version usage known words end
-    → ((stands (codes "split") words 0 ≡ true) × EndsSplit program usage known words end)
-    ⊎ (((stands (codes "find") words 0 ≡ true) × EndsFind program usage known words end)
-    ⊎ ((stands (codes "split") words 0 ≡ false) × (stands (codes "find") words 0 ≡ false)
+    → ((word_at_is (codes "split") words 0 ≡ true) × EndsSplit program usage known words end)
+    ⊎ (((word_at_is (codes "find") words 0 ≡ true) × EndsFind program usage known words end)
+    ⊎ ((word_at_is (codes "split") words 0 ≡ false) × (word_at_is (codes "find") words 0 ≡ false)
     × EndsCommand program usage known words (inspection_of words) end))
 what_a_run_does program help version usage known words end e h =
     otherwise help version words _ end e h
@@ -183,18 +183,21 @@ pub what_a_check_does : {Z W E : Type 0} (program usage : List ℕ) (known : Kno
     × (((end.output_after ≡ end.output) × (end.status ≡ 2))
     × HasTold end (fault_text words fault)))
     ⊎ ((texts : List (List ℕ)) × AreTexts known (lists_of words) texts
-    × (FailsToWrite end ⊎ ((findings : List (List ℕ))
-    × ListsFindings false (lists_of words) texts findings
-    × (HasWritten end (concat findings) × HasTold end []
-    × (end.status ≡ (if length findings == 0 then 0 else 1))))))
+    × (FailsToWrite end ⊎ (HasWritten end (concat (lists_findings false (lists_of words) texts))
+    × HasTold end []
+    × (end.status ≡ (if length (lists_findings false (lists_of words) texts) == 0 then 0 else 1)))))
 what_a_check_does program usage known words end f g h =
     subst (λ r. EndsUnless program usage known words Check r end) g
     (subst (λ i. EndsCommand program usage known words i end) f h)
 
+abbrev found_in : {Z : Type 0} → List (String Z) → List IpAddr → List (List ℕ) → List (List ℕ)
+found_in words addresses texts =
+    lists_matches (with_addresses (sought_of words) addresses) (searched_of words) texts
+
 pub what_a_find_does : {Z W E : Type 0} (program usage : List ℕ) (known : KnownLists)
     (words : List (String Z)) (end : Ending W E) → find_fault (drop 1 words) ≡ None
     → EndsFind program usage known words end
-    → ((fault : SoughtFault) × StopsAtWord 1 (sought_of words) fault
+    → ((fault : QueryFault) × StopsAtWord 1 (sought_of words) fault
     × (((end.output_after ≡ end.output) × (end.status ≡ 2))
     × HasTold end (sought_fault_text program usage words fault)))
     ⊎ ((addresses : List IpAddr) × AreAddresses (sought_of words) addresses
@@ -202,12 +205,12 @@ pub what_a_find_does : {Z W E : Type 0} (program usage : List ℕ) (known : Know
     (searched_of words) fault × (((end.output_after ≡ end.output) × (end.status ≡ 2))
     × HasTold end (fault_text words fault)))
     ⊎ ((texts : List (List ℕ)) × AreTexts known (searched_of words) texts
-    × ((printed told : List (List ℕ)) × (errors : Written E)
-    × ListsReport (sought_of words) (searched_of words) texts printed told
-    × Tells end.errors errors (concat told)
-    × (FailsToWrite (record end { errors = errors }) ⊎ (HasWritten end (concat printed)
-    × Tells errors end.errors_after []
-    × (end.status ≡ (if length told == 0 then (if length printed == 0 then 1 else 0) else 2))))))))
+    × ((errors : Written E)
+    × Tells end.errors errors (concat (lists_refusals (searched_of words) texts))
+    × (FailsToWrite (record end { errors = errors })
+    ⊎ (HasWritten end (concat (found_in words addresses texts)) × Tells errors end.errors_after []
+    × (end.status ≡ (if length (lists_refusals (searched_of words) texts) == 0
+    then (if length (found_in words addresses texts) == 0 then 1 else 0) else 2))))))))
 what_a_find_does program usage known words end f h =
     subst (λ r. EndsFindUnless program usage known words r end) f h
 

@@ -9,7 +9,7 @@ use Rattle.cidr_merge.specs.declared.command_line.Operation.{Operation}
 use Rattle.cidr_merge.specs.declared.command_line.Operation.TheVariants.{Union, Common, Minus}
 use Rattle.cidr_merge.specs.declared.command_line.Operation.TheVariants.{Differ}
 use Rattle.cidr_merge.specs.declared.reading.Sets.{Sets}
-use Rattle.cidr_merge.specs.declared.sides.Side.TheVariants.{First, Second}
+use Rattle.cidr_merge.specs.declared.merge_join.Side.TheVariants.{First, Second}
 
 pub put_three_ok : {T E : Type 0} (result : Result T E) (held first second holds : Option (List ℕ))
     (waited after_first after_second waits x y z front middle : List ℕ) → x ≡ front → y ≡ middle

@@ -11,7 +11,7 @@ use Rattle.program.specs.Messages.{Tells}
 use Rattle.program.specs.Runs.{text_asked}
 use Rattle.program.specs.Told.{in_list, refusals_text}
 use Rattle.program.proofs.Runs.{not_asked}
-use Rattle.cidr_merge.specs.CommandLines.{stands}
+use Rattle.cidr_merge.specs.CommandLines.{word_at_is}
 use Rattle.cidr_merge.specs.Endings.{EndsAs}
 use Rattle.cidr_merge.specs.Reading.{ReadsSide, ReadsSides}
 use Rattle.cidr_merge.specs.InspectionRuns.{EndsInspecting}
@@ -95,8 +95,8 @@ merged known words request first second refused is_empty end told sides tells f 
 module _ {Z W E : Type 0} (program help version usage : List ℕ) (known : KnownLists)
     (words : List (String Z)) (end : Ending W E) (asked : Option Inspection)
     (is : asked ≡ inspection_of words) (no_text : text_asked help version words ≡ None)
-    (no_split : stands (codes "split") words 0 ≡ false)
-    (no_find : stands (codes "find") words 0 ≡ false) where
+    (no_split : word_at_is (codes "split") words 0 ≡ false)
+    (no_find : word_at_is (codes "find") words 0 ≡ false) where
   commanded : EndsCommand program usage known words asked end
       → EndsAs program help version usage known words end
   commanded h =

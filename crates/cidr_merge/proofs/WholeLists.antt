@@ -10,7 +10,7 @@ use Rattle.lists.specs.declared.bytes.BytesFault.{BytesFault}
 use Rattle.lists.specs.declared.bytes.BytesFault.TheVariants as bytes
 use Rattle.lists.specs.declared.named.ReadFault.{ReadFault}
 use Rattle.cidr_merge.specs.Texts.{AreTexts, TextStops, TextsStop}
-use Rattle.cidr_merge.specs.Private.Unread.{not_read}
+use Rattle.cidr_merge.specs.Private.ReadErrors.{not_read}
 use Rattle.cidr_merge.proofs.Places.{up_to_next, cut_at}
 
 -- ---- one list

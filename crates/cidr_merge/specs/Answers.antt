@@ -18,8 +18,8 @@ use Rattle.cidr_merge.specs.declared.command_line.Form.TheVariants.{Exported}
 use Rattle.cidr_merge.specs.declared.exports.Export.{Export}
 use Rattle.cidr_merge.specs.Exports.{export_text}
 use Rattle.cidr_merge.specs.declared.reading.Sets.{Sets}
-use Rattle.cidr_merge.specs.declared.sides.Side.{Side}
-use Rattle.cidr_merge.specs.declared.sides.Side.TheVariants.{First, Second}
+use Rattle.cidr_merge.specs.declared.merge_join.Side.{Side}
+use Rattle.cidr_merge.specs.declared.merge_join.Side.TheVariants.{First, Second}
 
 -- x is an address that the operation leaves of the first side
 abbrev pub IsLeft : Operation → ℕ → List Network → List Network → ℕ → Type 0

@@ -24,8 +24,8 @@ abbrev pub has : {Z : Type 0} → List ℕ → List (String Z) → Bool
 has text words = nat_lt 0 (count text words)
 
 -- there is a word at this index, and it is this text
-abbrev pub stands : {Z : Type 0} → List ℕ → List (String Z) → ℕ → Bool
-stands text words place = nat_lt place (length words) && bytes_eq (name_at words place) text
+abbrev pub word_at_is : {Z : Type 0} → List ℕ → List (String Z) → ℕ → Bool
+word_at_is text words place = nat_lt place (length words) && bytes_eq (name_at words place) text
 
 -- the operation that is called so; `list` is the union, of which each address is printed
 abbrev pub operation_called : List ℕ → Option Operation

@@ -3,7 +3,7 @@ use Rattle.std.specs.Prelude.{◌≡◌, ℕ, List, true, false, ◌⊎◌, code
 use Rattle.lists.specs.KnownLists.{KnownLists}
 use Rattle.program.specs.Endings.{Ending}
 use Rattle.program.specs.Runs.{EndsRun}
-use Rattle.cidr_merge.specs.CommandLines.{stands}
+use Rattle.cidr_merge.specs.CommandLines.{word_at_is}
 use Rattle.cidr_merge.specs.FindRuns.{EndsFind}
 use Rattle.cidr_merge.specs.Inspections.{inspection_of}
 use Rattle.cidr_merge.specs.Runs.{EndsCommand}
@@ -15,7 +15,7 @@ use Rattle.cidr_merge.specs.Splits.{EndsSplit}
 abbrev pub EndsAs : {Z W E : Type 0} → List ℕ → List ℕ → List ℕ → List ℕ → KnownLists
     → List (String Z) → Ending W E → Type 0
 EndsAs program help version usage known words end = EndsRun help version words
-    (((stands (codes "split") words 0 ≡ true) × EndsSplit program usage known words end)
-    ⊎ (((stands (codes "find") words 0 ≡ true) × EndsFind program usage known words end)
-    ⊎ ((stands (codes "split") words 0 ≡ false) × (stands (codes "find") words 0 ≡ false)
+    (((word_at_is (codes "split") words 0 ≡ true) × EndsSplit program usage known words end)
+    ⊎ (((word_at_is (codes "find") words 0 ≡ true) × EndsFind program usage known words end)
+    ⊎ ((word_at_is (codes "split") words 0 ≡ false) × (word_at_is (codes "find") words 0 ≡ false)
     × EndsCommand program usage known words (inspection_of words) end))) end

@@ -3,7 +3,7 @@ use Rattle.std.specs.Prelude.{◌≡◌, ◌⊎◌, ℕ, List, [], ◌∷◌, �
 use Rattle.std.specs.List.{Contains}
 use Rattle.ipnetwork_addr.specs.Either.{IsAddrAtMost}
 use Rattle.ipnetwork_addr.specs.declared.ip.IpAddr.{IpAddr}
-use Rattle.cidr_merge.specs.Overlaps.{Listed, ListsEntries, IsInOrder, relation, pair_text}
+use Rattle.cidr_merge.specs.Overlaps.{Listed, lists_entries, IsInOrder, relation, pair_text}
 use Rattle.cidr_merge.specs.Repetitions.{repetitions}
 
 -- the entry has the address
@@ -49,8 +49,8 @@ IsToldWithin names before entry behind own =
 -- then what an entry more adds to that, and then what it finds of those behind it
 abbrev pub EachWithinAnotherIsTold : {Z : Type 0} → List (String Z) → Type 0
 EachWithinAnotherIsTold names =
-    (texts : List (List ℕ)) (found before : List Listed) (entry : Listed) (behind : List Listed)
-    → ListsEntries 0 texts found → IsInOrder found (before ++ entry ∷ behind)
+    (texts : List (List ℕ)) (before : List Listed) (entry : Listed) (behind : List Listed)
+    → IsInOrder (lists_entries texts) (before ++ entry ∷ behind)
     → (own others : List (List ℕ))
     × (repetitions names (before ++ entry ∷ []) ≡ repetitions names before ++ own)
     × (repetitions names (before ++ entry ∷ behind) ≡ repetitions names before ++ own ++ others)

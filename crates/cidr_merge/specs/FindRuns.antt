@@ -12,14 +12,14 @@ use Rattle.program.specs.Messages.{Tells}
 use Rattle.program.specs.Told.{name_at, fault_text}
 use Rattle.program.specs.Usage.{usage_text}
 use Rattle.program.specs.declared.usage.Subject.TheVariants.{Word}
-use Rattle.cidr_merge.specs.Finds.{ListsReport}
+use Rattle.cidr_merge.specs.Finds.{lists_matches, lists_refusals}
 use Rattle.cidr_merge.specs.FindWords.{sought_of, searched_of, sought_problem, find_fault}
-use Rattle.cidr_merge.specs.FindWords.{AreAddresses, StopsAtWord}
+use Rattle.cidr_merge.specs.FindWords.{AreAddresses, StopsAtWord, with_addresses}
 use Rattle.cidr_merge.specs.Texts.{AreTexts, TextsStop}
 use Rattle.cidr_merge.specs.Problems.{problem_text}
 use Rattle.cidr_merge.specs.Writing.{FailsToWrite}
-use Rattle.cidr_merge.specs.declared.sought.SoughtFault.{SoughtFault}
-use Rattle.cidr_merge.specs.declared.sought.SoughtFault.TheVariants.{NotAnAddress, OutOfMemory}
+use Rattle.cidr_merge.specs.declared.query.QueryFault.{QueryFault}
+use Rattle.cidr_merge.specs.declared.query.QueryFault.TheVariants.{NotAnAddress, OutOfMemory}
 use Rattle.cidr_merge.specs.declared.usage.UsageFault.{UsageFault}
 
 -- the exit status: 2 if a refused line was told, else 0 if a line was printed, and else 1
@@ -31,27 +31,28 @@ abbrev pub WritesReport : {W E : Type 0} → List (List ℕ) → List (List ℕ)
 WritesReport printed told end =
     HasWritten end (concat printed) × HasTold end [] × (end.status ≡ search_status printed told)
 
--- lists of these names and bytes were searched for the addresses of these words: the refused lines
--- were told, and what there is to print was written, or the writer failed
-abbrev pub EndsSearching : {Z W E : Type 0} → List (String Z) → List (String Z) → List (List ℕ)
-    → Ending W E → Type 0
-EndsSearching {Z} {W} {E} words names texts end =
-    (printed told : List (List ℕ)) × (errors : Written E)
-    × ListsReport words names texts printed told × Tells end.errors errors (concat told)
+-- lists of these names and bytes were searched for these addresses: the refused lines were told,
+-- and what there is to print was written, or the writer failed
+abbrev pub EndsSearching : {Z W E : Type 0} → List (List ℕ × IpAddr) → List (String Z)
+    → List (List ℕ) → Ending W E → Type 0
+EndsSearching {Z} {W} {E} sought names texts end =
+    (errors : Written E) × Tells end.errors errors (concat (lists_refusals names texts))
     × (FailsToWrite (record end { errors = errors })
-    ⊎ WritesReport printed told (record end { errors = errors }))
+    ⊎ WritesReport (lists_matches sought names texts) (lists_refusals names texts)
+    (record end { errors = errors }))
 
 -- a list was not read, nothing was written, and the cause was reported; or all were read
-abbrev pub EndsReadingAll : {Z W E : Type 0} → KnownLists → List (String Z) → Ending W E → Type 0
-EndsReadingAll known words end =
+abbrev pub EndsReadingAll : {Z W E : Type 0} → KnownLists → List (String Z) → List IpAddr
+    → Ending W E → Type 0
+EndsReadingAll known words addresses end =
     ((fault : ReadFault) × TextsStop known (2 + length (sought_of words)) (searched_of words) fault
     × Refuses (fault_text words fault) end)
     ⊎ ((texts : List (List ℕ)) × AreTexts known (searched_of words) texts
-    × EndsSearching (sought_of words) (searched_of words) texts end)
+    × EndsSearching (with_addresses (sought_of words) addresses) (searched_of words) texts end)
 
 -- what is reported of words that are not taken as addresses: the first that is none, and the usage,
 -- or that memory ran out
-abbrev pub sought_fault_text : {Z : Type 0} → List ℕ → List ℕ → List (String Z) → SoughtFault
+abbrev pub sought_fault_text : {Z : Type 0} → List ℕ → List ℕ → List (String Z) → QueryFault
     → List ℕ
 sought_fault_text program usage words (NotAnAddress place) =
     usage_text program usage words (Word place)
@@ -62,10 +63,10 @@ sought_fault_text program usage words OutOfMemory = fault_text words faults.OutO
 abbrev pub EndsTakingWords : {Z W E : Type 0} → List ℕ → List ℕ → KnownLists → List (String Z)
     → Ending W E → Type 0
 EndsTakingWords program usage known words end =
-    ((fault : SoughtFault) × StopsAtWord 1 (sought_of words) fault
+    ((fault : QueryFault) × StopsAtWord 1 (sought_of words) fault
     × Refuses (sought_fault_text program usage words fault) end)
     ⊎ ((addresses : List IpAddr) × AreAddresses (sought_of words) addresses
-    × EndsReadingAll known words end)
+    × EndsReadingAll known words addresses end)
 
 -- the lists are searched, unless something is wrong with the words: that and the usage are reported
 abbrev pub EndsFindUnless : {Z W E : Type 0} → List ℕ → List ℕ → KnownLists → List (String Z)

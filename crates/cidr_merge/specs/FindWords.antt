@@ -1,14 +1,15 @@
 -- What the words of a `find` say: addresses, and lists in which they are sought.
 use Rattle.std.specs.Prelude.{◌≡◌, ℕ, ◌+◌, List, [], ◌∷◌, ◌++◌, Option, Some, length, drop}
-use Rattle.std.specs.Prelude.{if◌then◌else◌, codes, String}
+use Rattle.std.specs.Prelude.{if◌then◌else◌, codes, map, String}
+use Rattle.std.specs.List.{zip}
 use Rattle.std.specs.String.{string_bytes}
 use Rattle.ipnetwork_addr.specs.Either.{NamesIp}
 use Rattle.ipnetwork_addr.specs.declared.ip.IpAddr.{IpAddr}
-use Rattle.cidr_merge.specs.CommandLines.{begins_dashed, stands, before_dashes, behind_dashes}
+use Rattle.cidr_merge.specs.CommandLines.{begins_dashed, word_at_is, before_dashes, behind_dashes}
 use Rattle.cidr_merge.specs.Problems.{misplaced}
 use Rattle.cidr_merge.specs.Usage.{at_word, first_of, lists_fault, sides_fault}
-use Rattle.cidr_merge.specs.declared.sought.SoughtFault.{SoughtFault}
-use Rattle.cidr_merge.specs.declared.sought.SoughtFault.TheVariants.{NotAnAddress, OutOfMemory}
+use Rattle.cidr_merge.specs.declared.query.QueryFault.{QueryFault}
+use Rattle.cidr_merge.specs.declared.query.QueryFault.TheVariants.{NotAnAddress, OutOfMemory}
 use Rattle.cidr_merge.specs.declared.problems.Problem.{Problem}
 use Rattle.cidr_merge.specs.declared.problems.Problem.TheVariants as problems
 use Rattle.cidr_merge.specs.declared.usage.UsageFault.{UsageFault}
@@ -25,7 +26,7 @@ searched_of words = behind_dashes (drop 1 words)
 -- `--`, or there is not one `--`, or no list behind it, or a list has no name
 abbrev pub find_fault : {Z : Type 0} → List (String Z) → Option UsageFault
 find_fault others =
-    if stands (codes "--") others 0 then Some (at_word 1 problems.NoAddress)
+    if word_at_is (codes "--") others 0 then Some (at_word 1 problems.NoAddress)
     else first_of (sides_fault 1 others)
     (lists_fault (2 + length (before_dashes others)) (behind_dashes others))
 
@@ -42,6 +43,10 @@ AreAddresses (word ∷ words) [] = ⊥
 AreAddresses (word ∷ words) (address ∷ addresses) =
     NamesIp (string_bytes word) address × AreAddresses words addresses
 
+-- the texts of words, each with its address
+abbrev pub with_addresses : {Z : Type 0} → List (String Z) → List IpAddr → List (List ℕ × IpAddr)
+with_addresses words addresses = zip (map string_bytes words) addresses
+
 -- of these words, of which the first has this index, the one at the other is the first that is not
 -- the text of an address
 pub record IsFirstWrong {Z : Type 0} (first : ℕ) (words : List (String Z))
@@ -56,6 +61,6 @@ pub record IsFirstWrong {Z : Type 0} (first : ℕ) (words : List (String Z))
   pub wrong : (address : IpAddr) → ¬ (NamesIp (string_bytes word) address)
 
 -- the words are not taken: one is wrong, or memory ran out
-abbrev pub StopsAtWord : {Z : Type 0} → ℕ → List (String Z) → SoughtFault → Type 0
+abbrev pub StopsAtWord : {Z : Type 0} → ℕ → List (String Z) → QueryFault → Type 0
 StopsAtWord first words (NotAnAddress place) = IsFirstWrong first words place
 StopsAtWord first words OutOfMemory = Unit {0}

@@ -1,64 +1,58 @@
 -- What a search of lists for addresses prints, and what it tells. Each of the texts is a line.
-use Rattle.std.specs.Prelude.{◌≡◌, ◌⊎◌, ℕ, ◌+◌, List, [], ◌∷◌, ◌++◌, None, Some, codes}
-use Rattle.std.specs.Prelude.{String}
-use Rattle.std.specs.Str.Lines.{lines}
-use Rattle.std.specs.String.{string_bytes}
-use Rattle.ipnetwork_addr.specs.Either.{NamesIp}
+use Rattle.std.specs.Prelude.{ℕ, ◌&&◌, Bool, List, [], ◌∷◌, ◌++◌, Option, None, Some, Result, Ok}
+use Rattle.std.specs.Prelude.{Err, if◌then◌else◌, codes, String}
+use Rattle.std.specs.List.{flat_map}
 use Rattle.ipnetwork_addr.specs.declared.ip.IpAddr.{IpAddr}
-use Rattle.lists.specs.Lists.{Names}
+use Rattle.ipnetwork.specs.Computed.IpNetworks.{is_ip_member}
 use Rattle.lists.specs.declared.entry.Entry.{Entry}
+use Rattle.lists.specs.declared.entry.Entry.TheVariants as entries
 use Rattle.lists.specs.declared.fault.LineFault.{LineFault}
-use Rattle.cidr_merge.specs.Findings.{place_text, refusal_text, IsWrong, LineSays}
+use Rattle.program.specs.Told.{name_at}
+use Rattle.cidr_merge.specs.Findings.{place_text, refusal_text}
+use Rattle.cidr_merge.specs.NumberedLines.{NumberedLine, is_range, numbered_lines, said_by}
 
 -- an entry has an address: `FILE:LINE: has ADDRESS: TEXT`
 abbrev pub has_text : List ℕ → ℕ → List ℕ → List ℕ → List ℕ
 has_text name number word line =
     place_text name number ++ codes ": has " ++ word ++ codes ": " ++ line ++ codes "\n"
 
--- what is printed of the entry of a line for the address that a word names: a line if the entry has
--- it, else nothing
-abbrev pub AddressReport : List ℕ → ℕ → List ℕ → Entry → List ℕ → IpAddr → List (List ℕ) → Type 0
-AddressReport name number line entry word address printed =
-    (Names entry address × (printed ≡ has_text name number word line ∷ []))
-    ⊎ (¬ (Names entry address) × (printed ≡ []))
+-- it has it
+abbrev pub has : Entry → IpAddr → Bool
+has (entries.Network n) address = is_ip_member n address
+has (entries.Range first last) address = is_range first address && is_range address last
 
--- for those that these words name, in turn
-abbrev pub AddressesReport : {Z : Type 0} → List ℕ → ℕ → List ℕ → Entry → List (String Z)
-    → List (List ℕ) → Type 0
-AddressesReport name number line entry [] printed = printed ≡ []
-AddressesReport name number line entry (word ∷ words) printed =
-    (address : IpAddr) × (one : List (List ℕ)) × (others : List (List ℕ))
-    × NamesIp (string_bytes word) address
-    × AddressReport name number line entry (string_bytes word) address one
-    × AddressesReport name number line entry words others × (printed ≡ one ++ others)
+-- what is printed of the entry of a line of this list for a text and the address that it names: a
+-- line if the entry has it, else nothing
+abbrev pub match_lines : List ℕ → ℕ → List ℕ → Entry → List ℕ × IpAddr → List (List ℕ)
+match_lines name number line entry sought =
+    if has entry sought.1 then has_text name number sought.0 line ∷ [] else []
 
--- what is printed and what is told of the line of this number in the list of this name: nothing of
--- one that says nothing, and of a refused line that it is refused
-abbrev pub LineReport : {Z : Type 0} → List (String Z) → List ℕ → ℕ → List ℕ → List (List ℕ)
-    → List (List ℕ) → Type 0
-LineReport words name number line printed told =
-    (LineSays line None × (printed ≡ []) × (told ≡ []))
-    ⊎ (((entry : Entry) × LineSays line (Some entry)
-    × AddressesReport name number line entry words printed × (told ≡ []))
-    ⊎ ((fault : LineFault) × IsWrong line fault × (printed ≡ [])
-    × (told ≡ refusal_text name number fault line ∷ [])))
+-- of a line, by what it says, for these texts and addresses in turn
+abbrev pub matches_by : List (List ℕ × IpAddr) → List ℕ → ℕ → List ℕ
+    → Result (Option Entry) LineFault → List (List ℕ)
+matches_by sought name number line (Ok None) = []
+matches_by sought name number line (Ok (Some entry)) =
+    flat_map (match_lines name number line entry) sought
+matches_by sought name number line (Err fault) = []
 
--- of these lines, of which the first has this number
-abbrev pub LinesReport : {Z : Type 0} → List (String Z) → List ℕ → ℕ → List (List ℕ) → List (List ℕ)
-    → List (List ℕ) → Type 0
-LinesReport words name number [] printed told = (printed ≡ []) × (told ≡ [])
-LinesReport words name number (line ∷ lines) printed told =
-    (one others : List (List ℕ)) × (first more : List (List ℕ))
-    × LineReport words name number line one first
-    × LinesReport words name (1 + number) lines others more
-    × (printed ≡ one ++ others) × (told ≡ first ++ more)
+-- what is told of it: that it is refused
+abbrev pub refusals_by : List ℕ → ℕ → List ℕ → Result (Option Entry) LineFault → List (List ℕ)
+refusals_by name number line (Ok said) = []
+refusals_by name number line (Err fault) = refusal_text name number fault line ∷ []
 
--- of the lists of these names, which have these bytes
-abbrev pub ListsReport : {Z : Type 0} → List (String Z) → List (String Z) → List (List ℕ)
-    → List (List ℕ) → List (List ℕ) → Type 0
-ListsReport words [] texts printed told = (printed ≡ []) × (told ≡ [])
-ListsReport words (name ∷ names) [] printed told = (printed ≡ []) × (told ≡ [])
-ListsReport words (name ∷ names) (text ∷ texts) printed told =
-    (one others : List (List ℕ)) × (first more : List (List ℕ))
-    × LinesReport words (string_bytes name) 1 (lines text) one first
-    × ListsReport words names texts others more × (printed ≡ one ++ others) × (told ≡ first ++ more)
+abbrev pub line_matches : {Z : Type 0} → List (List ℕ × IpAddr) → List (String Z) → NumberedLine
+    → List (List ℕ)
+line_matches sought names line =
+    matches_by sought (name_at names line.list) line.number line.text (said_by line.text)
+
+abbrev pub line_refusals : {Z : Type 0} → List (String Z) → NumberedLine → List (List ℕ)
+line_refusals names line =
+    refusals_by (name_at names line.list) line.number line.text (said_by line.text)
+
+-- of all lines of the lists of these names, which have these bytes
+abbrev pub lists_matches : {Z : Type 0} → List (List ℕ × IpAddr) → List (String Z) → List (List ℕ)
+    → List (List ℕ)
+lists_matches sought names texts = flat_map (line_matches sought names) (numbered_lines 0 texts)
+
+abbrev pub lists_refusals : {Z : Type 0} → List (String Z) → List (List ℕ) → List (List ℕ)
+lists_refusals names texts = flat_map (line_refusals names) (numbered_lines 0 texts)

@@ -8,7 +8,7 @@ use Rattle.program.specs.Endings.{Ending, Refuses, HasTold, HasWritten}
 use Rattle.program.specs.Told.{name_at, fault_text}
 use Rattle.program.specs.Usage.{usage_text}
 use Rattle.cidr_merge.specs.CommandLines.{options_of, lists_of}
-use Rattle.cidr_merge.specs.Findings.{ListsFindings}
+use Rattle.cidr_merge.specs.Findings.{lists_findings}
 use Rattle.cidr_merge.specs.Inspections.{inspection_fault}
 use Rattle.cidr_merge.specs.Overlaps.{OrderedFindings}
 use Rattle.cidr_merge.specs.Repetitions.{found_among}
@@ -31,19 +31,16 @@ WritesFindings findings end =
 -- what is found in the lines of lists of these names and bytes was, or the writer failed
 abbrev pub EndsChecking : {Z W E : Type 0} → List (String Z) → List (List ℕ) → Ending W E → Type 0
 EndsChecking names texts end =
-    FailsToWrite end
-    ⊎ ((findings : List (List ℕ)) × ListsFindings false names texts findings
-    × WritesFindings findings end)
+    FailsToWrite end ⊎ WritesFindings (lists_findings false names texts) end
 
 -- that and then what is found in their entries in order was, or memory ran out before anything was
 -- written
 abbrev pub EndsOrdered : {Z W E : Type 0} → Bool → List (String Z) → List (List ℕ) → Ending W E
     → Type 0
 EndsOrdered strictly names texts end = Refuses (codes "out of memory\n") end
-    ⊎ (FailsToWrite end ⊎ ((findings more : List (List ℕ))
-    × ListsFindings strictly names texts findings
+    ⊎ (FailsToWrite end ⊎ ((more : List (List ℕ))
     × OrderedFindings (found_among strictly names) texts more
-    × WritesFindings (findings ++ more) end))
+    × WritesFindings (lists_findings strictly names texts ++ more) end))
 
 -- what there is to say of them was
 abbrev pub EndsFinding : {Z W E : Type 0} → Inspection → List (String Z) → List (List ℕ)

@@ -3,7 +3,7 @@ use Rattle.std.specs.Prelude.{ℕ, ◌+◌, Bool, List, [], ◌∷◌, Option, N
 use Rattle.std.specs.Prelude.{if◌then◌else◌, codes, bytes_eq, String}
 use Rattle.std.specs.String.{string_bytes}
 use Rattle.program.specs.Told.{name_at}
-use Rattle.cidr_merge.specs.CommandLines.{stands}
+use Rattle.cidr_merge.specs.CommandLines.{word_at_is}
 use Rattle.cidr_merge.specs.Problems.{option_problem}
 use Rattle.cidr_merge.specs.Usage.{at_word, first_of, lists_fault, union_fault}
 use Rattle.cidr_merge.specs.declared.inspections.Inspection.{Inspection}
@@ -20,7 +20,7 @@ inspection_called text strictly =
 abbrev pub inspection_of : {Z : Type 0} → List (String Z) → Option Inspection
 inspection_of [] = None
 inspection_of (name ∷ others) =
-    inspection_called (string_bytes name) (stands (codes "--strict") (name ∷ others) 1)
+    inspection_called (string_bytes name) (word_at_is (codes "--strict") (name ∷ others) 1)
 
 -- how many options it takes: none, or the `--strict`
 abbrev pub options_taken : Inspection → ℕ

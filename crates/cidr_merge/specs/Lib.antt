@@ -9,9 +9,9 @@ pub mod FindWords
 pub mod Findings
 pub mod Finds
 pub mod InspectionRuns
-pub mod InTurn
 pub mod Inspections
 pub mod Laws
+pub mod NumberedLines
 pub mod Overlaps
 pub mod Parts
 pub mod Pieces

@@ -1,9 +1,9 @@
 -- Entries of lists that overlap.
-use Rattle.std.specs.Prelude.{◌≡◌, ◌⊎◌, ◌&&◌, ℕ, Bool, List, [], ◌∷◌, ◌++◌, map, filter, None}
-use Rattle.std.specs.Prelude.{Some, if◌then◌else◌, codes, String}
+use Rattle.std.specs.Prelude.{◌≡◌, ◌&&◌, ℕ, Bool, List, [], ◌∷◌, ◌++◌, map, filter, Option, None}
+use Rattle.std.specs.Prelude.{Some, Result, Ok, Err, if◌then◌else◌, codes, String}
+use Rattle.std.specs.List.{flat_map}
 use Rattle.std.specs.List.Sorted.{IsPermutation, IsSorted}
 use Rattle.std.specs.Ordering.{nat_cmp, ordering_then, is_le}
-use Rattle.std.specs.Str.Lines.{lines}
 use Rattle.std.specs.declared.cmp.Ordering.{Ordering}
 use Rattle.ipnetwork.specs.IpNetworks.{ip_low, ip_high}
 use Rattle.ipnetwork_addr.specs.Either.{ip_cmp}
@@ -12,8 +12,8 @@ use Rattle.lists.specs.declared.entry.Entry.{Entry}
 use Rattle.lists.specs.declared.entry.Entry.TheVariants as entries
 use Rattle.lists.specs.declared.fault.LineFault.{LineFault}
 use Rattle.program.specs.Told.{name_at}
-use Rattle.cidr_merge.specs.Findings.{place_text, IsWrong, LineSays}
-use Rattle.cidr_merge.specs.InTurn.{InTurn}
+use Rattle.cidr_merge.specs.Findings.{place_text}
+use Rattle.cidr_merge.specs.NumberedLines.{NumberedLine, numbered_lines, said_by}
 
 -- an entry: its first and its last address, and the numbers of its list, from 0 on, and of its
 -- line, from 1 on
@@ -33,19 +33,17 @@ listed list number entry =
     record { first = (ends_of entry).0; last = (ends_of entry).1; list = list; number = number }
 
 -- the entries of a line: one, or none if it says nothing or is refused
-abbrev pub LineEntries : ℕ → ℕ → List ℕ → List Listed → Type 0
-LineEntries list number line found =
-    ((entry : Entry) × LineSays line (Some entry) × (found ≡ listed list number entry ∷ []))
-    ⊎ ((LineSays line None × (found ≡ []))
-    ⊎ ((fault : LineFault) × IsWrong line fault × (found ≡ [])))
+abbrev pub entries_by : ℕ → ℕ → Result (Option Entry) LineFault → List Listed
+entries_by list number (Ok None) = []
+entries_by list number (Ok (Some entry)) = listed list number entry ∷ []
+entries_by list number (Err fault) = []
 
--- of these lines, of which the first has this number
-abbrev pub LinesEntries : ℕ → ℕ → List (List ℕ) → List Listed → Type 0
-LinesEntries list = InTurn (LineEntries list)
+abbrev pub line_entries : NumberedLine → List Listed
+line_entries line = entries_by line.list line.number (said_by line.text)
 
--- of lists with these bytes, of which the first has this number
-abbrev pub ListsEntries : ℕ → List (List ℕ) → List Listed → Type 0
-ListsEntries = InTurn (λ list text. LinesEntries list 1 (lines text))
+-- of lists with these bytes
+abbrev pub lists_entries : List (List ℕ) → List Listed
+lists_entries texts = flat_map line_entries (numbered_lines 0 texts)
 
 -- the order of entries: by the first address, the last address from the greatest on, the list, the
 -- line
@@ -95,5 +93,4 @@ pairs_after names before (entry ∷ others) =
 -- the findings of lists with these bytes, by what is found in entries in order
 abbrev pub OrderedFindings : (List Listed → List (List ℕ)) → List (List ℕ) → List (List ℕ) → Type 0
 OrderedFindings finds texts findings =
-    (found sorted : List Listed) × ListsEntries 0 texts found × IsInOrder found sorted
-    × (findings ≡ finds sorted)
+    (sorted : List Listed) × IsInOrder (lists_entries texts) sorted × (findings ≡ finds sorted)

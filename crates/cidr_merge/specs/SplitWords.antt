@@ -4,7 +4,7 @@ use Rattle.std.specs.Prelude.{Option, None, Some, length, drop, nat_lt, if◌the
 use Rattle.std.specs.Prelude.{String}
 use Rattle.ipnetwork_family.specs.PrefixNumber.{IsPrefixNumber, IsNoPrefixNumber}
 use Rattle.program.specs.Told.{name_at}
-use Rattle.cidr_merge.specs.CommandLines.{begins_dashed, stands}
+use Rattle.cidr_merge.specs.CommandLines.{begins_dashed, word_at_is}
 use Rattle.cidr_merge.specs.Problems.{option_problem}
 use Rattle.cidr_merge.specs.Usage.{at_word, first_of, lists_fault, union_fault}
 use Rattle.cidr_merge.specs.declared.shapes.Shape.{Shape}
@@ -15,7 +15,7 @@ use Rattle.cidr_merge.specs.declared.usage.UsageFault.{UsageFault}
 
 -- the index after a `--skip-bad` that stands at this index, and else this index
 abbrev pub after_skip : {Z : Type 0} → List (String Z) → ℕ → ℕ
-after_skip words place = if stands (codes "--skip-bad") words place then place + 1 else place
+after_skip words place = if word_at_is (codes "--skip-bad") words place then place + 1 else place
 
 -- where `--prefix` has to stand: after `split`, or after a `--skip-bad` that follows it
 abbrev pub prefix_place : {Z : Type 0} → List (String Z) → ℕ
@@ -29,15 +29,15 @@ json_place words = after_skip words (prefix_place words + 2)
 -- how a `--json` that stands at this index, and a `--strict` behind it, say that lists are written
 abbrev pub shape_at : {Z : Type 0} → List (String Z) → ℕ → Shape
 shape_at words place =
-    if stands (codes "--json") words place
-    then (if stands (codes "--strict") words (place + 1) then shapes.StrictJson else shapes.Json)
+    if word_at_is (codes "--json") words place
+    then (if word_at_is (codes "--strict") words (place + 1) then shapes.StrictJson else shapes.Json)
     else shapes.Lines
 
 -- the index after these
 abbrev pub after_shape : {Z : Type 0} → List (String Z) → ℕ → ℕ
 after_shape words place =
-    if stands (codes "--json") words place
-    then (if stands (codes "--strict") words (place + 1) then place + 2 else place + 1)
+    if word_at_is (codes "--json") words place
+    then (if word_at_is (codes "--strict") words (place + 1) then place + 2 else place + 1)
     else place
 
 -- the first list stands there
@@ -60,10 +60,10 @@ files_fault first lists = first_of (lists_fault first lists) (union_fault first 
 
 -- the request has the prefix length and the lists that the words say
 pub record SaysSplit {Z : Type 0} (words : List (String Z)) (request : SplitRequest) : Type 0 where
-  pub prefix : stands (codes "--prefix") words (prefix_place words) ≡ true
+  pub prefix : word_at_is (codes "--prefix") words (prefix_place words) ≡ true
   pub number : SaysLength words (prefix_place words) request.length
-  pub skips : request.skips_bad ≡ (stands (codes "--skip-bad") words 1
-      || stands (codes "--skip-bad") words (prefix_place words + 2))
+  pub skips : request.skips_bad ≡ (word_at_is (codes "--skip-bad") words 1
+      || word_at_is (codes "--skip-bad") words (prefix_place words + 2))
   pub shape : request.shape ≡ shape_at words (json_place words)
   pub first : request.first ≡ first_list words
   pub lists : files_fault (first_list words) (drop (first_list words) words) ≡ None
@@ -79,9 +79,9 @@ no_prefix words place =
 -- wrong with the lists
 abbrev pub SplitFault : {Z : Type 0} → List (String Z) → UsageFault → Type 0
 SplitFault words fault =
-    ((stands (codes "--prefix") words (prefix_place words) ≡ false)
+    ((word_at_is (codes "--prefix") words (prefix_place words) ≡ false)
     × (fault ≡ no_prefix words (prefix_place words)))
-    ⊎ ((stands (codes "--prefix") words (prefix_place words) ≡ true)
+    ⊎ ((word_at_is (codes "--prefix") words (prefix_place words) ≡ true)
     × (LengthFault words (prefix_place words) fault
     ⊎ ((number : ℕ) × SaysLength words (prefix_place words) number
     × (files_fault (first_list words) (drop (first_list words) words) ≡ Some fault))))

@@ -1,15 +1,15 @@
 //! Tells the wrong entries of lists, and strictly those with host bits too.
 ghost use Rattle.std.specs.Prelude.{◌≡◌, ◌&&◌, map};
-ghost use Rattle.std.specs.Str.Lines.{lines};
-ghost use Rattle.cidr_merge.specs.Findings.{LineFindings, LinesFindings, ListsFindings};
-ghost use Rattle.cidr_merge.specs.Findings.{has_host_bits, host_findings};
+ghost use Rattle.cidr_merge.specs.Findings.{findings_by, has_host_bits, host_findings};
+ghost use Rattle.cidr_merge.specs.Findings.{lists_findings};
+ghost use Rattle.cidr_merge.specs.NumberedLines.{said_by};
 ghost use Rattle.cidr_merge.specs.Private.Reported.{TellsFound};
 
-use crate::findings::{Line, either, tell_host_bits, tell_wrong};
-use crate::named::entry_of;
+use crate::entry_match::entry_of;
+use crate::findings::{either, tell_host_bits, tell_wrong};
+use crate::numbered_lines::{Line, NumberedLines};
 use crate::overlapping::is_up_to;
 use crate::placed::key_of;
-use crate::text_lines::TextLines;
 use crate::texts::WholeLists;
 use lines::output::Output;
 use lists::Entry;
@@ -21,34 +21,13 @@ pub(crate) fn check_lists<W: Write>(
     lists: &WholeLists<'_>,
     output: &mut Output<'_, W>,
 ) -> bool
-    ensures { TellsFound (ListsFindings strictly lists.now.names.now (map (λ text. text.items)
+    ensures { TellsFound (lists_findings strictly lists.now.names.now (map (λ text. text.items)
         lists.now.texts.now)) output.old output.new result }
 {
     let mut found = false;
-    for place in 0..lists.names.len() {
-        let name = lists.names[place].as_str();
-        let text = lists.texts[place].as_slice();
-        let more = check_list(strictly, name, text, output);
-        found = either(found, more);
-    }
-    found
-}
-
-// Tells what is found in the lines of a list, strictly or not, and returns whether anything is.
-fn check_list<W: Write>(strictly: bool, name: &str, text: &[u8], output: &mut Output<'_, W>) -> bool
-    ensures { TellsFound (LinesFindings strictly name.now 1 (lines text.now))
-        output.old output.new result }
-{
-    let mut found = false;
-    let mut number = 0;
-    let mut lines = TextLines::of(text);
-    // A text has at most as many lines as bytes.
-    'lines: while number < text.len() {
-        let Some(text) = lines.next() else {
-            return found;
-        };
-        number += 1;
-        let more = check_line(strictly, &Line { name, number, text }, output);
+    let mut lines = NumberedLines::of(lists);
+    while let Some(line) = lines.next() {
+        let more = check_line(strictly, &line, output);
         found = either(found, more);
     }
     found
@@ -56,8 +35,8 @@ fn check_list<W: Write>(strictly: bool, name: &str, text: &[u8], output: &mut Ou
 
 // Tells what is found in a line, strictly or not, and returns whether anything is.
 fn check_line<W: Write>(strictly: bool, line: &Line<'_>, output: &mut Output<'_, W>) -> bool
-    ensures { TellsFound (LineFindings strictly line.now.name.now line.now.number line.now.text.now)
-        output.old output.new result }
+    ensures { TellsFound (findings_by strictly line.now.name.now line.now.number line.now.text.now
+        (said_by line.now.text.now)) output.old output.new result }
 {
     match entry_of(line.text) {
         Ok(said) => tell_if_loose(is_loose(strictly, said), line, output),
@@ -70,8 +49,8 @@ fn check_line<W: Write>(strictly: bool, line: &Line<'_>, output: &mut Output<'_,
 
 // Tells a line if its entry has host bits that are to be told, and returns whether it has.
 fn tell_if_loose<W: Write>(is_loose: bool, line: &Line<'_>, output: &mut Output<'_, W>) -> bool
-    ensures { TellsFound (λ findings. findings ≡ host_findings is_loose line.now.name.now
-        line.now.number line.now.text.now) output.old output.new result }
+    ensures { TellsFound (host_findings is_loose line.now.name.now line.now.number line.now.text.now)
+        output.old output.new result }
 {
     if is_loose {
         tell_host_bits(line, output);

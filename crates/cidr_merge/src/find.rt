@@ -7,12 +7,12 @@ ghost use Rattle.cidr_merge.specs.FindRuns.{EndsFind, EndsReadingAll};
 ghost use Rattle.cidr_merge.specs.FindRuns.{sought_fault_text};
 ghost use Rattle.cidr_merge.specs.FindWords.{find_fault, AreAddresses};
 
+use crate::context::Context;
 use crate::find_words::{before_dashes, behind_dashes, find_fault, sought_problem};
-use crate::given::Given;
 use crate::help::{PROGRAM, USAGE};
+use crate::query::{Query, QueryFault, addresses_of};
 use crate::reading::refuse_lists;
 use crate::searching::search_lists;
-use crate::sought::{Sought, SoughtFault, addresses_of};
 use crate::texts::{WholeLists, texts_of};
 use crate::usage::{fault_of_word, refuse};
 use ipnetwork::IpAddr;
@@ -31,66 +31,66 @@ const NOTHING_FOUND: u8 = 1;
 /// Does what the words after the program's name ask for, of which the first is `find`, and returns
 /// the exit status.
 pub(crate) fn find<L: OpenLists, W: Write, E: Write>(
-    given: &Given<'_, L>,
+    context: &Context<'_, L>,
     output: &mut Output<'_, W>,
     errors: &mut Output<'_, E>,
 ) -> u8
-    requires { 0 < length given.now.words.now }
-    ensures { EndsFind PROGRAM.now USAGE.now (L.known given.now.lists.now) given.now.words.now
+    requires { 0 < length context.now.words.now }
+    ensures { EndsFind PROGRAM.now USAGE.now (L.known context.now.lists.now) context.now.words.now
         (ending output.old output.new errors.old errors.new result) }
 {
-    let others = &given.words[1..];
+    let others = &context.words[1..];
     if let Some(fault) = find_fault(others) {
-        return refuse(given.words, fault, errors);
+        return refuse(context.words, fault, errors);
     }
-    match addresses_of(given.alloc, before_dashes(others), 1) {
-        Ok(addresses) => find_all(addresses.as_slice(), given, output, errors),
-        Err(fault) => refuse_sought(fault, given.words, errors),
+    match addresses_of(context.alloc, before_dashes(others), 1) {
+        Ok(addresses) => find_all(addresses.as_slice(), context, output, errors),
+        Err(fault) => refuse_sought(fault, context.words, errors),
     }
 }
 
 // Reports why words are not taken as addresses, and returns the exit status.
-fn refuse_sought<E: Write>(fault: SoughtFault, words: &[String], errors: &mut Output<'_, E>) -> u8
+fn refuse_sought<E: Write>(fault: QueryFault, words: &[String], errors: &mut Output<'_, E>) -> u8
     ensures status { result ≡ 2 }
     ensures told { Tells errors.old errors.new
         (sought_fault_text PROGRAM.now USAGE.now words.now fault) }
 {
     match fault {
-        SoughtFault::NotAnAddress(place) => {
+        QueryFault::NotAnAddress(place) => {
             let problem = sought_problem(text_at(words, place));
             refuse(words, fault_of_word(place, problem), errors)
         }
-        SoughtFault::OutOfMemory => refuse_lists(words, ReadFault::OutOfMemory, errors),
+        QueryFault::OutOfMemory => refuse_lists(words, ReadFault::OutOfMemory, errors),
     }
 }
 
 // Reads the lists, and prints their entries that have one of these addresses.
 fn find_all<L: OpenLists, W: Write, E: Write>(
     addresses: &[IpAddr],
-    given: &Given<'_, L>,
+    context: &Context<'_, L>,
     output: &mut Output<'_, W>,
     errors: &mut Output<'_, E>,
 ) -> u8
-    requires words { 0 < length given.now.words.now }
-    requires addresses { AreAddresses (before_dashes (drop 1 given.now.words.now)) addresses.now }
-    ensures { EndsReadingAll (L.known given.now.lists.now) given.now.words.now
+    requires words { 0 < length context.now.words.now }
+    requires addresses { AreAddresses (before_dashes (drop 1 context.now.words.now)) addresses.now }
+    ensures { EndsReadingAll (L.known context.now.lists.now) context.now.words.now addresses.now
         (ending output.old output.new errors.old errors.new result) }
 {
-    let others = &given.words[1..];
-    let sought = Sought {
+    let others = &context.words[1..];
+    let query = Query {
         words: before_dashes(others),
         addresses,
     };
     let names = behind_dashes(others);
-    let texts = match texts_of(given, names, 2 + sought.words.len()) {
+    let texts = match texts_of(context, names, 2 + query.words.len()) {
         Ok(texts) => texts,
-        Err(fault) => return refuse_lists(given.words, fault, errors),
+        Err(fault) => return refuse_lists(context.words, fault, errors),
     };
     let lists = WholeLists {
         names,
         texts: texts.as_slice(),
     };
-    let reported = search_lists(&sought, &lists, output, errors);
+    let reported = search_lists(&query, &lists, output, errors);
     let written = output.finish();
     let status = status(reported.printed, reported.told);
     end(written, status, errors)

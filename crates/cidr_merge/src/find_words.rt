@@ -5,7 +5,7 @@ ghost use Rattle.cidr_merge.specs.FindWords.{find_fault, sought_problem};
 
 use crate::problems::{Problem, misplaced};
 use crate::usage::{UsageFault, fault_of_word, lists_fault, sides_fault};
-use crate::words::{begins_dashed, place_of, stands};
+use crate::words::{begins_dashed, place_of, word_at_is};
 
 /// What is wrong with the words after `find`: those before the first `--` are addresses, and those
 /// after it lists.
@@ -13,7 +13,7 @@ pub(crate) fn find_fault(others: &[String]) -> Option<UsageFault>
     requires { 2 + length others.now < 2 ^ 64 }
     ensures { result ≡ find_fault others.now }
 {
-    if stands(others, 0, "--") {
+    if word_at_is(others, 0, "--") {
         return Some(fault_of_word(1, Problem::NoAddress));
     }
     if let Some(fault) = sides_fault(others, 1) {

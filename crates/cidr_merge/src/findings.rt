@@ -4,21 +4,11 @@ ghost use Rattle.program.specs.Messages.{Tells};
 ghost use Rattle.cidr_merge.specs.Findings.{place_text, refusal_text, host_bits_text};
 ghost use Rattle.cidr_merge.specs.Findings.{shown, separator};
 
+use crate::numbered_lines::Line;
 use lines::output::Output;
 use lists::LineFault;
 use program::messages::{tell, tell_number};
 use std::io::Write;
-
-/// A line of a list.
-#[derive(Clone, Copy, Debug)]
-pub(crate) struct Line<'a> {
-    /// The name of the list.
-    pub name: &'a str,
-    /// The number of the line, from 1 on.
-    pub number: usize,
-    /// The line, without its line end.
-    pub text: &'a [u8],
-}
 
 /// Tells why a line is refused, and the line.
 pub(crate) fn tell_wrong<W: Write>(line: &Line<'_>, fault: LineFault, output: &mut Output<'_, W>)
@@ -26,8 +16,7 @@ pub(crate) fn tell_wrong<W: Write>(line: &Line<'_>, fault: LineFault, output: &m
         (refusal_text line.now.name.now line.now.number fault line.now.text.now) }
 {
     let text = shown(fault, line.text);
-    let (name, number) = (line.name, line.number);
-    let line = Line { name, number, text };
+    let line = Line { text, ..*line };
     tell_line(&line, ": refused ", fault.text(), separator(text), output);
 }
 

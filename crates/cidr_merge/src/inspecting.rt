@@ -10,8 +10,8 @@ ghost use Rattle.cidr_merge.specs.Private.Reported.{TellsFound};
 ghost use Rattle.cidr_merge.specs.Repetitions.{found_among};
 
 use crate::checking::check_lists;
+use crate::context::Context;
 use crate::findings::either;
-use crate::given::Given;
 use crate::help::{PROGRAM, USAGE};
 use crate::inspections::Inspection;
 use crate::overlapping::tell_pairs;
@@ -37,26 +37,26 @@ const FOUND: u8 = 1;
 /// Looks over the lists that the words name, and returns the exit status.
 pub(crate) fn inspect<L: OpenLists, W: Write, E: Write>(
     inspection: Inspection,
-    given: &Given<'_, L>,
+    context: &Context<'_, L>,
     output: &mut Output<'_, W>,
     errors: &mut Output<'_, E>,
 ) -> u8
-    requires { 0 < length given.now.words.now }
-    ensures { EndsInspecting PROGRAM.now USAGE.now (L.known given.now.lists.now)
-        given.now.words.now inspection (ending output.old output.new errors.old errors.new result) }
+    requires { 0 < length context.now.words.now }
+    ensures { EndsInspecting PROGRAM.now USAGE.now (L.known context.now.lists.now)
+        context.now.words.now inspection (ending output.old output.new errors.old errors.new result) }
 {
-    let others = &given.words[1..];
+    let others = &context.words[1..];
     let count = options_count(others);
     let names = &others[count..];
     if let Some(fault) = inspection.fault(&others[..count], names) {
-        return refuse(given.words, fault, errors);
+        return refuse(context.words, fault, errors);
     }
-    let texts = match texts_of(given, names, 1 + count) {
+    let texts = match texts_of(context, names, 1 + count) {
         Ok(texts) => texts,
-        Err(fault) => return refuse_lists(given.words, fault, errors),
+        Err(fault) => return refuse_lists(context.words, fault, errors),
     };
     let texts = texts.as_slice();
-    look_over(inspection, given.alloc, names, texts, output, errors)
+    look_over(inspection, context.alloc, names, texts, output, errors)
 }
 
 // Looks over the lists of these names and bytes, and returns the exit status.
@@ -107,7 +107,7 @@ fn check_ordered<W: Write, E: Write>(
         (map (λ text. text.items) lists.now.texts.now)
         (ending output.old output.new errors.old errors.new result) }
 {
-    let mut entries = match entries_of(alloc, lists.texts) {
+    let mut entries = match entries_of(alloc, lists) {
         Ok(entries) => entries,
         Err(_) => {
             tell("out of memory\n", errors);
@@ -129,8 +129,8 @@ fn tell_ordered<W: Write>(
     output: &mut Output<'_, W>,
 ) -> bool
     requires { IsSorted listed_cmp (map listed_as entries.old) }
-    ensures { TellsFound (λ findings. findings ≡ found_among strictly names.now (map listed_as
-        entries.old)) output.old output.new result }
+    ensures { TellsFound (found_among strictly names.now (map listed_as entries.old))
+        output.old output.new result }
 {
     if strictly {
         tell_repetitions(names, entries, output)

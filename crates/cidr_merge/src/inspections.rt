@@ -6,7 +6,7 @@ ghost use Rattle.cidr_merge.specs.Inspections.{options_taken, options_problem, i
 
 use crate::problems::option_problem;
 use crate::usage::{UsageFault, fault_of_word, files_fault};
-use crate::words::stands;
+use crate::words::word_at_is;
 use program::words::text_at;
 
 /// How lists are looked over.
@@ -39,7 +39,7 @@ pub(crate) fn inspection_of(words: &[String]) -> Option<Inspection>
     ensures some { IfSome result (λ inspection. 0 < length words.now) }
 {
     match words.first() {
-        Some(name) => inspection_called(name.as_str(), stands(words, 1, "--strict")),
+        Some(name) => inspection_called(name.as_str(), word_at_is(words, 1, "--strict")),
         None => None,
     }
 }

@@ -1,10 +1,13 @@
 //! What follows from the clauses of a run. The contract of each function is a law: it does nothing,
 //! and a proof that calls it may use the law.
 ghost use Rattle.cidr_merge.specs.EntriesWithin.{EachWithinAnotherIsTold};
+ghost use Rattle.cidr_merge.specs.Laws.{EntriesHaveWhatTheyName, LinesAreReadAsComputed};
 ghost use Rattle.cidr_merge.specs.Laws.{NoOtherForm, NoOtherInspection, NoOtherOperation};
 ghost use Rattle.cidr_merge.specs.Laws.{NoOtherOption};
 ghost use Rattle.cidr_merge.specs.Parts.{UnionsOfPartsPrintTheSame};
 
+use ipnetwork::laws as network_laws;
+use ipnetwork_addr::laws as address_laws;
 use ipnetwork_blocks::laws as block_laws;
 use lists::laws as list_laws;
 
@@ -46,4 +49,19 @@ pub fn each_entry_within_another_is_told(names: &[String])
     ensures { EachWithinAnotherIsTold names.now }
 {
     let _names = names;
+}
+
+/// What reading a line gives is what is computed of it.
+pub fn lines_are_read_as_computed()
+    ensures { LinesAreReadAsComputed }
+{
+    network_laws::ip_network_reading_is_computed();
+    address_laws::ip_reading_is_computed();
+}
+
+/// An entry has, as it is computed, the addresses that it names, and no others.
+pub fn entries_have_what_they_name()
+    ensures { EntriesHaveWhatTheyName }
+{
+    network_laws::ip_membership_is_computed();
 }

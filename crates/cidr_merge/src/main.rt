@@ -4,32 +4,33 @@
 mod addresses;
 mod checking;
 mod command_line;
+mod context;
 mod counts;
 mod cutting;
 mod elements;
+mod entry_match;
 mod exporting;
 mod exports;
 mod find;
 mod find_words;
 mod findings;
-mod given;
 mod help;
 mod inspecting;
 mod inspections;
 mod laws;
-mod named;
+mod merge_join;
+mod numbered_lines;
 mod overlapping;
 mod placed;
 mod printing;
 mod problems;
+mod query;
 mod reading;
 mod repeating;
 mod run;
 mod searching;
 mod shapes;
 mod side_parts;
-mod sides;
-mod sought;
 mod split;
 mod split_words;
 mod sweep;
@@ -38,7 +39,7 @@ mod texts;
 mod usage;
 mod words;
 
-use crate::given::Given;
+use crate::context::Context;
 use crate::help::{PROGRAM, USAGE};
 use crate::run::run;
 use program::start::start;
@@ -47,11 +48,11 @@ use std::process::ExitCode;
 fn main(rt: HostRuntime) -> ExitCode {
     start(&rt, PROGRAM, USAGE, |words, lists, output, errors| {
         let alloc = rt.alloc();
-        let given = Given {
+        let context = Context {
             alloc,
             words,
             lists,
         };
-        run(&given, output, errors)
+        run(&context, output, errors)
     })
 }

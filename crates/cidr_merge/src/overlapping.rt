@@ -23,8 +23,8 @@ pub(crate) fn tell_pairs<W: Write>(
     output: &mut Output<'_, W>,
 ) -> bool
     requires { IsSorted listed_cmp (map listed_as entries.old) }
-    ensures { TellsFound (λ findings. findings ≡ pairs_after names.now [] (map listed_as
-        entries.old)) output.old output.new result }
+    ensures { TellsFound (pairs_after names.now [] (map listed_as entries.old))
+        output.old output.new result }
 {
     let mut found = false;
     // Those of the earlier entries that may overlap one to come stand first.

@@ -1,12 +1,12 @@
 //! The entries of lists, in order.
-ghost use Rattle.std.specs.Prelude.{◌≡◌, List as Entries, map, IfOk, OnOk};
-ghost use Rattle.std.specs.Str.Lines.{lines};
-ghost use Rattle.cidr_merge.specs.Overlaps.{ends_of, Listed, IsInOrder};
-ghost use Rattle.cidr_merge.specs.Overlaps.{LineEntries, LinesEntries, ListsEntries};
+ghost use Rattle.std.specs.Prelude.{◌≡◌, map, IfOk, OnOk};
+ghost use Rattle.cidr_merge.specs.Overlaps.{ends_of, IsInOrder, line_entries, lists_entries};
 ghost use Rattle.cidr_merge.specs.Private.Entries.{address_of, listed_as, Adds};
+ghost use Rattle.cidr_merge.specs.Private.LinesLeft.{as_numbered};
 
-use crate::named::entry_of;
-use crate::text_lines::TextLines;
+use crate::entry_match::entry_of;
+use crate::numbered_lines::{Line, NumberedLines};
+use crate::texts::WholeLists;
 use ipnetwork::IpAddr;
 use lists::Entry;
 use std::alloc::{AllocError, Global};
@@ -29,55 +29,33 @@ pub(crate) struct Placed {
     pub number: usize,
 }
 
-/// The entries of lists with these bytes, in order.
-pub(crate) fn entries_of(alloc: Global, texts: &[Vec<u8>]) -> Result<Vec<Placed>, AllocError>
-    ensures { IfOk result (λ entries. (found : Entries Listed)
-        × ListsEntries 0 (map (λ text. text.items) texts.now) found
-        × IsInOrder found (map listed_as entries.items)) }
+/// The entries of lists, in order.
+pub(crate) fn entries_of(alloc: Global, lists: &WholeLists<'_>) -> Result<Vec<Placed>, AllocError>
+    ensures { IfOk result (λ entries. IsInOrder
+        (lists_entries (map (λ text. text.items) lists.now.texts.now))
+        (map listed_as entries.items)) }
 {
     let mut entries = Vec::new(alloc);
-    for list in 0..texts.len() {
-        add_list(list, texts[list].as_slice(), &mut entries)?;
+    let mut lines = NumberedLines::of(lists);
+    while let Some(line) = lines.next() {
+        add_line(&line, &mut entries)?;
     }
     entries.sort_unstable();
     Ok(entries)
 }
 
-// Adds the entries of a list.
-fn add_list(list: usize, text: &[u8], entries: &mut Vec<Placed>) -> Result<(), AllocError>
-    ensures { OnOk result
-        (Adds (LinesEntries list 1 (lines text.now)) entries.old.items entries.new.items) }
-{
-    let mut number = 0;
-    let mut lines = TextLines::of(text);
-    // A text has at most as many lines as bytes.
-    'lines: while number < text.len() {
-        let Some(line) = lines.next() else {
-            return Ok(());
-        };
-        number += 1;
-        add_line(list, number, line, entries)?;
-    }
-    Ok(())
-}
-
 // Adds the entry of a line, if it has one.
-fn add_line(
-    list: usize,
-    number: usize,
-    line: &[u8],
-    entries: &mut Vec<Placed>,
-) -> Result<(), AllocError>
-    ensures { OnOk result
-        (Adds (LineEntries list number line.now) entries.old.items entries.new.items) }
+fn add_line(line: &Line<'_>, entries: &mut Vec<Placed>) -> Result<(), AllocError>
+    ensures { OnOk result (Adds (line_entries (as_numbered line.now)) entries.old.items
+        entries.new.items) }
 {
-    if let Ok(Some(entry)) = entry_of(line) {
+    if let Ok(Some(entry)) = entry_of(line.text) {
         let (first, last) = ends_of(&entry);
         entries.push(Placed {
             first: key_of(&first),
             last: Reverse(key_of(&last)),
-            list,
-            number,
+            list: line.list,
+            number: line.number,
         })?;
     }
     Ok(())

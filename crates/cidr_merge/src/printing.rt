@@ -10,9 +10,9 @@ ghost use Rattle.lines.specs.Outputs.{Prints};
 use crate::command_line::{Form, Operation, Request};
 use crate::counts::Counts;
 use crate::exporting::print_export;
+use crate::merge_join::{MergeJoin, Side};
 use crate::reading::Sets;
 use crate::side_parts::{Parts, sign_of};
-use crate::sides::{Side, Sides};
 use crate::sweep::Sweep;
 use ipnetwork::{Address, Network};
 use ipnetwork_sets::{AddressSet, Ranges};
@@ -95,7 +95,7 @@ fn print_parts<P: Parts, W: Write>(
         (merged_by P.begin (P.left firsts) (left_of_second operation (P.left seconds))))) }
     ensures failed { output.new.failed ≡ (output.old.failed || is_err result) }
 {
-    let mut parts = Sides::of(operation, firsts, seconds);
+    let mut parts = MergeJoin::of(operation, firsts, seconds);
     while let Some(next) = parts.next() {
         P::put(operation, next.0, next.1, output)?;
     }

@@ -7,7 +7,7 @@ ghost use Rattle.cidr_merge.specs.Reading.{ReadsLists, ReadsSide};
 ghost use Rattle.cidr_merge.specs.Shapes.{source};
 ghost use Rattle.cidr_merge.specs.Stopping.{Stops};
 
-use crate::given::Given;
+use crate::context::Context;
 use crate::shapes::{Shape, read_one};
 use ipnetwork::{Ipv4Network, Ipv6Network};
 use ipnetwork_sets::AddressSet;
@@ -28,44 +28,44 @@ pub(crate) struct Sets {
 ///
 /// The refused lines are added to the earlier ones, even if the reading ends with a fault.
 pub(crate) fn read_side<L: OpenLists>(
-    given: &Given<'_, L>,
+    context: &Context<'_, L>,
     shape: Shape,
     from: usize,
     to: usize,
     refusals: Refusals,
 ) -> (Sets, Refusals, Result<(), ReadFault>)
     requires order { from ≤ to }
-    requires within { to ≤ length given.now.words.now }
-    ensures read { OnOk result.2 (ReadsSide (source (L.known given.now.lists.now) shape) from
-        (slice_range given.now.words.now from to) refusals result.0 result.1) }
-    ensures stopped { IfErr result.2 (λ fault. Stops (source (L.known given.now.lists.now) shape)
-        from (slice_range given.now.words.now from to) (nothing_read refusals) fault result.1) }
+    requires within { to ≤ length context.now.words.now }
+    ensures read { OnOk result.2 (ReadsSide (source (L.known context.now.lists.now) shape) from
+        (slice_range context.now.words.now from to) refusals result.0 result.1) }
+    ensures stopped { IfErr result.2 (λ fault. Stops (source (L.known context.now.lists.now) shape)
+        from (slice_range context.now.words.now from to) (nothing_read refusals) fault result.1) }
 {
-    let mut reader = ListReader::new(given.alloc, refusals);
-    let end = read_all(given, shape, from, to, &mut reader);
+    let mut reader = ListReader::new(context.alloc, refusals);
+    let end = read_all(context, shape, from, to, &mut reader);
     let (v4, v6, refusals) = reader.into_sets();
     (Sets { v4, v6 }, refusals, end)
 }
 
 // Reads the lists at these places.
 fn read_all<L: OpenLists>(
-    given: &Given<'_, L>,
+    context: &Context<'_, L>,
     shape: Shape,
     from: usize,
     to: usize,
     reader: &mut ListReader,
 ) -> Result<(), ReadFault>
     requires order { from ≤ to }
-    requires within { to ≤ length given.now.words.now }
+    requires within { to ≤ length context.now.words.now }
     requires memory { reader.old.is_out_of_memory ≡ false }
-    ensures read { OnOk result (ReadsLists (source (L.known given.now.lists.now) shape) from
-        (slice_range given.now.words.now from to) reader.old reader.new) }
+    ensures read { OnOk result (ReadsLists (source (L.known context.now.lists.now) shape) from
+        (slice_range context.now.words.now from to) reader.old reader.new) }
     ensures memory { OnOk result (reader.new.is_out_of_memory ≡ false) }
-    ensures stopped { IfErr result (λ fault. Stops (source (L.known given.now.lists.now) shape)
-        from (slice_range given.now.words.now from to) reader.old fault reader.new.refused) }
+    ensures stopped { IfErr result (λ fault. Stops (source (L.known context.now.lists.now) shape)
+        from (slice_range context.now.words.now from to) reader.old fault reader.new.refused) }
 {
     for place in from..to {
-        read_one(given, shape, given.words[place].as_str(), place, reader)?;
+        read_one(context, shape, context.words[place].as_str(), place, reader)?;
     }
     Ok(())
 }

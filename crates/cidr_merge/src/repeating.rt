@@ -19,7 +19,7 @@ pub(crate) fn tell_repetitions<W: Write>(
     entries: &[Placed],
     output: &mut Output<'_, W>,
 ) -> bool
-    ensures { TellsFound (λ findings. findings ≡ repetitions names.now (map listed_as entries.now))
+    ensures { TellsFound (repetitions names.now (map listed_as entries.now))
         output.old output.new result }
 {
     let Some((first, others)) = entries.split_first() else {
@@ -51,8 +51,8 @@ fn tell_overlap<W: Write>(
     earlier: &Placed,
     output: &mut Output<'_, W>,
 ) -> bool
-    ensures { TellsFound (λ findings. findings ≡ overlap_with names.now (listed_as later.now)
-        (listed_as earlier.now)) output.old output.new result }
+    ensures { TellsFound (overlap_with names.now (listed_as later.now) (listed_as earlier.now))
+        output.old output.new result }
 {
     if reaches(later, earlier) {
         tell_pair(names, later, earlier, output);

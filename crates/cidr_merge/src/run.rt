@@ -10,8 +10,8 @@ ghost use Rattle.cidr_merge.specs.Runs.{answer_status, EndsAnswering, EndsMergin
 ghost use Rattle.cidr_merge.specs.Stopping.{StopsInSides};
 
 use crate::command_line::{Operation, Request, request_of};
+use crate::context::Context;
 use crate::find::find;
-use crate::given::Given;
 use crate::help::{HELP, PROGRAM, USAGE, VERSION};
 use crate::inspecting::inspect;
 use crate::inspections::inspection_of;
@@ -19,7 +19,7 @@ use crate::printing::{Merging, print};
 use crate::reading::{Sets, read_side, refuse_lists};
 use crate::split::split;
 use crate::usage::refuse;
-use crate::words::stands;
+use crate::words::word_at_is;
 use lines::fault::RunFault;
 use lines::output::Output;
 use lists::{OpenLists, ReadFault, Refusals};
@@ -30,28 +30,28 @@ use std::io::Write;
 
 /// Does what the words after the program's name ask for, and returns the exit status.
 pub(crate) fn run<L: OpenLists, W: Write, E: Write>(
-    given: &Given<'_, L>,
+    context: &Context<'_, L>,
     output: &mut Output<'_, W>,
     errors: &mut Output<'_, E>,
 ) -> u8
-    ensures { EndsAs PROGRAM.now HELP.now VERSION.now USAGE.now (L.known given.now.lists.now)
-        given.now.words.now (ending output.old output.new errors.old errors.new result) }
+    ensures { EndsAs PROGRAM.now HELP.now VERSION.now USAGE.now (L.known context.now.lists.now)
+        context.now.words.now (ending output.old output.new errors.old errors.new result) }
 {
-    let words = given.words;
+    let words = context.words;
     if let Some(text) = text_asked(HELP, VERSION, words) {
         return print_text(text, output, errors);
     }
-    if stands(words, 0, "split") {
-        return split(given, output, errors);
+    if word_at_is(words, 0, "split") {
+        return split(context, output, errors);
     }
-    if stands(words, 0, "find") {
-        return find(given, output, errors);
+    if word_at_is(words, 0, "find") {
+        return find(context, output, errors);
     }
     if let Some(inspection) = inspection_of(words) {
-        return inspect(inspection, given, output, errors);
+        return inspect(inspection, context, output, errors);
     }
     match request_of(words) {
-        Ok(request) => merge(request, given, output, errors),
+        Ok(request) => merge(request, context, output, errors),
         Err(fault) => refuse(words, fault, errors),
     }
 }
@@ -59,16 +59,16 @@ pub(crate) fn run<L: OpenLists, W: Write, E: Write>(
 // Reads the lists of both sides, and prints what the operation leaves of them.
 fn merge<L: OpenLists, W: Write, E: Write>(
     request: Request,
-    given: &Given<'_, L>,
+    context: &Context<'_, L>,
     output: &mut Output<'_, W>,
     errors: &mut Output<'_, E>,
 ) -> u8
-    requires { IsWithin (length given.now.words.now) request }
-    ensures { EndsMerging (L.known given.now.lists.now) given.now.words.now request
+    requires { IsWithin (length context.now.words.now) request }
+    ensures { EndsMerging (L.known context.now.lists.now) context.now.words.now request
         (ending output.old output.new errors.old errors.new result) }
 {
-    let (first, second, refusals, read) = read_sides(request, given);
-    tell_refusals(given.words, &InLists, &refusals, errors);
+    let (first, second, refusals, read) = read_sides(request, context);
+    tell_refusals(context.words, &InLists, &refusals, errors);
     match read {
         Ok(()) => {
             let merging = Merging {
@@ -78,7 +78,7 @@ fn merge<L: OpenLists, W: Write, E: Write>(
             };
             answer(&merging, !refusals.is_empty(), output, errors)
         }
-        Err(fault) => refuse_lists(given.words, fault, errors),
+        Err(fault) => refuse_lists(context.words, fault, errors),
     }
 }
 
@@ -86,19 +86,19 @@ fn merge<L: OpenLists, W: Write, E: Write>(
 // to the end.
 fn read_sides<L: OpenLists>(
     request: Request,
-    given: &Given<'_, L>,
+    context: &Context<'_, L>,
 ) -> (Sets, Sets, Refusals, Result<(), ReadFault>)
-    requires { IsWithin (length given.now.words.now) request }
-    ensures read { OnOk result.3 (ReadsSides (L.known given.now.lists.now) given.now.words.now
+    requires { IsWithin (length context.now.words.now) request }
+    ensures read { OnOk result.3 (ReadsSides (L.known context.now.lists.now) context.now.words.now
         request result.0 result.1 result.2) }
-    ensures stopped { IfErr result.3 (λ fault. StopsInSides (L.known given.now.lists.now)
-        given.now.words.now request fault result.2) }
+    ensures stopped { IfErr result.3 (λ fault. StopsInSides (L.known context.now.lists.now)
+        context.now.words.now request fault result.2) }
 {
     let shape = request.shape;
     let none = Refusals::new();
-    let (first, refusals, read) = read_side(given, shape, request.first, request.middle, none);
-    let to = end_of_second(&read, request.second, given.words.len());
-    let (second, refusals, end) = read_side(given, shape, request.second, to, refusals);
+    let (first, refusals, read) = read_side(context, shape, request.first, request.middle, none);
+    let to = end_of_second(&read, request.second, context.words.len());
+    let (second, refusals, end) = read_side(context, shape, request.second, to, refusals);
     match read {
         Ok(()) => (first, second, refusals, end),
         Err(fault) => (first, second, refusals, Err(fault)),

@@ -1,18 +1,17 @@
 //! Searches lists for addresses.
-ghost use Rattle.std.specs.Prelude.{ℕ, List as Texts, map};
-ghost use Rattle.std.specs.List.{concat};
-ghost use Rattle.std.specs.Str.Lines.{lines};
+ghost use Rattle.std.specs.Prelude.{map};
+ghost use Rattle.std.specs.List.{flat_map};
 ghost use Rattle.program.specs.Messages.{Tells};
-ghost use Rattle.cidr_merge.specs.FindWords.{AreAddresses};
-ghost use Rattle.cidr_merge.specs.Findings.{IsFound};
-ghost use Rattle.cidr_merge.specs.Finds.{has_text, AddressReport, AddressesReport, LineReport};
-ghost use Rattle.cidr_merge.specs.Finds.{LinesReport, ListsReport};
-ghost use Rattle.cidr_merge.specs.Private.Reported.{Reports};
+ghost use Rattle.cidr_merge.specs.Finds.{has_text, lists_matches, lists_refusals, match_lines};
+ghost use Rattle.cidr_merge.specs.Finds.{matches_by, refusals_by};
+ghost use Rattle.cidr_merge.specs.NumberedLines.{said_by};
+ghost use Rattle.cidr_merge.specs.Private.Reported.{TellsFound};
+ghost use Rattle.cidr_merge.specs.Private.LinesLeft.{sought_in};
 
-use crate::findings::{Line, either, tell_line, tell_wrong};
-use crate::named::{entry_of, has_address};
-use crate::sought::Sought;
-use crate::text_lines::TextLines;
+use crate::entry_match::{entry_of, has_address};
+use crate::findings::{either, tell_line, tell_wrong};
+use crate::numbered_lines::{Line, NumberedLines};
+use crate::query::Query;
 use crate::texts::WholeLists;
 use ipnetwork::IpAddr;
 use lines::output::Output;
@@ -30,51 +29,21 @@ pub(crate) struct Reported {
 
 /// Prints the entries with the addresses sought of lists, and tells the refused lines.
 pub(crate) fn search_lists<W: Write, E: Write>(
-    sought: &Sought<'_>,
+    query: &Query<'_>,
     lists: &WholeLists<'_>,
     output: &mut Output<'_, W>,
     errors: &mut Output<'_, E>,
 ) -> Reported
-    requires { AreAddresses sought.now.words.now sought.now.addresses.now }
-    ensures { Reports (ListsReport sought.now.words.now lists.now.names.now
-        (map (λ text. text.items) lists.now.texts.now))
-        output.old output.new errors.old errors.new result.printed result.told }
+    ensures printed { TellsFound (lists_matches (sought_in query.now) lists.now.names.now
+        (map (λ text. text.items) lists.now.texts.now)) output.old output.new result.printed }
+    ensures told { TellsFound (lists_refusals lists.now.names.now
+        (map (λ text. text.items) lists.now.texts.now)) errors.old errors.new result.told }
 {
     let mut printed = false;
     let mut told = false;
-    for place in 0..lists.names.len() {
-        let name = lists.names[place].as_str();
-        let text = lists.texts[place].as_slice();
-        let more = search_list(sought, name, text, output, errors);
-        printed = either(printed, more.printed);
-        told = either(told, more.told);
-    }
-    Reported { printed, told }
-}
-
-// Searches a list.
-fn search_list<W: Write, E: Write>(
-    sought: &Sought<'_>,
-    name: &str,
-    text: &[u8],
-    output: &mut Output<'_, W>,
-    errors: &mut Output<'_, E>,
-) -> Reported
-    requires { AreAddresses sought.now.words.now sought.now.addresses.now }
-    ensures { Reports (LinesReport sought.now.words.now name.now 1 (lines text.now))
-        output.old output.new errors.old errors.new result.printed result.told }
-{
-    let mut printed = false;
-    let mut told = false;
-    let mut number = 0;
-    let mut lines = TextLines::of(text);
-    // A text has at most as many lines as bytes.
-    'lines: while number < text.len() {
-        let Some(text) = lines.next() else {
-            return Reported { printed, told };
-        };
-        number += 1;
-        let more = search_line(sought, &Line { name, number, text }, output, errors);
+    let mut lines = NumberedLines::of(lists);
+    while let Some(line) = lines.next() {
+        let more = search_line(query, &line, output, errors);
         printed = either(printed, more.printed);
         told = either(told, more.told);
     }
@@ -83,15 +52,16 @@ fn search_list<W: Write, E: Write>(
 
 // Searches a line, or tells why it is refused.
 fn search_line<W: Write, E: Write>(
-    sought: &Sought<'_>,
+    query: &Query<'_>,
     line: &Line<'_>,
     output: &mut Output<'_, W>,
     errors: &mut Output<'_, E>,
 ) -> Reported
-    requires { AreAddresses sought.now.words.now sought.now.addresses.now }
-    ensures { Reports (LineReport sought.now.words.now line.now.name.now line.now.number
-        line.now.text.now)
-        output.old output.new errors.old errors.new result.printed result.told }
+    ensures printed { TellsFound (matches_by (sought_in query.now) line.now.name.now
+        line.now.number line.now.text.now (said_by line.now.text.now))
+        output.old output.new result.printed }
+    ensures told { TellsFound (refusals_by line.now.name.now line.now.number line.now.text.now
+        (said_by line.now.text.now)) errors.old errors.new result.told }
 {
     match entry_of(line.text) {
         Ok(None) => Reported {
@@ -99,7 +69,7 @@ fn search_line<W: Write, E: Write>(
             told: false,
         },
         Ok(Some(entry)) => Reported {
-            printed: print_matches(sought, line, &entry, output),
+            printed: print_matches(query, line, &entry, output),
             told: false,
         },
         Err(fault) => {
@@ -114,26 +84,18 @@ fn search_line<W: Write, E: Write>(
 
 // Prints a line for each of the addresses sought that the entry of a line has.
 fn print_matches<W: Write>(
-    sought: &Sought<'_>,
+    query: &Query<'_>,
     line: &Line<'_>,
     entry: &Entry,
     output: &mut Output<'_, W>,
 ) -> bool
-    requires { AreAddresses sought.now.words.now sought.now.addresses.now }
-    ensures { (printed : Texts (Texts ℕ))
-        × AddressesReport line.now.name.now line.now.number line.now.text.now entry.now
-        sought.now.words.now printed
-        × Tells output.old output.new (concat printed) × IsFound printed result }
+    ensures { TellsFound (flat_map (match_lines line.now.name.now line.now.number line.now.text.now
+        entry.now) (sought_in query.now)) output.old output.new result }
 {
     let mut printed = false;
-    for place in 0..sought.words.len() {
-        let more = print_match(
-            sought.words[place].as_str(),
-            &sought.addresses[place],
-            line,
-            entry,
-            output,
-        );
+    for place in 0..query.words.len() {
+        let word = query.words[place].as_str();
+        let more = print_match(word, &query.addresses[place], line, entry, output);
         printed = either(printed, more);
     }
     printed
@@ -147,10 +109,8 @@ fn print_match<W: Write>(
     entry: &Entry,
     output: &mut Output<'_, W>,
 ) -> bool
-    ensures { (printed : Texts (Texts ℕ))
-        × AddressReport line.now.name.now line.now.number line.now.text.now entry.now word.now
-        address.now printed
-        × Tells output.old output.new (concat printed) × IsFound printed result }
+    ensures { TellsFound (match_lines line.now.name.now line.now.number line.now.text.now entry.now
+        (word.now, address.now)) output.old output.new result }
 {
     if has_address(entry, address) {
         print_line(word, line, output);

@@ -3,7 +3,7 @@ ghost use Rattle.std.specs.Prelude.{◌≡◌, false, OnOk, IfErr};
 ghost use Rattle.cidr_merge.specs.CommandLines.{shape_of};
 ghost use Rattle.cidr_merge.specs.Shapes.{source, ReadsOne, StopsOne};
 
-use crate::given::Given;
+use crate::context::Context;
 use crate::words::has;
 use lists::{ListReader, OpenLists, ReadFault, read_document, read_named};
 
@@ -35,22 +35,22 @@ pub(crate) fn shape_of(options: &[String]) -> Shape
 /// Opens the list of this name, which is the word at the index `place`, reads it to the end, and
 /// closes it.
 pub(crate) fn read_one<L: OpenLists>(
-    given: &Given<'_, L>,
+    context: &Context<'_, L>,
     shape: Shape,
     name: &str,
     place: usize,
     reader: &mut ListReader,
 ) -> Result<(), ReadFault>
-    ensures read { OnOk result (ReadsOne (source (L.known given.now.lists.now) shape) place
+    ensures read { OnOk result (ReadsOne (source (L.known context.now.lists.now) shape) place
         name.now reader.old reader.new) }
     ensures memory { OnOk result (reader.new.is_out_of_memory ≡ false) }
-    ensures stopped { IfErr result (λ fault. StopsOne (source (L.known given.now.lists.now) shape)
+    ensures stopped { IfErr result (λ fault. StopsOne (source (L.known context.now.lists.now) shape)
         place name.now reader.old fault reader.new.refused) }
 {
-    let lists = given.lists;
+    let lists = context.lists;
     match shape {
         Shape::Lines => read_named(lists, name, place, reader),
-        Shape::Json => read_document(given.alloc, lists, name, place, false, reader),
-        Shape::StrictJson => read_document(given.alloc, lists, name, place, true, reader),
+        Shape::Json => read_document(context.alloc, lists, name, place, false, reader),
+        Shape::StrictJson => read_document(context.alloc, lists, name, place, true, reader),
     }
 }

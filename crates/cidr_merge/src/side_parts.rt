@@ -8,7 +8,7 @@ ghost use Rattle.cidr_merge.specs.Private.Sweeps.{blocks_left, numbers};
 ghost use Rattle.cidr_merge.specs.declared.command_line.Operation.{Operation};
 
 use crate::command_line::Operation;
-use crate::sides::Side;
+use crate::merge_join::Side;
 use crate::sweep::Sweep;
 use ipnetwork::{Address, CidrNetwork, Network};
 use ipnetwork_sets::{Ranges, SetBlocks};

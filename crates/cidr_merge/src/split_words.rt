@@ -8,7 +8,7 @@ ghost use Rattle.cidr_merge.specs.SplitWords.{SplitFault};
 use crate::problems::{Problem, option_problem};
 use crate::shapes::Shape;
 use crate::usage::{UsageFault, fault_of_word, files_fault};
-use crate::words::{begins_dashed, stands};
+use crate::words::{begins_dashed, word_at_is};
 use ipnetwork::parse::read_number;
 use program::words::text_at;
 
@@ -35,7 +35,7 @@ pub(crate) fn split_request(words: &[String]) -> Result<SplitRequest, UsageFault
     ensures asked { MatchResult result (SaysSplit words.now) (SplitFault words.now) }
 {
     let place = after_skip(words, 1);
-    if !stands(words, place, "--prefix") {
+    if !word_at_is(words, place, "--prefix") {
         return Err(no_prefix(words, place));
     }
     let length = match length_after(words, place) {
@@ -49,7 +49,7 @@ pub(crate) fn split_request(words: &[String]) -> Result<SplitRequest, UsageFault
     }
     Ok(SplitRequest {
         length,
-        skips_bad: stands(words, 1, "--skip-bad") || stands(words, place + 2, "--skip-bad"),
+        skips_bad: word_at_is(words, 1, "--skip-bad") || word_at_is(words, place + 2, "--skip-bad"),
         shape: shape_at(words, json_place),
         first,
     })
@@ -60,10 +60,10 @@ fn shape_at(words: &[String], place: usize) -> Shape
     requires { place ≤ length words.now }
     ensures { result ≡ shape_at words.now place }
 {
-    if !stands(words, place, "--json") {
+    if !word_at_is(words, place, "--json") {
         return Shape::Lines;
     }
-    if stands(words, place + 1, "--strict") {
+    if word_at_is(words, place + 1, "--strict") {
         Shape::StrictJson
     } else {
         Shape::Json

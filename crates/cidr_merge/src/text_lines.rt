@@ -1,5 +1,5 @@
 //! The lines of a text.
-ghost use Rattle.std.specs.Prelude.{◌≡◌, ◌∷◌, ◌<◌, [], length, IfSome, MatchOption};
+ghost use Rattle.std.specs.Prelude.{◌≡◌, ◌∷◌, ◌<◌, ◌≤◌, [], length, IfSome, MatchOption};
 ghost use Rattle.std.specs.Str.Lines.{lines, strip_carriage_return};
 
 use byte_search::find_from;
@@ -23,6 +23,7 @@ impl<'a> TextLines<'a> {
     pub(crate) fn next(&mut self) -> Option<&'a [u8]>
         ensures line { MatchOption result (lines self.old.text.now ≡ [])
             (λ line. lines self.old.text.now ≡ line.now ∷ lines self.new.text.now) }
+        ensures within { length self.new.text.now ≤ length self.old.text.now }
         ensures less { IfSome result (λ line. length self.new.text.now
             < length self.old.text.now) }
     {

@@ -2,9 +2,9 @@
 ghost use Rattle.std.specs.Prelude.{◌≡◌, ◌+◌, ◌^◌, ◌<◌, length, map, IfOk, IfErr};
 ghost use Rattle.lists.specs.Bytes.{IsAllOf};
 ghost use Rattle.cidr_merge.specs.Texts.{AreTexts, TextStops, TextsStop};
-ghost use Rattle.cidr_merge.specs.Private.Unread.{not_read};
+ghost use Rattle.cidr_merge.specs.Private.ReadErrors.{not_read};
 
-use crate::given::Given;
+use crate::context::Context;
 use lists::{BytesFault, OpenLists, ReadFault, read_bytes};
 
 /// The names and the bytes of lists.
@@ -20,18 +20,18 @@ pub(crate) struct WholeLists<'a> {
 
 /// The bytes of the lists of these names, of which the first is the word at the index `first`.
 pub(crate) fn texts_of<L: OpenLists>(
-    given: &Given<'_, L>,
+    context: &Context<'_, L>,
     names: &[String],
     first: usize,
 ) -> Result<Vec<Vec<u8>>, ReadFault>
     requires { first + length names.now < 2 ^ 64 }
-    ensures ok { IfOk result (λ texts. AreTexts (L.known given.now.lists.now) names.now
+    ensures ok { IfOk result (λ texts. AreTexts (L.known context.now.lists.now) names.now
         (map (λ text. text.items) texts.items)) }
-    ensures err { IfErr result (TextsStop (L.known given.now.lists.now) first names.now) }
+    ensures err { IfErr result (TextsStop (L.known context.now.lists.now) first names.now) }
 {
-    let mut texts = Vec::new(given.alloc);
+    let mut texts = Vec::new(context.alloc);
     for place in 0..names.len() {
-        let text = match text_of(given, names[place].as_str(), first + place) {
+        let text = match text_of(context, names[place].as_str(), first + place) {
             Ok(text) => text,
             Err(fault) => return Err(fault),
         };
@@ -44,14 +44,14 @@ pub(crate) fn texts_of<L: OpenLists>(
 
 // The bytes of the list of this name, which is the word at the index `place`.
 fn text_of<L: OpenLists>(
-    given: &Given<'_, L>,
+    context: &Context<'_, L>,
     name: &str,
     place: usize,
 ) -> Result<Vec<u8>, ReadFault>
-    ensures ok { IfOk result (λ text. IsAllOf (L.known given.now.lists.now) name.now text.items) }
-    ensures err { IfErr result (TextStops (L.known given.now.lists.now) place name.now) }
+    ensures ok { IfOk result (λ text. IsAllOf (L.known context.now.lists.now) name.now text.items) }
+    ensures err { IfErr result (TextStops (L.known context.now.lists.now) place name.now) }
 {
-    match read_bytes(given.alloc, given.lists, name, usize::MAX) {
+    match read_bytes(context.alloc, context.lists, name, usize::MAX) {
         Ok(text) => Ok(text),
         Err(fault) => Err(not_read(fault, place)),
     }

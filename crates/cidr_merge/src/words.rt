@@ -2,7 +2,7 @@
 ghost use Rattle.std.specs.Prelude.{◌≡◌, ◌≤◌, false, length, nat_lt};
 ghost use Rattle.std.specs.List.{position_or_len};
 ghost use Rattle.program.specs.Words.{is, count};
-ghost use Rattle.cidr_merge.specs.CommandLines.{has, stands, begins_dashed, is_dashed, belongs};
+ghost use Rattle.cidr_merge.specs.CommandLines.{has, word_at_is, begins_dashed, is_dashed, belongs};
 ghost use Rattle.cidr_merge.specs.CommandLines.{options_len};
 
 use program::words::{count_of, is, text_at};
@@ -15,8 +15,8 @@ pub(crate) fn has(words: &[String], text: &str) -> bool
 }
 
 /// Whether there is a word at this index, and it is this text.
-pub(crate) fn stands(words: &[String], place: usize, text: &str) -> bool
-    ensures { result ≡ stands text.now words.now place }
+pub(crate) fn word_at_is(words: &[String], place: usize, text: &str) -> bool
+    ensures { result ≡ word_at_is text.now words.now place }
 {
     place < words.len() && text_at(words, place) == text
 }

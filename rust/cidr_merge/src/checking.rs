@@ -2,11 +2,11 @@
 
 //! Tells the wrong entries of lists, and strictly those with host bits too.
 
-use crate::findings::{Line, either, tell_host_bits, tell_wrong};
-use crate::named::entry_of;
+use crate::entry_match::entry_of;
+use crate::findings::{either, tell_host_bits, tell_wrong};
+use crate::numbered_lines::{Line, NumberedLines};
 use crate::overlapping::is_up_to;
 use crate::placed::key_of;
-use crate::text_lines::TextLines;
 use crate::texts::WholeLists;
 use cidr_programs::lines::output::Output;
 use cidr_programs::lists::Entry;
@@ -19,27 +19,9 @@ pub(crate) fn check_lists<W: Write>(
     output: &mut Output<'_, W>,
 ) -> bool {
     let mut found = false;
-    for place in 0..lists.names.len() {
-        let name = lists.names[place].as_str();
-        let text = lists.texts[place].as_slice();
-        let more = check_list(strictly, name, text, output);
-        found = either(found, more);
-    }
-    found
-}
-
-// Tells what is found in the lines of a list, strictly or not, and returns whether anything is.
-fn check_list<W: Write>(strictly: bool, name: &str, text: &[u8], output: &mut Output<'_, W>) -> bool {
-    let mut found = false;
-    let mut number = 0;
-    let mut lines = TextLines::of(text);
-    // A text has at most as many lines as bytes.
-    'lines: while number < text.len() {
-        let Some(text) = lines.next() else {
-            return found;
-        };
-        number += 1;
-        let more = check_line(strictly, &Line { name, number, text }, output);
+    let mut lines = NumberedLines::of(lists);
+    while let Some(line) = lines.next() {
+        let more = check_line(strictly, &line, output);
         found = either(found, more);
     }
     found

@@ -2,27 +2,16 @@
 
 //! The lines that tell what was found in lists.
 
+use crate::numbered_lines::Line;
 use cidr_programs::lines::output::Output;
 use cidr_programs::lists::LineFault;
 use cidr_programs::program::messages::{tell, tell_number};
 use fosibegan::plain_std::io::Write;
 
-/// A line of a list.
-#[derive(Clone, Copy, Debug)]
-pub(crate) struct Line<'a> {
-    /// The name of the list.
-    pub name: &'a str,
-    /// The number of the line, from 1 on.
-    pub number: usize,
-    /// The line, without its line end.
-    pub text: &'a [u8],
-}
-
 /// Tells why a line is refused, and the line.
 pub(crate) fn tell_wrong<W: Write>(line: &Line<'_>, fault: LineFault, output: &mut Output<'_, W>) {
     let text = shown(fault, line.text);
-    let (name, number) = (line.name, line.number);
-    let line = Line { name, number, text };
+    let line = Line { text, ..*line };
     tell_line(&line, ": refused ", fault.text(), separator(text), output);
 }
 

@@ -5,8 +5,8 @@
 use fosibegan::plain_std::vec::Vec;
 use fosibegan::plain_std::string::String;
 use crate::checking::check_lists;
+use crate::context::Context;
 use crate::findings::either;
-use crate::given::Given;
 use crate::help::{PROGRAM, USAGE};
 use crate::inspections::Inspection;
 use crate::overlapping::tell_pairs;
@@ -32,22 +32,22 @@ const FOUND: u8 = 1;
 /// Looks over the lists that the words name, and returns the exit status.
 pub(crate) fn inspect<L: OpenLists, W: Write, E: Write>(
     inspection: Inspection,
-    given: &Given<'_, L>,
+    context: &Context<'_, L>,
     output: &mut Output<'_, W>,
     errors: &mut Output<'_, E>,
 ) -> u8 {
-    let others = &given.words[1..];
+    let others = &context.words[1..];
     let count = options_count(others);
     let names = &others[count..];
     if let Some(fault) = inspection.fault(&others[..count], names) {
-        return refuse(given.words, fault, errors);
+        return refuse(context.words, fault, errors);
     }
-    let texts = match texts_of(given, names, 1 + count) {
+    let texts = match texts_of(context, names, 1 + count) {
         Ok(texts) => texts,
-        Err(fault) => return refuse_lists(given.words, fault, errors),
+        Err(fault) => return refuse_lists(context.words, fault, errors),
     };
     let texts = texts.as_slice();
-    look_over(inspection, given.alloc, names, texts, output, errors)
+    look_over(inspection, context.alloc, names, texts, output, errors)
 }
 
 // Looks over the lists of these names and bytes, and returns the exit status.
@@ -87,7 +87,7 @@ fn check_ordered<W: Write, E: Write>(
     output: &mut Output<'_, W>,
     errors: &mut Output<'_, E>,
 ) -> u8 {
-    let mut entries = match entries_of(alloc, lists.texts) {
+    let mut entries = match entries_of(alloc, lists) {
         Ok(entries) => entries,
         Err(_) => {
             tell("out of memory\n", errors);

@@ -5,7 +5,7 @@
 use fosibegan::plain_std::string::String;
 use crate::problems::option_problem;
 use crate::usage::{UsageFault, fault_of_word, files_fault};
-use crate::words::stands;
+use crate::words::word_at_is;
 use cidr_programs::program::words::text_at;
 
 /// How lists are looked over.
@@ -32,7 +32,7 @@ impl Inspection {
 /// How the first words say to look lists over, if they do.
 pub(crate) fn inspection_of(words: &[String]) -> Option<Inspection> {
     match words.first() {
-        Some(name) => inspection_called(name.as_str(), stands(words, 1, "--strict")),
+        Some(name) => inspection_called(name.as_str(), word_at_is(words, 1, "--strict")),
         None => None,
     }
 }

@@ -10,31 +10,32 @@ use fosibegan::plain_std::rt::HostRuntime;
 mod addresses;
 mod checking;
 mod command_line;
+mod context;
 mod counts;
 mod cutting;
 mod elements;
+mod entry_match;
 mod exporting;
 mod exports;
 mod find;
 mod find_words;
 mod findings;
-mod given;
 mod help;
 mod inspecting;
 mod inspections;
-mod named;
+mod merge_join;
+mod numbered_lines;
 mod overlapping;
 mod placed;
 mod printing;
 mod problems;
+mod query;
 mod reading;
 mod repeating;
 mod run;
 mod searching;
 mod shapes;
 mod side_parts;
-mod sides;
-mod sought;
 mod split;
 mod split_words;
 mod sweep;
@@ -43,7 +44,7 @@ mod texts;
 mod usage;
 mod words;
 
-use crate::given::Given;
+use crate::context::Context;
 use crate::help::{PROGRAM, USAGE};
 use crate::run::run;
 use cidr_programs::program::start::start;
@@ -53,11 +54,11 @@ fn main() -> ExitCode {
     let rt = HostRuntime::new();
     start(&rt, PROGRAM, USAGE, |words, lists, output, errors| {
         let alloc = rt.alloc();
-        let given = Given {
+        let context = Context {
             alloc,
             words,
             lists,
         };
-        run(&given, output, errors)
+        run(&context, output, errors)
     })
 }

@@ -3,8 +3,9 @@
 //! The entries of lists, in order.
 
 use fosibegan::plain_std::vec::Vec;
-use crate::named::entry_of;
-use crate::text_lines::TextLines;
+use crate::entry_match::entry_of;
+use crate::numbered_lines::{Line, NumberedLines};
+use crate::texts::WholeLists;
 use fosibegan::ipnetwork::IpAddr;
 use cidr_programs::lists::Entry;
 use fosibegan::plain_std::alloc::{AllocError, Global};
@@ -27,45 +28,26 @@ pub(crate) struct Placed {
     pub number: usize,
 }
 
-/// The entries of lists with these bytes, in order.
-pub(crate) fn entries_of(alloc: Global, texts: &[Vec<u8>]) -> Result<Vec<Placed>, AllocError> {
+/// The entries of lists, in order.
+pub(crate) fn entries_of(alloc: Global, lists: &WholeLists<'_>) -> Result<Vec<Placed>, AllocError> {
     let mut entries = Vec::new(alloc);
-    for list in 0..texts.len() {
-        add_list(list, texts[list].as_slice(), &mut entries)?;
+    let mut lines = NumberedLines::of(lists);
+    while let Some(line) = lines.next() {
+        add_line(&line, &mut entries)?;
     }
     entries.sort_unstable();
     Ok(entries)
 }
 
-// Adds the entries of a list.
-fn add_list(list: usize, text: &[u8], entries: &mut Vec<Placed>) -> Result<(), AllocError> {
-    let mut number = 0;
-    let mut lines = TextLines::of(text);
-    // A text has at most as many lines as bytes.
-    'lines: while number < text.len() {
-        let Some(line) = lines.next() else {
-            return Ok(());
-        };
-        number += 1;
-        add_line(list, number, line, entries)?;
-    }
-    Ok(())
-}
-
 // Adds the entry of a line, if it has one.
-fn add_line(
-    list: usize,
-    number: usize,
-    line: &[u8],
-    entries: &mut Vec<Placed>,
-) -> Result<(), AllocError> {
-    if let Ok(Some(entry)) = entry_of(line) {
+fn add_line(line: &Line<'_>, entries: &mut Vec<Placed>) -> Result<(), AllocError> {
+    if let Ok(Some(entry)) = entry_of(line.text) {
         let (first, last) = ends_of(&entry);
         entries.push(Placed {
             first: key_of(&first),
             last: Reverse(key_of(&last)),
-            list,
-            number,
+            list: line.list,
+            number: line.number,
         })?;
     }
     Ok(())

@@ -5,9 +5,9 @@
 use crate::command_line::{Form, Operation, Request};
 use crate::counts::Counts;
 use crate::exporting::print_export;
+use crate::merge_join::{MergeJoin, Side};
 use crate::reading::Sets;
 use crate::side_parts::{Parts, sign_of};
-use crate::sides::{Side, Sides};
 use crate::sweep::Sweep;
 use fosibegan::ipnetwork::{Address, Network};
 use fosibegan::ipnetwork_sets::{AddressSet, Ranges};
@@ -74,7 +74,7 @@ fn print_parts<P: Parts, W: Write>(
     seconds: P,
     output: &mut Output<'_, W>,
 ) -> Result<(), RunFault> {
-    let mut parts = Sides::of(operation, firsts, seconds);
+    let mut parts = MergeJoin::of(operation, firsts, seconds);
     while let Some(next) = parts.next() {
         P::put(operation, next.0, next.1, output)?;
     }

@@ -3,7 +3,7 @@
 //! Reads the lists of a side.
 
 use fosibegan::plain_std::string::String;
-use crate::given::Given;
+use crate::context::Context;
 use crate::shapes::{Shape, read_one};
 use fosibegan::ipnetwork::{Ipv4Network, Ipv6Network};
 use fosibegan::ipnetwork_sets::AddressSet;
@@ -24,28 +24,28 @@ pub(crate) struct Sets {
 ///
 /// The refused lines are added to the earlier ones, even if the reading ends with a fault.
 pub(crate) fn read_side<L: OpenLists>(
-    given: &Given<'_, L>,
+    context: &Context<'_, L>,
     shape: Shape,
     from: usize,
     to: usize,
     refusals: Refusals,
 ) -> (Sets, Refusals, Result<(), ReadFault>) {
-    let mut reader = ListReader::new(given.alloc, refusals);
-    let end = read_all(given, shape, from, to, &mut reader);
+    let mut reader = ListReader::new(context.alloc, refusals);
+    let end = read_all(context, shape, from, to, &mut reader);
     let (v4, v6, refusals) = reader.into_sets();
     (Sets { v4, v6 }, refusals, end)
 }
 
 // Reads the lists at these places.
 fn read_all<L: OpenLists>(
-    given: &Given<'_, L>,
+    context: &Context<'_, L>,
     shape: Shape,
     from: usize,
     to: usize,
     reader: &mut ListReader,
 ) -> Result<(), ReadFault> {
     for place in from..to {
-        read_one(given, shape, given.words[place].as_str(), place, reader)?;
+        read_one(context, shape, context.words[place].as_str(), place, reader)?;
     }
     Ok(())
 }

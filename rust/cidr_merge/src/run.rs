@@ -3,8 +3,8 @@
 //! The run that the program makes.
 
 use crate::command_line::{Operation, Request, request_of};
+use crate::context::Context;
 use crate::find::find;
-use crate::given::Given;
 use crate::help::{HELP, PROGRAM, USAGE, VERSION};
 use crate::inspecting::inspect;
 use crate::inspections::inspection_of;
@@ -12,7 +12,7 @@ use crate::printing::{Merging, print};
 use crate::reading::{Sets, read_side, refuse_lists};
 use crate::split::split;
 use crate::usage::refuse;
-use crate::words::stands;
+use crate::words::word_at_is;
 use cidr_programs::lines::fault::RunFault;
 use cidr_programs::lines::output::Output;
 use cidr_programs::lists::{OpenLists, ReadFault, Refusals};
@@ -23,25 +23,25 @@ use fosibegan::plain_std::io::Write;
 
 /// Does what the words after the program's name ask for, and returns the exit status.
 pub(crate) fn run<L: OpenLists, W: Write, E: Write>(
-    given: &Given<'_, L>,
+    context: &Context<'_, L>,
     output: &mut Output<'_, W>,
     errors: &mut Output<'_, E>,
 ) -> u8 {
-    let words = given.words;
+    let words = context.words;
     if let Some(text) = text_asked(HELP, VERSION, words) {
         return print_text(text, output, errors);
     }
-    if stands(words, 0, "split") {
-        return split(given, output, errors);
+    if word_at_is(words, 0, "split") {
+        return split(context, output, errors);
     }
-    if stands(words, 0, "find") {
-        return find(given, output, errors);
+    if word_at_is(words, 0, "find") {
+        return find(context, output, errors);
     }
     if let Some(inspection) = inspection_of(words) {
-        return inspect(inspection, given, output, errors);
+        return inspect(inspection, context, output, errors);
     }
     match request_of(words) {
-        Ok(request) => merge(request, given, output, errors),
+        Ok(request) => merge(request, context, output, errors),
         Err(fault) => refuse(words, fault, errors),
     }
 }
@@ -49,12 +49,12 @@ pub(crate) fn run<L: OpenLists, W: Write, E: Write>(
 // Reads the lists of both sides, and prints what the operation leaves of them.
 fn merge<L: OpenLists, W: Write, E: Write>(
     request: Request,
-    given: &Given<'_, L>,
+    context: &Context<'_, L>,
     output: &mut Output<'_, W>,
     errors: &mut Output<'_, E>,
 ) -> u8 {
-    let (first, second, refusals, read) = read_sides(request, given);
-    tell_refusals(given.words, &InLists, &refusals, errors);
+    let (first, second, refusals, read) = read_sides(request, context);
+    tell_refusals(context.words, &InLists, &refusals, errors);
     match read {
         Ok(()) => {
             let merging = Merging {
@@ -64,7 +64,7 @@ fn merge<L: OpenLists, W: Write, E: Write>(
             };
             answer(&merging, !refusals.is_empty(), output, errors)
         }
-        Err(fault) => refuse_lists(given.words, fault, errors),
+        Err(fault) => refuse_lists(context.words, fault, errors),
     }
 }
 
@@ -72,13 +72,13 @@ fn merge<L: OpenLists, W: Write, E: Write>(
 // to the end.
 fn read_sides<L: OpenLists>(
     request: Request,
-    given: &Given<'_, L>,
+    context: &Context<'_, L>,
 ) -> (Sets, Sets, Refusals, Result<(), ReadFault>) {
     let shape = request.shape;
     let none = Refusals::new();
-    let (first, refusals, read) = read_side(given, shape, request.first, request.middle, none);
-    let to = end_of_second(&read, request.second, given.words.len());
-    let (second, refusals, end) = read_side(given, shape, request.second, to, refusals);
+    let (first, refusals, read) = read_side(context, shape, request.first, request.middle, none);
+    let to = end_of_second(&read, request.second, context.words.len());
+    let (second, refusals, end) = read_side(context, shape, request.second, to, refusals);
     match read {
         Ok(()) => (first, second, refusals, end),
         Err(fault) => (first, second, refusals, Err(fault)),

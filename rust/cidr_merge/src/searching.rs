@@ -2,10 +2,10 @@
 
 //! Searches lists for addresses.
 
-use crate::findings::{Line, either, tell_line, tell_wrong};
-use crate::named::{entry_of, has_address};
-use crate::sought::Sought;
-use crate::text_lines::TextLines;
+use crate::entry_match::{entry_of, has_address};
+use crate::findings::{either, tell_line, tell_wrong};
+use crate::numbered_lines::{Line, NumberedLines};
+use crate::query::Query;
 use crate::texts::WholeLists;
 use fosibegan::ipnetwork::IpAddr;
 use cidr_programs::lines::output::Output;
@@ -23,42 +23,16 @@ pub(crate) struct Reported {
 
 /// Prints the entries with the addresses sought of lists, and tells the refused lines.
 pub(crate) fn search_lists<W: Write, E: Write>(
-    sought: &Sought<'_>,
+    query: &Query<'_>,
     lists: &WholeLists<'_>,
     output: &mut Output<'_, W>,
     errors: &mut Output<'_, E>,
 ) -> Reported {
     let mut printed = false;
     let mut told = false;
-    for place in 0..lists.names.len() {
-        let name = lists.names[place].as_str();
-        let text = lists.texts[place].as_slice();
-        let more = search_list(sought, name, text, output, errors);
-        printed = either(printed, more.printed);
-        told = either(told, more.told);
-    }
-    Reported { printed, told }
-}
-
-// Searches a list.
-fn search_list<W: Write, E: Write>(
-    sought: &Sought<'_>,
-    name: &str,
-    text: &[u8],
-    output: &mut Output<'_, W>,
-    errors: &mut Output<'_, E>,
-) -> Reported {
-    let mut printed = false;
-    let mut told = false;
-    let mut number = 0;
-    let mut lines = TextLines::of(text);
-    // A text has at most as many lines as bytes.
-    'lines: while number < text.len() {
-        let Some(text) = lines.next() else {
-            return Reported { printed, told };
-        };
-        number += 1;
-        let more = search_line(sought, &Line { name, number, text }, output, errors);
+    let mut lines = NumberedLines::of(lists);
+    while let Some(line) = lines.next() {
+        let more = search_line(query, &line, output, errors);
         printed = either(printed, more.printed);
         told = either(told, more.told);
     }
@@ -67,7 +41,7 @@ fn search_list<W: Write, E: Write>(
 
 // Searches a line, or tells why it is refused.
 fn search_line<W: Write, E: Write>(
-    sought: &Sought<'_>,
+    query: &Query<'_>,
     line: &Line<'_>,
     output: &mut Output<'_, W>,
     errors: &mut Output<'_, E>,
@@ -78,7 +52,7 @@ fn search_line<W: Write, E: Write>(
             told: false,
         },
         Ok(Some(entry)) => Reported {
-            printed: print_matches(sought, line, &entry, output),
+            printed: print_matches(query, line, &entry, output),
             told: false,
         },
         Err(fault) => {
@@ -93,20 +67,15 @@ fn search_line<W: Write, E: Write>(
 
 // Prints a line for each of the addresses sought that the entry of a line has.
 fn print_matches<W: Write>(
-    sought: &Sought<'_>,
+    query: &Query<'_>,
     line: &Line<'_>,
     entry: &Entry,
     output: &mut Output<'_, W>,
 ) -> bool {
     let mut printed = false;
-    for place in 0..sought.words.len() {
-        let more = print_match(
-            sought.words[place].as_str(),
-            &sought.addresses[place],
-            line,
-            entry,
-            output,
-        );
+    for place in 0..query.words.len() {
+        let word = query.words[place].as_str();
+        let more = print_match(word, &query.addresses[place], line, entry, output);
         printed = either(printed, more);
     }
     printed

@@ -3,7 +3,7 @@
 //! How lists are written, and how one is read.
 
 use fosibegan::plain_std::string::String;
-use crate::given::Given;
+use crate::context::Context;
 use crate::words::has;
 use cidr_programs::lists::{ListReader, OpenLists, ReadFault, read_document, read_named};
 
@@ -33,16 +33,16 @@ pub(crate) fn shape_of(options: &[String]) -> Shape {
 /// Opens the list of this name, which is the word at the index `place`, reads it to the end, and
 /// closes it.
 pub(crate) fn read_one<L: OpenLists>(
-    given: &Given<'_, L>,
+    context: &Context<'_, L>,
     shape: Shape,
     name: &str,
     place: usize,
     reader: &mut ListReader,
 ) -> Result<(), ReadFault> {
-    let lists = given.lists;
+    let lists = context.lists;
     match shape {
         Shape::Lines => read_named(lists, name, place, reader),
-        Shape::Json => read_document(given.alloc, lists, name, place, false, reader),
-        Shape::StrictJson => read_document(given.alloc, lists, name, place, true, reader),
+        Shape::Json => read_document(context.alloc, lists, name, place, false, reader),
+        Shape::StrictJson => read_document(context.alloc, lists, name, place, true, reader),
     }
 }

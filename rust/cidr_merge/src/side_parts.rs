@@ -3,7 +3,7 @@
 //! The parts that an operation leaves of one side: blocks, or ranges of addresses.
 
 use crate::command_line::Operation;
-use crate::sides::Side;
+use crate::merge_join::Side;
 use crate::sweep::Sweep;
 use fosibegan::ipnetwork::{Address, CidrNetwork, Network};
 use fosibegan::ipnetwork_sets::{Ranges, SetBlocks};

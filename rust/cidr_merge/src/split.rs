@@ -2,8 +2,8 @@
 
 //! The run of a `split`.
 
+use crate::context::Context;
 use crate::cutting::{count_pieces, print_pieces, too_many_text};
-use crate::given::Given;
 use crate::help::{PROGRAM, USAGE};
 use crate::reading::{Sets, read_side, refuse_lists};
 use crate::split_words::{SplitRequest, split_request};
@@ -19,17 +19,23 @@ use fosibegan::plain_std::io::Write;
 /// Does what the words after the program's name ask for, of which the first is `split`, and returns
 /// the exit status.
 pub(crate) fn split<L: OpenLists, W: Write, E: Write>(
-    given: &Given<'_, L>,
+    context: &Context<'_, L>,
     output: &mut Output<'_, W>,
     errors: &mut Output<'_, E>,
 ) -> u8 {
-    let words = given.words;
+    let words = context.words;
     let request = match split_request(words) {
         Ok(request) => request,
         Err(fault) => return refuse(words, fault, errors),
     };
     let none = Refusals::new();
-    let (sets, refusals, read) = read_side(given, request.shape, request.first, words.len(), none);
+    let (sets, refusals, read) = read_side(
+        context,
+        request.shape,
+        request.first,
+        words.len(),
+        none,
+    );
     tell_refusals(words, &InLists, &refusals, errors);
     match read {
         Ok(()) => print_split(request, !refusals.is_empty(), &sets, output, errors),

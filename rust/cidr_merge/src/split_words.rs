@@ -6,7 +6,7 @@ use fosibegan::plain_std::string::String;
 use crate::problems::{Problem, option_problem};
 use crate::shapes::Shape;
 use crate::usage::{UsageFault, fault_of_word, files_fault};
-use crate::words::{begins_dashed, stands};
+use crate::words::{begins_dashed, word_at_is};
 use fosibegan::ipnetwork::parse::read_number;
 use cidr_programs::program::words::text_at;
 
@@ -30,7 +30,7 @@ pub struct SplitRequest {
 /// allocate.
 pub(crate) fn split_request(words: &[String]) -> Result<SplitRequest, UsageFault> {
     let place = after_skip(words, 1);
-    if !stands(words, place, "--prefix") {
+    if !word_at_is(words, place, "--prefix") {
         return Err(no_prefix(words, place));
     }
     let length = match length_after(words, place) {
@@ -44,7 +44,7 @@ pub(crate) fn split_request(words: &[String]) -> Result<SplitRequest, UsageFault
     }
     Ok(SplitRequest {
         length,
-        skips_bad: stands(words, 1, "--skip-bad") || stands(words, place + 2, "--skip-bad"),
+        skips_bad: word_at_is(words, 1, "--skip-bad") || word_at_is(words, place + 2, "--skip-bad"),
         shape: shape_at(words, json_place),
         first,
     })
@@ -52,10 +52,10 @@ pub(crate) fn split_request(words: &[String]) -> Result<SplitRequest, UsageFault
 
 // How a `--json` that stands at this index, and a `--strict` behind it, say that lists are written.
 fn shape_at(words: &[String], place: usize) -> Shape {
-    if !stands(words, place, "--json") {
+    if !word_at_is(words, place, "--json") {
         return Shape::Lines;
     }
-    if stands(words, place + 1, "--strict") {
+    if word_at_is(words, place + 1, "--strict") {
         Shape::StrictJson
     } else {
         Shape::Json

@@ -4,7 +4,7 @@
 
 use fosibegan::plain_std::vec::Vec;
 use fosibegan::plain_std::string::String;
-use crate::given::Given;
+use crate::context::Context;
 use cidr_programs::lists::{BytesFault, OpenLists, ReadFault, read_bytes};
 
 /// The names and the bytes of lists.
@@ -17,13 +17,13 @@ pub(crate) struct WholeLists<'a> {
 
 /// The bytes of the lists of these names, of which the first is the word at the index `first`.
 pub(crate) fn texts_of<L: OpenLists>(
-    given: &Given<'_, L>,
+    context: &Context<'_, L>,
     names: &[String],
     first: usize,
 ) -> Result<Vec<Vec<u8>>, ReadFault> {
-    let mut texts = Vec::new(given.alloc);
+    let mut texts = Vec::new(context.alloc);
     for place in 0..names.len() {
-        let text = match text_of(given, names[place].as_str(), first + place) {
+        let text = match text_of(context, names[place].as_str(), first + place) {
             Ok(text) => text,
             Err(fault) => return Err(fault),
         };
@@ -36,11 +36,11 @@ pub(crate) fn texts_of<L: OpenLists>(
 
 // The bytes of the list of this name, which is the word at the index `place`.
 fn text_of<L: OpenLists>(
-    given: &Given<'_, L>,
+    context: &Context<'_, L>,
     name: &str,
     place: usize,
 ) -> Result<Vec<u8>, ReadFault> {
-    match read_bytes(given.alloc, given.lists, name, usize::MAX) {
+    match read_bytes(context.alloc, context.lists, name, usize::MAX) {
         Ok(text) => Ok(text),
         Err(fault) => Err(not_read(fault, place)),
     }

@@ -11,7 +11,7 @@ pub(crate) fn has(words: &[String], text: &str) -> bool {
 }
 
 /// Whether there is a word at this index, and it is this text.
-pub(crate) fn stands(words: &[String], place: usize, text: &str) -> bool {
+pub(crate) fn word_at_is(words: &[String], place: usize, text: &str) -> bool {
     place < words.len() && text_at(words, place) == text
 }
 

@@ -19,10 +19,9 @@ listed_as placed = record {
   number = placed.number;
 }
 
--- the entries of a part of the lists were added
-abbrev pub Adds : (List Listed → Type 0) → List Placed → List Placed → Type 0
-Adds Part before after =
-    (found : List Listed) × Part found × (map listed_as after ≡ map listed_as before ++ found)
+-- these entries were added
+abbrev pub Adds : List Listed → List Placed → List Placed → Type 0
+Adds found before after = map listed_as after ≡ map listed_as before ++ found
 
 -- an entry overlaps an earlier one
 abbrev pub overlaps : Placed → Placed → Bool

@@ -1,45 +1,56 @@
-use Rattle.std.proofs.Common.{◌∙◌, map, refl, ap, subst}
+use Rattle.std.proofs.Common.{◌∙◌, length, map, drop, refl, sym, ap, subst}
 use Rattle.std.proofs.lemmas.List.{take_rest}
 use Rattle.program.specs.Endings.{ending}
 use Rattle.cidr_merge.specs.CommandLines.{before_dashes, behind_dashes}
 use Rattle.cidr_merge.specs.FindRuns.{EndsSearching}
+use Rattle.cidr_merge.specs.FindWords.{with_addresses}
 use Rattle.cidr_merge.proofs.SearchEnds.{search_ended, searched, not_read}
+use Rattle.cidr_merge.proofs.SoughtWords.{as_many_addresses}
 use Rattle.cidr_merge.proofs.WholeLists.{as_many_held}
 use Rattle.cidr_merge.proofs.find.find_all.Goals as goal
 
 pub invariant_of-lists : goal.invariant_of-lists
 invariant_of-lists g c = record {
-  as_many = as_many_held (g.L.OpenLists.known c.args.given.now.lists.now) _ c.in-Ok.texts.items
+  as_many = as_many_held (g.L.OpenLists.known c.args.context.now.lists.now) _ c.in-Ok.texts.items
       (λ text. text.items) _ c.as_slice.ensures.value c.in-Ok.ensures.ok;
 }
 
+pub invariant_of-query : goal.invariant_of-query
+invariant_of-query g c =
+    let words = c.args.context.now.words.now in record {
+      as_many = as_many_addresses (before_dashes (drop 1 words)) c.args.addresses.now
+          c.requires.addresses ∙ sym (ap length (c.before_dashes.ensures
+          ∙ ap before_dashes (take_rest words 1)));
+    }
+
 pub returns : goal.returns
 returns g c =
-    let words = c.args.given.now.words.now in
+    let words = c.args.context.now.words.now in
     let sought = c.before_dashes.result.now in
     let names = c.behind_dashes-names.result.now in
     let end = ending c.args.output.now c.finish-written.new.self c.args.errors.now c.end.new.errors
     c.end.result in
     let reported = c.search_lists-reported in
-    searched (g.L.OpenLists.known c.args.given.now.lists.now) words sought names end
+    searched (g.L.OpenLists.known c.args.context.now.lists.now) words sought names
+    c.args.addresses.now end
     (c.before_dashes.ensures ∙ ap before_dashes (take_rest words 1))
     (c.behind_dashes-names.ensures ∙ ap behind_dashes (take_rest words 1))
     (map (λ text. text.items) c.in-Ok.texts.items) c.in-Ok.ensures.ok
-    (subst (λ ts. EndsSearching sought names (map
+    (subst (λ ts. EndsSearching (with_addresses sought c.args.addresses.now) names (map
     (λ text. text.items) ts) end) c.as_slice.ensures.value
-    (search_ended sought names (map (λ text. text.items) c.as_slice.result.now) end
+    (search_ended (with_addresses sought c.args.addresses.now) names (map (λ text. text.items) c.as_slice.result.now) end
     reported.new.output reported.new.errors c.finish-written.result
     reported.result.printed reported.result.told c.status-status.result
-    reported.ensures c.status-status.ensures
+    reported.ensures.printed reported.ensures.told c.status-status.ensures
     c.finish-written.ensures.ok c.finish-written.ensures.works c.finish-written.ensures.failed
     c.end.ensures.status c.end.ensures.told))
 
 pub returns-in-Err : goal.returns-in-Err
 returns-in-Err g c =
-    let words = c.args.given.now.words.now in
+    let words = c.args.context.now.words.now in
     not_read
-    (g.L.OpenLists.known c.args.given.now.lists.now) words c.before_dashes.result.now
-    c.behind_dashes-names.result.now
+    (g.L.OpenLists.known c.args.context.now.lists.now) words c.before_dashes.result.now
+    c.behind_dashes-names.result.now c.args.addresses.now
     (ending c.args.output.now c.args.output.now c.args.errors.now c.refuse_lists.new.errors
     c.refuse_lists.result)
     (c.before_dashes.ensures ∙ ap before_dashes (take_rest words 1))

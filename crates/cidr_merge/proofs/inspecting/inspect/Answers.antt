@@ -6,25 +6,25 @@ use Rattle.cidr_merge.proofs.inspecting.inspect.Goals as goal
 
 pub returns-in-Some : goal.returns-in-Some
 returns-in-Some g c =
-    refused c.args.given.now.words.now _ c.options_count-count.ensures.count PROGRAM.now USAGE.now
+    refused c.args.context.now.words.now _ c.options_count-count.ensures.count PROGRAM.now USAGE.now
     _ _ _ _ c.fault.ensures c.in-Some.fault c.in-Some.is
     ((refl, c.refuse.ensures.status), c.refuse.ensures.told)
 
 pub returns-in-Err : goal.returns-in-Err
 returns-in-Err g c =
-    stopped c.args.given.now.words.now _ c.options_count-count.ensures.count PROGRAM.now USAGE.now
+    stopped c.args.context.now.words.now _ c.options_count-count.ensures.count PROGRAM.now USAGE.now
     _ _ _ _ c.fault.ensures c.in-Err.fault c.in_default.is
     c.options_count-count.ensures.within c.in-Err.ensures.err
     ((refl, c.refuse_lists.ensures.status), c.refuse_lists.ensures.told)
 
 pub look_over-requires : goal.look_over-requires
 look_over-requires g c =
-    as_many_held (g.L.OpenLists.known c.args.given.now.lists.now) _ c.in-Ok.texts.items
+    as_many_held (g.L.OpenLists.known c.args.context.now.lists.now) _ c.in-Ok.texts.items
     (λ text. text.items) _ c.as_slice-texts.ensures.value c.in-Ok.ensures.ok
 
 pub returns : goal.returns
 returns g c =
-    read c.args.given.now.words.now _ c.options_count-count.ensures.count PROGRAM.now USAGE.now
+    read c.args.context.now.words.now _ c.options_count-count.ensures.count PROGRAM.now USAGE.now
     _ _ _ _ c.fault.ensures c.in-Ok.texts.items c.as_slice-texts.result.now
     (λ text. text.items) c.as_slice-texts.ensures.value c.in_default.is
     c.in-Ok.ensures.ok c.look_over.ensures

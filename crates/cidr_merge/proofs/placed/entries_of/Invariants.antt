@@ -1,8 +1,14 @@
-use Rattle.std.proofs.Common.{[], map, take}
-use Rattle.cidr_merge.specs.Overlaps.{ListsEntries}
-use Rattle.cidr_merge.specs.Private.Entries.{Adds}
+use Rattle.std.proofs.Common.{◌≡◌, ◌++◌, length, map}
+use Rattle.std.specs.List.{flat_map}
+use Rattle.cidr_merge.specs.Overlaps.{line_entries, lists_entries}
+use Rattle.cidr_merge.specs.Private.Entries.{listed_as}
+use Rattle.cidr_merge.specs.Private.LinesLeft.{lines_left}
 use Rattle.cidr_merge.proofs.placed.entries_of.Given as goal
 
-abbrev pub invariant-loop-list : goal.invariant-loop-list
-invariant-loop-list l =
-    Adds (ListsEntries 0 (take l.list (map (λ text. text.items) l.texts))) [] l.entries.items
+abbrev pub invariant-loop-line : goal.invariant-loop-line
+invariant-loop-line l =
+    map listed_as l.entries.items ++ flat_map line_entries (lines_left l.lines)
+    ≡ lists_entries (map (λ text. text.items) l.lists.texts.now)
+
+abbrev pub decreases-loop-line : goal.decreases-loop-line
+decreases-loop-line l = length (lines_left l.lines)

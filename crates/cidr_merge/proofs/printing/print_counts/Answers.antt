@@ -1,5 +1,5 @@
 use Rattle.cidr_merge.specs.Answers.{sign_of, AreCountsLeft, AreCounts}
-use Rattle.cidr_merge.specs.declared.sides.Side.TheVariants.{First, Second}
+use Rattle.cidr_merge.specs.declared.merge_join.Side.TheVariants.{First, Second}
 use Rattle.cidr_merge.proofs.Putting.{then_ok, counts_of_one, counts_of_both}
 use Rattle.cidr_merge.proofs.printing.print_counts.Goals as goal
 

@@ -8,36 +8,36 @@ use Rattle.cidr_merge.proofs.reading.read_all.Goals as goal
 
 pub loop-place-init : goal.loop-place-init
 loop-place-init g c = record {
-  read = reads_none (source (g.L.OpenLists.known c.args.given.now.lists.now) c.args.shape)
-      c.args.given.now.words.now c.args.from c.args.reader.now;
+  read = reads_none (source (g.L.OpenLists.known c.args.context.now.lists.now) c.args.shape)
+      c.args.context.now.words.now c.args.from c.args.reader.now;
   memory = c.requires.memory;
 }
 
 pub loop-place-preserved : goal.loop-place-preserved
 loop-place-preserved g c =
-    let from = source (g.L.OpenLists.known c.args.given.now.lists.now) c.args.shape in
+    let from = source (g.L.OpenLists.known c.args.context.now.lists.now) c.args.shape in
     record {
-      read = reads_on from c.args.given.now.words.now c.args.from
-          c.loop-place.place c.index-given-place.result c.args.reader.now c.loop-place.reader
+      read = reads_on from c.args.context.now.words.now c.args.from
+          c.loop-place.place c.index-context-place.result c.args.reader.now c.loop-place.reader
           c.read_one.new.reader (omega arith)
-          (omega arith) c.index-given-place.is c.loop-place.invariant.read
+          (omega arith) c.index-context-place.is c.loop-place.invariant.read
           (subst (λ (n : List ℕ). ReadsOne from c.loop-place.place n
-          c.loop-place.reader c.read_one.new.reader) (c.as_str.ensures.value ∙ sym (ap string_bytes c.index-given-place.is))
+          c.loop-place.reader c.read_one.new.reader) (c.as_str.ensures.value ∙ sym (ap string_bytes c.index-context-place.is))
           c.in_ok-read_one.ensures.read);
       memory = c.in_ok-read_one.ensures.memory;
     }
 
 pub returns-in_err-read_one-clause-stopped : goal.returns-in_err-read_one-clause-stopped
 returns-in_err-read_one-clause-stopped g c =
-    let from = source (g.L.OpenLists.known c.args.given.now.lists.now) c.args.shape in
+    let from = source (g.L.OpenLists.known c.args.context.now.lists.now) c.args.shape in
     let p = err_from_is_err_and c.from_residual.result c.from_residual.ensures.1 in
     rw (p.1, p.2)
-    (stops_in from c.args.given.now.words.now c.args.from
-    c.loop-place.place c.args.to c.index-given-place.result c.args.reader.now
+    (stops_in from c.args.context.now.words.now c.args.from
+    c.loop-place.place c.args.to c.index-context-place.result c.args.reader.now
     c.loop-place.reader _ _ (omega arith)
-    (omega arith) c.requires.within c.index-given-place.is c.loop-place.invariant.read
+    (omega arith) c.requires.within c.index-context-place.is c.loop-place.invariant.read
     c.loop-place.invariant.memory
     (subst (λ (n : List ℕ). StopsOne from c.loop-place.place n
     c.loop-place.reader c.in_err-read_one.field-0.0 c.read_one.new.reader.refused)
-    (c.as_str.ensures.value ∙ sym (ap string_bytes c.index-given-place.is))
+    (c.as_str.ensures.value ∙ sym (ap string_bytes c.index-context-place.is))
     c.in_err-read_one.ensures.stopped))

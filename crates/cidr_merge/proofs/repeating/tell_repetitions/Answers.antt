@@ -1,17 +1,14 @@
-use Rattle.std.proofs.Common.{[], map, ap, refl}
-use Rattle.program.proofs.Told.{tells_nothing}
+use Rattle.std.proofs.Common.{map, ap, sym}
 use Rattle.cidr_merge.specs.Private.Entries.{listed_as}
 use Rattle.cidr_merge.specs.Repetitions.{repetitions}
+use Rattle.cidr_merge.proofs.Found.{none_so_far}
 use Rattle.cidr_merge.proofs.RepeatedEntries.{repetitions_told_more}
 use Rattle.cidr_merge.proofs.repeating.tell_repetitions.Goals as goal
 
 pub loop-place-init : goal.loop-place-init
-loop-place-init g c = (
-  [],
-  ap (λ es. repetitions c.args.names.now (map listed_as es)) c.in-Some.ensures.cases.0,
-  tells_nothing c.args.output.now,
-  refl,
-)
+loop-place-init g c =
+    none_so_far _ _ c.args.output.now
+    (sym (ap (λ es. repetitions c.args.names.now (map listed_as es)) c.in-Some.ensures.cases.0))
 
 pub loop-place-preserved : goal.loop-place-preserved
 loop-place-preserved g c =

@@ -1,10 +1,12 @@
 use Rattle.std.proofs.Common.{map, drop}
 use Rattle.cidr_merge.specs.Private.Entries.{listed_as}
 use Rattle.cidr_merge.specs.Repetitions.{repetitions}
-use Rattle.cidr_merge.proofs.RepeatedEntries.{RepetitionsTold}
+use Rattle.cidr_merge.proofs.Found.{ToldSoFar}
+use Rattle.cidr_merge.proofs.RepeatedEntries.{left_of}
 use Rattle.cidr_merge.proofs.repeating.tell_repetitions.Given as goal
 
 abbrev pub invariant-loop-place : goal.invariant-loop-place
 invariant-loop-place g l =
-    RepetitionsTold l.names (repetitions l.names (map listed_as l.entries)) l.previous l.furthest
-    (drop l.place l.others) l.initial.output l.output l.found
+    ToldSoFar (repetitions l.names (map listed_as l.entries))
+    (left_of l.names l.previous l.furthest (drop l.place l.others))
+    l.initial.output l.output l.found

@@ -9,38 +9,38 @@ pub returns-in-Some : goal.returns-in-Some
 returns-in-Some g c =
     let end = ending c.args.output.now c.print_text.new.output
     c.args.errors.now c.print_text.new.errors c.print_text.result in
-    printed HELP.now VERSION.now c.args.given.now.words.now _ end c.in-Some.text.now c.in-Some.ensures
+    printed HELP.now VERSION.now c.args.context.now.words.now _ end c.in-Some.text.now c.in-Some.ensures
     c.print_text.ensures
 
-pub returns-then-stands : goal.returns-then-stands
-returns-then-stands g c =
+pub returns-then-word_at_is : goal.returns-then-word_at_is
+returns-then-word_at_is g c =
     let end = ending c.args.output.now c.split.new.output
     c.args.errors.now c.split.new.errors c.split.result in
-    not_asked HELP.now VERSION.now c.args.given.now.words.now _ end c.in_default.ensures
-    (inl (sym c.stands.ensures ∙ c.if-stands.true, c.split.ensures))
+    not_asked HELP.now VERSION.now c.args.context.now.words.now _ end c.in_default.ensures
+    (inl (sym c.word_at_is.ensures ∙ c.if-word_at_is.true, c.split.ensures))
 
-pub returns-then-stands-2 : goal.returns-then-stands-2
-returns-then-stands-2 g c =
+pub returns-then-word_at_is-2 : goal.returns-then-word_at_is-2
+returns-then-word_at_is-2 g c =
     let end = ending c.args.output.now c.find.new.output
     c.args.errors.now c.find.new.errors c.find.result in
-    not_asked HELP.now VERSION.now c.args.given.now.words.now _ end c.in_default.ensures
-    (inr (inl (sym c.stands-2.ensures ∙ c.if-stands-2.true, c.find.ensures)))
+    not_asked HELP.now VERSION.now c.args.context.now.words.now _ end c.in_default.ensures
+    (inr (inl (sym c.word_at_is-2.ensures ∙ c.if-word_at_is-2.true, c.find.ensures)))
 
 pub returns-in-Some-inspection_of : goal.returns-in-Some-inspection_of
 returns-in-Some-inspection_of g c =
     inspected PROGRAM.now HELP.now VERSION.now USAGE.now
-    (g.L.OpenLists.known c.args.given.now.lists.now) c.args.given.now.words.now
+    (g.L.OpenLists.known c.args.context.now.lists.now) c.args.context.now.words.now
     (ending c.args.output.now c.inspect.new.output c.args.errors.now c.inspect.new.errors
     c.inspect.result) _ c.inspection_of.ensures.asked c.in_default.ensures
-    (sym c.stands.ensures ∙ c.if-stands.false) (sym c.stands-2.ensures ∙ c.if-stands-2.false)
+    (sym c.word_at_is.ensures ∙ c.if-word_at_is.false) (sym c.word_at_is-2.ensures ∙ c.if-word_at_is-2.false)
     _ c.in-Some-inspection_of.is c.inspect.ensures
 
 pub returns-in-Ok : goal.returns-in-Ok
 returns-in-Ok g c =
     let asked = c.in-Ok.ensures.asked in
     requested PROGRAM.now HELP.now VERSION.now USAGE.now _ _ _ _ c.inspection_of.ensures.asked
-    c.in_default.ensures (sym c.stands.ensures ∙ c.if-stands.false)
-    (sym c.stands-2.ensures ∙ c.if-stands-2.false) c.in_default-inspection_of.is
+    c.in_default.ensures (sym c.word_at_is.ensures ∙ c.if-word_at_is.false)
+    (sym c.word_at_is-2.ensures ∙ c.if-word_at_is-2.false) c.in_default-inspection_of.is
     (inl (c.in-Ok.request, asked.0, asked.1, c.merge.ensures))
 
 pub returns-in-Err : goal.returns-in-Err
@@ -49,7 +49,7 @@ returns-in-Err g c =
     requested PROGRAM.now HELP.now VERSION.now USAGE.now _ _
     (ending c.args.output.now c.args.output.now c.args.errors.now c.refuse.new.errors
     c.refuse.result) _ c.inspection_of.ensures.asked c.in_default.ensures
-    (sym c.stands.ensures ∙ c.if-stands.false) (sym c.stands-2.ensures ∙ c.if-stands-2.false)
+    (sym c.word_at_is.ensures ∙ c.if-word_at_is.false) (sym c.word_at_is-2.ensures ∙ c.if-word_at_is-2.false)
     c.in_default-inspection_of.is (inr (
       c.in-Err.fault,
       wrong.0,

@@ -1,34 +1,45 @@
-use Rattle.std.proofs.Common.{◌∙◌, map, refl, sym, ap, arith}
-use Rattle.std.specs.String.{string_bytes}
-use Rattle.std.proofs.lemmas.List.{length-map}
-use Rattle.cidr_merge.proofs.Searches.{nothing_reported, lists_searched_more, all_lists_searched}
+use Rattle.std.proofs.Common.{◌∙◌, ℕ, List, ap, subst}
+use Rattle.std.specs.List.{flat_map}
+use Rattle.program.specs.Told.{name_at}
+use Rattle.cidr_merge.specs.Finds.{line_matches, line_refusals, matches_by, refusals_by}
+use Rattle.cidr_merge.specs.NumberedLines.{said_by}
+use Rattle.cidr_merge.specs.Private.LinesLeft.{sought_in}
+use Rattle.cidr_merge.specs.Private.Reported.{TellsFound}
+use Rattle.cidr_merge.proofs.Found.{more_so_far, none_so_far}
 use Rattle.cidr_merge.proofs.searching.search_lists.Goals as goal
 
-pub loop-place-init : goal.loop-place-init
-loop-place-init g c = nothing_reported _ c.args.output.now c.args.errors.now (refl, refl)
+pub loop-line-init : goal.loop-line-init
+loop-line-init g c =
+    let names = c.args.lists.now.names.now in record {
+      names = c.of-lines.ensures.names;
+      printed = none_so_far _ _ c.args.output.now
+          (ap (flat_map (line_matches (sought_in c.args.query.now) names)) c.of-lines.ensures.lines);
+      told = none_so_far _ _ c.args.errors.now
+          (ap (flat_map (line_refusals names)) c.of-lines.ensures.lines);
+    }
 
-pub loop-place-preserved : goal.loop-place-preserved
-loop-place-preserved g c =
-    let lists = c.args.lists.now in
-    let name = c.index-lists-place in
-    let text = c.index-lists-place-in-loop-place in
-    let more = c.search_list-more in
-    lists_searched_more
-    (λ text. text.items) c.args.sought.now.words.now lists.names.now lists.texts.now
-    c.loop-place.place name.result text.result
-    c.as_str-name.result.now c.as_slice-text.result.now c.args.output.now c.loop-place.output
-    more.new.output c.args.errors.now c.loop-place.errors more.new.errors
-    c.loop-place.printed more.result.printed c.either-printed.result c.loop-place.told
-    more.result.told c.either-told.result (omega arith) lists.as_many name.is text.is
-    (c.as_str-name.ensures.value ∙ sym (ap string_bytes name.is))
-    (c.as_slice-text.ensures.value ∙ sym (ap (λ text. text.items) text.is))
-    c.loop-place.invariant more.ensures c.either-printed.ensures c.either-told.ensures
-
-pub returns : goal.returns
-returns g c =
-    let lists = c.args.lists.now in
-    all_lists_searched c.args.sought.now.words.now lists.names.now
-    (map (λ text. text.items) lists.texts.now) c.loop-place.place c.args.output.now
-    c.loop-place.output c.args.errors.now c.loop-place.errors
-    c.loop-place.printed c.loop-place.told (omega arith)
-    (length-map lists.texts.now (λ text. text.items) ∙ lists.as_many) c.loop-place.invariant
+pub loop-line-preserved : goal.loop-line-preserved
+loop-line-preserved g c =
+    let names = c.args.lists.now.names.now in
+    let sought = sought_in c.args.query.now in
+    let line = c.in-Some.line in
+    let more = c.search_line-more in
+    let name = c.in-Some.ensures.named
+    ∙ ap (λ ns. name_at ns line.list) c.loop-line.invariant.names in
+    let printed = subst (λ (n : List ℕ). TellsFound (matches_by sought n line.number line.text.now
+    (said_by line.text.now)) c.loop-line.output more.new.output more.result.printed) name
+    more.ensures.printed in
+    let told = subst (λ (n : List ℕ). TellsFound (refusals_by n line.number line.text.now
+    (said_by line.text.now)) c.loop-line.errors more.new.errors more.result.told) name
+    more.ensures.told in record {
+      names = c.next.ensures.names ∙ c.loop-line.invariant.names;
+      printed = more_so_far _ _ _ _ c.args.output.now c.loop-line.output more.new.output
+          c.loop-line.printed more.result.printed c.either-printed.result
+          c.loop-line.invariant.printed
+          (ap (flat_map (line_matches sought names)) c.in-Some.ensures.line) printed
+          c.either-printed.ensures;
+      told = more_so_far _ _ _ _ c.args.errors.now c.loop-line.errors more.new.errors
+          c.loop-line.told more.result.told c.either-told.result c.loop-line.invariant.told
+          (ap (flat_map (line_refusals names)) c.in-Some.ensures.line) told
+          c.either-told.ensures;
+    }

@@ -30,14 +30,14 @@ strict_json_stops known shape place name before (Err fault) now w h =
 pub returns-in-Json-clause-stopped : goal.returns-in-Json-clause-stopped
 returns-in-Json-clause-stopped g c =
     json_stops
-    (g.L.OpenLists.known c.args.given.now.lists.now) c.args.shape c.args.place c.args.name.now
+    (g.L.OpenLists.known c.args.context.now.lists.now) c.args.shape c.args.place c.args.name.now
     c.args.reader.now c.read_document.result c.read_document.new.reader
     c.in-Json.is c.read_document.ensures.stopped
 
 pub returns-in-StrictJson-clause-stopped : goal.returns-in-StrictJson-clause-stopped
 returns-in-StrictJson-clause-stopped g c =
     strict_json_stops
-    (g.L.OpenLists.known c.args.given.now.lists.now) c.args.shape c.args.place c.args.name.now
+    (g.L.OpenLists.known c.args.context.now.lists.now) c.args.shape c.args.place c.args.name.now
     c.args.reader.now c.read_document-in-StrictJson.result
     c.read_document-in-StrictJson.new.reader c.in-StrictJson.is
     c.read_document-in-StrictJson.ensures.stopped

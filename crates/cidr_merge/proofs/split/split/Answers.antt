@@ -17,7 +17,7 @@ returns-in-Ok-read g c =
     inl (
       c.in-Ok.request,
       c.in-Ok.ensures.asked,
-      lists_split (g.L.OpenLists.known c.args.given.now.lists.now) c.args.given.now.words.now
+      lists_split (g.L.OpenLists.known c.args.context.now.lists.now) c.args.context.now.words.now
           c.in-Ok.request r.0 r.1 c.is_empty.result
           (ending c.args.output.now c.print_split.new.output c.args.errors.now
           c.print_split.new.errors c.print_split.result) c.tell_refusals.new.errors
@@ -31,7 +31,7 @@ returns g c =
       c.in-Ok.request,
       c.in-Ok.ensures.asked,
       split_stopped c.in-Err-read.fault
-          (g.L.OpenLists.known c.args.given.now.lists.now) c.args.given.now.words.now
+          (g.L.OpenLists.known c.args.context.now.lists.now) c.args.context.now.words.now
           c.in-Ok.request c.read_side-sets.result.1
           (ending c.args.output.now c.args.output.now c.args.errors.now
           c.refuse_lists.new.errors c.refuse_lists.result) c.tell_refusals.new.errors

@@ -6,7 +6,7 @@ use Rattle.cidr_merge.proofs.texts.text_of.Goals as goal
 
 pub returns-in-Err-clause-err : goal.returns-in-Err-clause-err
 returns-in-Err-clause-err g c =
-    let known = g.L.OpenLists.known c.args.given.now.lists.now in
+    let known = g.L.OpenLists.known c.args.context.now.lists.now in
     subst (λ (fault : ReadFault). TextStops known c.args.place c.args.name.now fault)
     (sym c.not_read.ensures)
     (text_stops known c.args.name.now c.args.place (2 ^ 64 - 1) c.in-Err.fault c.in-Err.ensures.err)

@@ -6,7 +6,7 @@ use Rattle.cidr_merge.proofs.texts.texts_of.Goals as goal
 
 pub loop-place-preserved : goal.loop-place-preserved
 loop-place-preserved g c =
-    let known = g.L.OpenLists.known c.args.given.now.lists.now in
+    let known = g.L.OpenLists.known c.args.context.now.lists.now in
     let names = c.args.names.now in
     subst (λ ts. AreTexts known (take (c.loop-place.place + 1) names) (map (λ text. text.items) ts))
     (sym c.in-Ok-push.ensures.items)
@@ -18,7 +18,7 @@ loop-place-preserved g c =
 
 pub returns-in-Err-clause-err : goal.returns-in-Err-clause-err
 returns-in-Err-clause-err g c =
-    let known = g.L.OpenLists.known c.args.given.now.lists.now in
+    let known = g.L.OpenLists.known c.args.context.now.lists.now in
     let at = c.args.first + c.loop-place.place in
     texts_stop known c.args.first c.loop-place.place at c.args.names.now
     c.index-names-place.result _ c.in-Err.fault
@@ -28,6 +28,6 @@ returns-in-Err-clause-err g c =
 
 pub returns-in_default-clause-err : goal.returns-in_default-clause-err
 returns-in_default-clause-err g c =
-    texts_stop (g.L.OpenLists.known c.args.given.now.lists.now) c.args.first c.loop-place.place
+    texts_stop (g.L.OpenLists.known c.args.context.now.lists.now) c.args.first c.loop-place.place
     (c.args.first + c.loop-place.place) c.args.names.now c.index-names-place.result _ OutOfMemory
     (omega arith) c.index-names-place.is c.loop-place.invariant refl tt

@@ -4,5 +4,5 @@ use Rattle.cidr_merge.proofs.texts.texts_of.Given as goal
 
 abbrev pub invariant-loop-place : goal.invariant-loop-place
 invariant-loop-place g l =
-    AreTexts (g.L.OpenLists.known l.given.lists.now) (take l.place l.names)
+    AreTexts (g.L.OpenLists.known l.context.lists.now) (take l.place l.names)
     (map (λ text. text.items) l.texts.items)

@@ -1,0 +1,90 @@
+-- Lists at which a misreading of their lines would show. Each of these computes.
+use Rattle.std.proofs.Common.{◌≡◌, ◌∷◌, ℕ, List, [], true, false, map, refl}
+use Rattle.std.specs.Fmt.{digits}
+use Rattle.std.specs.Prelude.{codes, Option, None, Some, Result, Ok, Err}
+use Rattle.ipnetwork_addr.specs.Computed.Ipv6Text.{v6_of, gap_below}
+use Rattle.ipnetwork_addr.specs.declared.ip.IpAddr.TheVariants.{V4, V6}
+use Rattle.ipnetwork.specs.declared.ip_network.IpNetwork.TheVariants as networks
+use Rattle.lists.specs.Entries.{ReadsEntry}
+use Rattle.lists.specs.Lists.{Names}
+use Rattle.lists.specs.declared.entry.Entry.{Entry}
+use Rattle.lists.specs.declared.entry.Entry.TheVariants.{Network, Range}
+use Rattle.lists.specs.declared.entry.EntryFault.{EntryFault}
+use Rattle.lists.specs.declared.entry.EntryFault.TheVariants as causes
+use Rattle.lists.specs.declared.fault.LineFault.TheVariants as faults
+use Rattle.cidr_merge.specs.Finds.{has}
+use Rattle.cidr_merge.specs.Laws.{EntriesHaveWhatTheyName, LinesAreReadAsComputed}
+use Rattle.cidr_merge.specs.NumberedLines.{NumberedLine, is_range, numbered_lines, said_by}
+
+abbrev line : ℕ → ℕ → List ℕ → NumberedLine
+line list number text = record { list = list; number = number; text = text }
+
+-- each list begins at 1 again, one without lines too has its number, and the last line needs no end
+pub lines_of_three_lists :
+    numbered_lines 0 (codes "a\n\nb" ∷ [] ∷ codes "c\r\n" ∷ [])
+    ≡ line 0 1 (codes "a") ∷ line 0 2 [] ∷ line 0 3 (codes "b") ∷ line 2 1 (codes "c") ∷ []
+lines_of_three_lists = refl
+
+-- a network with its host bits, a range, nothing, and a refused line of each kind
+pub what_lines_say :
+    map said_by (codes "10.0.0.1/8 # x" ∷ codes "10.0.0.1 - 10.0.0.9" ∷ codes " ; y" ∷ [])
+    ≡ Ok (Some (Network (networks.V4 (record { address = 0x0a000001; prefix = 8 }))))
+    ∷ Ok (Some (Range (V4 0x0a000001) (V4 0x0a000009))) ∷ Ok None ∷ []
+unfolding digits v6_of gap_below
+what_lines_say = refl
+
+pub why_lines_are_refused :
+    map said_by (codes "10.0.0.0/8/9" ∷ codes "10.0.0/8" ∷ codes "10.0.0.0/33" ∷ [])
+    ≡ Err (faults.Entry causes.Format) ∷ Err (faults.Entry causes.Address)
+    ∷ Err (faults.Entry causes.Prefix) ∷ []
+unfolding digits v6_of gap_below
+why_lines_are_refused = refl
+
+pub why_ranges_are_refused :
+    map said_by (codes "10.0.0.9-10.0.0.1" ∷ codes "10.0.0.1-::1" ∷ codes "10.0.0.1-" ∷ [])
+    ≡ Err (faults.Entry causes.Range) ∷ Err (faults.Entry causes.Range)
+    ∷ Err (faults.Entry causes.Address) ∷ []
+unfolding digits v6_of gap_below
+why_ranges_are_refused = refl
+
+-- a range may have one address, and is none across families or backwards
+pub ranges_of_addresses :
+    (is_range (V4 5) (V4 5) ≡ true) × (is_range (V4 5) (V4 4) ≡ false)
+    × (is_range (V4 0) (V6 0) ≡ false) × (is_range (V6 0) (V4 0) ≡ false)
+    × (is_range (V6 0) (V6 1) ≡ true)
+ranges_of_addresses = (refl, refl, refl, refl, refl)
+
+-- a range has both its ends, and not the address behind it, and that number of the other family is
+-- none of its addresses
+pub what_entries_have :
+    map (has (Range (V4 5) (V4 7))) (V4 4 ∷ V4 5 ∷ V4 7 ∷ V4 8 ∷ V6 6 ∷ [])
+    ≡ false ∷ true ∷ true ∷ false ∷ false ∷ []
+what_entries_have = refl
+
+-- ---- what the laws say, at lines that no shorter statement would reach
+
+pub a_backward_range_is_no_entry : LinesAreReadAsComputed → (entry : Entry)
+    → ReadsEntry (codes "::2 - ::1") (Ok (Some entry)) → ⊥
+unfolding digits v6_of gap_below
+a_backward_range_is_no_entry law entry h =
+    let e : ◌≡◌ {A = Result (Option Entry) EntryFault} (Ok (Some entry)) (Err causes.Range) =
+    law (codes "::2 - ::1") (Ok (Some entry)) h in none entry e where
+      none : (entry : Entry)
+          → ◌≡◌ {A = Result (Option Entry) EntryFault} (Ok (Some entry)) (Err causes.Range) → ⊥
+      none entry e = cc
+
+pub a_prefix_length_is_the_cause : LinesAreReadAsComputed → (fault : EntryFault)
+    → ReadsEntry (codes "::/129") (Err fault) → fault ≡ causes.Prefix
+unfolding digits v6_of gap_below
+a_prefix_length_is_the_cause law fault h = cause fault (law (codes "::/129") (Err fault) h) where
+  cause : (fault : EntryFault)
+      → ◌≡◌ {A = Result (Option Entry) EntryFault} (Err fault) (Err causes.Prefix)
+      → fault ≡ causes.Prefix
+  cause fault e = cc
+
+pub the_last_address_is_named : EntriesHaveWhatTheyName
+    → Names (Range (V4 0) (V4 0xffffffff)) (V4 0xffffffff)
+the_last_address_is_named law = (law (Range (V4 0) (V4 0xffffffff)) (V4 0xffffffff)).0 refl
+
+pub the_other_family_is_not : EntriesHaveWhatTheyName → ¬ (Names (Range (V6 0) (V6 9)) (V4 5))
+the_other_family_is_not law h = let e = (law (Range (V6 0) (V6 9)) (V4 5)).1 h in cc

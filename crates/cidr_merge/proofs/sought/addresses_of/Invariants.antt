@@ -1,6 +1,0 @@
-use Rattle.std.proofs.Common.{take}
-use Rattle.cidr_merge.specs.FindWords.{AreAddresses}
-use Rattle.cidr_merge.proofs.sought.addresses_of.Given as goal
-
-abbrev pub invariant-loop-place : goal.invariant-loop-place
-invariant-loop-place l = AreAddresses (take l.place l.words) l.addresses.items

@@ -1,0 +1,23 @@
+-- The lines of lists that are to come, as the code holds them.
+use Rattle.std.specs.Prelude.{ℕ, ◌+◌, List, ◌++◌, map}
+use Rattle.std.specs.Str.Lines.{lines}
+use Rattle.ipnetwork_addr.specs.declared.ip.IpAddr.{IpAddr}
+use Rattle.cidr_merge.specs.NumberedLines.{NumberedLine, lines_from, numbered_lines}
+use Rattle.cidr_merge.specs.declared.numbered_lines.Line.{Line}
+use Rattle.cidr_merge.specs.declared.numbered_lines.NumberedLines.{NumberedLines}
+use Rattle.cidr_merge.specs.declared.query.Query.{Query}
+use Rattle.cidr_merge.specs.FindWords.{with_addresses}
+
+-- a line
+abbrev pub as_numbered : Line → NumberedLine
+as_numbered line = record { list = line.list; number = line.number; text = line.text.now }
+
+-- those of the list that is begun, and of those that are not
+abbrev pub lines_left : NumberedLines → List NumberedLine
+lines_left left =
+    lines_from left.list (1 + left.number) (lines left.lines.text.now)
+    ++ numbered_lines left.next (map (λ text. text.items) left.texts.now)
+
+-- the texts and the addresses that are sought
+abbrev pub sought_in : Query → List (List ℕ × IpAddr)
+sought_in sought = with_addresses sought.words.now sought.addresses.now

@@ -1,0 +1,14 @@
+//! What a run is given.
+
+use std::alloc::Global;
+
+/// What a run is given, but for what it writes to.
+#[derive(Drop)]
+pub(crate) struct Context<'a, L> {
+    /// Where it allocates.
+    pub alloc: Global,
+    /// The words after the program's name.
+    pub words: &'a [String],
+    /// The lists that it can open.
+    pub lists: &'a L,
+}

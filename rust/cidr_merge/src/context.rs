@@ -1,0 +1,16 @@
+// Written by scripts/plain out of crates/cidr_merge/src/context.rt
+
+//! What a run is given.
+
+use fosibegan::plain_std::string::String;
+use fosibegan::plain_std::alloc::Global;
+
+/// What a run is given, but for what it writes to.
+pub(crate) struct Context<'a, L> {
+    /// Where it allocates.
+    pub alloc: Global,
+    /// The words after the program's name.
+    pub words: &'a [String],
+    /// The lists that it can open.
+    pub lists: &'a L,
+}

@@ -1,0 +1,43 @@
+// Written by scripts/plain out of crates/cidr_merge/src/query.rt
+
+//! The addresses that are sought in lists.
+
+use fosibegan::plain_std::vec::Vec;
+use fosibegan::plain_std::string::String;
+use fosibegan::ipnetwork::IpAddr;
+use fosibegan::plain_std::alloc::Global;
+
+/// Addresses, and the words that name them, in the same order.
+pub(crate) struct Query<'a> {
+    /// The words.
+    pub words: &'a [String],
+    /// The address that each of them names.
+    pub addresses: &'a [IpAddr],
+}
+
+/// Why words are not taken as addresses.
+#[derive(Clone, Copy, Debug, PartialEq, Eq)]
+pub(crate) enum QueryFault {
+    /// The word at this index is not an address.
+    NotAnAddress(usize),
+    /// Out of memory.
+    OutOfMemory,
+}
+
+/// The addresses that these words name, of which the first is the word at the index `first`.
+pub(crate) fn addresses_of(
+    alloc: Global,
+    words: &[String],
+    first: usize,
+) -> Result<Vec<IpAddr>, QueryFault> {
+    let mut addresses = Vec::new(alloc);
+    for place in 0..words.len() {
+        let Ok(address) = IpAddr::read_bytes(words[place].as_bytes()) else {
+            return Err(QueryFault::NotAnAddress(first + place));
+        };
+        let Ok(_) = addresses.push(address) else {
+            return Err(QueryFault::OutOfMemory);
+        };
+    }
+    Ok(addresses)
+}
