@@ -55,7 +55,7 @@ problem_text operation problems.NotAForm =
     codes "not a form; the forms are plain, range, netmask, wildcard, csv, nft, ipset, json and addresses"
 problem_text operation problems.RangesAndCount = codes "not together with --count"
 problem_text operation problems.AnotherForm =
-    codes "context twice, or together with --ranges or --count"
+    codes "given twice, or together with --ranges or --count"
 problem_text operation problems.FormOfDiffer = codes "differ can be printed only as plain or range"
 problem_text operation problems.EmptyName = codes "not the name of a file"
 problem_text operation problems.OptionAmongLists = among_lists_text operation

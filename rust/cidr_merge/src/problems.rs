@@ -72,7 +72,7 @@ impl Problem {
                  and addresses"
             }
             Problem::RangesAndCount => "not together with --count",
-            Problem::AnotherForm => "context twice, or together with --ranges or --count",
+            Problem::AnotherForm => "given twice, or together with --ranges or --count",
             Problem::StrictAlone => "only together with --json",
             Problem::FormOfDiffer => "differ can be printed only as plain or range",
             Problem::EmptyName => "not the name of a file",
