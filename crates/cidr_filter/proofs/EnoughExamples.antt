@@ -1,6 +1,6 @@
 -- Runs whose answer is known at the first selected line, of one log or of all.
 use Rattle.std.proofs.Common.{◌≡◌, ℕ, List, [], ◌∷◌, true, false, inl, inr, refl, true≢false}
-use Rattle.std.specs.Prelude.{codes, Some, None}
+use Rattle.std.specs.Prelude.{codes, map, Some, None}
 use Rattle.lists.specs.KnownLists.{KnownLists}
 use Rattle.program.specs.Endings.{Ending, HasTold, HasWritten}
 use Rattle.program.specs.Logs.{IsFirstOf}
@@ -11,42 +11,30 @@ use Rattle.cidr_filter.specs.declared.filter.Filter.{Filter}
 use Rattle.cidr_filter.specs.declared.filter.Shown.TheVariants as shows
 use Rattle.cidr_filter.specs.declared.filter.Verdict.TheVariants as verdicts
 use Rattle.cidr_filter.specs.declared.filter.WithoutAddress.TheVariants as without
-use Rattle.cidr_filter.specs.declared.options.Letters.{Letters}
+use Rattle.options.specs.declared.items.Item.{Item}
+use Rattle.options.specs.declared.items.Item.TheVariants as says
 use Rattle.cidr_filter.proofs.Examples.{ended, by}
-use Rattle.cidr_filter.proofs.OptionExamples.{letters}
 use Rattle.cidr_filter.proofs.Enough.{is_none}
 use Rattle.cidr_filter.proofs.RunExamples.{nothing_written}
 
 -- ---- what is asked
 
-abbrev asks_names : Letters
-asks_names = record (letters false true false false) { only = true; names = true }
+-- `-c`, `-o` and `-l`, and with `-q` too
+abbrev asks_names : List Item
+asks_names = says.Flag 14 ∷ says.Flag 15 ∷ says.Flag 19 ∷ []
 
-abbrev asks_nothing : Letters
-asks_nothing = record asks_names { quiet = true }
+abbrev asks_nothing : List Item
+asks_nothing = says.Flag 20 ∷ asks_names
 
 -- of `-q`, `-l`, `-c` and `-o` the first counts
-pub quiet_before_all : shows_of asks_nothing ≡ shows.Nothing
-quiet_before_all = refl
-
-pub names_before_a_count : shows_of asks_names ≡ shows.Names
-names_before_a_count = refl
-
-pub count_before_addresses : shows_of (record (letters false true false false) { only = true }) ≡ shows.Count
-count_before_addresses = refl
+pub what_is_printed : map shows_of (asks_nothing ∷ asks_names ∷ (says.Flag 15 ∷ says.Flag 14 ∷ []) ∷ (says.Flag 15 ∷ []) ∷ [] ∷ [])
+    ≡ shows.Nothing ∷ shows.Names ∷ shows.Count ∷ shows.Addresses ∷ shows.Lines ∷ []
+what_is_printed = refl
 
 -- one line is selected at the most, or none
-pub one_of_any : most_of asks_names None ≡ Some 1
-one_of_any = refl
-
-pub one_of_five : most_of asks_nothing (Some 5) ≡ Some 1
-one_of_five = refl
-
-pub none_of_none : most_of asks_names (Some 0) ≡ Some 0
-none_of_none = refl
-
-pub five_without_them : most_of (letters false true false false) (Some 5) ≡ Some 5
-five_without_them = refl
+pub how_many : map most_of (asks_names ∷ (says.Value 10 (codes "5") ∷ asks_nothing) ∷ (says.Value 10 (codes "0") ∷ asks_names) ∷ (says.Value 10 (codes "5") ∷ []) ∷ [])
+    ≡ Some 1 ∷ Some 1 ∷ Some 0 ∷ Some 5 ∷ []
+how_many = refl
 
 pub named_without_another_option : is_named asks_names ≡ true
 named_without_another_option = refl

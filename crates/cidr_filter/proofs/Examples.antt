@@ -17,9 +17,9 @@ use Rattle.program.specs.LogLines.{LogLine, log_lines, ended_lines, content, pri
 use Rattle.cidr_filter.specs.Listed.{IsStored, IsLongestBlock}
 use Rattle.program.specs.LogFaults.{log_fault_text}
 use Rattle.cidr_filter.specs.Logs.{label_of}
-use Rattle.cidr_filter.specs.Options.{no_options}
 use Rattle.cidr_filter.specs.Addressed.{closed_text, lacking_by}
-use Rattle.cidr_filter.specs.Runs.{status_by, place_of}
+use Rattle.cidr_filter.specs.Runs.{status_by}
+use Rattle.options.specs.declared.items.Item.TheVariants as says
 use Rattle.lists.specs.declared.refusals.Refusal.{Refusal}
 use Rattle.program.specs.Told.{refusals_text}
 use Rattle.cidr_filter.specs.Told.{in_option}
@@ -37,11 +37,6 @@ use Rattle.cidr_filter.specs.declared.listed.Sets.{Sets}
 use Rattle.cidr_filter.specs.declared.listed.Tables.{Tables}
 use Rattle.program.specs.declared.log_fault.LogFault.TheVariants as faults
 use Rattle.lists.specs.declared.opening.OpenFault.TheVariants as causes
-use Rattle.cidr_filter.specs.declared.options.Choice.TheVariants as choices
-use Rattle.cidr_filter.proofs.OptionExamples.{letters}
-use Rattle.log_programs.specs.CommandLines.{said_by}
-use Rattle.log_programs.specs.declared.shared.Shared.TheVariants as common
-use Rattle.cidr_filter.specs.CommandLines.{filter_options}
 
 -- ---- fields, cut at each comma (44) or blank (32)
 
@@ -146,23 +141,6 @@ pub second_address_inside : ¬ (IsListed (looking places.Anywhere false) (addres
 unfolding address_in before_port address_of digits v6_of gap_below
 second_address_inside not listed = (omega arith, inr (not, inl (listed, refl)))
 
--- without options the first field is looked at, at single spaces
-pub place_without_options : place_of {Z = Unit {0}} [] no_options ≡ places.Field 1 32
-place_without_options = refl
-
-pub place_of_words : place_of {Z = Unit {0}} [] (said_by filter_options (choices.Letters (letters false false false true) ∷ choices.Shared (common.Field 3) ∷ [])) ≡ places.Word 3
-place_of_words = refl
-
-pub place_anywhere : place_of {Z = Unit {0}} [] (said_by filter_options (choices.Letters (letters false false true false) ∷ [])) ≡ places.Anywhere
-place_anywhere = refl
-
-pub place_after : {Z : Type 0} (name text log : String Z) → string_bytes name ≡ codes "--after" → string_bytes text ≡ codes "SRC="
-    → place_of (name ∷ text ∷ log ∷ []) (record (said_by filter_options (choices.Shared common.After ∷ [])) { files = 2 }) ≡ places.After (codes "SRC=")
-place_after name text log n t = rw (n, t)
-
-pub place_of_both : place_of {Z = Unit {0}} [] (said_by filter_options (choices.Shared (common.Field 3) ∷ choices.Shared (common.Separator 44) ∷ [])) ≡ places.Field 3 44
-place_of_both = refl
-
 -- 1,048,576 bytes are judged, and a byte more is too long
 pub longest_line : (line : List ℕ) → length line ≡ 1048576 → IsVerdict (by false without.Drop) line verdicts.TooLong → ⊥
 longest_line line e long = omega (arith, e, long)
@@ -258,21 +236,19 @@ no_addresses_counted = refl
 
 -- ---- what is told
 
-pub a_refused_line : {Z : Type 0} (file list text value : String Z) → string_bytes file ≡ codes "-f"
-    → in_option (file ∷ list ∷ text ∷ value ∷ []) (record { list = 1; line = 7; fault = Entry Prefix }) ≡ (1, 7)
-a_refused_line file list text value f = rw f
+pub a_refused_line : in_option (says.Value 6 (codes "list") ∷ says.Value 9 (codes "text") ∷ []) (record { list = 0; line = 7; fault = Entry Prefix }) ≡ (0, 7)
+a_refused_line = refl
 
-pub the_second_text : {Z : Type 0} (text one file list again two : String Z) → string_bytes text ≡ codes "-e"
-    → string_bytes file ≡ codes "-f" → string_bytes list ≡ codes "-e" → string_bytes again ≡ codes "-e"
-    → in_option (text ∷ one ∷ file ∷ list ∷ again ∷ two ∷ []) (record { list = 5; line = 1; fault = Entry Prefix }) ≡ (4, 2)
-the_second_text text one file list again two t f l a = rw (t, f, a)
+-- a list whose name is that of the option is none
+pub the_second_text : in_option (says.Value 9 (codes "x") ∷ says.Value 6 (codes "-e") ∷ says.Value 9 (codes "y") ∷ []) (record { list = 2; line = 1; fault = Entry Prefix }) ≡ (2, 2)
+the_second_text = refl
 
-pub what_is_told_of_it : {Z : Type 0} (text one file list again two : String Z) (place : Refusal → ℕ × ℕ) → string_bytes again ≡ codes "-e"
-    → place (record { list = 5; line = 1; fault = Entry Prefix }) ≡ (4, 2)
-    → refusals_text (text ∷ one ∷ file ∷ list ∷ again ∷ two ∷ []) place (record { kept = record { list = 5; line = 1; fault = Entry Prefix } ∷ []; more = 2 })
+pub what_is_told_of_it : {Z : Type 0} (one two again : String Z) (place : Refusal → ℕ × ℕ) → string_bytes again ≡ codes "-e"
+    → place (record { list = 2; line = 1; fault = Entry Prefix }) ≡ (2, 2)
+    → refusals_text (one ∷ two ∷ again ∷ []) place (record { kept = record { list = 2; line = 1; fault = Entry Prefix } ∷ []; more = 2 })
     ≡ codes "-e:2: refused prefix\n2 more refused lines\n"
 unfolding digits
-what_is_told_of_it text one file list again two place a e = rw (e, a)
+what_is_told_of_it one two again place a e = rw (e, a)
 
 pub a_line_that_ends_the_run : log_fault_text (codes "log") 3 faults.Address ≡ codes "log:4: refused address\n"
 unfolding digits

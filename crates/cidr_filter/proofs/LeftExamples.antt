@@ -1,45 +1,17 @@
 -- Logs that are left at the last line that may be selected.
-use Rattle.std.proofs.Common.{◌≡◌, ℕ, List, [], ◌∷◌, true, false, refl, inl, inr, arith}
+use Rattle.std.proofs.Common.{◌≡◌, ℕ, List, [], ◌∷◌, true, false, refl, ap, inl, inr, arith}
 use Rattle.std.proofs.lemmas.Option.{none-some}
-use Rattle.std.specs.Prelude.{codes, Some, None}
+use Rattle.std.specs.Prelude.{codes, Option, Some, None, unwrap_or}
 use Rattle.lists.specs.KnownLists.{KnownLists}
 use Rattle.program.specs.LogLines.{LogLine}
 use Rattle.program.specs.Logs.{IsFirstOf}
 use Rattle.cidr_filter.specs.Filters.{IsVerdict, is_below, AreAll}
-use Rattle.log_programs.specs.Joined.{words_in}
 use Rattle.cidr_filter.specs.Logs.{LeavesLog, is_short}
-use Rattle.cidr_filter.specs.Options.{syntax_of_options, most_option, in_one_word}
 use Rattle.cidr_filter.specs.declared.filter.Filter.{Filter}
 use Rattle.cidr_filter.specs.declared.filter.Verdict.TheVariants as verdicts
 use Rattle.cidr_filter.specs.declared.filter.WithoutAddress.TheVariants as without
-use Rattle.cidr_filter.specs.declared.options.Choice.TheVariants as choices
 use Rattle.program.specs.declared.log_fault.LogFault.TheVariants as faults
 use Rattle.cidr_filter.proofs.Examples.{ended, by}
-use Rattle.log_programs.proofs.Requests.{same_value}
-
--- ---- the number of lines
-
-pub any_number : most_option (codes "12") ≡ Some (choices.Most 12)
-any_number = refl
-
-pub no_line : most_option (codes "0") ≡ Some (choices.Most 0)
-no_line = refl
-
--- a number that 64 bits do not hold counts as the greatest that they do
-pub past_64_bits : most_option (codes "18446744073709551616") ≡ Some (choices.Most 18446744073709551615)
-past_64_bits = refl
-
-pub no_signed_number : most_option (codes "-1") ≡ None
-no_signed_number = refl
-
-pub no_number_of_lines : most_option [] ≡ None
-no_number_of_lines = refl
-
-pub number_in_one_word : in_one_word (codes "-m7") ≡ Some (choices.Most 7)
-number_in_one_word = refl
-
-pub number_behind_letters : words_in syntax_of_options (codes "-cm7") ≡ codes "-c" ∷ codes "-m" ∷ codes "7" ∷ []
-number_behind_letters = refl
 
 -- ---- how many may be selected
 
@@ -97,7 +69,7 @@ module _ (known : KnownLists) (inside : IsVerdict up_to_two (codes "10.0.0.1") (
 
 -- and not at its first
 pub not_at_the_first : (ends : Type 0) (lines : List LogLine) → AreAll up_to_two ends lines 1 → ⊥
-not_at_the_first ends lines all = let same = same_value 2 1 all.most in omega (arith, same)
+not_at_the_first ends lines all = let same = ap (λ (o : Option ℕ). unwrap_or o 0) all.most in omega (arith, same)
 
 -- without the option no log is left
 pub never_left : (ends : Type 0) (lines : List LogLine) (count : ℕ) → AreAll (by false without.Drop) ends lines count → ⊥

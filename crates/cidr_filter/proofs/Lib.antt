@@ -4,10 +4,8 @@ pub mod Copying
 pub mod Enough
 pub mod EnoughExamples
 pub mod Examples
-pub mod Faults
 pub mod Filtering
 pub mod Heads
-pub mod JoinedLetters
 pub mod Judging
 pub mod LawExamples
 pub mod Left

@@ -1,8 +1,7 @@
 -- Runs at which a misreading of the definitions would show.
 use Rattle.std.proofs.Common.{◌≡◌, ℕ, List, [], ◌∷◌, true, false, inl, inr, refl, drop, append-nil, sym, ◌∙◌, ◌⊎◌, true≢false, arith}
-use Rattle.std.specs.Prelude.{codes, String, Some, None}
+use Rattle.std.specs.Prelude.{codes, Some, None}
 use Rattle.std.specs.Fmt.{digits}
-use Rattle.std.specs.String.{string_bytes}
 use Rattle.std.specs.Str.Lines.{lines}
 use Rattle.ipnetwork_addr.specs.Computed.Ipv6Text.{v6_of, gap_below}
 use Rattle.line_addresses.specs.Addresses.{address_of}
@@ -11,21 +10,21 @@ use Rattle.lists.specs.KnownLists.{KnownLists}
 use Rattle.program.specs.Told.{was_refused}
 use Rattle.cidr_filter.specs.Filters.{IsVerdict, is_count}
 use Rattle.program.specs.LogFaults.{log_fault_text, Wrote}
-use Rattle.program.specs.Logs.{logs_of, HaltsBy, IsAllOf, IsFirstOf}
+use Rattle.program.specs.Logs.{HaltsBy, IsAllOf, IsFirstOf}
 use Rattle.cidr_filter.specs.Logs.{EndsRunBy, FiltersLogs, GoesOn, LeavesLog, ReadsLog, is_enough, is_short}
-use Rattle.cidr_filter.specs.Reading.{ReadsOptions, HoldsRead}
+use Rattle.cidr_filter.specs.Reading.{ReadsItems, HoldsRead}
+use Rattle.options.specs.Given.{is_given, inputs_of}
+use Rattle.options.specs.declared.items.Item.{Item}
+use Rattle.options.specs.declared.items.Item.TheVariants as says
 use Rattle.program.specs.Endings.{Ending, Refuses, HasTold, HasWritten}
 use Rattle.cidr_filter.specs.Runs.{total_text, EndsLogs, EndsFiltering, filter_of, status_by}
 use Rattle.cidr_filter.specs.declared.filter.Filter.{Filter}
 use Rattle.cidr_filter.specs.declared.filter.WithoutAddress.TheVariants as without
 use Rattle.cidr_filter.specs.declared.filter.Verdict.TheVariants as verdicts
-use Rattle.cidr_filter.specs.declared.command_line.Request.{Request}
 use Rattle.cidr_filter.specs.declared.listed.Listed.{Listed}
 use Rattle.program.specs.declared.log_fault.LogFault.{LogFault}
 use Rattle.program.specs.declared.log_fault.LogFault.TheVariants as faults
 use Rattle.lists.specs.declared.opening.OpenFault.TheVariants as causes
-use Rattle.log_programs.specs.declared.shared.Shared.TheVariants as common
-use Rattle.cidr_filter.specs.declared.options.Choice.TheVariants as choices
 use Rattle.cidr_filter.proofs.Examples.{ended, by, counting}
 
 -- ---- how a run ends
@@ -47,17 +46,11 @@ pub no_number : total_text false 12 ≡ []
 no_number = refl
 
 -- without a refused line a run is not silent: there is no memory, or the logs are filtered
-pub not_silent : {Z W E : Type 0} (known : KnownLists) (words : List (String Z)) (request : Request) (read : ReadLists) (end : Ending W E) → was_refused read.refused ≡ false → EndsFiltering known words request read end
+pub not_silent : {W E : Type 0} (known : KnownLists) (items : List Item) (read : ReadLists) (end : Ending W E) → was_refused read.refused ≡ false → EndsFiltering known items read end
     → Refuses (codes "out of memory\n") end
-    ⊎ ((listed : Listed) × HoldsRead request.longest read listed × EndsLogs (filter_of words request listed) known (logs_of (drop request.files words)) end)
-not_silent known words request read end none (inl ends) = absurd (true≢false (sym ends.0 ∙ none))
-not_silent known words request read end none (inr ends) = ends.1
-
-pub standard_input : (Z : Type 0) → logs_of {Z = Z} [] ≡ codes "-" ∷ []
-standard_input Z = refl
-
-pub files_in_their_order : {Z : Type 0} (one two : String Z) → logs_of (one ∷ two ∷ []) ≡ string_bytes one ∷ string_bytes two ∷ []
-files_in_their_order one two = refl
+    ⊎ ((listed : Listed) × HoldsRead (is_given items 11) read listed × EndsLogs (filter_of items listed) known (inputs_of items) end)
+not_silent known items read end none (inl ends) = absurd (true≢false (sym ends.0 ∙ none))
+not_silent known items read end none (inr ends) = ends.1
 
 -- nothing was written of the first log, and nothing more comes of those behind it
 pub nothing_written : {W E : Type 0} (filter : Filter) (known : KnownLists) (name : List ℕ) (names : List (List ℕ)) (text : List ℕ) (selected : ℕ) (end : Ending W E)
@@ -72,12 +65,12 @@ nothing_written filter known name names text selected end one goes written told 
   ends = inl (written, told, status);
 })
 
--- a list, and then an `-e`: each is taken at the place of its value
-pub lists_in_their_order : {Z : Type 0} (known : KnownLists) (file list text value : String Z) (before mid after : ReadLists) → string_bytes list ≡ codes "a" → string_bytes value ≡ codes "x"
-    → known.may_open (codes "a") true → ((input : List ℕ) → known.bytes_of (codes "a") ≡ Some input → TakesLines (at_list before 1) (lines input) mid)
-    → TakesLines (at_list mid 3) (lines (codes "x")) after → string_bytes file ≡ codes "-f" → string_bytes text ≡ codes "-e"
-    → ReadsOptions known (file ∷ list ∷ text ∷ value ∷ []) (file ∷ list ∷ text ∷ value ∷ []) (choices.Shared common.File ∷ choices.Text ∷ []) before after
-lists_in_their_order known file list text value before mid after l v opened first second f t = rw (f, l, v) (mid, (opened, first), (after, second, refl))
+-- a list, and then an `-e`
+pub lists_in_their_order : (known : KnownLists) (before mid after : ReadLists)
+    → known.may_open (codes "a") true → ((input : List ℕ) → known.bytes_of (codes "a") ≡ Some input → TakesLines (at_list before 0) (lines input) mid)
+    → TakesLines (at_list mid 2) (lines (codes "x")) after
+    → ReadsItems known 0 (says.Value 6 (codes "a") ∷ says.Flag 13 ∷ says.Joined 9 (codes "x") (codes "-ex") ∷ says.File (codes "log") ∷ []) before after
+lists_in_their_order known before mid after opened first second = (mid, (opened, first), (mid, refl, (after, second, (after, refl, refl))))
 
 module _ (known : KnownLists) (inside : IsVerdict (by false without.Stop) (codes "10.0.0.1") (verdicts.Inside None)) (outside : IsVerdict (by false without.Stop) (codes "11.0.0.1") verdicts.Outside)
     (bad : IsVerdict (by false without.Stop) (codes "bad") verdicts.NoAddress) where

@@ -18,15 +18,17 @@ use Rattle.cidr_filter.specs.Logs.{is_enough, EndsRunBy, is_short, filter_for}
 use Rattle.program.specs.Counts.{Counts}
 use Rattle.program.specs.LogFaults.{log_fault_text, IfWrite, Wrote, HandsOn, StopsBy}
 use Rattle.program.specs.Logs.{logs_of, HaltsBy}
-use Rattle.cidr_filter.specs.Reading.{Stops, HoldsRead}
-use Rattle.cidr_filter.specs.Runs.{StopsAtLog, total_text, status_by, EndsWith, FiltersAll, EndsLogs, filter_of, EndsRequest}
+use Rattle.cidr_filter.specs.Reading.{StopsAtItems, HoldsRead}
+use Rattle.cidr_filter.specs.Options as own
+use Rattle.cidr_filter.specs.Runs.{StopsAtLog, total_text, status_by, EndsWith, FiltersAll, EndsLogs, filter_of, EndsReading}
 use Rattle.cidr_filter.specs.Stands.{Stand, stand}
 use Rattle.cidr_filter.specs.Stops.{FiltersLines, WritesBeginning}
 use Rattle.program.specs.Told.{was_refused, fault_text, refusals_text}
 use Rattle.cidr_filter.specs.Told.{in_option}
 use Rattle.cidr_filter.specs.Private.Reading.{ReadsAll}
 use Rattle.cidr_filter.specs.Private.Runs.{FiltersNames}
-use Rattle.cidr_filter.specs.declared.command_line.Request.{Request}
+use Rattle.options.specs.Given.{is_given, inputs_of}
+use Rattle.options.specs.declared.items.Item.{Item}
 use Rattle.cidr_filter.specs.declared.filter.Filter.{Filter}
 use Rattle.cidr_filter.specs.declared.listed.Listed.{Listed}
 use Rattle.program.specs.declared.log_fault.LogFault.{LogFault}
@@ -261,20 +263,20 @@ nothing_told counts number e = ap (λ b. if b then decimal (min number (2 ^ 64 -
 
 -- ---- the run
 
-module _ {Z W E : Type 0} (known : KnownLists) (words : List (String Z)) (request : Request) (refused : Refused) (end : Ending W E) (told : Written E)
-    (tells : Tells end.errors told (refusals_text words (in_option words) refused)) where
+module _ {Z W E : Type 0} (known : KnownLists) (items : List Item) (names : List (String Z)) (refused : Refused) (end : Ending W E) (told : Written E)
+    (tells : Tells end.errors told (refusals_text names (in_option items) refused)) where
   -- the reading stopped
-  pub reading_stopped : {T : Type 0} (result : Result T ReadFault) (fault : ReadFault) → result ≡ Err fault → IfErr result (λ f. Stops known words (nothing_read no_refusals) f refused)
-      → Refuses (fault_text words fault) (record end { errors = told }) → EndsRequest known words request end
+  pub reading_stopped : {T : Type 0} (result : Result T ReadFault) (fault : ReadFault) → result ≡ Err fault → IfErr result (λ f. StopsAtItems known 0 items (nothing_read no_refusals) f refused)
+      → Refuses (fault_text names fault) (record end { errors = told }) → EndsReading known items names end
   reading_stopped {T} result fault is stops h =
-      (refused, told, tells, inl (fault, subst (λ (r : Result T ReadFault). IfErr r (λ f. Stops known words (nothing_read no_refusals) f refused)) is stops, h))
+      (refused, told, tells, inl (fault, subst (λ (r : Result T ReadFault). IfErr r (λ f. StopsAtItems known 0 items (nothing_read no_refusals) f refused)) is stops, h))
 
-  module _ {T F X : Type 0} (result : Result T F) (done : T) (listed : Result Listed X) (is : result ≡ Ok done) (all : OnOk result (ReadsAll known words request.longest listed refused)) where
-    was_read : ReadsAll known words request.longest listed refused
-    was_read = subst (λ (r : Result T F). OnOk r (ReadsAll known words request.longest listed refused)) is all
+  module _ {T F X : Type 0} (result : Result T F) (done : T) (listed : Result Listed X) (is : result ≡ Ok done) (all : OnOk result (ReadsAll known items (is_given items own.longest) listed refused)) where
+    was_read : ReadsAll known items (is_given items own.longest) listed refused
+    was_read = subst (λ (r : Result T F). OnOk r (ReadsAll known items (is_given items own.longest) listed refused)) is all
 
     -- a line was refused
-    pub line_refused : (is_empty : Bool) → is_empty ≡ (length refused.kept == 0) → is_empty ≡ false → Refuses [] (record end { errors = told }) → EndsRequest known words request end
+    pub line_refused : (is_empty : Bool) → is_empty ≡ (length refused.kept == 0) → is_empty ≡ false → Refuses [] (record end { errors = told }) → EndsReading known items names end
     line_refused is_empty e some h = (
       refused,
       told,
@@ -284,8 +286,8 @@ module _ {Z W E : Type 0} (known : KnownLists) (words : List (String Z)) (reques
 
     module _ (is_empty : Bool) (e : is_empty ≡ (length refused.kept == 0)) (none : is_empty ≡ true) where
       -- none was, and the filtering ended so
-      goes_on : Refuses (codes "out of memory\n") (record end { errors = told }) ⊎ ((held : Listed) × HoldsRead request.longest was_read.read held
-          × EndsLogs (filter_of words request held) known (logs_of (drop request.files words)) (record end { errors = told })) → EndsRequest known words request end
+      goes_on : Refuses (codes "out of memory\n") (record end { errors = told }) ⊎ ((held : Listed) × HoldsRead (is_given items own.longest) was_read.read held
+          × EndsLogs (filter_of items held) known (inputs_of items) (record end { errors = told })) → EndsReading known items names end
       goes_on h = (
         refused,
         told,
@@ -293,12 +295,12 @@ module _ {Z W E : Type 0} (known : KnownLists) (words : List (String Z)) (reques
         inr (was_read.read, was_read.is_read, was_read.refused_lines, inr (ap was_refused was_read.refused_lines ∙ ap not (sym e ∙ none), h)),
       )
 
-      pub memory_ran_out : Refuses (codes "out of memory\n") (record end { errors = told }) → EndsRequest known words request end
+      pub memory_ran_out : Refuses (codes "out of memory\n") (record end { errors = told }) → EndsReading known items names end
       memory_ran_out h = goes_on (inl h)
 
-      pub logs_filtered : (held : Listed) → listed ≡ Ok held → EndsLogs (filter_of words request held) known (logs_of (drop request.files words)) (record end { errors = told })
-          → EndsRequest known words request end
-      logs_filtered held has h = goes_on (inr (held, subst (λ (l : Result Listed X). IfOk l (HoldsRead request.longest was_read.read)) has was_read.holds, h))
+      pub logs_filtered : (held : Listed) → listed ≡ Ok held → EndsLogs (filter_of items held) known (inputs_of items) (record end { errors = told })
+          → EndsReading known items names end
+      logs_filtered held has h = goes_on (inr (held, subst (λ (l : Result Listed X). IfOk l (HoldsRead (is_given items own.longest) was_read.read)) has was_read.holds, h))
 
 -- how all logs ended
 pub all_by : {W E T F : Type 0} (filter : Filter) (known : KnownLists) (names : List (List ℕ)) (missed : Bool)

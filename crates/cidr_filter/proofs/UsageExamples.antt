@@ -1,127 +1,78 @@
 -- Command lines that are refused, at which a misreading of the definitions would show.
-use Rattle.std.proofs.Common.{◌≡◌, List, [], ◌∷◌, map, true, false, inl, inr, refl}
-use Rattle.std.specs.Prelude.{codes, String, Some, None}
-use Rattle.std.specs.String.{string_bytes}
-use Rattle.program.specs.declared.usage.Subject.TheVariants as subjects
-use Rattle.cidr_filter.specs.Usage.{value_problem, word_problem}
-use Rattle.log_programs.specs.declared.shared.Shared.TheVariants as common
-use Rattle.cidr_filter.specs.declared.options.Choice.{Choice}
-use Rattle.cidr_filter.specs.declared.options.Choice.TheVariants as choices
-use Rattle.log_programs.specs.declared.usage.Problem.{Problem}
-use Rattle.log_programs.specs.declared.usage.Problem.TheVariants as problems
-use Rattle.cidr_filter.proofs.OptionExamples.{letters}
-use Rattle.log_programs.specs.CommandLines.{Begin, said_by}
-use Rattle.log_programs.specs.Usage.{HasFault, about, option_fault, rest_fault, together_by, together_problem}
-use Rattle.cidr_filter.specs.CommandLines.{filter_options}
+use Rattle.std.proofs.Common.{◌≡◌, ℕ, List, [], ◌∷◌, map, true, false, refl}
+use Rattle.std.specs.Prelude.{codes, Option, Some, None}
+use Rattle.options.specs.Faults.{about, together, first_fault, fault_by}
+use Rattle.options.specs.Items.{free_items}
+use Rattle.options.specs.Refusing.{refusal_text}
+use Rattle.options.specs.declared.faults.Fault.{Fault}
+use Rattle.options.specs.declared.faults.Subject.TheVariants as subjects
+use Rattle.options.specs.declared.items.Item.{Item}
+use Rattle.options.specs.declared.items.Item.TheVariants as says
+use Rattle.options.proofs.Tables.{pairs_of}
+use Rattle.cidr_filter.specs.Options.{pairs}
+use Rattle.cidr_filter.proofs.OptionExamples.{rows}
+
+abbrev fault : List Item → Option Fault
+fault items = fault_by rows (pairs_of pairs) (6 ∷ 9 ∷ []) (codes "neither -f nor -e is given") items
 
 -- ---- a word by itself
 
-pub words_by_themselves : map word_problem (codes "-k0" ∷ codes "-d--" ∷ codes "--bad=" ∷ codes "--bae=drop" ∷ codes "--help" ∷ codes "--version" ∷ codes "--help=" ∷ codes "-vx" ∷ [])
-    ≡ problems.Field ∷ problems.Separator ∷ problems.WithoutAddress ∷ problems.NoOption ∷ problems.NotAlone ∷ problems.NotAlone ∷ problems.NoOption ∷ problems.NoOption ∷ []
+abbrev word_told : List ℕ → List ℕ → Option Fault
+word_told word problem = Some (about (subjects.Word word) problem)
+
+pub words_by_themselves : map (λ word. first_fault rows false (free_items rows word)) (codes "-k0" ∷ codes "-d--" ∷ codes "-mx" ∷ codes "--bad=" ∷ codes "--bae=drop" ∷ codes "--help=" ∷ codes "-vx" ∷ codes "-k7" ∷ [])
+    ≡ word_told (codes "-k0") (codes "is no field number") ∷ word_told (codes "-d--") (codes "is not one ASCII byte other than LF, CR and NUL")
+    ∷ word_told (codes "-mx") (codes "is no number of lines") ∷ word_told (codes "--bad=") (codes "is not drop, keep or stop") ∷ word_told (codes "--bae=drop") (codes "is no option")
+    ∷ word_told (codes "--help=") (codes "is no option") ∷ word_told (codes "-vx") (codes "is no option") ∷ None ∷ []
 words_by_themselves = refl
 
--- ---- an option and its value
+pub not_the_only_word : first_fault rows false (free_items rows (codes "--help")) ≡ Some (about (subjects.Option 7) (codes "is not the only argument"))
+not_the_only_word = refl
 
-pub values_of_options : map value_problem (codes "-f" ∷ codes "-e" ∷ codes "-k" ∷ codes "-d" ∷ codes "--bad" ∷ codes "--after" ∷ [])
-    ≡ problems.Name ∷ problems.Text ∷ problems.Field ∷ problems.Separator ∷ problems.WithoutAddress ∷ problems.Empty ∷ []
+-- ---- an option and its value, which is the next word, or follows several letters
+
+abbrev value_told : ℕ → List ℕ → List ℕ → Option Fault
+value_told row value problem = Some (about (subjects.Value row value) problem)
+
+pub values_of_options : map (λ item. first_fault rows false (item ∷ [])) (says.Value 6 [] ∷ says.Value 9 [] ∷ says.Value 2 (codes "0") ∷ says.Value 3 (codes "xx") ∷ says.Value 12 (codes "x") ∷ says.Value 4 [] ∷ says.Lacks 2 ∷ says.Value 6 (codes "-v") ∷ [])
+    ≡ value_told 6 [] (codes "is no file name") ∷ value_told 9 [] (codes "is no network or range") ∷ value_told 2 (codes "0") (codes "is no field number")
+    ∷ value_told 3 (codes "xx") (codes "is not one ASCII byte other than LF, CR and NUL") ∷ value_told 12 (codes "x") (codes "is not drop, keep or stop")
+    ∷ value_told 4 [] (codes "is no text") ∷ Some (about (subjects.Option 2) (codes "has no value")) ∷ None ∷ []
 values_of_options = refl
 
-pub option_and_value : {Z : Type 0} (name value : String Z) → string_bytes name ≡ codes "-d" → option_fault filter_options 7 (name ∷ value ∷ []) ≡ about (subjects.Value 7 8) problems.Separator
-option_and_value name value n = rw n
+pub value_behind_letters : first_fault rows false (free_items rows (codes "-vk0")) ≡ value_told 2 (codes "0") (codes "is no field number")
+value_behind_letters = refl
 
-pub option_and_no_value : {Z : Type 0} (name : String Z) → string_bytes name ≡ codes "--bad" → option_fault filter_options 7 (name ∷ []) ≡ about (subjects.Word 7) problems.NoValue
-option_and_no_value name n = rw n
+-- ---- which is told
 
-pub word_and_another : {Z : Type 0} (word other : String Z) → string_bytes word ≡ codes "-k0" → option_fault filter_options 7 (word ∷ other ∷ []) ≡ about (subjects.Word 7) problems.Field
-word_and_another word other w = rw w
+-- of two wrong words the first, of a wrong word and an empty FILE before it the word, and of these and options that do not
+-- go together the FILE
+pub first_of_two_wrong_words : fault (says.Joined 2 (codes "0") (codes "-k0") ∷ says.Unknown (codes "--longer") ∷ []) ≡ word_told (codes "-k0") (codes "is no field number")
+first_of_two_wrong_words = refl
 
--- ---- FILEs
+pub word_behind_an_empty_file : fault (says.File [] ∷ says.Unknown (codes "-x") ∷ []) ≡ word_told (codes "-x") (codes "is no option")
+word_behind_an_empty_file = refl
 
-pub option_after_a_file : {Z : Type 0} (file option empty : String Z) → string_bytes file ≡ codes "a" → string_bytes option ≡ codes "-v" → rest_fault filter_options 3 (file ∷ option ∷ empty ∷ []) ≡ Some (about (subjects.Word 4) problems.AfterFile)
-option_after_a_file file option empty f o = rw (f, o)
+pub empty_file_beside_a_pair : fault (says.Flag 13 ∷ says.Flag 11 ∷ says.File [] ∷ []) ≡ word_told [] (codes "is no file name")
+empty_file_beside_a_pair = refl
 
-pub dashes_after_a_file : {Z : Type 0} (file dashes : String Z) → string_bytes file ≡ codes "-" → string_bytes dashes ≡ codes "--" → rest_fault filter_options 3 (file ∷ dashes ∷ []) ≡ Some (about (subjects.Word 4) problems.AfterFile)
-dashes_after_a_file file dashes f d = rw (f, d)
+-- right words that are wrong together; of two pairs the first is told, and before a missing list
+pub pairs_told : map fault
+    ((says.Flag 11 ∷ says.Flag 13 ∷ []) ∷ (says.Flag 0 ∷ says.Value 2 (codes "1") ∷ []) ∷ (says.Flag 1 ∷ says.Value 3 (codes ",") ∷ []) ∷ (says.Flag 15 ∷ says.Flag 13 ∷ [])
+    ∷ (says.Value 4 (codes "x") ∷ says.Flag 0 ∷ []) ∷ (says.Flag 16 ∷ says.Flag 17 ∷ []) ∷ (says.Flag 15 ∷ says.Flag 13 ∷ says.Flag 11 ∷ []) ∷ [])
+    ≡ map together (codes "--longest goes with neither -v nor -c" ∷ codes "-a goes with none of -k, -d and -w" ∷ codes "-w does not go with -d"
+    ∷ codes "-o goes with neither -v nor --longest" ∷ codes "--after goes with none of -a, -k, -d and -w" ∷ codes "-H goes with neither -c nor -h"
+    ∷ codes "--longest goes with neither -v nor -c" ∷ [])
+pairs_told = refl
 
--- the first of two faults
-pub empty_file_before_an_option : {Z : Type 0} (empty option : String Z) → string_bytes empty ≡ [] → rest_fault filter_options 3 (empty ∷ option ∷ []) ≡ Some (about (subjects.Word 3) problems.Name)
-empty_file_before_an_option empty option e = rw e
+-- nothing is asked for; the list and the log are standard input; and nothing is wrong
+pub no_words : map fault ([] ∷ (says.Value 6 (codes "-") ∷ []) ∷ (says.Value 6 (codes "-") ∷ says.File (codes "a") ∷ []) ∷ (says.Value 9 (codes "::/0") ∷ []) ∷ [])
+    ≡ together (codes "neither -f nor -e is given") ∷ together (codes "-: standard input can be read only once") ∷ None ∷ None ∷ []
+no_words = refl
 
-pub empty_file_behind_dashes : {Z : Type 0} (dashes option empty : String Z) → string_bytes dashes ≡ codes "--" → string_bytes option ≡ codes "-v" → string_bytes empty ≡ []
-    → rest_fault filter_options 3 (dashes ∷ option ∷ empty ∷ []) ≡ Some (about (subjects.Word 5) problems.Name)
-empty_file_behind_dashes dashes option empty d o e = rw (d, o, e)
+-- ---- what is reported
 
-pub right_files : {Z : Type 0} (one two : String Z) → string_bytes one ≡ codes "-" → string_bytes two ≡ codes "a" → rest_fault filter_options 3 (one ∷ two ∷ []) ≡ None
-right_files one two o t = rw (o, t)
-
-pub no_files : (Z : Type 0) → rest_fault {Z = Z} filter_options 3 [] ≡ None
-no_files Z = refl
-
--- ---- right words that are wrong together
-
-pub longest_counted : together_by (Some problems.Crossed) (Some problems.NoList) false ≡ Some problems.Crossed
-longest_counted = refl
-
-pub nothing_listed : together_by None (Some problems.NoList) false ≡ Some problems.NoList
-nothing_listed = refl
-
-pub input_read_twice : together_by None None false ≡ Some problems.InputTwice
-input_read_twice = refl
-
-pub nothing_wrong : together_by None None true ≡ None
-nothing_wrong = refl
-
--- ---- whole command lines
-
-pub a_zero : {Z : Type 0} (flag name value : String Z) → string_bytes flag ≡ codes "-v" → string_bytes name ≡ codes "-k" → string_bytes value ≡ codes "0"
-    → HasFault filter_options (flag ∷ name ∷ value ∷ []) (about (subjects.Value 1 2) problems.Field)
-a_zero flag name value f n v = record {
-  choices = choices.Letters (letters true false false false) ∷ [];
-  rest = name ∷ value ∷ [];
-  begin = (rw f, rw f);
-  no_more = rw (n, v);
-  is_fault = inl (rw n);
-}
-
--- of two wrong words the first is told, and of a wrong value and a wrong word behind it the value
-pub first_of_two_wrong_words : {Z : Type 0} (one two : String Z) → string_bytes one ≡ codes "-k0" → string_bytes two ≡ codes "--longer" → HasFault filter_options (one ∷ two ∷ []) (about (subjects.Word 0) problems.Field)
-first_of_two_wrong_words one two o t = record { choices = []; rest = one ∷ two ∷ []; begin = refl; no_more = rw o; is_fault = inl (rw o) }
-
-pub value_before_a_wrong_word : {Z : Type 0} (name value word : String Z) → string_bytes name ≡ codes "-k" → string_bytes value ≡ codes "0" → string_bytes word ≡ codes "--longer"
-    → HasFault filter_options (name ∷ value ∷ word ∷ []) (about (subjects.Value 0 1) problems.Field)
-value_before_a_wrong_word name value word n v w = record { choices = []; rest = name ∷ value ∷ word ∷ []; begin = refl; no_more = rw (n, v); is_fault = inl (rw n) }
-
--- right words that are wrong together
-wrong_together : {Z : Type 0} (words : List (String Z)) (said : List Choice) (problem : Problem) → Begin filter_options words said [] → together_problem {Z = Z} filter_options (said_by filter_options said) [] ≡ Some problem
-    → HasFault filter_options words (about subjects.CommandLine problem)
-wrong_together words said problem begin wrong = record { choices = said; rest = []; begin = begin; no_more = refl; is_fault = inr ([], problem, refl, wrong, refl) }
-
--- nothing is asked for
-pub no_words : (Z : Type 0) → HasFault {Z = Z} filter_options [] (about subjects.CommandLine problems.NoList)
-no_words Z = wrong_together {Z = Z} [] [] problems.NoList refl refl
-
--- the list and the log are standard input
-pub list_and_log : {Z : Type 0} (name dash : String Z) → string_bytes name ≡ codes "-f" → string_bytes dash ≡ codes "-" → HasFault filter_options (name ∷ dash ∷ []) (about subjects.CommandLine problems.InputTwice)
-list_and_log name dash n d = record {
-  choices = choices.Shared common.Input ∷ [];
-  rest = [];
-  begin = (rw (n, d), rw n);
-  no_more = refl;
-  is_fault = inr ([], problems.InputTwice, refl, refl, refl);
-}
-
-pub longest_and_v : {Z : Type 0} (one two : String Z) → string_bytes one ≡ codes "--longest" → string_bytes two ≡ codes "-v" → HasFault filter_options (one ∷ two ∷ []) (about subjects.CommandLine problems.Crossed)
-longest_and_v one two o t = wrong_together (one ∷ two ∷ []) (choices.Longest ∷ choices.Letters (letters true false false false) ∷ []) problems.Crossed (rw o, (rw (o, t), rw (o, t))) refl
-
-pub anywhere_and_a_field : {Z : Type 0} (one two : String Z) → string_bytes one ≡ codes "-a" → string_bytes two ≡ codes "-k1" → HasFault filter_options (one ∷ two ∷ []) (about subjects.CommandLine problems.Anywhere)
-anywhere_and_a_field one two o t = wrong_together (one ∷ two ∷ []) (choices.Letters (letters false false true false) ∷ choices.Shared (common.Field 1) ∷ []) problems.Anywhere (rw o, (rw (o, t), rw (o, t))) refl
-
-pub words_and_a_separator : {Z : Type 0} (one two : String Z) → string_bytes one ≡ codes "-w" → string_bytes two ≡ codes "-d," → HasFault filter_options (one ∷ two ∷ []) (about subjects.CommandLine problems.Words)
-words_and_a_separator one two o t = wrong_together (one ∷ two ∷ []) (choices.Letters (letters false false false true) ∷ choices.Shared (common.Separator 44) ∷ []) problems.Words (rw o, (rw (o, t), rw (o, t))) refl
-
-pub addresses_and_v : {Z : Type 0} (one : String Z) → string_bytes one ≡ codes "-ov" → HasFault filter_options (one ∷ []) (about subjects.CommandLine problems.Only)
-addresses_and_v one o = wrong_together (one ∷ []) (choices.Letters (record (letters true false false false) { only = true }) ∷ []) problems.Only (rw o, rw o) refl
-
-pub after_and_anywhere : {Z : Type 0} (name value flag : String Z) → string_bytes name ≡ codes "--after" → string_bytes value ≡ codes "x" → string_bytes flag ≡ codes "-a"
-    → HasFault filter_options (name ∷ value ∷ flag ∷ []) (about subjects.CommandLine problems.After)
-after_and_anywhere name value flag n v f = wrong_together (name ∷ value ∷ flag ∷ []) (choices.Shared common.After ∷ choices.Letters (letters false false true false) ∷ []) problems.After (rw (n, v), (rw (n, f), rw (n, f))) refl
+pub texts : map (refusal_text (codes "p") (codes "usage\n") rows)
+    (about subjects.CommandLine (codes "x") ∷ about (subjects.Word []) (codes "is no file name") ∷ about (subjects.Option 12) (codes "has no value") ∷ about (subjects.Value 2 (codes "0")) (codes "is no field number") ∷ [])
+    ≡ codes "p: x\nusage\n" ∷ codes "p: '': is no file name\nusage\n" ∷ codes "p: --bad: has no value\nusage\n" ∷ codes "p: -k: 0 is no field number\nusage\n" ∷ []
+texts = refl

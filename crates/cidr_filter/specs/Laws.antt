@@ -1,7 +1,7 @@
 -- What follows from the clauses of a command line and of a log.
-use Rattle.std.specs.Prelude.{◌≡◌, ℕ, ◌+◌, ◌==◌, ◌||◌, Bool, false, List, [], ◌∷◌, ◌++◌, length, codes}
+use Rattle.std.specs.Prelude.{◌≡◌, ℕ, ◌+◌, Bool, false, List, [], ◌∷◌, ◌++◌, length, codes}
 use Rattle.program.specs.LogLines.{LogLine, log_lines, content, IsWhole}
-use Rattle.log_programs.specs.WordRules.{is_word_of}
+use Rattle.options.specs.WordRules.{is_word_of}
 use Rattle.cidr_filter.specs.Filters.{IsVerdict, Filters}
 use Rattle.cidr_filter.specs.declared.filter.Filter.{Filter}
 use Rattle.cidr_filter.specs.declared.filter.Verdict.{Verdict}
@@ -35,17 +35,9 @@ LinesThatEndRunsAreWhole = (filter : Filter) (read rest : List ℕ) (lines other
     → IsWhole (rest ≡ []) line → IsVerdict filter (content line) verdict
     → (whole : LogLine) × (behind : List LogLine) × (log_lines (read ++ rest) ≡ lines ++ whole ∷ behind) × IsVerdict filter (content whole) verdict
 
--- a word of an option: a name, a text with a value behind it, or a `-` and letters `v` (byte 118), `c` (99), `a` (97),
--- `w` (119), `o` (111), `H` (72), `h` (104), `n` (110), `l` (108) and `q` (113), one or more
-abbrev pub option_names : List (List ℕ)
-option_names = codes "-f" ∷ codes "-e" ∷ codes "-k" ∷ codes "-d" ∷ codes "-m" ∷ codes "--bad" ∷ codes "--longest" ∷ codes "--mapped" ∷ codes "--after" ∷ []
-
-abbrev pub before_values : List (List ℕ)
-before_values = codes "-k" ∷ codes "-d" ∷ codes "-m" ∷ codes "--bad=" ∷ []
-
-abbrev pub is_flag : ℕ → Bool
-is_flag letter =
-    letter == 118 || letter == 99 || letter == 97 || letter == 119 || letter == 111 || letter == 72 || letter == 104 || letter == 110 || letter == 108 || letter == 113
-
+-- a word of options: a long name, `--bad=` and a value, or a `-` and letters, of which the last may be one that takes a value,
+-- which anything may follow
 abbrev pub is_option_word : List ℕ → Bool
-is_option_word word = is_word_of option_names before_values is_flag word
+is_option_word word =
+    is_word_of (codes "awvcoHhnlq") (codes "kdfem")
+    (codes "--after" ∷ codes "--mapped" ∷ codes "--help" ∷ codes "--version" ∷ codes "--longest" ∷ codes "--bad" ∷ []) (codes "--bad" ∷ []) word

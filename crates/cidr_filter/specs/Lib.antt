@@ -1,6 +1,5 @@
 -- What the contracts of this crate cite.
 pub mod Addressed
-pub mod CommandLines
 pub mod Filters
 pub mod Laws
 pub mod Listed
@@ -12,4 +11,3 @@ pub mod Runs
 pub mod Stands
 pub mod Stops
 pub mod Told
-pub mod Usage

@@ -1,5 +1,7 @@
 -- How a run ends: its exit status, what was written, and what was reported.
-use Rattle.std.specs.Prelude.{◌≡◌, ℕ, ◌-◌, ◌^◌, min, List, [], ◌∷◌, ◌++◌, Bool, true, false, ◌||◌, ◌⊎◌, Option, None, Some, if◌then◌else◌, length, nat_lt, take, drop, codes, decimal, String}
+use Rattle.std.specs.Prelude.{◌≡◌, ℕ, ◌-◌, ◌^◌, min, List, [], ◌∷◌, ◌++◌, Bool, true, false, ◌||◌, ◌⊎◌, Option, None, Some, if◌then◌else◌, length, nat_lt, map, codes, decimal, String}
+use Rattle.std.specs.String.{string_bytes}
+use Rattle.std.specs.declared.alloc.Global.{Global}
 use Rattle.lists.specs.Lists.{ReadLists, nothing_read}
 use Rattle.lists.specs.Refusals.{Refused, no_refusals}
 use Rattle.lines.specs.Outputs.{Written}
@@ -8,23 +10,25 @@ use Rattle.program.specs.Messages.{Tells}
 use Rattle.program.specs.Told.{was_refused, fault_text, refusals_text}
 use Rattle.lists.specs.declared.named.ReadFault.{ReadFault}
 use Rattle.lists.specs.KnownLists.{KnownLists}
-use Rattle.log_programs.specs.Runs as runs
-use Rattle.log_programs.specs.Shared as shared
-use Rattle.cidr_filter.specs.CommandLines.{filter_options}
+use Rattle.log_programs.specs.Places.{place_of}
+use Rattle.log_programs.specs.Rows as rows
+use Rattle.options.specs.Given.{is_given, value_of, inputs_of}
+use Rattle.options.specs.Runs as runs
+use Rattle.options.specs.Values.{number_in}
+use Rattle.options.specs.declared.items.Item.{Item}
+use Rattle.options.specs.declared.table.Table.{Table}
 use Rattle.cidr_filter.specs.Filters.{Filters, is_count}
 use Rattle.program.specs.LogFaults.{log_fault_text, FailsWriting, Wrote}
-use Rattle.program.specs.Logs.{logs_of, HaltsBy}
+use Rattle.program.specs.Logs.{HaltsBy}
 use Rattle.cidr_filter.specs.Logs.{FiltersLogs, is_enough, EndsRunBy, is_short, filter_for}
-use Rattle.cidr_filter.specs.Reading.{IsReadOf, Stops, HoldsRead}
+use Rattle.cidr_filter.specs.Reading.{IsReadOf, StopsAtItems, HoldsRead}
+use Rattle.cidr_filter.specs.Options as own
+use Rattle.cidr_filter.specs.Options.{IsOptions, bad_in}
 use Rattle.program.specs.LogLines.{LogLine}
-use Rattle.cidr_filter.specs.Options.{text_after}
-use Rattle.cidr_filter.specs.Told.{in_option}
-use Rattle.cidr_filter.specs.declared.command_line.Request.{Request}
+use Rattle.cidr_filter.specs.Told.{in_option, told_name}
 use Rattle.cidr_filter.specs.declared.filter.Filter.{Filter}
 use Rattle.cidr_filter.specs.declared.filter.Shown.{Shown}
 use Rattle.cidr_filter.specs.declared.filter.Shown.TheVariants as shows
-use Rattle.cidr_filter.specs.declared.options.Letters.{Letters}
-use Rattle.line_addresses.specs.declared.place.Place.{Place}
 use Rattle.cidr_filter.specs.declared.listed.Listed.{Listed}
 use Rattle.program.specs.declared.log_fault.LogFault.{LogFault}
 
@@ -82,72 +86,75 @@ pub record FiltersAll {W E : Type 0} (filter : Filter) (known : KnownLists) (nam
 abbrev pub EndsLogs : {W E : Type 0} → Filter → KnownLists → List (List ℕ) → Ending W E → Type 0
 EndsLogs filter known names end = FiltersAll filter known names end ⊎ StopsAtLog filter known names end
 
--- where a request looks for the addresses of a line
-abbrev pub place_of : {Z : Type 0} → List (String Z) → Request → Place
-place_of words request =
-    shared.place_of request.letters.anywhere request.letters.words (text_after (take request.files words)) request.shared
-
 -- how many lines of a log are selected at the most: with `-q` and with `-l` one is enough
 abbrev pub up_to_one : Option ℕ → Option ℕ
 up_to_one None = Some 1
 up_to_one (Some most) = Some (min most 1)
 
-abbrev pub most_of : Letters → Option ℕ → Option ℕ
-most_of letters most = if letters.quiet || letters.names then up_to_one most else most
+abbrev pub most_of : List Item → Option ℕ
+most_of items =
+    if is_given items own.quiet || is_given items own.names then up_to_one (number_in (value_of items own.most))
+    else number_in (value_of items own.most)
 
 -- what is printed: of `-q`, `-l`, `-c` and `-o` the first that is given says it
-abbrev pub shows_of : Letters → Shown
-shows_of letters =
-    if letters.quiet then shows.Nothing
-    else if letters.names then shows.Names
-    else if letters.counts then shows.Count
-    else if letters.only then shows.Addresses
+abbrev pub shows_of : List Item → Shown
+shows_of items =
+    if is_given items own.quiet then shows.Nothing
+    else if is_given items own.names then shows.Names
+    else if is_given items own.counts then shows.Count
+    else if is_given items own.only then shows.Addresses
     else shows.Lines
 
 -- the name of its log is printed of a line
-abbrev pub is_named : Letters → Bool
-is_named letters = letters.named || letters.names
+abbrev pub is_named : List Item → Bool
+is_named items = is_given items own.named || is_given items own.names
 
--- the filter of a request
-abbrev pub filter_of : {Z : Type 0} → List (String Z) → Request → Listed → Filter
-filter_of words request listed = record {
+-- the filter that is asked for
+abbrev pub filter_of : List Item → Listed → Filter
+filter_of items listed = record {
   listed = listed;
-  place = place_of words request;
-  mapped = request.shared.mapped;
-  inverts = request.letters.inverts;
-  bad = request.bad;
-  most = most_of request.letters request.most;
-  shows = shows_of request.letters;
-  named = is_named request.letters;
-  numbered = request.letters.numbered;
+  place = place_of items;
+  mapped = is_given items rows.mapped;
+  inverts = is_given items own.inverts;
+  bad = bad_in (value_of items own.bad);
+  most = most_of items;
+  shows = shows_of items;
+  named = is_named items;
+  numbered = is_given items own.numbered;
   name = [];
 }
 
 -- this was read of the lists: if a line of them was refused, or there is no memory, nothing is written. Else the logs are
 -- filtered by it
-abbrev pub EndsFiltering : {Z W E : Type 0} → KnownLists → List (String Z) → Request → ReadLists → Ending W E → Type 0
-EndsFiltering known words request read end =
+abbrev pub EndsFiltering : {W E : Type 0} → KnownLists → List Item → ReadLists → Ending W E → Type 0
+EndsFiltering known items read end =
     ((was_refused read.refused ≡ true) × Refuses [] end)
     ⊎ ((was_refused read.refused ≡ false) × (Refuses (codes "out of memory\n") end
-    ⊎ ((listed : Listed) × HoldsRead request.longest read listed
-    × EndsLogs (filter_of words request listed) known (logs_of (drop request.files words)) end)))
+    ⊎ ((listed : Listed) × HoldsRead (is_given items own.longest) read listed × EndsLogs (filter_of items listed) known (inputs_of items) end)))
 
 -- the lists were not read to their ends, and these lines were refused before: nothing was written, and the cause was
--- reported
-abbrev pub StopsReading : {Z W E : Type 0} → KnownLists → List (String Z) → Refused → Ending W E → Type 0
-StopsReading known words refused end = (fault : ReadFault) × Stops known words (nothing_read no_refusals) fault refused × Refuses (fault_text words fault) end
+-- reported, by these names of the lists
+abbrev pub StopsReading : {Z W E : Type 0} → KnownLists → List Item → List (String Z) → Refused → Ending W E → Type 0
+StopsReading known items names refused end =
+    (fault : ReadFault) × StopsAtItems known 0 items (nothing_read no_refusals) fault refused × Refuses (fault_text names fault) end
 
 -- the refused lines of the lists were reported, and then either why the reading stopped, or the logs were filtered
-abbrev pub EndsRequest : {Z W E : Type 0} → KnownLists → List (String Z) → Request → Ending W E → Type 0
-EndsRequest {Z} {W} {E} known words request end = (refused : Refused) × (told : Written E)
-    × Tells end.errors told (refusals_text words (in_option words) refused)
-    × (StopsReading known words refused (record end { errors = told })
-    ⊎ ((read : ReadLists) × IsReadOf known words read × (read.refused ≡ refused) × EndsFiltering known words request read (record end { errors = told })))
+abbrev pub EndsReading : {Z W E : Type 0} → KnownLists → List Item → List (String Z) → Ending W E → Type 0
+EndsReading {Z} {W} {E} known items names end = (refused : Refused) × (told : Written E)
+    × Tells end.errors told (refusals_text names (in_option items) refused)
+    × (StopsReading known items names refused (record end { errors = told })
+    ⊎ ((read : ReadLists) × IsReadOf known items read × (read.refused ≡ refused) × EndsFiltering known items read (record end { errors = told })))
 
--- so is a request of these words done, whose FILEs begin at this place
-abbrev pub DoesRequest : {Z W E : Type 0} → KnownLists → Ending W E → List (String Z) → Request → ℕ → Type 0
-DoesRequest known end words request files = EndsRequest known words (record request { files = files }) end
+-- what is asked for is done, by the names of the lists, unless there is no memory for these and for those of the logs
+abbrev pub EndsRequest : {W E : Type 0} → KnownLists → List Item → Ending W E → Type 0
+EndsRequest known items end =
+    Refuses (codes "out of memory\n") end
+    ⊎ ((names : List (String Global)) × (map string_bytes names ≡ map told_name items) × EndsReading known items names end)
 
--- how a run ends of a program of this name, help, version and usage
+abbrev pub DoesRequest : {W E : Type 0} → KnownLists → Ending W E → List Item → Type 0
+DoesRequest known end items = EndsRequest known items end
+
+-- how a run ends of a program of this name, help, version and usage, by the table of its options
 abbrev pub EndsAs : {Z W E : Type 0} → List ℕ → List ℕ → List ℕ → List ℕ → KnownLists → List (String Z) → Ending W E → Type 0
-EndsAs program help version usage known words end = runs.EndsAs filter_options program help version usage words (DoesRequest known end) end
+EndsAs program help version usage known words end =
+    (table : Table) × IsOptions table × runs.EndsAs table program help version usage words (DoesRequest known end) end

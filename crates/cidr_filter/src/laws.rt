@@ -1,10 +1,11 @@
 //! What follows from the clauses of a command line and of a log. Each function's contract is a law:
 //! it does nothing, and a proof that calls it may use the law.
-ghost use Rattle.log_programs.specs.WordRules.{OthersAreNoOptions, OthersAskForNothing, WordsHaveOneFault};
-ghost use Rattle.cidr_filter.specs.CommandLines.{filter_options};
+ghost use Rattle.options.specs.WordRules.{OthersAreNoOptions, OthersAskForNothing, WordsHaveOneFault};
+ghost use Rattle.cidr_filter.specs.Options.{IsOptions};
 ghost use Rattle.cidr_filter.specs.Laws.{is_option_word, LinesHaveOneVerdict, LogsHaveOneOutput, OutputsOfPartsFollow, NumbersAreNotShown, LinesThatEndRunsAreWhole};
 
 use ipnetwork_table::laws::blocks_of_any_width_that_meet;
+use options::table::Table;
 
 /// A line is one thing to a list, and only one. So a log has at most one output, and as many lines
 /// of it are selected.
@@ -30,17 +31,19 @@ pub fn lines_that_end_runs_are_whole()
 {}
 
 /// Of the words of a command line at most one fault is reported.
-pub fn words_have_one_fault(words: &[String])
-    ensures { WordsHaveOneFault filter_options words.now }
+pub fn words_have_one_fault(table: &Table<'_>, words: &[String])
+    ensures { IsOptions table.now → WordsHaveOneFault table.now words.now }
 {
-    let _words = words;
+    options::laws::words_have_one_fault(table, words);
 }
 
-/// A word other than those of the options is none of them, whatever follows it. If it begins with a
-/// `-`, and is neither `-` nor `--`, then the words ask for nothing where it stands behind options.
-pub fn other_words_are_no_options(words: &[String])
-    ensures option { OthersAreNoOptions filter_options is_option_word words.now }
-    ensures command { OthersAskForNothing filter_options is_option_word words.now }
+/// A word other than those of the options is none of them. If it begins with a `-`, and is neither
+/// `-` nor `--`, then the words ask for nothing where it stands where an option may.
+pub fn other_words_are_no_options(table: &Table<'_>, word: &str, words: &[String])
+    ensures option { IsOptions table.now
+        → OthersAreNoOptions table.now.rows.now is_option_word word.now }
+    ensures command { IsOptions table.now
+        → OthersAskForNothing table.now is_option_word words.now }
 {
-    let _words = words;
+    options::laws::other_words_are_no_options(table, word, words);
 }

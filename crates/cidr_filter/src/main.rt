@@ -1,7 +1,6 @@
 //! The lines of logs whose address is in a list of networks.
 #![tactic(auto)]
 
-mod command_line;
 mod filter;
 mod help;
 mod laws;
@@ -10,11 +9,11 @@ mod listed;
 mod log;
 mod logs;
 mod naming;
-mod options;
 mod printing;
 mod printing_addresses;
 mod reading;
 mod recent;
+mod rows;
 mod run;
 mod telling;
 

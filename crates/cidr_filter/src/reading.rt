@@ -1,37 +1,46 @@
 //! Reads the lists of a run.
-ghost use Rattle.std.specs.Prelude.{◌≡◌, ◌+◌, ◌≤◌, false, true, drop, length, Some, OnOk, IfOk, IfErr};
+ghost use Rattle.std.specs.Prelude.{◌≡◌, false, OnOk, IfOk, IfErr};
 ghost use Rattle.lists.specs.Lists.{nothing_read};
 ghost use Rattle.lists.specs.Refusals.{no_refusals};
-ghost use Rattle.program.specs.Told.{name_at};
-ghost use Rattle.log_programs.specs.CommandLines.{option_of};
-ghost use Rattle.cidr_filter.specs.CommandLines.{filter_options};
-ghost use Rattle.cidr_filter.specs.Reading.{ReadsOption, ReadsLists, StopsAtOption, Stops, HoldsRead};
+ghost use Rattle.cidr_filter.specs.Reading.{source_by, source_of, ReadsItem, ReadsItems, StopsAtItem, StopsAtItems, HoldsRead};
 ghost use Rattle.cidr_filter.specs.Private.Reading.{ReadsAll, HasSets, HasBlocks};
 
-use crate::command_line::FilterOptions;
 use crate::listed::{Listed, Sets, Tables};
-use crate::options::{Choice, is_list};
+use crate::rows::TEXT;
 use ipnetwork::{Ipv4Network, Ipv6Network};
 use ipnetwork_sets::AddressSet;
 use lists::{ListReader, OpenLists, ReadFault, Refusals, read_named, read_text};
-use log_programs::options::{behind, choice_at};
+use log_programs::places::LIST;
+use options::items::{Item, Text};
 use std::alloc::{AllocError, Global};
+
+/// What an option reads.
+#[derive(Debug, Drop)]
+pub enum Source<'a> {
+    /// The list of this name.
+    List(Text<'a>),
+    /// This text.
+    Text(Text<'a>),
+    /// Nothing.
+    Nothing,
+}
 
 /// Reads the lists that the options name, in their order. Returns the networks (as blocks if `longest`, and else as a
 /// set of addresses), the refused lines, and whether all lists were read to the end.
 pub(crate) fn read_listed<L: OpenLists>(
     alloc: Global,
     lists: &L,
-    words: &[String],
+    items: &[Item<'_>],
     longest: bool,
 ) -> (Result<Listed, AllocError>, Refusals, Result<(), ReadFault>)
     ensures read { OnOk result.2
-        (ReadsAll (L.known lists.now) words.now longest result.0 result.1) }
+        (ReadsAll (L.known lists.now) items.now longest result.0 result.1) }
     ensures stopped { IfErr result.2
-        (λ fault. Stops (L.known lists.now) words.now (nothing_read no_refusals) fault result.1) }
+        (λ fault. StopsAtItems (L.known lists.now) 0 items.now (nothing_read no_refusals) fault
+        result.1) }
 {
     let mut reader = ListReader::new(alloc, Refusals::new());
-    let end = read_lists(lists, words, &mut reader);
+    let end = read_lists(lists, items, &mut reader);
     let (listed, refusals) = listed_by(alloc, longest, reader);
     (listed, refusals, end)
 }
@@ -57,47 +66,64 @@ fn listed_by(
 // Reads the lists that the options name.
 fn read_lists<L: OpenLists>(
     lists: &L,
-    words: &[String],
+    items: &[Item<'_>],
     reader: &mut ListReader,
 ) -> Result<(), ReadFault>
     requires memory { reader.old.is_out_of_memory ≡ false }
-    ensures read { OnOk result (ReadsLists (L.known lists.now) words.now reader.old reader.new) }
+    ensures read { OnOk result (ReadsItems (L.known lists.now) 0 items.now reader.old reader.new) }
     ensures memory { OnOk result (reader.new.is_out_of_memory ≡ false) }
     ensures stopped { IfErr result
-        (λ fault. Stops (L.known lists.now) words.now reader.old fault reader.new.refused) }
+        (λ fault. StopsAtItems (L.known lists.now) 0 items.now reader.old fault reader.new.refused) }
 {
     let mut at = 0;
-    'options: while let Some(choice) = choice_at::<FilterOptions>(words, at) {
-        read_option(lists, words, at, choice, reader)?;
-        at = behind::<FilterOptions>(words, at);
+    'items: while at < items.len() {
+        read_item(lists, &items[at], at, reader)?;
+        at += 1;
     }
     Ok(())
 }
 
-// Reads the list of the option at a place, if it names one.
-fn read_option<L: OpenLists>(
+// Reads the list of an option, if it names one.
+fn read_item<L: OpenLists>(
     lists: &L,
-    words: &[String],
-    at: usize,
-    choice: Choice,
+    item: &Item<'_>,
+    number: usize,
     reader: &mut ListReader,
 ) -> Result<(), ReadFault>
-    requires within { at ≤ length words.now }
-    requires option { option_of filter_options (drop at words.now) ≡ Some choice }
     requires memory { reader.old.is_out_of_memory ≡ false }
-    ensures read { OnOk result (ReadsOption (L.known lists.now) (at + 1) choice
-        (name_at (drop at words.now) 1) reader.old reader.new) }
+    ensures read { OnOk result
+        (ReadsItem (L.known lists.now) number item.now reader.old reader.new) }
     ensures memory { OnOk result (reader.new.is_out_of_memory ≡ false) }
-    ensures stopped { IfErr result (λ fault. StopsAtOption (L.known lists.now) (at + 1) choice
-        (name_at (drop at words.now) 1) reader.old fault reader.new.refused) }
+    ensures stopped { IfErr result (λ fault. StopsAtItem (L.known lists.now) number item.now
+        reader.old fault reader.new.refused) }
 {
-    if !is_list(choice) {
-        return Ok(());
+    match source_of(item) {
+        Source::List(name) => read_named(lists, name.as_str(), number, reader),
+        Source::Text(text) => read_text(text.as_str(), number, reader),
+        Source::Nothing => Ok(()),
     }
-    let value = &words[at + 1];
-    match choice {
-        Choice::Text => read_text(value.as_str(), at + 1, reader),
-        _ => read_named(lists, value.as_str(), at + 1, reader),
+}
+
+/// What an option reads.
+pub(crate) fn source_of<'a>(item: &Item<'a>) -> Source<'a>
+    ensures { result ≡ source_of item.now }
+{
+    match item {
+        Item::Value(row, value) | Item::Joined(row, value, _) => source_by(*row, value.as_str()),
+        _ => Source::Nothing,
+    }
+}
+
+// What the option of a row and value reads.
+fn source_by(row: usize, value: &str) -> Source<'_>
+    ensures { result ≡ source_by row value.now }
+{
+    if row == LIST {
+        Source::List(Text::new(value))
+    } else if row == TEXT {
+        Source::Text(Text::new(value))
+    } else {
+        Source::Nothing
     }
 }
 

@@ -1,73 +1,92 @@
 //! Messages on the error writer. If a write of one fails, nothing else changes.
-ghost use Rattle.std.specs.Prelude.{◌≡◌, codes, take};
+ghost use Rattle.std.specs.Prelude.{◌≡◌, ◌+◌, map, take, IfOk};
+ghost use Rattle.std.specs.String.{string_bytes};
 ghost use Rattle.program.specs.Messages.{Tells};
-ghost use Rattle.program.specs.Words.{is};
 ghost use Rattle.cidr_filter.specs.Addressed.{closed_text};
-ghost use Rattle.cidr_filter.specs.Filters.{one_if};
-ghost use Rattle.cidr_filter.specs.Told.{is_text, texts_in};
+ghost use Rattle.cidr_filter.specs.Told.{is_text, is_text_at, texts_in, told_name};
 
-use crate::command_line::FilterOptions;
+use crate::reading::{Source, source_of};
 use lines::output::Output;
 use lists::{OpenFault, Refusal};
-use log_programs::options::behind;
+use options::items::Item;
 use program::log_fault::tell_of;
 use program::telling::Places;
-use program::words::{is, text_at};
+use std::alloc::{AllocError, Global};
 use std::io::Write;
 
-/// Where refused lines stand, by the words of a command line: in a list, or in the text of an `-e`.
+/// Where refused lines stand, by the items of a command line: in a list, or in the text of an `-e`.
 #[derive(Clone, Copy)]
-pub(crate) struct InOptions<'a> {
-    pub(crate) words: &'a [String],
+pub(crate) struct InOptions<'a, 'b> {
+    pub(crate) items: &'a [Item<'b>],
 }
 
-impl Places for InOptions<'_> {
+impl Places for InOptions<'_, '_> {
     ghost use Rattle.cidr_filter.specs.Told.{in_option};
 
-    ghost told_at = { λ options refusal. in_option options.words.now refusal };
+    ghost told_at = { λ options refusal. in_option options.items.now refusal };
 
     fn place(&self, refusal: Refusal) -> (usize, u64) {
-        if is_text(self.words, refusal.list) {
-            (refusal.list - 1, texts_up_to(self.words, refusal.list))
+        if is_text_at(self.items, refusal.list) {
+            (refusal.list, texts_up_to(self.items, refusal.list))
         } else {
             (refusal.list, refusal.line)
         }
     }
 }
 
-// Whether the word before a place is `-e`, so that the word there is the value of it.
-fn is_text(words: &[String], place: usize) -> bool
-    ensures { result ≡ is_text words.now place }
+// Whether the item at a place is an `-e`.
+fn is_text_at(items: &[Item<'_>], place: usize) -> bool
+    ensures { result ≡ is_text_at items.now place }
 {
-    place > 0 && text_at(words, place - 1) == "-e"
-}
-
-// How many `-e` there are among the options before a place.
-fn texts_up_to(words: &[String], place: usize) -> u64
-    ensures { result ≡ texts_in (take place words.now) }
-{
-    let options = &words[..words.len().min(place)];
-    texts_in(options) as u64
-}
-
-// How many of the options are `-e`.
-fn texts_in(options: &[String]) -> usize
-    ensures { result ≡ texts_in options.now }
-{
-    let mut count = 0;
-    let mut at = 0;
-    while at < options.len() {
-        count += text_in(&options[at]);
-        at = behind::<FilterOptions>(options, at);
+    match items.get(place) {
+        Some(item) => is_text(item),
+        None => false,
     }
-    count
 }
 
-// 1 if a word is `-e`, and else 0.
-fn text_in(word: &String) -> usize
-    ensures { result ≡ one_if (is (codes "-e") word.now) }
+// Whether an item is an `-e`.
+fn is_text(item: &Item<'_>) -> bool
+    ensures { result ≡ is_text item.now }
 {
-    if is(word, "-e") { 1 } else { 0 }
+    matches!(source_of(item), Source::Text(_))
+}
+
+// How many of the items up to a place are an `-e`.
+fn texts_up_to(items: &[Item<'_>], place: usize) -> u64
+    ensures { result ≡ texts_in (take (place + 1) items.now) }
+{
+    texts_in(&items[..items.len().min(place.saturating_add(1))]) as u64
+}
+
+// How many of the items are an `-e`.
+fn texts_in(items: &[Item<'_>]) -> usize
+    ensures { result ≡ texts_in items.now }
+{
+    items.iter().filter(|item| is_text(item)).count()
+}
+
+/// The names by which refused lines are told, of the list that each item names: its own, or `-e`.
+pub(crate) fn names_of(alloc: Global, items: &[Item<'_>]) -> Result<Vec<String>, AllocError>
+    ensures { IfOk result (λ names. map string_bytes names.items ≡ map told_name items.now) }
+{
+    let mut names = Vec::new(alloc);
+    let mut at = 0;
+    while at < items.len() {
+        names.push(told_name(alloc, &items[at])?)?;
+        at += 1;
+    }
+    Ok(names)
+}
+
+// The name by which refused lines are told of the list that an item names.
+fn told_name(alloc: Global, item: &Item<'_>) -> Result<String, AllocError>
+    ensures { IfOk result (λ name. string_bytes name ≡ told_name item.now) }
+{
+    match source_of(item) {
+        Source::List(name) => String::from_str(alloc, name.as_str()),
+        Source::Text(_) => String::from_str(alloc, "-e"),
+        Source::Nothing => Ok(String::new(alloc)),
+    }
 }
 
 /// Reports that the log of this name cannot be opened, and why.

@@ -1,27 +1,27 @@
 -- Definitions at values at which a misreading of them would show.
-use Rattle.std.proofs.Common.{◌≡◌, ℕ, ◌^◌, ◌+◌, ◌∷◌, [], map, Bool, true, false, inl, refl}
-use Rattle.std.specs.Prelude.{◌++◌, decimal, codes, not, filter, None, Some, String}
+use Rattle.std.proofs.Common.{◌≡◌, ℕ, ◌^◌, ◌+◌, ◌∷◌, [], map, Bool, true, false, refl}
+use Rattle.std.specs.Prelude.{◌++◌, decimal, codes, not, filter, List, None, Some}
 use Rattle.std.specs.Fmt.{digits}
 use Rattle.std.specs.List.{range_with_len}
-use Rattle.std.specs.String.{string_bytes}
 use Rattle.ipnetwork_addr.specs.declared.ip.IpAddr.TheVariants as addresses
 use Rattle.ipnetwork.specs.declared.ip_network.IpNetwork.TheVariants as families
 use Rattle.cidr_join.specs.Addressed.{lacking_by}
-use Rattle.cidr_join.specs.CommandLines.{join_options}
 use Rattle.cidr_join.specs.Entries.{is_blank, is_word, cause_text}
 use Rattle.cidr_join.specs.Groups.{block_in}
 use Rattle.cidr_join.specs.Joins.{mark_of, shown_of}
+use Rattle.cidr_join.specs.Options.{entries, pairs}
 use Rattle.cidr_join.specs.Tallies.{row_text}
+use Rattle.options.specs.Faults.{about, together, fault_by}
+use Rattle.options.specs.Items.{free_items, free_mode}
+use Rattle.options.specs.declared.faults.Subject.TheVariants as subjects
+use Rattle.options.specs.declared.items.Item.TheVariants as says
+use Rattle.options.specs.declared.items.Mode.TheVariants as modes
+use Rattle.options.specs.declared.table.Row.{Row}
+use Rattle.options.proofs.Tables.{rows_of, pairs_of}
 use Rattle.lists.specs.declared.entry.EntryFault.TheVariants as faults
-use Rattle.log_programs.specs.Joined.{words_in, awaits_value}
-use Rattle.log_programs.specs.Usage.{HasFault, about}
-use Rattle.log_programs.specs.declared.usage.Problem.TheVariants as problems
-use Rattle.program.specs.declared.usage.Subject.TheVariants as subjects
-use Rattle.cidr_join.specs.Options.{syntax_of_options, group_option}
 use Rattle.line_addresses.specs.declared.place.Place.TheVariants as places
 use Rattle.cidr_join.specs.declared.found.Found.TheVariants as founds
 use Rattle.cidr_join.specs.declared.line.Cause.TheVariants as causes
-use Rattle.cidr_join.specs.declared.options.Choice.TheVariants as choices
 use Rattle.cidr_join.specs.declared.value.Value.{Value}
 
 -- ---- logs in which no line has an address
@@ -40,25 +40,29 @@ none_anywhere_or_after_a_text = refl
 pub no_lines_or_one_address : map (λ (log : ℕ × Bool). lacking_by places.Anywhere (codes "log") log.0 log.1) ((0, false) ∷ (2, true) ∷ []) ≡ [] ∷ [] ∷ []
 no_lines_or_one_address = refl
 
--- ---- joined words
+-- ---- the words of a command line
 
-pub letters_and_values : map (words_in syntax_of_options) (codes "-wk1" ∷ codes "-flist" ∷ codes "-awd" ∷ [])
-    ≡ (codes "-w" ∷ codes "-k" ∷ codes "1" ∷ []) ∷ (codes "-f" ∷ codes "list" ∷ []) ∷ (codes "-a" ∷ codes "-w" ∷ codes "-d" ∷ []) ∷ []
+abbrev rows : List Row
+rows = rows_of entries
+
+pub letters_and_values : map (free_items rows) (codes "-wk1" ∷ codes "-flist" ∷ codes "-awd" ∷ codes "--tally" ∷ codes "-wxk1" ∷ codes "--group=24,64" ∷ [])
+    ≡ (says.Flag 1 ∷ says.Value 2 (codes "1") ∷ []) ∷ (says.Joined 6 (codes "list") (codes "-flist") ∷ []) ∷ (says.Flag 0 ∷ says.Flag 1 ∷ [])
+    ∷ (says.Flag 12 ∷ []) ∷ (says.Flag 1 ∷ says.Unknown (codes "-wxk1") ∷ []) ∷ (says.Unknown (codes "--group=24,64") ∷ []) ∷ []
 letters_and_values = refl
 
--- what was an option before, and what is none, stays as it is
-pub words_alone : map (words_in syntax_of_options) (codes "-k1" ∷ codes "-aw" ∷ codes "-wxk1" ∷ codes "--tally" ∷ [])
-    ≡ (codes "-k1" ∷ []) ∷ (codes "-aw" ∷ []) ∷ (codes "-wxk1" ∷ []) ∷ (codes "--tally" ∷ []) ∷ []
-words_alone = refl
+pub next_words : map (free_mode rows) (codes "-wf" ∷ codes "-wf1" ∷ codes "--group" ∷ codes "--last" ∷ []) ≡ modes.Value 6 ∷ modes.Free ∷ modes.Value 13 ∷ modes.Free ∷ []
+next_words = refl
 
-pub waits_for_its_value : map (awaits_value syntax_of_options) (codes "-wf" ∷ codes "-wf1" ∷ []) ≡ true ∷ false ∷ []
-waits_for_its_value = refl
+-- of two wrong words the first is told, and a wrong value before a wrong word; and of right ones those that do not go together
+pub wrong_words : map (fault_by rows (pairs_of pairs) (6 ∷ 13 ∷ []) (codes "neither -f nor --group is given"))
+    ((says.Joined 2 (codes "0") (codes "-k0") ∷ says.Unknown (codes "--lastwins") ∷ []) ∷ (says.Value 13 (codes "33,0") ∷ says.Unknown (codes "--lastwins") ∷ [])
+    ∷ (says.Value 6 (codes "a") ∷ says.Value 6 (codes "a") ∷ []) ∷ (says.Value 13 (codes "0,0") ∷ says.Flag 10 ∷ []) ∷ (says.Flag 9 ∷ says.Flag 12 ∷ []) ∷ [] ∷ (says.Value 6 (codes "a") ∷ says.Flag 9 ∷ []) ∷ [])
+    ≡ Some (about (subjects.Word (codes "-k0")) (codes "is no field number")) ∷ Some (about (subjects.Value 13 (codes "33,0")) (codes "is not N,M with N up to 32 and M up to 128"))
+    ∷ together (codes "-f is given more than once") ∷ together (codes "--group goes with none of -f, --network and --last-wins") ∷ together (codes "--last does not go with --tally")
+    ∷ together (codes "neither -f nor --group is given") ∷ None ∷ []
+wrong_words = refl
 
 -- ---- blocks of two lengths
-
-pub lengths : map group_option (codes "24,064" ∷ codes "32,128" ∷ codes "33,0" ∷ codes "0,129" ∷ codes "24" ∷ codes "24,64,1" ∷ codes ",64" ∷ [])
-    ≡ Some (choices.Group (record { v4 = 24; v6 = 64 })) ∷ Some (choices.Group (record { v4 = 32; v6 = 128 })) ∷ None ∷ None ∷ None ∷ None ∷ None ∷ []
-lengths = refl
 
 -- 10.1.2.3 is in 10.1.2.0/24
 pub block_of_v4 : block_in (record { v4 = 24; v6 = 64 }) (addresses.V4 167838211) ≡ families.V4 (record { address = 167838208; prefix = 24 })
@@ -96,12 +100,3 @@ before_and_behind = refl
 pub a_row : row_text (record { count = 12; text = codes "inner" }) ≡ codes "12\tinner\n"
 unfolding digits
 a_row = refl
-
--- ---- two wrong words: the first is told, and a wrong value before a wrong word
-
-pub first_of_two_wrong_words : {Z : Type 0} (one two : String Z) → string_bytes one ≡ codes "-k0" → string_bytes two ≡ codes "--lastwins" → HasFault join_options (one ∷ two ∷ []) (about (subjects.Word 0) problems.Field)
-first_of_two_wrong_words one two o t = record { choices = []; rest = one ∷ two ∷ []; begin = refl; no_more = rw o; is_fault = inl (rw o) }
-
-pub value_before_a_wrong_word : {Z : Type 0} (name value word : String Z) → string_bytes name ≡ codes "--group" → string_bytes value ≡ codes "33,0" → string_bytes word ≡ codes "--lastwins"
-    → HasFault join_options (name ∷ value ∷ word ∷ []) (about (subjects.Value 0 1) problems.Lengths)
-value_before_a_wrong_word name value word n v w = record { choices = []; rest = name ∷ value ∷ word ∷ []; begin = refl; no_more = rw (n, v); is_fault = inl (rw n) }

@@ -1,22 +1,19 @@
 -- What the laws let one conclude, where a weaker law would not.
-use Rattle.std.proofs.Common.{◌≡◌, ℕ, length, Bool, true, false, List, [], ◌∷◌, refl, ap, ◌∙◌, arith}
-use Rattle.std.specs.Prelude.{codes, None, String}
+use Rattle.std.proofs.Common.{◌≡◌, ℕ, length, Bool, true, false, List, [], ◌∷◌, refl, sym, ap, subst, arith}
+use Rattle.std.specs.Prelude.{codes, bytes_eq, String}
 use Rattle.std.specs.List.{AllByRecursion, list_all, list_any}
 use Rattle.std.specs.String.{string_bytes}
-use Rattle.program.specs.declared.usage.Subject.TheVariants as subjects
-use Rattle.log_programs.specs.CommandLines.{AsksNothing, option_of}
-use Rattle.log_programs.specs.WordRules.{is_one_of, begins_with, OthersAreNoOptions, OthersAskForNothing, WordsHaveOneFault}
-use Rattle.cidr_join.specs.CommandLines.{join_options}
 use Rattle.cidr_join.specs.Joins.{Joins}
 use Rattle.cidr_join.specs.Laws.{LogsHaveOneOutput, OutputsOfPartsFollow, Tallies, TalliesOfPartsAddUp, is_option_word}
 use Rattle.program.specs.LogLines.{log_lines}
-use Rattle.log_programs.specs.Usage.{about, HasFault}
 use Rattle.cidr_join.specs.Tallies.{Row, counted_by}
 use Rattle.cidr_join.specs.declared.join.Join.{Join}
-use Rattle.cidr_join.specs.declared.options.Choice.TheVariants as choices
-use Rattle.cidr_join.specs.declared.options.Letters.{Letters}
-use Rattle.log_programs.specs.declared.usage.Problem.TheVariants as problems
-use Rattle.log_programs.specs.declared.usage.UsageFault.{UsageFault}
+use Rattle.options.specs.Items.{begins, free_items, next_mode}
+use Rattle.options.specs.WordRules.{AsksNothing, HasFault, IsOther, OthersAreNoOptions, OthersAskForNothing, WordsHaveOneFault, is_unknown}
+use Rattle.options.specs.declared.faults.Fault.{Fault}
+use Rattle.options.specs.declared.items.Mode.TheVariants as modes
+use Rattle.options.specs.declared.table.Row as options
+use Rattle.options.specs.declared.table.Table.{Table}
 
 -- ---- one output
 
@@ -44,37 +41,42 @@ three_of_two_and_one law join a b whole p q r two one = omega (arith, law join (
 
 -- ---- words that are no options
 
-module _ {Z : Type 0} (word : String Z) (others : List (String Z)) (law : OthersAreNoOptions join_options is_option_word (word ∷ others)) where
-  no_option : (text : List ℕ) → is_option_word text ≡ false → string_bytes word ≡ text → option_of join_options (word ∷ others) ≡ None
-  no_option text none w = law (ap is_option_word w ∙ none)
+abbrev is_other : (text : List ℕ) → is_option_word text ≡ false → begins (codes "-") text ≡ true → bytes_eq text (codes "-") ≡ false → bytes_eq text (codes "--") ≡ false → IsOther is_option_word text
+is_other text other dash input dashes = record { other = other; dash = dash; input = input; dashes = dashes }
 
-  -- a letter beside an option, a letter more, one less, and a letter of none, whatever follows
-  pub no_options : AllByRecursion (λ text. string_bytes word ≡ text → option_of join_options (word ∷ others) ≡ None) (codes "--networl" ∷ codes "-ff" ∷ codes "--las" ∷ codes "-x" ∷ [])
-  no_options = (no_option (codes "--networl") refl, (no_option (codes "-ff") refl, (no_option (codes "--las") refl, (no_option (codes "-x") refl, tt))))
+-- a letter beside an option, a letter of none, also behind others, one less, and a value that does not follow its name
+pub no_options : (rows : List options.Row) → ((text : List ℕ) → OthersAreNoOptions rows is_option_word text)
+    → AllByRecursion (λ text. list_any is_unknown (free_items rows text) ≡ true) (codes "--networl" ∷ codes "-x" ∷ codes "-vx" ∷ codes "--las" ∷ codes "--group=1,1" ∷ [])
+no_options rows law = (
+  law (codes "--networl") (is_other (codes "--networl") refl refl refl refl),
+  (
+    law (codes "-x") (is_other (codes "-x") refl refl refl refl),
+    (
+      law (codes "-vx") (is_other (codes "-vx") refl refl refl refl),
+      (law (codes "--las") (is_other (codes "--las") refl refl refl refl), (law (codes "--group=1,1") (is_other (codes "--group=1,1") refl refl refl refl), tt)),
+    ),
+  ),
+)
 
-abbrev letters : Bool → Bool → Letters
-letters anywhere words = record { anywhere = anywhere; words = words }
-
--- nor does such a word ask for something behind an option
-pub not_behind_an_option : {Z : Type 0} (flag word : String Z) (others : List (String Z)) → OthersAskForNothing join_options is_option_word (flag ∷ word ∷ others) → string_bytes flag ≡ codes "-a" → string_bytes word ≡ codes "--networl"
-    → AsksNothing join_options (flag ∷ word ∷ others)
-not_behind_an_option flag word others law f w =
-    law (choices.Letters (letters true false) ∷ []) word others (rw f, rw f) (ap is_option_word w) (ap (begins_with (codes "-")) w) (ap (is_one_of (codes "-" ∷ codes "--" ∷ [])) w)
+-- nor does such a word ask for something behind a word, whatever follows it
+pub not_behind_a_word : {Z : Type 0} (table : Table) (first word : String Z) (others : List (String Z)) → OthersAskForNothing table is_option_word (first ∷ word ∷ others)
+    → next_mode table.rows.now modes.Free (string_bytes first) ≡ modes.Free → string_bytes word ≡ codes "-x" → AsksNothing table (first ∷ word ∷ others)
+not_behind_a_word table first word others law free w =
+    law (first ∷ []) word others refl free
+    (subst (λ (text : List ℕ). IsOther is_option_word text) (sym w) (is_other (codes "-x") refl refl refl refl))
 
 -- the law leaves out the words of options, and no others
-pub words_of_options : list_all is_option_word (codes "-f" ∷ codes "-k" ∷ codes "-k3" ∷ codes "-d" ∷ codes "-d," ∷ codes "--last" ∷ codes "--last-wins" ∷ codes "--network" ∷ codes "--mapped" ∷ codes "--tally" ∷ codes "--after" ∷ codes "--group" ∷ codes "-a" ∷ codes "-w" ∷ codes "-aw" ∷ []) ≡ true
+pub words_of_options : list_all is_option_word
+    (codes "-f" ∷ codes "-flist" ∷ codes "-k3" ∷ codes "-wk" ∷ codes "-ad," ∷ codes "--last" ∷ codes "--last-wins" ∷ codes "--network" ∷ codes "--mapped" ∷ codes "--tally" ∷ codes "--after" ∷ codes "--group" ∷ codes "-aw" ∷ []) ≡ true
 words_of_options = refl
 
-pub words_of_none :
-    list_any is_option_word ([] ∷ codes "-" ∷ codes "--" ∷ codes "f" ∷ codes "-fx" ∷ codes "-e" ∷ codes "-K" ∷ codes "--last-win" ∷ codes "--network=" ∷ codes "--map" ∷ codes "--tall" ∷ codes "--after=x" ∷ codes "--group=24,64" ∷ codes "--grou" ∷ codes "--help" ∷ codes "-ax" ∷ codes "-v" ∷ []) ≡ false
+pub words_of_none : list_any is_option_word
+    ([] ∷ codes "--" ∷ codes "f" ∷ codes "-K" ∷ codes "-e" ∷ codes "--last-win" ∷ codes "--network=" ∷ codes "--map" ∷ codes "--tallyx" ∷ codes "--group=1,1" ∷ codes "-wxk1" ∷ []) ≡ false
 words_of_none = refl
 
 -- ---- one fault
 
--- two words are not both the first that is wrong
-pub not_two_words : {Z : Type 0} (words : List (String Z)) → WordsHaveOneFault join_options words → HasFault join_options words (about (subjects.Word 0) problems.NoOption) → HasFault join_options words (about (subjects.Word 1) problems.NoOption) → ⊥
-not_two_words words law p q = cc (ap (λ (fault : UsageFault). fault.subject) (law (about (subjects.Word 0) problems.NoOption) (about (subjects.Word 1) problems.NoOption) p q))
-
--- nor is one word wrong in two ways
-pub not_two_problems : {Z : Type 0} (words : List (String Z)) → WordsHaveOneFault join_options words → HasFault join_options words (about (subjects.Word 0) problems.NoOption) → HasFault join_options words (about (subjects.Word 0) problems.AfterFile) → ⊥
-not_two_problems words law p q = cc (ap (λ (fault : UsageFault). fault.problem) (law (about (subjects.Word 0) problems.NoOption) (about (subjects.Word 0) problems.AfterFile) p q))
+-- two words are not both the first that is wrong, nor is one word wrong in two ways
+pub not_two_faults : {Z : Type 0} (table : Table) (words : List (String Z)) (a b : Fault) → WordsHaveOneFault table words → HasFault table words a → HasFault table words b
+    → (a.subject ≡ b.subject) × (a.problem ≡ b.problem)
+not_two_faults table words a b law p q = (ap (λ (fault : Fault). fault.subject) (law a b p q), ap (λ (fault : Fault). fault.problem) (law a b p q))

@@ -1,7 +1,5 @@
 pub mod Addressed
 pub mod Examples
-pub mod Faults
-pub mod JoinedLetters
 pub mod Joining
 pub mod LawExamples
 pub mod LogParts

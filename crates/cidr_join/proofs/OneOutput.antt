@@ -20,7 +20,7 @@ use Rattle.cidr_join.specs.declared.found.Found.TheVariants as founds
 use Rattle.cidr_join.specs.declared.join.Join.{Join}
 use Rattle.cidr_join.specs.declared.routes.Routes.{Routes}
 use Rattle.cidr_join.specs.declared.value.Value.{Value}
-use Rattle.log_programs.proofs.Requests.{same_value}
+use Rattle.ipnetwork_table.proofs.Listing.{same_value}
 
 some_is : {X : Type 0} (x : X) → IsSome (Some x)
 some_is x = refl

@@ -20,7 +20,7 @@ use Rattle.program.specs.LogLines.{LogLine}
 use Rattle.cidr_join.specs.Logs.{EndsRunBy}
 use Rattle.program.specs.Logs.{logs_of, HaltsBy}
 use Rattle.cidr_join.specs.Routes.{Values, no_networks}
-use Rattle.cidr_join.specs.Runs.{StopsAtLog, JoinsAll, EndsLogs, EndsAsked, EndsFinding, EndsGrouping, EndsJoining, EndsRequest, answers_of, join_of, list_name}
+use Rattle.cidr_join.specs.Runs.{StopsAtLog, JoinsAll, EndsLogs, EndsAsked, EndsFinding, EndsGrouping, EndsJoining, EndsFiles, answers_of, join_of, list_name, lengths_of}
 use Rattle.cidr_join.specs.TallyRuns.{EndsTally}
 use Rattle.cidr_join.specs.Stands.{stand}
 use Rattle.cidr_join.specs.Stops.{JoinsLines, WritesBeginning}
@@ -28,7 +28,9 @@ use Rattle.cidr_join.specs.Takes.{TakesLines}
 use Rattle.cidr_join.specs.Told.{bytes_fault_text}
 use Rattle.cidr_join.specs.Private.Runs.{JoinsNames}
 use Rattle.cidr_join.specs.declared.answers.Answers.{Answers}
-use Rattle.cidr_join.specs.declared.command_line.Request.{Request}
+use Rattle.options.specs.Given.{is_given, inputs_of}
+use Rattle.options.specs.declared.items.Item.{Item}
+use Rattle.cidr_join.specs.Options as own
 use Rattle.cidr_join.specs.declared.join.Join.{Join}
 use Rattle.cidr_join.specs.declared.lengths.Lengths.{Lengths}
 use Rattle.program.specs.declared.log_fault.LogFault.{LogFault}
@@ -124,14 +126,14 @@ all_by {W} join known names end mid between written f ok err failed two tells = 
 
 -- ---- the run
 
-module _ {Z W E : Type 0} (known : KnownLists) (words : List (String Z)) (request : Request) (end : Ending W E) (name : List ℕ) (same : name ≡ list_name words request) where
+module _ {W E : Type 0} (known : KnownLists) (items : List Item) (end : Ending W E) (name : List ℕ) (same : name ≡ list_name items) where
   -- the list was read
-  pub joined_to : (text : List ℕ) → IsAllOf known name text → EndsJoining known words request name text end → EndsGrouping None known words request end
+  pub joined_to : (text : List ℕ) → IsAllOf known name text → EndsJoining known items name text end → EndsGrouping None known items end
   joined_to text all h =
-      inr (text, subst (λ (n : List ℕ). IsAllOf known n text) same all, subst (λ (n : List ℕ). EndsJoining known words request n text end) same h)
+      inr (text, subst (λ (n : List ℕ). IsAllOf known n text) same all, subst (λ (n : List ℕ). EndsJoining known items n text end) same h)
 
   -- it was not
-  pub not_read : (fault : BytesFault) → BytesStop known name 1073741824 fault → Refuses (bytes_fault_text name fault) end → EndsGrouping None known words request end
+  pub not_read : (fault : BytesFault) → BytesStop known name 1073741824 fault → Refuses (bytes_fault_text name fault) end → EndsGrouping None known items end
   not_read fault stops h =
       inl (fault, subst (λ (n : List ℕ). BytesStop known n 1073741824 fault) same stops, subst (λ (n : List ℕ). Refuses (bytes_fault_text n fault) end) same h)
 
@@ -142,16 +144,16 @@ same_routes routes networks a b =
       with_both v4 v6 = record { v4 = v4; v6 = v6 }
 
 -- what is printed of addresses was found, and the logs were joined by it
-pub taken : {Z W E : Type 0} (known : KnownLists) (words : List (String Z)) (request : Request) (name text : List ℕ) (end : Ending W E) (networks : Networks) (by : Answers) → by ≡ answers_of request networks
-    → TakesLines request.last_wins no_networks (slice_split (λ b. b == 10) text) networks → EndsFinding known words request by end → EndsJoining known words request name text end
-taken known words request name text end networks by same takes (inl h) = inr (inl h)
-taken known words request name text end networks by same takes (inr h) =
-    inr (inr (networks, takes, subst (λ (a : Answers). EndsAsked request.tally (join_of words request a) known (logs_of (drop request.files words)) end) same h))
+pub taken : {W E : Type 0} (known : KnownLists) (items : List Item) (name text : List ℕ) (end : Ending W E) (networks : Networks) (by : Answers) → by ≡ answers_of items networks
+    → TakesLines (is_given items own.last_wins) no_networks (slice_split (λ b. b == 10) text) networks → EndsFinding known items by end → EndsJoining known items name text end
+taken known items name text end networks by same takes (inl h) = inr (inl h)
+taken known items name text end networks by same takes (inr h) =
+    inr (inr (networks, takes, subst (λ (a : Answers). EndsAsked (is_given items own.tally) (join_of items a) known (inputs_of items) end) same h))
 
 -- whether lines are grouped
-pub by_group : {Z W E : Type 0} (known : KnownLists) (words : List (String Z)) (request : Request) (end : Ending W E) (group : Option Lengths) → request.group ≡ group → EndsGrouping group known words request end
-    → EndsRequest known words request end
-by_group known words request end group is h = subst (λ (o : Option Lengths). EndsGrouping o known words request end) (sym is) h
+pub by_group : {W E : Type 0} (known : KnownLists) (items : List Item) (end : Ending W E) (group : Option Lengths) → lengths_of items ≡ group → EndsGrouping group known items end
+    → EndsFiles known items end
+by_group known items end group is h = subst (λ (o : Option Lengths). EndsGrouping o known items end) (sym is) h
 
 -- ---- what is asked of the logs
 

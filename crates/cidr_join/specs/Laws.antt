@@ -1,7 +1,7 @@
 -- What follows from the clauses of a command line and of a log.
-use Rattle.std.specs.Prelude.{◌≡◌, ℕ, ◌+◌, ◌-◌, ◌^◌, min, ◌==◌, ◌||◌, Bool, List, [], ◌∷◌, ◌++◌, codes}
+use Rattle.std.specs.Prelude.{◌≡◌, ℕ, ◌+◌, ◌-◌, ◌^◌, min, Bool, List, [], ◌∷◌, ◌++◌, codes}
 use Rattle.program.specs.LogLines.{LogLine, log_lines}
-use Rattle.log_programs.specs.WordRules.{is_word_of}
+use Rattle.options.specs.WordRules.{is_word_of}
 use Rattle.cidr_join.specs.Joins.{Joins}
 use Rattle.cidr_join.specs.Tallies.{Row, counted_by, IsTally}
 use Rattle.cidr_join.specs.TallyRuns.{Marks}
@@ -25,15 +25,9 @@ abbrev pub TalliesOfPartsAddUp : Type 0
 TalliesOfPartsAddUp = (join : Join) (first second : List ℕ) (a b whole : List Row) → Tallies join (log_lines (first ++ 10 ∷ [])) a → Tallies join (log_lines second) b
     → Tallies join (log_lines (first ++ 10 ∷ second)) whole → (text : List ℕ) → counted_by whole text ≡ min (counted_by a text + counted_by b text) (2 ^ 64 - 1)
 
--- a word of an option: a name, a text with a value behind it, or a `-` and letters `a` (byte 97) and `w` (119), one or more
-abbrev pub option_names : List (List ℕ)
-option_names = codes "-f" ∷ codes "-k" ∷ codes "-d" ∷ codes "--last" ∷ codes "--last-wins" ∷ codes "--network" ∷ codes "--mapped" ∷ codes "--tally" ∷ codes "--after" ∷ codes "--group" ∷ []
-
-abbrev pub before_values : List (List ℕ)
-before_values = codes "-k" ∷ codes "-d" ∷ []
-
-abbrev pub is_flag : ℕ → Bool
-is_flag letter = letter == 97 || letter == 119
-
+-- a word of options: a long name, or a `-` and letters, of which the last may be one that takes a value, which anything may
+-- follow
 abbrev pub is_option_word : List ℕ → Bool
-is_option_word word = is_word_of option_names before_values is_flag word
+is_option_word word =
+    is_word_of (codes "aw") (codes "kdf")
+    (codes "--after" ∷ codes "--mapped" ∷ codes "--help" ∷ codes "--version" ∷ codes "--last" ∷ codes "--last-wins" ∷ codes "--network" ∷ codes "--tally" ∷ codes "--group" ∷ []) [] word

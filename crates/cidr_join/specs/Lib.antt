@@ -1,6 +1,5 @@
 -- What the contracts of this crate cite.
 pub mod Addressed
-pub mod CommandLines
 pub mod Entries
 pub mod Groups
 pub mod Joins
@@ -16,4 +15,3 @@ pub mod Takes
 pub mod Tallies
 pub mod TallyRuns
 pub mod Told
-pub mod Usage

@@ -1,29 +1,31 @@
 -- How a run ends: its exit status, what was written, and what was reported.
-use Rattle.std.specs.Prelude.{◌≡◌, ℕ, Bool, List, ◌∷◌, ◌++◌, true, false, ◌⊎◌, if◌then◌else◌, Option, None, Some, length, take, drop, codes, String, ◌==◌}
+use Rattle.std.specs.Prelude.{◌≡◌, ℕ, Bool, List, ◌∷◌, ◌++◌, true, false, ◌⊎◌, if◌then◌else◌, Option, None, Some, length, codes, String, ◌==◌}
 use Rattle.std.specs.List.{slice_split}
 use Rattle.lists.specs.Bytes.{IsAllOf, BytesStop}
 use Rattle.lists.specs.KnownLists.{KnownLists}
 use Rattle.program.specs.Endings.{Ending, Refuses, HasTold}
-use Rattle.log_programs.specs.Runs as runs
-use Rattle.log_programs.specs.Shared as shared
-use Rattle.cidr_join.specs.CommandLines.{join_options}
+use Rattle.log_programs.specs.Places.{place_of}
+use Rattle.log_programs.specs.Rows as rows
+use Rattle.options.specs.Given.{is_given, value_of, inputs_of}
+use Rattle.options.specs.Runs as runs
+use Rattle.options.specs.Values.{lengths_in}
+use Rattle.options.specs.declared.items.Item.{Item}
+use Rattle.options.specs.declared.table.Table.{Table}
+use Rattle.cidr_join.specs.Options as own
+use Rattle.cidr_join.specs.Options.{IsOptions}
 use Rattle.cidr_join.specs.Joins.{Joins}
 use Rattle.program.specs.LogLines.{LogLine}
 use Rattle.cidr_join.specs.Logs.{JoinsLogs, EndsRunBy}
 use Rattle.program.specs.LogFaults.{log_fault_text, Wrote}
-use Rattle.program.specs.Logs.{logs_of, HaltsBy}
-use Rattle.cidr_join.specs.Options.{syntax_of_options}
+use Rattle.program.specs.Logs.{HaltsBy}
 use Rattle.cidr_join.specs.Routes.{no_networks}
 use Rattle.cidr_join.specs.TallyRuns.{EndsTally, EndsWith}
 use Rattle.cidr_join.specs.Takes.{TakesLines, StopsTaking}
 use Rattle.cidr_join.specs.Told.{bytes_fault_text, take_fault_text}
-use Rattle.log_programs.specs.Values.{value_of}
 use Rattle.lists.specs.declared.bytes.BytesFault.{BytesFault}
 use Rattle.cidr_join.specs.declared.answers.Answers.{Answers}
 use Rattle.cidr_join.specs.declared.answers.Answers.TheVariants as answers
-use Rattle.cidr_join.specs.declared.command_line.Request.{Request}
 use Rattle.cidr_join.specs.declared.join.Join.{Join}
-use Rattle.line_addresses.specs.declared.place.Place.{Place}
 use Rattle.cidr_join.specs.declared.lengths.Lengths.{Lengths}
 use Rattle.cidr_join.specs.declared.list.TakeFault.{TakeFault}
 use Rattle.program.specs.declared.log_fault.LogFault.{LogFault}
@@ -62,30 +64,25 @@ pub record JoinsAll {W E : Type 0} (join : Join) (known : KnownLists) (names : L
 abbrev pub EndsLogs : {W E : Type 0} → Join → KnownLists → List (List ℕ) → Ending W E → Type 0
 EndsLogs join known names end = JoinsAll join known names end ⊎ StopsAtLog join known names end
 
--- where a request looks for the address of a line
-abbrev pub place_of : {Z : Type 0} → List (String Z) → Request → Place
-place_of words request =
-    shared.place_of request.letters.anywhere request.letters.words (value_of syntax_of_options (codes "--after") (take request.files words)) request.shared
-
 -- the name of its list
-abbrev pub list_name : {Z : Type 0} → List (String Z) → Request → List ℕ
-list_name words request = value_of syntax_of_options (codes "-f") (take request.files words)
+abbrev pub list_name : List Item → List ℕ
+list_name items = value_of items rows.list
 
 -- what is printed of addresses by the routes of a list: networks or values
 abbrev pub answers_by : Bool → Routes → Answers
 answers_by network routes = if network then answers.Networks routes else answers.Values routes
 
--- what it asks for of these networks
-abbrev pub answers_of : Request → Networks → Answers
-answers_of request networks = answers_by request.network (record { v4 = networks.v4; v6 = networks.v6 })
+-- what is asked for of these networks
+abbrev pub answers_of : List Item → Networks → Answers
+answers_of items networks = answers_by (is_given items own.network) (record { v4 = networks.v4; v6 = networks.v6 })
 
 -- and of lines, if this is printed of addresses
-abbrev pub join_of : {Z : Type 0} → List (String Z) → Request → Answers → Join
-join_of words request by = record {
+abbrev pub join_of : List Item → Answers → Join
+join_of items by = record {
   answers = by;
-  place = place_of words request;
-  mapped = request.shared.mapped;
-  last = request.last;
+  place = place_of items;
+  mapped = is_given items rows.mapped;
+  last = is_given items own.last;
 }
 
 -- what it asks for of the logs: that what the list gives their lines is counted, or that they are joined to the list
@@ -95,34 +92,46 @@ EndsAsked false join known names end = EndsLogs join known names end
 
 -- the list of this name has these bytes. A line of it is refused, or memory runs out, and nothing is written. Else the
 -- logs are joined to its networks, or counted by them
-abbrev pub EndsJoining : {Z W E : Type 0} → KnownLists → List (String Z) → Request → List ℕ → List ℕ → Ending W E → Type 0
-EndsJoining known words request name text end =
-    ((fault : TakeFault) × StopsTaking request.last_wins no_networks (slice_split (λ b. b == 10) text) fault × Refuses (take_fault_text name fault) end)
+abbrev pub EndsJoining : {W E : Type 0} → KnownLists → List Item → List ℕ → List ℕ → Ending W E → Type 0
+EndsJoining known items name text end =
+    ((fault : TakeFault) × StopsTaking (is_given items own.last_wins) no_networks (slice_split (λ b. b == 10) text) fault × Refuses (take_fault_text name fault) end)
     ⊎ (Refuses (codes "out of memory\n") end
-    ⊎ ((networks : Networks) × TakesLines request.last_wins no_networks (slice_split (λ b. b == 10) text) networks
-    × EndsAsked request.tally (join_of words request (answers_of request networks)) known (logs_of (drop request.files words)) end))
+    ⊎ ((networks : Networks) × TakesLines (is_given items own.last_wins) no_networks (slice_split (λ b. b == 10) text) networks
+    × EndsAsked (is_given items own.tally) (join_of items (answers_of items networks)) known (inputs_of items) end))
 
 -- this is printed of addresses: memory runs out, or the logs are joined or counted by it
-abbrev pub EndsFinding : {Z W E : Type 0} → KnownLists → List (String Z) → Request → Answers → Ending W E → Type 0
-EndsFinding known words request by end =
+abbrev pub EndsFinding : {W E : Type 0} → KnownLists → List Item → Answers → Ending W E → Type 0
+EndsFinding known items by end =
     Refuses (codes "out of memory\n") end
-    ⊎ EndsAsked request.tally (join_of words request by) known (logs_of (drop request.files words)) end
+    ⊎ EndsAsked (is_given items own.tally) (join_of items by) known (inputs_of items) end
+
+-- the lengths of the blocks in which lines are grouped, if they are
+abbrev pub both : Option (ℕ × ℕ) → Option Lengths
+both None = None
+both (Some lengths) = Some (record { v4 = lengths.0; v6 = lengths.1 })
+
+abbrev pub lengths_of : List Item → Option Lengths
+lengths_of items = both (lengths_in (value_of items own.group))
 
 -- lines are grouped in blocks of these lengths. Or else the list was not read, nothing was written, and the cause was
 -- reported; or it was, and the logs were joined to it
-abbrev pub EndsGrouping : {Z W E : Type 0} → Option Lengths → KnownLists → List (String Z) → Request → Ending W E → Type 0
-EndsGrouping (Some lengths) known words request end = EndsFinding known words request (answers.Blocks lengths) end
-EndsGrouping None known words request end =
-    ((fault : BytesFault) × BytesStop known (list_name words request) 1073741824 fault × Refuses (bytes_fault_text (list_name words request) fault) end)
-    ⊎ ((text : List ℕ) × IsAllOf known (list_name words request) text × EndsJoining known words request (list_name words request) text end)
+abbrev pub EndsGrouping : {W E : Type 0} → Option Lengths → KnownLists → List Item → Ending W E → Type 0
+EndsGrouping (Some lengths) known items end = EndsFinding known items (answers.Blocks lengths) end
+EndsGrouping None known items end =
+    ((fault : BytesFault) × BytesStop known (list_name items) 1073741824 fault × Refuses (bytes_fault_text (list_name items) fault) end)
+    ⊎ ((text : List ℕ) × IsAllOf known (list_name items) text × EndsJoining known items (list_name items) text end)
 
-abbrev pub EndsRequest : {Z W E : Type 0} → KnownLists → List (String Z) → Request → Ending W E → Type 0
-EndsRequest known words request end = EndsGrouping request.group known words request end
+abbrev pub EndsFiles : {W E : Type 0} → KnownLists → List Item → Ending W E → Type 0
+EndsFiles known items end = EndsGrouping (lengths_of items) known items end
 
--- so is a request of these words done, whose FILEs begin at this place
-abbrev pub DoesRequest : {Z W E : Type 0} → KnownLists → Ending W E → List (String Z) → Request → ℕ → Type 0
-DoesRequest known end words request files = EndsRequest known words (record request { files = files }) end
+-- what is asked for is done, unless there is no memory for the names of the logs
+abbrev pub DoesRequest : {W E : Type 0} → KnownLists → Ending W E → List Item → Type 0
+DoesRequest known end items = Refuses (codes "out of memory\n") end ⊎ EndsFiles known items end
 
--- how a run ends of a program of this name, help, version and usage
+abbrev pub EndsRequest : {W E : Type 0} → KnownLists → List Item → Ending W E → Type 0
+EndsRequest known items end = DoesRequest known end items
+
+-- how a run ends of a program of this name, help, version and usage, by the table of its options
 abbrev pub EndsAs : {Z W E : Type 0} → List ℕ → List ℕ → List ℕ → List ℕ → KnownLists → List (String Z) → Ending W E → Type 0
-EndsAs program help version usage known words end = runs.EndsAs join_options program help version usage words (DoesRequest known end) end
+EndsAs program help version usage known words end =
+    (table : Table) × IsOptions table × runs.EndsAs table program help version usage words (DoesRequest known end) end

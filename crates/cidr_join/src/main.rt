@@ -2,7 +2,6 @@
 #![tactic(auto)]
 
 mod answers;
-mod command_line;
 mod counts;
 mod found;
 mod help;
@@ -14,9 +13,9 @@ mod list;
 mod log;
 mod logs;
 mod numbered;
-mod options;
 mod printing;
 mod routes;
+mod rows;
 mod run;
 mod seen;
 mod tally;

@@ -1,12 +1,4 @@
-pub mod Examples
 pub mod Failing
-pub mod Faults
 pub mod Handed
-pub mod JoinedWords
 pub mod Lacking
 pub mod LogEnds
-pub mod OptionValues
-pub mod OtherWords
-pub mod Requests
-pub mod Runs
-pub mod WordOrder

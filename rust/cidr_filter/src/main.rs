@@ -7,7 +7,6 @@
 
 use fosibegan::plain_std::rt::HostRuntime;
 
-mod command_line;
 mod filter;
 mod help;
 mod leaving;
@@ -15,11 +14,11 @@ mod listed;
 mod log;
 mod logs;
 mod naming;
-mod options;
 mod printing;
 mod printing_addresses;
 mod reading;
 mod recent;
+mod rows;
 mod run;
 mod telling;
 

@@ -3,26 +3,36 @@
 //! Reads the lists of a run.
 
 use fosibegan::plain_std::vec::Vec;
-use fosibegan::plain_std::string::String;
-use crate::command_line::FilterOptions;
 use crate::listed::{Listed, Sets, Tables};
-use crate::options::{Choice, is_list};
+use crate::rows::TEXT;
 use fosibegan::ipnetwork::{Ipv4Network, Ipv6Network};
 use fosibegan::ipnetwork_sets::AddressSet;
 use cidr_programs::lists::{ListReader, OpenLists, ReadFault, Refusals, read_named, read_text};
-use cidr_programs::log_programs::options::{behind, choice_at};
+use cidr_programs::log_programs::places::LIST;
+use cidr_programs::options::items::{Item, Text};
 use fosibegan::plain_std::alloc::{AllocError, Global};
+
+/// What an option reads.
+#[derive(Debug)]
+pub enum Source<'a> {
+    /// The list of this name.
+    List(Text<'a>),
+    /// This text.
+    Text(Text<'a>),
+    /// Nothing.
+    Nothing,
+}
 
 /// Reads the lists that the options name, in their order. Returns the networks (as blocks if `longest`, and else as a
 /// set of addresses), the refused lines, and whether all lists were read to the end.
 pub(crate) fn read_listed<L: OpenLists>(
     alloc: Global,
     lists: &L,
-    words: &[String],
+    items: &[Item<'_>],
     longest: bool,
 ) -> (Result<Listed, AllocError>, Refusals, Result<(), ReadFault>) {
     let mut reader = ListReader::new(alloc, Refusals::new());
-    let end = read_lists(lists, words, &mut reader);
+    let end = read_lists(lists, items, &mut reader);
     let (listed, refusals) = listed_by(alloc, longest, reader);
     (listed, refusals, end)
 }
@@ -45,32 +55,47 @@ fn listed_by(
 // Reads the lists that the options name.
 fn read_lists<L: OpenLists>(
     lists: &L,
-    words: &[String],
+    items: &[Item<'_>],
     reader: &mut ListReader,
 ) -> Result<(), ReadFault> {
     let mut at = 0;
-    'options: while let Some(choice) = choice_at::<FilterOptions>(words, at) {
-        read_option(lists, words, at, choice, reader)?;
-        at = behind::<FilterOptions>(words, at);
+    'items: while at < items.len() {
+        read_item(lists, &items[at], at, reader)?;
+        at += 1;
     }
     Ok(())
 }
 
-// Reads the list of the option at a place, if it names one.
-fn read_option<L: OpenLists>(
+// Reads the list of an option, if it names one.
+fn read_item<L: OpenLists>(
     lists: &L,
-    words: &[String],
-    at: usize,
-    choice: Choice,
+    item: &Item<'_>,
+    number: usize,
     reader: &mut ListReader,
 ) -> Result<(), ReadFault> {
-    if !is_list(choice) {
-        return Ok(());
+    match source_of(item) {
+        Source::List(name) => read_named(lists, name.as_str(), number, reader),
+        Source::Text(text) => read_text(text.as_str(), number, reader),
+        Source::Nothing => Ok(()),
     }
-    let value = &words[at + 1];
-    match choice {
-        Choice::Text => read_text(value.as_str(), at + 1, reader),
-        _ => read_named(lists, value.as_str(), at + 1, reader),
+}
+
+/// What an option reads.
+pub(crate) fn source_of<'a>(item: &Item<'a>) -> Source<'a> {
+    match item {
+        Item::Value(row, value) | Item::Joined(row, value, _) => source_by(*row, value.as_str()),
+        _ => Source::Nothing,
+    }
+}
+
+// What the option of a row and value reads.
+fn source_by(row: usize, value: &str) -> Source<'_> {
+    if row == LIST {
+        Source::List(Text::new(value))
+    } else if row == TEXT {
+        Source::Text(Text::new(value))
+    } else {
+        Source::Nothing
     }
 }
 

@@ -4,19 +4,23 @@
 
 use fosibegan::plain_std::string::String;
 use fosibegan::plain_std::vec;
-use crate::command_line::{FilterOptions, Request};
 use crate::filter::{Filter, Shown};
 use crate::help::{HELP, PROGRAM, USAGE, VERSION};
+use crate::listed::Listed;
 use crate::logs::filter_logs;
-use crate::options::Letters;
 use crate::reading::read_listed;
-use crate::telling::InOptions;
-use cidr_programs::line_addresses::{Place, Text};
+use crate::rows::{
+    BAD, COUNTS, INVERTS, LONGEST, MOST, NAMED, NAMES, NUMBERED, ONLY, QUIET, bad_in, table,
+};
+use crate::telling::{InOptions, names_of};
+use cidr_programs::line_addresses::Text;
 use cidr_programs::lines::output::Output;
 use cidr_programs::lists::OpenLists;
-use cidr_programs::log_programs::asking::{About, asked};
-use cidr_programs::log_programs::options::value_of;
-use cidr_programs::log_programs::shared;
+use cidr_programs::log_programs::places::{MAPPED, place_of};
+use cidr_programs::options::asking::{About, asked};
+use cidr_programs::options::given::{files_of, is_given, value_of};
+use cidr_programs::options::items::Item;
+use cidr_programs::options::values::number_in;
 use cidr_programs::program::ending::FAILED;
 use cidr_programs::program::log_reader::BUFFER_LEN;
 use cidr_programs::program::memory::refuse_memory;
@@ -38,33 +42,53 @@ pub(crate) fn run<L: OpenLists, W: Write, E: Write>(
         version: VERSION,
         usage: USAGE,
     };
-    match asked::<FilterOptions, W, E>(alloc, &about, words, output, errors) {
-        Ok(asked) => {
-            let request = Request {
-                files: asked.2,
-                ..asked.1
-            };
-            filter(alloc, asked.0.as_slice(), request, lists, output, errors)
-        }
+    match asked(alloc, &about, &table(), words, output, errors) {
+        Ok(items) => filter(alloc, items.as_slice(), lists, output, errors),
         Err(status) => status,
     }
 }
 
-// Reads the lists, reports the refused lines, and then filters the logs by what was read, unless
-// memory ran out.
+// Does what is asked for.
 fn filter<L: OpenLists, W: Write, E: Write>(
     alloc: Global,
-    words: &[String],
-    request: Request,
+    items: &[Item<'_>],
     lists: &L,
     output: &mut Output<'_, W>,
     errors: &mut Output<'_, E>,
 ) -> u8 {
-    let files = &words[request.files..];
-    let (listed, refusals, read) = read_listed(alloc, lists, words, request.longest);
-    tell_refusals(words, &InOptions { words }, &refusals, errors);
+    let Ok(names) = names_of(alloc, items) else {
+        return refuse_memory(errors);
+    };
+    let Ok(files) = files_of(alloc, items) else {
+        return refuse_memory(errors);
+    };
+    filter_files(
+        alloc,
+        items,
+        names.as_slice(),
+        files.as_slice(),
+        lists,
+        output,
+        errors,
+    )
+}
+
+// Reads the lists, reports the refused lines, by these names of lists, and then filters these logs by what was read,
+// unless memory ran out.
+fn filter_files<L: OpenLists, W: Write, E: Write>(
+    alloc: Global,
+    items: &[Item<'_>],
+    names: &[String],
+    files: &[String],
+    lists: &L,
+    output: &mut Output<'_, W>,
+    errors: &mut Output<'_, E>,
+) -> u8 {
+    let longest = is_given(items, LONGEST);
+    let (listed, refusals, read) = read_listed(alloc, lists, items, longest);
+    tell_refusals(names, &InOptions { items }, &refusals, errors);
     if let Err(fault) = read {
-        tell_fault(words, fault, errors);
+        tell_fault(names, fault, errors);
         return FAILED;
     }
     if !refusals.is_empty() {
@@ -76,25 +100,37 @@ fn filter<L: OpenLists, W: Write, E: Write>(
     let Ok(mut buffer) = vec![in alloc; 0u8; BUFFER_LEN] else {
         return refuse_memory(errors);
     };
-    let mut filter = Filter {
-        listed,
-        place: place_of(words, request),
-        mapped: request.shared.mapped,
-        inverts: request.letters.inverts,
-        bad: request.bad,
-        most: most_of(request.letters, request.most),
-        shows: shows_of(request.letters),
-        named: is_named(request.letters),
-        numbered: request.letters.numbered,
-        name: no_name(),
-    };
-    let buffer = buffer.as_mut_slice();
-    filter_logs(&mut filter, lists, files, buffer, output, errors)
+    let mut filter = filter_of(items, listed);
+    filter_logs(
+        &mut filter,
+        lists,
+        files,
+        buffer.as_mut_slice(),
+        output,
+        errors,
+    )
 }
 
-// How many lines of a log are selected at the most, if the option for that says this.
-fn most_of(letters: Letters, most: Option<u64>) -> Option<u64> {
-    if letters.quiet || letters.names {
+// The filter that is asked for.
+fn filter_of<'a>(items: &[Item<'a>], listed: Listed) -> Filter<'a> {
+    Filter {
+        listed,
+        place: place_of(items),
+        mapped: is_given(items, MAPPED),
+        inverts: is_given(items, INVERTS),
+        bad: bad_in(value_of(items, BAD)),
+        most: most_of(items),
+        shows: shows_of(items),
+        named: is_named(items),
+        numbered: is_given(items, NUMBERED),
+        name: no_name(),
+    }
+}
+
+// How many lines of a log are selected at the most.
+fn most_of(items: &[Item<'_>]) -> Option<u64> {
+    let most = number_in(value_of(items, MOST));
+    if is_given(items, QUIET) || is_given(items, NAMES) {
         up_to_one(most)
     } else {
         most
@@ -110,14 +146,14 @@ fn up_to_one(most: Option<u64>) -> Option<u64> {
 }
 
 // What is printed.
-fn shows_of(letters: Letters) -> Shown {
-    if letters.quiet {
+fn shows_of(items: &[Item<'_>]) -> Shown {
+    if is_given(items, QUIET) {
         Shown::Nothing
-    } else if letters.names {
+    } else if is_given(items, NAMES) {
         Shown::Names
-    } else if letters.counts {
+    } else if is_given(items, COUNTS) {
         Shown::Count
-    } else if letters.only {
+    } else if is_given(items, ONLY) {
         Shown::Addresses
     } else {
         Shown::Lines
@@ -125,22 +161,11 @@ fn shows_of(letters: Letters) -> Shown {
 }
 
 // Whether the name of its log is printed of a line.
-fn is_named(letters: Letters) -> bool {
-    letters.named || letters.names
+fn is_named(items: &[Item<'_>]) -> bool {
+    is_given(items, NAMED) || is_given(items, NAMES)
 }
 
 // No name before lines.
 fn no_name<'a>() -> Text<'a> {
     Text::new(b"".as_slice())
-}
-
-// Where a request looks for the addresses of a line.
-fn place_of(words: &[String], request: Request) -> Place<'_> {
-    let text = value_of::<FilterOptions>(&words[..request.files], "--after");
-    shared::place_of(
-        request.letters.anywhere,
-        request.letters.words,
-        text,
-        request.shared,
-    )
 }

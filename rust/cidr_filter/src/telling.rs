@@ -2,57 +2,74 @@
 
 //! Messages on the error writer. If a write of one fails, nothing else changes.
 
+use fosibegan::plain_std::vec::Vec;
 use fosibegan::plain_std::string::String;
-use crate::command_line::FilterOptions;
+use crate::reading::{Source, source_of};
 use cidr_programs::lines::output::Output;
 use cidr_programs::lists::{OpenFault, Refusal};
-use cidr_programs::log_programs::options::behind;
+use cidr_programs::options::items::Item;
 use cidr_programs::program::log_fault::tell_of;
 use cidr_programs::program::telling::Places;
-use cidr_programs::program::words::{is, text_at};
+use fosibegan::plain_std::alloc::{AllocError, Global};
 use fosibegan::plain_std::io::Write;
 
-/// Where refused lines stand, by the words of a command line: in a list, or in the text of an `-e`.
+/// Where refused lines stand, by the items of a command line: in a list, or in the text of an `-e`.
 #[derive(Clone, Copy)]
-pub(crate) struct InOptions<'a> {
-    pub(crate) words: &'a [String],
+pub(crate) struct InOptions<'a, 'b> {
+    pub(crate) items: &'a [Item<'b>],
 }
 
-impl Places for InOptions<'_> {
+impl Places for InOptions<'_, '_> {
     fn place(&self, refusal: Refusal) -> (usize, u64) {
-        if is_text(self.words, refusal.list) {
-            (refusal.list - 1, texts_up_to(self.words, refusal.list))
+        if is_text_at(self.items, refusal.list) {
+            (refusal.list, texts_up_to(self.items, refusal.list))
         } else {
             (refusal.list, refusal.line)
         }
     }
 }
 
-// Whether the word before a place is `-e`, so that the word there is the value of it.
-fn is_text(words: &[String], place: usize) -> bool {
-    place > 0 && text_at(words, place - 1) == "-e"
-}
-
-// How many `-e` there are among the options before a place.
-fn texts_up_to(words: &[String], place: usize) -> u64 {
-    let options = &words[..words.len().min(place)];
-    texts_in(options) as u64
-}
-
-// How many of the options are `-e`.
-fn texts_in(options: &[String]) -> usize {
-    let mut count = 0;
-    let mut at = 0;
-    while at < options.len() {
-        count += text_in(&options[at]);
-        at = behind::<FilterOptions>(options, at);
+// Whether the item at a place is an `-e`.
+fn is_text_at(items: &[Item<'_>], place: usize) -> bool {
+    match items.get(place) {
+        Some(item) => is_text(item),
+        None => false,
     }
-    count
 }
 
-// 1 if a word is `-e`, and else 0.
-fn text_in(word: &String) -> usize {
-    if is(word, "-e") { 1 } else { 0 }
+// Whether an item is an `-e`.
+fn is_text(item: &Item<'_>) -> bool {
+    matches!(source_of(item), Source::Text(_))
+}
+
+// How many of the items up to a place are an `-e`.
+fn texts_up_to(items: &[Item<'_>], place: usize) -> u64 {
+    texts_in(&items[..items.len().min(place.saturating_add(1))]) as u64
+}
+
+// How many of the items are an `-e`.
+fn texts_in(items: &[Item<'_>]) -> usize {
+    items.iter().filter(|item| is_text(item)).count()
+}
+
+/// The names by which refused lines are told, of the list that each item names: its own, or `-e`.
+pub(crate) fn names_of(alloc: Global, items: &[Item<'_>]) -> Result<Vec<String>, AllocError> {
+    let mut names = Vec::new(alloc);
+    let mut at = 0;
+    while at < items.len() {
+        names.push(told_name(alloc, &items[at])?)?;
+        at += 1;
+    }
+    Ok(names)
+}
+
+// The name by which refused lines are told of the list that an item names.
+fn told_name(alloc: Global, item: &Item<'_>) -> Result<String, AllocError> {
+    match source_of(item) {
+        Source::List(name) => String::from_str(alloc, name.as_str()),
+        Source::Text(_) => String::from_str(alloc, "-e"),
+        Source::Nothing => Ok(String::new(alloc)),
+    }
 }
 
 /// Reports that the log of this name cannot be opened, and why.

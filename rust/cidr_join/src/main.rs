@@ -8,7 +8,6 @@
 use fosibegan::plain_std::rt::HostRuntime;
 
 mod answers;
-mod command_line;
 mod counts;
 mod found;
 mod help;
@@ -19,9 +18,9 @@ mod list;
 mod log;
 mod logs;
 mod numbered;
-mod options;
 mod printing;
 mod routes;
+mod rows;
 mod run;
 mod seen;
 mod tally;

@@ -5,20 +5,22 @@
 use fosibegan::plain_std::string::String;
 use fosibegan::plain_std::vec;
 use crate::answers::Answers;
-use crate::command_line::{JoinOptions, Request};
 use crate::help::{HELP, PROGRAM, USAGE, VERSION};
 use crate::join::Join;
+use crate::lengths::Lengths;
 use crate::list::networks_of;
 use crate::logs::join_logs;
 use crate::routes::Routes;
+use crate::rows::{GROUP, LAST, LAST_WINS, NETWORK, TALLY, table};
 use crate::tally_logs::tally_logs;
 use crate::telling::{tell_bytes_fault, tell_take_fault};
-use cidr_programs::line_addresses::Place;
 use cidr_programs::lines::output::Output;
 use cidr_programs::lists::{OpenLists, read_bytes};
-use cidr_programs::log_programs::asking::{About, asked};
-use cidr_programs::log_programs::options::value_of;
-use cidr_programs::log_programs::shared;
+use cidr_programs::log_programs::places::{LIST, MAPPED, place_of};
+use cidr_programs::options::asking::{About, asked};
+use cidr_programs::options::given::{files_of, is_given, value_of};
+use cidr_programs::options::items::Item;
+use cidr_programs::options::values::lengths_in;
 use cidr_programs::program::ending::{FAILED, end};
 use cidr_programs::program::log_reader::BUFFER_LEN;
 use cidr_programs::program::memory::refuse_memory;
@@ -42,37 +44,45 @@ pub(crate) fn run<L: OpenLists, W: Write, E: Write>(
         version: VERSION,
         usage: USAGE,
     };
-    match asked::<JoinOptions, W, E>(alloc, &about, words, output, errors) {
-        Ok(asked) => {
-            let request = Request {
-                files: asked.2,
-                ..asked.1
-            };
-            join(alloc, asked.0.as_slice(), request, lists, output, errors)
-        }
+    match asked(alloc, &about, &table(), words, output, errors) {
+        Ok(items) => join(alloc, items.as_slice(), lists, output, errors),
         Err(status) => status,
     }
 }
 
-// Reads the list, and then joins the logs to it, if their lines are not grouped in blocks.
+// Does what is asked for.
 fn join<L: OpenLists, W: Write, E: Write>(
     alloc: Global,
-    words: &[String],
-    request: Request,
+    items: &[Item<'_>],
     lists: &L,
     output: &mut Output<'_, W>,
     errors: &mut Output<'_, E>,
 ) -> u8 {
-    if let Some(lengths) = request.group {
-        let answers = Answers::Blocks(lengths);
-        return join_by(alloc, request, words, answers, lists, output, errors);
+    match files_of(alloc, items) {
+        Ok(files) => join_files(alloc, items, files.as_slice(), lists, output, errors),
+        Err(_) => refuse_memory(errors),
     }
-    let name = value_of::<JoinOptions>(&words[..request.files], "-f");
+}
+
+// Reads the list, and then joins these logs to it, if their lines are not grouped in blocks.
+fn join_files<L: OpenLists, W: Write, E: Write>(
+    alloc: Global,
+    items: &[Item<'_>],
+    files: &[String],
+    lists: &L,
+    output: &mut Output<'_, W>,
+    errors: &mut Output<'_, E>,
+) -> u8 {
+    if let Some(lengths) = lengths_of(items) {
+        let answers = Answers::Blocks(lengths);
+        return join_by(alloc, items, files, answers, lists, output, errors);
+    }
+    let name = value_of(items, LIST);
     match read_bytes(alloc, lists, name, LIST_MAX) {
         Ok(text) => join_to(
             alloc,
-            request,
-            words,
+            items,
+            files,
             name,
             text.as_slice(),
             lists,
@@ -86,18 +96,27 @@ fn join<L: OpenLists, W: Write, E: Write>(
     }
 }
 
+// The lengths of the blocks in which lines are grouped, if they are.
+fn lengths_of(items: &[Item<'_>]) -> Option<Lengths> {
+    match lengths_in(value_of(items, GROUP)) {
+        Some((v4, v6)) => Some(Lengths { v4, v6 }),
+        None => None,
+    }
+}
+
 // Joins the logs to the list of this name, which has these bytes, or counts their lines by it.
 fn join_to<L: OpenLists, W: Write, E: Write>(
     alloc: Global,
-    request: Request,
-    words: &[String],
+    items: &[Item<'_>],
+    files: &[String],
     name: &str,
     text: &[u8],
     lists: &L,
     output: &mut Output<'_, W>,
     errors: &mut Output<'_, E>,
 ) -> u8 {
-    let networks = match networks_of(alloc, text, request.last_wins) {
+    let last_wins = is_given(items, LAST_WINS);
+    let networks = match networks_of(alloc, text, last_wins) {
         Ok(networks) => networks,
         Err(fault) => {
             tell_take_fault(name, fault, errors);
@@ -107,8 +126,9 @@ fn join_to<L: OpenLists, W: Write, E: Write>(
     let Ok(routes) = Routes::of(alloc, networks) else {
         return refuse_memory(errors);
     };
-    let answers = answers_by(request.network, routes);
-    join_by(alloc, request, words, answers, lists, output, errors)
+    let network = is_given(items, NETWORK);
+    let answers = answers_by(network, routes);
+    join_by(alloc, items, files, answers, lists, output, errors)
 }
 
 // What is printed of addresses by the routes of a list: networks or values.
@@ -123,8 +143,8 @@ fn answers_by(network: bool, routes: Routes<'_>) -> Answers<'_> {
 // Joins the logs, or counts their lines, where this is printed of addresses.
 fn join_by<'a, L: OpenLists, W: Write, E: Write>(
     alloc: Global,
-    request: Request,
-    words: &'a [String],
+    items: &[Item<'a>],
+    files: &[String],
     answers: Answers<'a>,
     lists: &L,
     output: &mut Output<'_, W>,
@@ -134,15 +154,9 @@ fn join_by<'a, L: OpenLists, W: Write, E: Write>(
     let Ok(mut buffer) = vec![in alloc; 0u8; BUFFER_LEN] else {
         return refuse_memory(errors);
     };
-    let join = Join {
-        answers,
-        place: place_of(words, request),
-        mapped: request.shared.mapped,
-        last: request.last,
-    };
-    let files = &words[request.files..];
+    let join = join_of(items, answers);
     let buffer = buffer.as_mut_slice();
-    if request.tally {
+    if is_given(items, TALLY) {
         return tally_logs(alloc, &join, lists, buffer, files, output, errors);
     }
     if !join_logs(&join, lists, files, buffer, output, errors) {
@@ -152,13 +166,13 @@ fn join_by<'a, L: OpenLists, W: Write, E: Write>(
     end(written, 0, errors)
 }
 
-// Where a request looks for the address of a line.
-fn place_of(words: &[String], request: Request) -> Place<'_> {
-    let text = value_of::<JoinOptions>(&words[..request.files], "--after");
-    shared::place_of(
-        request.letters.anywhere,
-        request.letters.words,
-        text,
-        request.shared,
-    )
+// What is asked for of lines, where this is printed of addresses.
+fn join_of<'a>(items: &[Item<'a>], answers: Answers<'a>) -> Join<'a>
+{
+    Join {
+        answers,
+        place: place_of(items),
+        mapped: is_given(items, MAPPED),
+        last: is_given(items, LAST),
+    }
 }

@@ -9,12 +9,13 @@ pub mod line_addresses;
 pub mod lines;
 pub mod lists;
 pub mod log_programs;
+pub mod options;
 pub mod program;
 
 /// What the examples have in scope.
 #[doc(hidden)]
 #[allow(ambiguous_glob_reexports)]
 pub mod in_examples {
-    pub use crate::{line_addresses::*, lines::*, lists::*, log_programs::*, program::*, *};
+    pub use crate::{line_addresses::*, lines::*, lists::*, log_programs::*, options::*, program::*, *};
     pub use fosibegan::in_examples::*;
 }

@@ -1,18 +1,19 @@
 -- What is read of lists, step by step.
-use Rattle.std.specs.Prelude.{◌≡◌, Bool, List, Result, IfOk, String}
+use Rattle.std.specs.Prelude.{◌≡◌, Bool, List, Result, IfOk}
 use Rattle.lists.specs.Lists.{ReadLists}
 use Rattle.lists.specs.Refusals.{Refused}
 use Rattle.ipnetwork_family.specs.Network.{Network}
 use Rattle.lists.specs.KnownLists.{KnownLists}
+use Rattle.options.specs.declared.items.Item.{Item}
 use Rattle.cidr_filter.specs.Listed.{HasBlocksOf}
 use Rattle.cidr_filter.specs.Reading.{IsReadOf, HoldsRead}
 use Rattle.cidr_filter.specs.declared.listed.Listed.{Listed}
 use Rattle.cidr_filter.specs.declared.listed.Listed.TheVariants.{Addresses, Blocks}
 
 -- the lists were read, and, if there was memory for the blocks that are asked for, these are their networks
-pub record ReadsAll {Z E : Type 0} (known : KnownLists) (words : List (String Z)) (longest : Bool) (listed : Result Listed E) (refused : Refused) : Type 0 where
+pub record ReadsAll {E : Type 0} (known : KnownLists) (items : List Item) (longest : Bool) (listed : Result Listed E) (refused : Refused) : Type 0 where
   pub read : ReadLists
-  pub is_read : IsReadOf known words read
+  pub is_read : IsReadOf known items read
   pub holds : IfOk listed (HoldsRead longest read)
   pub refused_lines : read.refused ≡ refused
 

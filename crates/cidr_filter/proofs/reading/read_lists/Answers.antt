@@ -1,66 +1,41 @@
-use Rattle.std.proofs.Common.{◌++◌, ◌∷◌, ◌∙◌, [], ℕ, refl, sym, subst, arith, drop}
+use Rattle.std.proofs.Common.{◌≡◌, ◌+◌, ◌∷◌, ◌∙◌, ◌<◌, ◌≤◌, ℕ, suc, List, inl, inr, refl, sym, ap, subst, arith, length, get_or, drop, drop-cons}
+use Rattle.std.proofs.lemmas.List.{drop_all}
 use Rattle.std.proofs.lemmas.Result.{err_from_is_err_and}
-use Rattle.log_programs.specs.CommandLines.{Begin}
-use Rattle.cidr_filter.specs.CommandLines.{filter_options}
-use Rattle.cidr_filter.specs.Reading.{ReadsOption, StopsAtOption}
-use Rattle.program.specs.Told.{name_at}
-use Rattle.cidr_filter.proofs.ReadInTurn.{reads_more, place_behind}
-use Rattle.log_programs.proofs.Requests.{begin_more}
+use Rattle.options.specs.declared.items.Item.{Item}
+use Rattle.cidr_filter.specs.Reading.{ReadsItems, StopsAtItems}
 use Rattle.cidr_filter.proofs.reading.read_lists.Goals as goal
 
-pub options-init : goal.options-init
-options-init g c = record {
-  within = omega arith;
-  memory = c.requires.memory;
-  said = ([], refl, refl);
-}
+here : (items : List Item) (at : ℕ) (item : Item) → at < length items → item ≡ get_or items at item → drop at items ≡ item ∷ drop (at + 1) items
+here items at item within is =
+    let next : suc at ≡ at + 1 = omega arith in
+    drop-cons items at item within ∙ ap (λ i. i ∷ drop (suc at) items) (sym is) ∙ ap (λ n. item ∷ drop n items) next
 
-pub options-preserved : goal.options-preserved
-options-preserved g c =
-    let words = c.args.words.now in
-    let said = c.options.invariant.said in
-    let choice = c.in-Some.choice in
-    let at = c.options.at in
-    let rest = drop at words in
+pub items-preserved : goal.items-preserved
+items-preserved g c =
     let known = g.L.OpenLists.known c.args.lists.now in
+    let at = c.items.at in
+    let left = here c.args.items.now at c.index-items-at.result c.items-test.true c.index-items-at.is in
     record {
-      within = c.behind-at.ensures.within;
-      memory = c.in_ok-read_option.ensures.memory;
-      said = (
-        said.0 ++ choice ∷ [],
-        subst (λ r. Begin filter_options words (said.0 ++ choice ∷ []) r) (sym c.behind-at.ensures.rest) (begin_more filter_options words said.0 rest choice said.1 (sym c.choice_at.ensures ∙ c.in-Some.is)),
-        reads_more known words words rest said.0 choice _ _ _ said.1 said.2
-            (subst (λ n. ReadsOption known n choice (name_at rest 1) c.options.reader c.read_option.new.reader) (sym (place_behind words at c.options.invariant.within)) c.in_ok-read_option.ensures.read),
-      );
+      within = omega arith;
+      memory = c.in_ok-read_item.ensures.memory;
+      reads = λ after rest. c.items.invariant.reads after
+          (subst (λ (i : List Item). ReadsItems known at i c.items.reader after) (sym left) (c.read_item.new.reader, c.in_ok-read_item.ensures.read, rest));
+      stops = λ fault refused rest. c.items.invariant.stops fault refused
+          (subst (λ (i : List Item). StopsAtItems known at i c.items.reader fault refused) (sym left)
+          (inr (c.read_item.new.reader, c.in_ok-read_item.ensures.read, c.in_ok-read_item.ensures.memory, rest)));
     }
 
 pub returns-clause-read : goal.returns-clause-read
 returns-clause-read g c =
-    let said = c.options.invariant.said in
-    record {
-      options = said.0;
-      rest = drop c.options.at c.args.words.now;
-      begin = said.1;
-      no_more = sym c.choice_at.ensures ∙ c.in_default.is;
-      in_turn = said.2;
-    }
+    let known = g.L.OpenLists.known c.args.lists.now in
+    c.items.invariant.reads c.items.reader
+    (subst (λ (i : List Item). ReadsItems known c.items.at i c.items.reader c.items.reader) (sym (drop_all c.items.at c.args.items.now c.items-test.false)) refl)
 
-pub returns-in_err-read_option-clause-stopped : goal.returns-in_err-read_option-clause-stopped
-returns-in_err-read_option-clause-stopped g c =
-    let words = c.args.words.now in
-    let said = c.options.invariant.said in
-    let rest = drop c.options.at words in
+pub returns-in_err-read_item-clause-stopped : goal.returns-in_err-read_item-clause-stopped
+returns-in_err-read_item-clause-stopped g c =
+    let known = g.L.OpenLists.known c.args.lists.now in
+    let left = here c.args.items.now c.items.at c.index-items-at.result c.items-test.true c.index-items-at.is in
     let p = err_from_is_err_and c.from_residual.result c.from_residual.ensures.1 in
     rw (p.1, p.2)
-    (record {
-      options = said.0;
-      choice = c.in-Some.choice;
-      rest = rest;
-      between = c.options.reader;
-      begin = said.1;
-      next = sym c.choice_at.ensures ∙ c.in-Some.is;
-      in_turn = said.2;
-      memory = c.options.invariant.memory;
-      stops = subst (λ (n : ℕ). StopsAtOption (g.L.OpenLists.known c.args.lists.now) n c.in-Some.choice (name_at rest 1) c.options.reader c.in_err-read_option.field-0.0 c.read_option.new.reader.refused)
-          (sym (place_behind words c.options.at c.options.invariant.within)) c.in_err-read_option.ensures.stopped;
-    })
+    (c.items.invariant.stops c.in_err-read_item.field-0.0 c.read_item.new.reader.refused
+    (subst (λ (i : List Item). StopsAtItems known c.items.at i c.items.reader c.in_err-read_item.field-0.0 c.read_item.new.reader.refused) (sym left) (inl c.in_err-read_item.ensures.stopped)))

@@ -1,17 +1,20 @@
-use Rattle.std.proofs.Common.{◌≡◌, ◌≤◌, ◌-◌, List, false, length, drop}
-use Rattle.log_programs.specs.CommandLines.{Begin}
-use Rattle.cidr_filter.specs.CommandLines.{filter_options}
-use Rattle.cidr_filter.specs.Reading.{ReadsOptions}
-use Rattle.cidr_filter.specs.declared.options.Choice.{Choice}
+use Rattle.std.proofs.Common.{◌≡◌, ◌≤◌, ◌-◌, false, length, drop}
+use Rattle.lists.specs.Lists.{ReadLists}
+use Rattle.lists.specs.Refusals.{Refused}
+use Rattle.lists.specs.declared.named.ReadFault.{ReadFault}
+use Rattle.cidr_filter.specs.Reading.{ReadsItems, StopsAtItems}
 use Rattle.cidr_filter.proofs.reading.read_lists.Given as goal
 
-abbrev pub invariant-options : goal.invariant-options
-invariant-options g l = record {
-  within : l.at ≤ length l.words;
-  memory : l.reader.is_out_of_memory ≡ false;
-  said : (options : List Choice) × Begin filter_options l.words options (drop l.at l.words)
-      × ReadsOptions (g.L.OpenLists.known l.lists) l.words l.words options l.initial.reader l.reader;
-}
+-- what is read of the items that are left is read of all, and where the reading stops at one of them, it stops
+abbrev pub invariant-items : goal.invariant-items
+invariant-items g l =
+    let known = g.L.OpenLists.known l.lists in
+    record {
+      within : l.at ≤ length l.items;
+      memory : l.reader.is_out_of_memory ≡ false;
+      reads : (after : ReadLists) → ReadsItems known l.at (drop l.at l.items) l.reader after → ReadsItems known 0 l.items l.initial.reader after;
+      stops : (fault : ReadFault) (refused : Refused) → StopsAtItems known l.at (drop l.at l.items) l.reader fault refused → StopsAtItems known 0 l.items l.initial.reader fault refused;
+    }
 
-abbrev pub decreases-options : goal.decreases-options
-decreases-options g l = length l.words - l.at
+abbrev pub decreases-items : goal.decreases-items
+decreases-items g l = length l.items - l.at

@@ -1,15 +1,18 @@
 use Rattle.std.proofs.Common.{◌∙◌, inl, refl, ap}
+use Rattle.options.specs.Given.{is_given}
 use Rattle.program.specs.Endings.{ending}
+use Rattle.cidr_join.specs.Options as own
 use Rattle.cidr_join.specs.Runs.{answers_by}
 use Rattle.cidr_join.proofs.Runs.{same_routes, taken}
 use Rattle.cidr_join.proofs.run.join_to.Goals as goal
 
 pub returns-in-Err : goal.returns-in-Err
-returns-in-Err g c = inl (c.in-Err.fault, c.in-Err.ensures.err, ((refl, refl), c.tell_take_fault.ensures))
+returns-in-Err g c = inl (c.in-Err.fault, rw c.is_given-last_wins.ensures at c.in-Err.ensures.err, ((refl, refl), c.tell_take_fault.ensures))
 
 pub returns : goal.returns
 returns g c =
-    taken (g.L.OpenLists.known c.args.lists.now) c.args.words.now c.args.request c.args.name.now c.args.text.now
+    taken (g.L.OpenLists.known c.args.lists.now) c.args.items.now c.args.name.now c.args.text.now
     (ending c.args.output.now c.join_by.new.output c.args.errors.now c.join_by.new.errors c.join_by.result) c.in-Ok.networks c.answers_by-answers.result
-    (c.answers_by-answers.ensures ∙ ap (answers_by c.args.request.network) (same_routes c.in-Ok-of.routes c.in-Ok.networks c.in-Ok-of.ensures.v4 c.in-Ok-of.ensures.v6))
-    c.in-Ok.ensures.ok c.join_by.ensures
+    (rw c.is_given-network.ensures at c.answers_by-answers.ensures
+    ∙ ap (answers_by (is_given c.args.items.now own.network)) (same_routes c.in-Ok-of.routes c.in-Ok.networks c.in-Ok-of.ensures.v4 c.in-Ok-of.ensures.v6))
+    (rw c.is_given-last_wins.ensures at c.in-Ok.ensures.ok) c.join_by.ensures

@@ -1,9 +1,0 @@
--- The letters of options are characters of ASCII.
-use Rattle.std.proofs.Common.{◌≡◌, ℕ, ◌<◌, true, arith}
-use Rattle.cidr_filter.specs.Options.{is_letter, takes_value}
-
-pub small_letters : (letter : ℕ) → is_letter letter ≡ true → letter < 128
-small_letters letter is = grind (arith, is)
-
-pub small_values : (letter : ℕ) → takes_value letter ≡ true → letter < 128
-small_values letter is = grind (arith, is)

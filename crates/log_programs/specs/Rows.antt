@@ -1,0 +1,43 @@
+-- The rows of the options that every program for logs has.
+use Rattle.std.specs.Prelude.{ℕ, List, [], ◌∷◌, false, codes}
+use Rattle.options.specs.Table.{Entry, flag, long_flag, alone, valued, long}
+use Rattle.options.specs.declared.table.Kind.TheVariants as kinds
+
+-- `-a`, `-w`, `-k`, `-d`, `--after`, `--mapped` and `-f`
+abbrev pub anywhere : ℕ
+anywhere = 0
+
+abbrev pub words : ℕ
+words = 1
+
+abbrev pub field : ℕ
+field = 2
+
+abbrev pub separator : ℕ
+separator = 3
+
+abbrev pub after : ℕ
+after = 4
+
+abbrev pub mapped : ℕ
+mapped = 5
+
+abbrev pub list : ℕ
+list = 6
+
+-- these, and then `--help` and `--version`, which stand alone
+abbrev pub shared : List Entry
+shared =
+    flag (codes "a") ∷ flag (codes "w") ∷ valued (codes "k") kinds.Field (codes "is no field number")
+    ∷ valued (codes "d") kinds.Separator (codes "is not one ASCII byte other than LF, CR and NUL")
+    ∷ long (codes "--after") kinds.Text false (codes "is no text") ∷ long_flag (codes "--mapped")
+    ∷ valued (codes "f") kinds.File (codes "is no file name") ∷ alone (codes "--help") (codes "is not the only argument")
+    ∷ alone (codes "--version") (codes "is not the only argument") ∷ []
+
+-- which of them do not go together: `-a` with `-w`, `-k` or `-d`, `--after` with one of these or `-a`, and `-w` with `-d`
+abbrev pub together : List (ℕ × ℕ × List ℕ)
+together =
+    (anywhere, words, codes "-a goes with none of -k, -d and -w") ∷ (anywhere, field, codes "-a goes with none of -k, -d and -w")
+    ∷ (anywhere, separator, codes "-a goes with none of -k, -d and -w") ∷ (after, anywhere, codes "--after goes with none of -a, -k, -d and -w")
+    ∷ (after, words, codes "--after goes with none of -a, -k, -d and -w") ∷ (after, field, codes "--after goes with none of -a, -k, -d and -w")
+    ∷ (after, separator, codes "--after goes with none of -a, -k, -d and -w") ∷ (words, separator, codes "-w does not go with -d") ∷ []

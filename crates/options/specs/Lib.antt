@@ -1,0 +1,10 @@
+-- What the contracts of this crate cite.
+pub mod Faults
+pub mod Given
+pub mod Items
+pub mod Numbers
+pub mod Refusing
+pub mod Runs
+pub mod Table
+pub mod Values
+pub mod WordRules

@@ -1,0 +1,72 @@
+//! What the words of a program ask for.
+ghost use Rattle.std.specs.Prelude.{◌≡◌, IfOk, IfErr};
+ghost use Rattle.program.specs.Endings.{ending};
+ghost use Rattle.options.specs.Runs.{AsksFor, EndsAtOnce};
+
+use crate::faults::fault_of;
+use crate::items::Item;
+use crate::reading::items_of;
+use crate::refusing::refuse;
+use crate::table::Table;
+use lines::output::Output;
+use program::ending::print_text;
+use program::memory::refuse_memory;
+use program::start::text_asked;
+use std::alloc::Global;
+use std::io::Write;
+
+/// What a program tells of itself.
+///
+/// ```
+/// use options::asking::About;
+///
+/// let about = About {
+///     program: "sum",
+///     help: "Adds.\n",
+///     version: "sum 1\n",
+///     usage: "usage: sum FILE\n",
+/// };
+/// assert_eq!(rt; about.program, "sum");
+/// ```
+#[derive(Debug, Drop)]
+pub struct About<'a> {
+    /// Its name.
+    pub program: &'a str,
+    /// What `--help` prints.
+    pub help: &'a str,
+    /// What `--version` prints.
+    pub version: &'a str,
+    /// How it is used.
+    pub usage: &'a str,
+}
+
+/// What the words after the program's name say, by a table of options, if they are right. If they ask for the help or the
+/// version, that is printed, and if something is wrong with them, that and the usage are reported, or that memory ran out:
+/// the error is the exit status.
+pub fn asked<'a, W: Write, E: Write>(
+    alloc: Global,
+    about: &About<'_>,
+    table: &Table<'_>,
+    words: &'a [String],
+    output: &mut Output<'_, W>,
+    errors: &mut Output<'_, E>,
+) -> Result<Vec<Item<'a>>, u8>
+    ensures asks { IfOk result (λ items. AsksFor table.now about.now.help.now
+        about.now.version.now words.now items.items) }
+    ensures silent { IfOk result
+        (λ _. (output.new ≡ output.old) × (errors.new ≡ errors.old)) }
+    ensures ends { IfErr result (λ status. EndsAtOnce table.now about.now.program.now
+        about.now.help.now about.now.version.now about.now.usage.now words.now
+        (ending output.old output.new errors.old errors.new status)) }
+{
+    if let Some(text) = text_asked(about.help, about.version, words) {
+        return Err(print_text(text, output, errors));
+    }
+    let Ok(items) = items_of(alloc, table.rows, words) else {
+        return Err(refuse_memory(errors));
+    };
+    match fault_of(table, items.as_slice()) {
+        Some(fault) => Err(refuse(about.program, about.usage, table.rows, &fault, errors)),
+        None => Ok(items),
+    }
+}

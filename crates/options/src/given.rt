@@ -1,0 +1,72 @@
+//! Which options are given, their values, and the FILEs.
+ghost use Rattle.std.specs.Prelude.{◌≡◌, map, IfOk};
+ghost use Rattle.std.specs.List.{list_any, count_by};
+ghost use Rattle.std.specs.String.{string_bytes};
+ghost use Rattle.options.specs.Given.{names, is_given, times, value_in, value_of, file_in, files_of};
+
+use crate::items::Item;
+use std::alloc::{AllocError, Global};
+
+/// Whether the option of a row is given.
+pub fn is_given(items: &[Item<'_>], row: usize) -> bool
+    ensures { result ≡ is_given items.now row }
+{
+    items.iter().any(|item| names(item, row))
+}
+
+// Whether the option of a row is this one.
+fn names(item: &Item<'_>, row: usize) -> bool
+    ensures { result ≡ names row item.now }
+{
+    match item {
+        Item::Flag(one) | Item::Value(one, _) | Item::Joined(one, _, _) => *one == row,
+        Item::File(_) | Item::Unknown(_) | Item::Lacks(_) => false,
+    }
+}
+
+/// How often the option of a row is given.
+pub(crate) fn times(items: &[Item<'_>], row: usize) -> usize
+    ensures { result ≡ times items.now row }
+{
+    items.iter().filter(|item| names(item, row)).count()
+}
+
+/// The last value of the option of a row, or an empty text.
+pub fn value_of<'a>(items: &[Item<'a>], row: usize) -> &'a str
+    ensures { result.now ≡ value_of items.now row }
+{
+    let mut value = "";
+    let mut at = 0;
+    while at < items.len() {
+        value = value_in(&items[at], row, value);
+        at += 1;
+    }
+    value
+}
+
+// The value of the option of a row, or else this.
+fn value_in<'a>(item: &Item<'a>, row: usize, value: &'a str) -> &'a str
+    ensures { result.now ≡ value_in row value.now item.now }
+{
+    match item {
+        Item::Value(one, text) | Item::Joined(one, text, _) => {
+            if *one == row { text.as_str() } else { value }
+        }
+        Item::Flag(_) | Item::File(_) | Item::Unknown(_) | Item::Lacks(_) => value,
+    }
+}
+
+/// The FILEs.
+pub fn files_of(alloc: Global, items: &[Item<'_>]) -> Result<Vec<String>, AllocError>
+    ensures { IfOk result (λ files. map string_bytes files.items ≡ files_of items.now) }
+{
+    let mut files = Vec::new(alloc);
+    let mut at = 0;
+    while at < items.len() {
+        if let Item::File(name) = &items[at] {
+            files.push(String::from_str(alloc, name.as_str())?)?;
+        }
+        at += 1;
+    }
+    Ok(files)
+}

@@ -1,0 +1,13 @@
+//! Command lines by a table of options: what their words say, one after another, and what is wrong with them.
+#![tactic(auto)]
+
+pub mod asking;
+pub mod faults;
+pub mod given;
+pub mod items;
+pub mod laws;
+pub mod numbers;
+pub mod reading;
+mod refusing;
+pub mod table;
+pub mod values;

@@ -1,0 +1,98 @@
+//! What is reported of a command line with which something is wrong.
+ghost use Rattle.std.specs.Prelude.{◌≡◌};
+ghost use Rattle.program.specs.Messages.{Tells};
+ghost use Rattle.program.specs.Usage.{shown};
+ghost use Rattle.options.specs.Refusing.{option_text, subject_text, refusal_text};
+
+use crate::faults::{Fault, Subject};
+use crate::items::Text;
+use crate::table::Row;
+use lines::output::Output;
+use program::ending::FAILED;
+use program::messages::tell;
+use std::io::Write;
+
+/// Reports what is wrong with a command line, and how the program is used, and returns the exit status 2.
+///
+/// The first line is `PROGRAM: PROBLEM`, `PROGRAM: WORD: PROBLEM` or `PROGRAM: OPTION: VALUE PROBLEM`, by what the fault is
+/// about, where an empty word is shown as `''`; the second is the usage.
+pub(crate) fn refuse<E: Write>(
+    program: &str,
+    usage: &str,
+    rows: &[Row],
+    fault: &Fault<'_>,
+    errors: &mut Output<'_, E>,
+) -> u8
+    ensures status { result ≡ 2 }
+    ensures told { Tells errors.old errors.new
+        (refusal_text program.now usage.now rows.now fault.now) }
+{
+    tell(program, errors);
+    tell(": ", errors);
+    tell_subject(rows, &fault.subject, errors);
+    tell_text(&fault.problem, errors);
+    tell("\n", errors);
+    tell(usage, errors);
+    FAILED
+}
+
+// Writes what a fault is about, before what is wrong with it.
+fn tell_subject<E: Write>(rows: &[Row], subject: &Subject<'_>, errors: &mut Output<'_, E>)
+    ensures { Tells errors.old errors.new (subject_text rows.now subject.now) }
+{
+    match subject {
+        Subject::CommandLine => tell("", errors),
+        Subject::Word(word) => {
+            tell_word(word, errors);
+            tell(": ", errors);
+        }
+        Subject::Option(row) => {
+            tell_option(rows, *row, errors);
+            tell(": ", errors);
+        }
+        Subject::Value(row, value) => {
+            tell_option(rows, *row, errors);
+            tell(": ", errors);
+            tell_word(value, errors);
+            tell(" ", errors);
+        }
+    }
+}
+
+// Writes the option of a row: its letter behind a `-`, or else its long name.
+fn tell_option<E: Write>(rows: &[Row], row: usize, errors: &mut Output<'_, E>)
+    ensures { Tells errors.old errors.new (option_text rows.now row) }
+{
+    let Some(row) = rows.get(row) else {
+        return tell("", errors);
+    };
+    match row.letter {
+        Some(letter) => tell_bytes(&[b'-', letter], errors),
+        None => tell(row.name, errors),
+    }
+}
+
+// Writes bytes to the error writer, as `tell` writes a text.
+fn tell_bytes<E: Write>(bytes: &[u8], errors: &mut Output<'_, E>)
+    ensures { Tells errors.old errors.new bytes.now }
+{
+    let _ = errors.put(bytes);
+}
+
+// Writes a text to the error writer.
+fn tell_text<E: Write>(text: &Text<'_>, errors: &mut Output<'_, E>)
+    ensures { Tells errors.old errors.new text.now }
+{
+    tell(text.as_str(), errors);
+}
+
+// Writes a word as it is shown: an empty one as two quotes.
+fn tell_word<E: Write>(word: &Text<'_>, errors: &mut Output<'_, E>)
+    ensures { Tells errors.old errors.new (shown word.now) }
+{
+    if word.as_str().is_empty() {
+        tell("''", errors);
+    } else {
+        tell_text(word, errors);
+    }
+}

@@ -1,0 +1,118 @@
+//! A table of options.
+ghost use Rattle.std.specs.Prelude.{◌≡◌, ◌<◌, IfSome, length};
+ghost use Rattle.options.specs.Table.{takes_value, kind_at, has_letter, lettered, named, joined};
+
+/// Which values an option has.
+#[derive(Clone, Copy, Debug, PartialEq, Eq)]
+pub enum Kind {
+    /// None.
+    Flag,
+    /// None, and it stands alone: beside other words it is wrong.
+    Alone,
+    /// The name of a file, or `-`, which is standard input.
+    File,
+    /// A text that is not empty.
+    Text,
+    /// Digits, one or more.
+    Number,
+    /// The number of a field, from 1 to the greatest of 32 bits.
+    Field,
+    /// A byte of ASCII other than LF, CR and NUL.
+    Separator,
+    /// `drop`, `keep` or `stop`.
+    Rule,
+    /// Two lengths, of at most 32 and of at most 128, with a comma between them.
+    Lengths,
+}
+
+impl Kind {
+    /// Whether an option of this kind has a value.
+    pub fn takes_value(self) -> bool
+        ensures { result ≡ takes_value self }
+    {
+        match self {
+            Kind::Flag | Kind::Alone => false,
+            _ => true,
+        }
+    }
+}
+
+/// An option.
+#[derive(Clone, Copy, Debug)]
+pub struct Row {
+    /// Its letter, if it has one.
+    pub letter: Option<u8>,
+    /// Its long name with two dashes, or an empty text.
+    pub name: &'static str,
+    /// Which values it has.
+    pub kind: Kind,
+    /// Whether a value may follow its long name behind a `=`.
+    pub joins: bool,
+    /// What is told of a wrong value.
+    pub problem: &'static str,
+}
+
+/// Two options that do not go together, by the indices of their rows; an option with itself: it is given once at the most.
+#[derive(Clone, Copy, Debug)]
+pub struct Pair {
+    /// The first.
+    pub first: usize,
+    /// The second.
+    pub second: usize,
+    /// What is told of them.
+    pub problem: &'static str,
+}
+
+/// The options of a program.
+#[derive(Clone, Copy, Debug)]
+pub struct Table<'a> {
+    /// Each of them.
+    pub rows: &'a [Row],
+    /// Which do not go together; of several such pairs the first is told.
+    pub pairs: &'a [Pair],
+    /// Of these, by the indices of their rows, one at least is given.
+    pub needs: &'a [usize],
+    /// What is told if none of them is.
+    pub lacking: &'static str,
+}
+
+/// Which values the option of a row has.
+pub(crate) fn kind_at(rows: &[Row], row: usize) -> Kind
+    ensures { result ≡ kind_at rows.now row }
+{
+    match rows.get(row) {
+        Some(row) => row.kind,
+        None => Kind::Flag,
+    }
+}
+
+// Whether this is the letter of an option.
+fn has_letter(row: &Row, letter: u8) -> bool
+    ensures { result ≡ has_letter letter row.now }
+{
+    match row.letter {
+        Some(one) => one == letter,
+        None => false,
+    }
+}
+
+/// The row of the option of a letter.
+pub(crate) fn lettered(rows: &[Row], letter: u8) -> Option<usize>
+    ensures { result ≡ lettered letter rows.now }
+{
+    rows.iter().position(|row| has_letter(row, letter))
+}
+
+/// The row of the option of a long name.
+pub(crate) fn named(rows: &[Row], name: &str) -> Option<usize>
+    ensures { result ≡ named name.now rows.now }
+{
+    rows.iter().position(|row| row.name == name)
+}
+
+/// The row of the option of a long name that a value may follow behind a `=`.
+pub(crate) fn joined(rows: &[Row], name: &str) -> Option<usize>
+    ensures { result ≡ joined name.now rows.now }
+{
+    rows.iter().position(|row| row.joins && row.name == name)
+}

@@ -1,0 +1,154 @@
+// Written by scripts/plain out of crates/cidr_filter/src/rows.rt
+
+//! The options of the command line.
+
+use crate::filter::WithoutAddress;
+use cidr_programs::log_programs::places::{AFTER, ANYWHERE, FIELD, LIST, SEPARATOR, WORDS};
+use cidr_programs::options::table::{Kind, Pair, Row, Table};
+
+/// The row of `-e`.
+pub(crate) const TEXT: usize = 9;
+
+/// The row of `-m`.
+pub(crate) const MOST: usize = 10;
+
+/// The row of `--longest`.
+pub(crate) const LONGEST: usize = 11;
+
+/// The row of `--bad`.
+pub(crate) const BAD: usize = 12;
+
+/// The row of `-v`.
+pub(crate) const INVERTS: usize = 13;
+
+/// The row of `-c`.
+pub(crate) const COUNTS: usize = 14;
+
+/// The row of `-o`.
+pub(crate) const ONLY: usize = 15;
+
+/// The row of `-H`.
+pub(crate) const NAMED: usize = 16;
+
+/// The row of `-h`.
+pub(crate) const UNNAMED: usize = 17;
+
+/// The row of `-n`.
+pub(crate) const NUMBERED: usize = 18;
+
+/// The row of `-l`.
+pub(crate) const NAMES: usize = 19;
+
+/// The row of `-q`.
+pub(crate) const QUIET: usize = 20;
+
+// An option by its letter, and what is told of a wrong value.
+macro_rules! letter {
+    ($letter:expr, $kind:ident, $problem:expr) => {
+        Row {
+            letter: Some($letter),
+            name: "",
+            kind: Kind::$kind,
+            joins: false,
+            problem: $problem,
+        }
+    };
+}
+
+// An option by its long name, whether a value may follow that behind a `=`, and what is told of a wrong value.
+macro_rules! name {
+    ($name:expr, $kind:ident, $joins:expr, $problem:expr) => {
+        Row {
+            letter: None,
+            name: $name,
+            kind: Kind::$kind,
+            joins: $joins,
+            problem: $problem,
+        }
+    };
+}
+
+// Two options that do not go together, and what is told of them.
+macro_rules! pair {
+    ($first:expr, $second:expr, $problem:expr) => {
+        Pair {
+            first: $first,
+            second: $second,
+            problem: $problem,
+        }
+    };
+}
+
+// The options.
+const ROWS: [Row; 21] = [
+    letter!(b'a', Flag, ""),
+    letter!(b'w', Flag, ""),
+    letter!(b'k', Field, "is no field number"),
+    letter!(
+        b'd',
+        Separator,
+        "is not one ASCII byte other than LF, CR and NUL"
+    ),
+    name!("--after", Text, false, "is no text"),
+    name!("--mapped", Flag, false, ""),
+    letter!(b'f', File, "is no file name"),
+    name!("--help", Alone, false, "is not the only argument"),
+    name!("--version", Alone, false, "is not the only argument"),
+    letter!(b'e', Text, "is no network or range"),
+    letter!(b'm', Number, "is no number of lines"),
+    name!("--longest", Flag, false, ""),
+    name!("--bad", Rule, true, "is not drop, keep or stop"),
+    letter!(b'v', Flag, ""),
+    letter!(b'c', Flag, ""),
+    letter!(b'o', Flag, ""),
+    letter!(b'H', Flag, ""),
+    letter!(b'h', Flag, ""),
+    letter!(b'n', Flag, ""),
+    letter!(b'l', Flag, ""),
+    letter!(b'q', Flag, ""),
+];
+
+// Which do not go together.
+const PAIRS: [Pair; 14] = [
+    pair!(LONGEST, INVERTS, "--longest goes with neither -v nor -c"),
+    pair!(LONGEST, COUNTS, "--longest goes with neither -v nor -c"),
+    pair!(ANYWHERE, WORDS, "-a goes with none of -k, -d and -w"),
+    pair!(ANYWHERE, FIELD, "-a goes with none of -k, -d and -w"),
+    pair!(ANYWHERE, SEPARATOR, "-a goes with none of -k, -d and -w"),
+    pair!(
+        AFTER,
+        ANYWHERE,
+        "--after goes with none of -a, -k, -d and -w"
+    ),
+    pair!(AFTER, WORDS, "--after goes with none of -a, -k, -d and -w"),
+    pair!(AFTER, FIELD, "--after goes with none of -a, -k, -d and -w"),
+    pair!(
+        AFTER,
+        SEPARATOR,
+        "--after goes with none of -a, -k, -d and -w"
+    ),
+    pair!(WORDS, SEPARATOR, "-w does not go with -d"),
+    pair!(ONLY, INVERTS, "-o goes with neither -v nor --longest"),
+    pair!(ONLY, LONGEST, "-o goes with neither -v nor --longest"),
+    pair!(NAMED, COUNTS, "-H goes with neither -c nor -h"),
+    pair!(NAMED, UNNAMED, "-H goes with neither -c nor -h"),
+];
+
+/// The options, of which one that names a list has to be given.
+pub(crate) fn table() -> Table<'static> {
+    Table {
+        rows: &ROWS,
+        pairs: &PAIRS,
+        needs: &[LIST, TEXT],
+        lacking: "neither -f nor -e is given",
+    }
+}
+
+/// What becomes of a line without an address, by a value of `--bad`, which is empty if there is none.
+pub(crate) fn bad_in(value: &str) -> WithoutAddress {
+    match value {
+        "keep" => WithoutAddress::Keep,
+        "stop" => WithoutAddress::Stop,
+        _ => WithoutAddress::Drop,
+    }
+}

@@ -1,0 +1,54 @@
+// Written by scripts/plain out of crates/log_programs/src/places.rt
+
+//! Where the addresses of a line are looked for, by the options that every program for logs has.
+
+use crate::line_addresses::{Place, Text};
+use crate::options::given::{is_given, value_of};
+use crate::options::items::Item;
+use crate::options::values::{byte_in, field_in};
+
+/// The row of `-a`.
+pub const ANYWHERE: usize = 0;
+
+/// The row of `-w`.
+pub const WORDS: usize = 1;
+
+/// The row of `-k`.
+pub const FIELD: usize = 2;
+
+/// The row of `-d`.
+pub const SEPARATOR: usize = 3;
+
+/// The row of `--after`.
+pub const AFTER: usize = 4;
+
+/// The row of `--mapped`.
+pub const MAPPED: usize = 5;
+
+/// The row of `-f`.
+pub const LIST: usize = 6;
+
+/// Where addresses of a line are looked for: anywhere, after a text, in a word, or in a field.
+///
+/// ```
+/// # use cidr_programs::in_examples::*;
+/// use cidr_programs::line_addresses::Place;
+/// use cidr_programs::options::items::Item;
+///
+/// let place = cidr_programs::log_programs::places::place_of(&[Item::Flag(1)]);
+/// assert!(matches!(&place, Place::Word(1)));
+/// ```
+pub fn place_of<'a>(items: &[Item<'a>]) -> Place<'a> {
+    if is_given(items, ANYWHERE) {
+        return Place::Anywhere;
+    }
+    if is_given(items, AFTER) {
+        return Place::After(Text::new(value_of(items, AFTER).as_bytes()));
+    }
+    let number = field_in(value_of(items, FIELD)).unwrap_or(1);
+    if is_given(items, WORDS) {
+        return Place::Word(number);
+    }
+    let separator = byte_in(value_of(items, SEPARATOR)).unwrap_or(b' ');
+    Place::Field { number, separator }
+}

@@ -1,0 +1,13 @@
+// Written by scripts/plain out of crates/options/src/lib.rt
+
+//! Command lines by a table of options: what their words say, one after another, and what is wrong with them.
+
+pub mod asking;
+pub mod faults;
+pub mod given;
+pub mod items;
+pub mod numbers;
+pub mod reading;
+mod refusing;
+pub mod table;
+pub mod values;

@@ -1,0 +1,66 @@
+// Written by scripts/plain out of crates/options/src/asking.rt
+
+//! What the words of a program ask for.
+
+use fosibegan::plain_std::vec::Vec;
+use fosibegan::plain_std::string::String;
+use crate::options::faults::fault_of;
+use crate::options::items::Item;
+use crate::options::reading::items_of;
+use crate::options::refusing::refuse;
+use crate::options::table::Table;
+use crate::lines::output::Output;
+use crate::program::ending::print_text;
+use crate::program::memory::refuse_memory;
+use crate::program::start::text_asked;
+use fosibegan::plain_std::alloc::Global;
+use fosibegan::plain_std::io::Write;
+
+/// What a program tells of itself.
+///
+/// ```
+/// # use cidr_programs::in_examples::*;
+/// use cidr_programs::options::asking::About;
+///
+/// let about = About {
+///     program: "sum",
+///     help: "Adds.\n",
+///     version: "sum 1\n",
+///     usage: "usage: sum FILE\n",
+/// };
+/// assert_eq!(about.program, "sum");
+/// ```
+#[derive(Debug)]
+pub struct About<'a> {
+    /// Its name.
+    pub program: &'a str,
+    /// What `--help` prints.
+    pub help: &'a str,
+    /// What `--version` prints.
+    pub version: &'a str,
+    /// How it is used.
+    pub usage: &'a str,
+}
+
+/// What the words after the program's name say, by a table of options, if they are right. If they ask for the help or the
+/// version, that is printed, and if something is wrong with them, that and the usage are reported, or that memory ran out:
+/// the error is the exit status.
+pub fn asked<'a, W: Write, E: Write>(
+    alloc: Global,
+    about: &About<'_>,
+    table: &Table<'_>,
+    words: &'a [String],
+    output: &mut Output<'_, W>,
+    errors: &mut Output<'_, E>,
+) -> Result<Vec<Item<'a>>, u8> {
+    if let Some(text) = text_asked(about.help, about.version, words) {
+        return Err(print_text(text, output, errors));
+    }
+    let Ok(items) = items_of(alloc, table.rows, words) else {
+        return Err(refuse_memory(errors));
+    };
+    match fault_of(table, items.as_slice()) {
+        Some(fault) => Err(refuse(about.program, about.usage, table.rows, &fault, errors)),
+        None => Ok(items),
+    }
+}

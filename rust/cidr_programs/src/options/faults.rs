@@ -1,0 +1,186 @@
+// Written by scripts/plain out of crates/options/src/faults.rt
+
+//! What is wrong with a command line.
+
+use crate::options::given::{is_given, times};
+use crate::options::items::{Item, Text};
+use crate::options::table::{Kind, Pair, Row, Table, kind_at};
+use crate::options::values::is_right;
+
+/// What a fault is about.
+#[derive(Debug)]
+pub enum Subject<'a> {
+    /// The command line.
+    CommandLine,
+    /// A word.
+    Word(Text<'a>),
+    /// The option of a row.
+    Option(usize),
+    /// The value of the option of a row.
+    Value(usize, Text<'a>),
+}
+
+/// What is wrong with a command line.
+#[derive(Debug)]
+pub struct Fault<'a> {
+    /// What it is about.
+    pub subject: Subject<'a>,
+    /// What is wrong.
+    pub problem: Text<'a>,
+}
+
+// This fault.
+fn about<'a>(subject: Subject<'a>, problem: &'a str) -> Fault<'a> {
+    let problem = Text::new(problem);
+    Fault { subject, problem }
+}
+
+// What is told of a wrong value of the option of a row.
+fn problem_at(rows: &[Row], row: usize) -> &'static str {
+    match rows.get(row) {
+        Some(row) => row.problem,
+        None => "",
+    }
+}
+
+// What is wrong with an option of this row and value, if that is wrong.
+fn value_fault<'a>(rows: &[Row], row: usize, value: &str, subject: Subject<'a>) -> Option<Fault<'a>> {
+    if is_right(kind_at(rows, row), value) {
+        None
+    } else {
+        Some(about(subject, problem_at(rows, row)))
+    }
+}
+
+// What is wrong with an option.
+fn option_fault<'a>(rows: &[Row], item: &Item<'a>) -> Option<Fault<'a>> {
+    match item {
+        Item::Flag(row) => value_fault(rows, *row, "", Subject::Option(*row)),
+        Item::Value(row, value) => {
+            let subject = Subject::Value(*row, Text::new(value.as_str()));
+            value_fault(rows, *row, value.as_str(), subject)
+        }
+        Item::Joined(row, value, word) => {
+            let subject = Subject::Word(Text::new(word.as_str()));
+            value_fault(rows, *row, value.as_str(), subject)
+        }
+        Item::File(_) => None,
+        Item::Unknown(word) => {
+            let subject = Subject::Word(Text::new(word.as_str()));
+            Some(about(subject, "is no option"))
+        }
+        Item::Lacks(row) => Some(about(Subject::Option(*row), "has no value")),
+    }
+}
+
+// What is wrong with a FILE.
+fn name_fault<'a>(item: &Item<'a>) -> Option<Fault<'a>> {
+    match item {
+        Item::File(name) => {
+            if !name.as_str().is_empty() {
+                return None;
+            }
+            let subject = Subject::Word(Text::new(name.as_str()));
+            Some(about(subject, "is no file name"))
+        }
+        _ => None,
+    }
+}
+
+// What is wrong with a FILE, or with an option.
+fn item_fault<'a>(rows: &[Row], of_files: bool, item: &Item<'a>) -> Option<Fault<'a>> {
+    if of_files {
+        name_fault(item)
+    } else {
+        option_fault(rows, item)
+    }
+}
+
+// What is wrong with the first FILE, or with the first option, with which something is wrong.
+fn first_fault<'a>(rows: &[Row], of_files: bool, items: &[Item<'a>]) -> Option<Fault<'a>> {
+    let mut at = 0;
+    while at < items.len() {
+        if let Some(fault) = item_fault(rows, of_files, &items[at]) {
+            return Some(fault);
+        }
+        at += 1;
+    }
+    None
+}
+
+// Whether the options of a pair are both given, or one more than once.
+fn are_both(items: &[Item<'_>], pair: &Pair) -> bool {
+    if pair.first == pair.second {
+        times(items, pair.first) > 1
+    } else {
+        is_given(items, pair.first) && is_given(items, pair.second)
+    }
+}
+
+// The first pair that is given.
+fn given_pair<'a>(items: &[Item<'_>], pairs: &'a [Pair]) -> Option<&'a Pair> {
+    pairs.iter().find(|pair| are_both(items, pair))
+}
+
+// What is wrong with the first pair that is given.
+fn pair_fault<'a>(items: &[Item<'_>], pairs: &[Pair]) -> Option<Fault<'a>> {
+    match given_pair(items, pairs) {
+        Some(pair) => Some(about(Subject::CommandLine, pair.problem)),
+        None => None,
+    }
+}
+
+// Whether one of these options is given.
+fn is_one_given(items: &[Item<'_>], needs: &[usize]) -> bool {
+    needs.iter().any(|row| is_given(items, *row))
+}
+
+// Whether this names standard input.
+fn is_input(rows: &[Row], item: &Item<'_>) -> bool {
+    match item {
+        Item::File(name) => name.as_str() == "-",
+        Item::Value(row, text) | Item::Joined(row, text, _) => kind_at(rows, *row) == Kind::File
+            && text.as_str() == "-",
+        Item::Flag(_) | Item::Unknown(_) | Item::Lacks(_) => false,
+    }
+}
+
+// Whether there is a FILE.
+fn has_file(items: &[Item<'_>]) -> bool {
+    items.iter().any(|item| matches!(item, Item::File(_)))
+}
+
+// Whether standard input is read at most once. It is read if there is no FILE.
+fn is_read_once(rows: &[Row], items: &[Item<'_>]) -> bool {
+    let inputs = items.iter().filter(|item| is_input(rows, item)).count();
+    if has_file(items) {
+        inputs <= 1
+    } else {
+        inputs == 0
+    }
+}
+
+/// What is wrong with a command line that says this: the first option that is none or has a wrong value or none, then the first
+/// FILE that is empty, then the first pair of options that do not go together, then that none is given of those of which one
+/// has to be, and then that standard input is read twice.
+pub fn fault_of<'a>(table: &Table<'_>, items: &[Item<'a>]) -> Option<Fault<'a>> {
+    if let Some(fault) = first_fault(table.rows, false, items) {
+        return Some(fault);
+    }
+    if let Some(fault) = first_fault(table.rows, true, items) {
+        return Some(fault);
+    }
+    if let Some(fault) = pair_fault(items, table.pairs) {
+        return Some(fault);
+    }
+    if !is_one_given(items, table.needs) {
+        return Some(about(Subject::CommandLine, table.lacking));
+    }
+    if is_read_once(table.rows, items) {
+        return None;
+    }
+    Some(about(
+        Subject::CommandLine,
+        "-: standard input can be read only once",
+    ))
+}

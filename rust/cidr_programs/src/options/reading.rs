@@ -1,0 +1,162 @@
+// Written by scripts/plain out of crates/options/src/reading.rt
+
+//! Reads the words of a command line by the rows of a table.
+
+use fosibegan::plain_std::vec::Vec;
+use fosibegan::plain_std::string::String;
+use crate::options::items::{Item, Mode, Text};
+use crate::options::table::{Row, joined, kind_at, lettered, named};
+use fosibegan::plain_std::alloc::{AllocError, Global};
+
+/// What the words say, one thing after another.
+pub fn items_of<'a>(
+    alloc: Global,
+    rows: &[Row],
+    words: &'a [String],
+) -> Result<Vec<Item<'a>>, AllocError> {
+    let mut all = Vec::new(alloc);
+    let mut mode = Mode::Free;
+    let mut at = 0;
+    while at < words.len() {
+        mode = put_word(rows, mode, words[at].as_str(), &mut all)?;
+        at += 1;
+    }
+    if let Mode::Value(row) = mode {
+        all.push(Item::Lacks(row))?;
+    }
+    Ok(all)
+}
+
+// Adds what a word says, and returns where the word behind it stands.
+fn put_word<'a>(
+    rows: &[Row],
+    mode: Mode,
+    word: &'a str,
+    all: &mut Vec<Item<'a>>,
+) -> Result<Mode, AllocError>
+{
+    match mode {
+        Mode::Free => put_free(rows, word, all),
+        Mode::Value(row) => {
+            all.push(Item::Value(row, Text::new(word)))?;
+            Ok(Mode::Free)
+        }
+        Mode::Files => {
+            all.push(Item::File(Text::new(word)))?;
+            Ok(Mode::Files)
+        }
+    }
+}
+
+// Adds what a word says where an option may stand.
+fn put_free<'a>(rows: &[Row], word: &'a str, all: &mut Vec<Item<'a>>) -> Result<Mode, AllocError>
+{
+    if is_plain(word) {
+        all.push(Item::File(Text::new(word)))?;
+        Ok(Mode::Free)
+    } else if word == "--" {
+        Ok(Mode::Files)
+    } else if begins_long(word) {
+        put_name(rows, word, all)
+    } else {
+        put_letters(rows, word, all)
+    }
+}
+
+// Whether a word is a FILE where an option may stand.
+fn is_plain(word: &str) -> bool
+{
+    word == "-" || !word.as_bytes().starts_with(b"-".as_slice())
+}
+
+// Whether a word begins with `--`.
+fn begins_long(word: &str) -> bool {
+    word.as_bytes().starts_with(b"--".as_slice())
+}
+
+// Adds what a word says that begins with `--`.
+fn put_name<'a>(rows: &[Row], word: &'a str, all: &mut Vec<Item<'a>>) -> Result<Mode, AllocError> {
+    let Some(row) = named(rows, word) else {
+        all.push(joined_item(rows, word))?;
+        return Ok(Mode::Free);
+    };
+    if kind_at(rows, row).takes_value() {
+        return Ok(Mode::Value(row));
+    }
+    all.push(Item::Flag(row))?;
+    Ok(Mode::Free)
+}
+
+// A long name and its value behind a `=`, or an unknown word.
+fn joined_item<'a>(rows: &[Row], word: &'a str) -> Item<'a> {
+    let Some((name, value)) = word.split_once('=') else {
+        return Item::Unknown(Text::new(word));
+    };
+    match joined(rows, name) {
+        Some(row) => Item::Joined(row, Text::new(value), Text::new(word)),
+        None => Item::Unknown(Text::new(word)),
+    }
+}
+
+// Adds what the letters of a word say.
+fn put_letters<'a>(rows: &[Row], word: &'a str, all: &mut Vec<Item<'a>>) -> Result<Mode, AllocError> {
+    let mut text = behind_dash(word);
+    let mut first = true;
+    'letters: while let Some((letter, rest)) = split_letter(text) {
+        let Some(row) = lettered(rows, letter) else {
+            all.push(Item::Unknown(Text::new(word)))?;
+            return Ok(Mode::Free);
+        };
+        if kind_at(rows, row).takes_value() {
+            return put_value(row, first, word, rest, all);
+        }
+        all.push(Item::Flag(row))?;
+        text = rest;
+        first = false;
+    }
+    if !text.is_empty() {
+        all.push(Item::Unknown(Text::new(word)))?;
+    }
+    Ok(Mode::Free)
+}
+
+// Adds an option with its value, if that follows its letter.
+fn put_value<'a>(
+    row: usize,
+    first: bool,
+    word: &'a str,
+    value: &'a str,
+    all: &mut Vec<Item<'a>>,
+) -> Result<Mode, AllocError> {
+    if value.is_empty() {
+        return Ok(Mode::Value(row));
+    }
+    if first {
+        all.push(Item::Joined(row, Text::new(value), Text::new(word)))?;
+    } else {
+        all.push(Item::Value(row, Text::new(value)))?;
+    }
+    Ok(Mode::Free)
+}
+
+// What follows the `-` at the head of a word.
+fn behind_dash(word: &str) -> &str {
+    match split_letter(word) {
+        Some((_, rest)) => rest,
+        None => "",
+    }
+}
+
+// The first character of a text, if it is one of ASCII, and what follows it.
+fn split_letter(text: &str) -> Option<(u8, &str)> {
+    let Some((first, _)) = text.as_bytes().split_first() else {
+        return None;
+    };
+    if *first >= 128 {
+        return None;
+    }
+    match text.strip_prefix(char::from(*first)) {
+        Some(rest) => Some((*first, rest)),
+        None => None,
+    }
+}
