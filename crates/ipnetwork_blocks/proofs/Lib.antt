@@ -29,7 +29,7 @@ pub mod PrecedingBlock
 pub mod RangeCounts
 pub mod RangeExamples
 pub mod RangeLists
-pub mod Runs
+pub mod BlockRuns
 pub mod SpanningBlock
 pub mod SpanningExamples
 pub mod SubnetLaws

@@ -14,7 +14,7 @@ use Rattle.ipnetwork_blocks.specs.Supernets.{IsAround, IsSibling, parent}
 use Rattle.ipnetwork_blocks.specs.Subnets.{block_number, subnets_of}
 use Rattle.ipnetwork_blocks.specs.SubnetLaws.{ListsSubnets}
 use Rattle.ipnetwork_blocks.proofs.LeastLists.{own_address}
-use Rattle.ipnetwork_blocks.proofs.Runs.{multiple_order}
+use Rattle.ipnetwork_blocks.proofs.BlockRuns.{multiple_order}
 
 pub around_is_one : (w : ℕ) (n b c : Network) (p : ℕ) → IsNetwork w n → IsAround w n p b → IsAround w n p c → b ≡ c
 around_is_one w n b c p h ab ac =

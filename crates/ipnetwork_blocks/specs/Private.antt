@@ -2,5 +2,5 @@
 pub mod Held
 pub mod Joining
 pub mod RangeList
-pub mod Runs
+pub mod BlockRuns
 pub mod Sides

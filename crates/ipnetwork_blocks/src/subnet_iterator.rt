@@ -26,7 +26,7 @@ pub struct SubnetIterator<N: AddressSpace> {
 impl<N: AddressSpace> Model for SubnetIterator<N> {
     ghost use Rattle.std.specs.Prelude.{List, option_map};
     ghost use Rattle.ipnetwork_family.specs.Network.{Network};
-    ghost use Rattle.ipnetwork_blocks.specs.Private.Runs.{blocks_left, AreEnds};
+    ghost use Rattle.ipnetwork_blocks.specs.Private.BlockRuns.{blocks_left, AreEnds};
 
     ghost Value = { List Network };
 

@@ -10,10 +10,10 @@ ghost use Rattle.ipnetwork_c.specs.PrintedColumns.{v4_fits, v4_refused, v4_text}
 ghost use Rattle.ipnetwork_c.specs.TextColumns.{v4_reads};
 
 use crate::fault::{self, OK, PREFIX};
-use crate::guessed::Guessed;
 use crate::listed::Listed;
 use crate::numbered::Numbered;
 use crate::printed_columns::PrintsRow;
+use crate::search_hint::SearchHint;
 use crate::structs::{Ipv4InC, number_of_four};
 use crate::text_columns::ReadsRow;
 use arrayvec::ArrayString;
@@ -165,7 +165,7 @@ impl Numbered<Ipv4Network> for Ipv4InC {
     }
 }
 
-impl Guessed<Ipv4Network> for Ipv4InC {
+impl SearchHint<Ipv4Network> for Ipv4InC {
     #[inline(always)]
     fn seems_up_to(&self, number: u32) -> bool {
         number_of_four(&self.address) <= number

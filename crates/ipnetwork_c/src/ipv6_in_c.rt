@@ -11,10 +11,10 @@ ghost use Rattle.ipnetwork_c.specs.PrintedColumns.{v6_fits, v6_refused, v6_text}
 ghost use Rattle.ipnetwork_c.specs.TextColumns.{v6_reads};
 
 use crate::fault::{self, OK, PREFIX};
-use crate::guessed::Guessed;
 use crate::listed::Listed;
 use crate::numbered::Numbered;
 use crate::printed_columns::PrintsRow;
+use crate::search_hint::SearchHint;
 use crate::structs::{Ipv6InC, address_of, number_of};
 use crate::text_columns::ReadsRow;
 use arrayvec::ArrayString;
@@ -195,7 +195,7 @@ impl Numbered<Ipv6Network> for Ipv6InC {
     }
 }
 
-impl Guessed<Ipv6Network> for Ipv6InC {
+impl SearchHint<Ipv6Network> for Ipv6InC {
     #[inline(always)]
     fn seems_up_to(&self, number: u128) -> bool {
         (number_of(&self.address) >> 64) as u64 <= (number >> 64) as u64

@@ -6,8 +6,8 @@ ghost use Rattle.ipnetwork_c.specs.Ranges.{IsLongestAt, MakesRanges};
 ghost use Rattle.ipnetwork_c.specs.Private.Cuts.{firsts, AreCutsOf, AreEndsOf, ArePlacesUpTo, IsAlone, IsWrittenUpTo};
 
 use crate::fault::{OK, PREFIX, SHORT_BUFFER};
-use crate::guessed::Guessed;
 use crate::listed::all_fit;
+use crate::search_hint::SearchHint;
 use crate::tables::find;
 use ipnetwork_blocks::AddressSpace;
 
@@ -15,7 +15,7 @@ use ipnetwork_blocks::AddressSpace;
 pub(crate) const NO_PLACE: usize = usize::MAX;
 
 /// Sorts where the blocks begin and end, and asks the blocks for the first address of each range.
-pub(crate) fn make<N: AddressSpace, H: Guessed<N>>(
+pub(crate) fn make<N: AddressSpace, H: SearchHint<N>>(
     blocks: &[H],
     ranges: &mut [H],
     places: &mut [usize],
@@ -38,7 +38,7 @@ pub(crate) fn make<N: AddressSpace, H: Guessed<N>>(
 }
 
 // Puts where each block begins, and where it has ended, and returns how many these are.
-fn put_cuts<N: AddressSpace, H: Guessed<N>>(blocks: &[H], ranges: &mut [H]) -> usize
+fn put_cuts<N: AddressSpace, H: SearchHint<N>>(blocks: &[H], ranges: &mut [H]) -> usize
     requires held { All H.holds blocks.now }
     requires room { 2 * length blocks.now ≤ length ranges.old }
     ensures written { IsWrittenUpTo ranges.old ranges.new result }
@@ -54,7 +54,7 @@ fn put_cuts<N: AddressSpace, H: Guessed<N>>(blocks: &[H], ranges: &mut [H]) -> u
 
 // Puts after so many others where the block begins, and the address after its last, if there is
 // one.
-fn put_ends<N: AddressSpace, H: Guessed<N>>(block: N, ranges: &mut [H], count: usize) -> usize
+fn put_ends<N: AddressSpace, H: SearchHint<N>>(block: N, ranges: &mut [H], count: usize) -> usize
     requires { count + 2 ≤ length ranges.old }
     ensures more { count ≤ result }
     ensures written { IsWrittenUpTo ranges.old ranges.new result }
@@ -73,7 +73,7 @@ fn put_ends<N: AddressSpace, H: Guessed<N>>(block: N, ranges: &mut [H], count: u
 }
 
 // Puts the network of an address alone at a place.
-fn put_first<N: AddressSpace, H: Guessed<N>>(address: N::Addr, ranges: &mut [H], place: usize)
+fn put_first<N: AddressSpace, H: SearchHint<N>>(address: N::Addr, ranges: &mut [H], place: usize)
     requires { place < length ranges.old }
     ensures written { IsWrittenUpTo ranges.old ranges.new (place + 1) }
     ensures put { (alone : H) × IsAlone N.WIDTH H.holds H.held alone
@@ -85,7 +85,7 @@ fn put_first<N: AddressSpace, H: Guessed<N>>(address: N::Addr, ranges: &mut [H],
 }
 
 // Puts beside each range the place of the longest block with its first address.
-fn put_places<N: AddressSpace, H: Guessed<N>>(blocks: &[H], ranges: &[H], places: &mut [usize])
+fn put_places<N: AddressSpace, H: SearchHint<N>>(blocks: &[H], ranges: &[H], places: &mut [usize])
     requires held { All H.holds blocks.now }
     requires room { length places.old ≡ length ranges.now }
     ensures size { length places.new ≡ length places.old }
@@ -98,7 +98,7 @@ fn put_places<N: AddressSpace, H: Guessed<N>>(blocks: &[H], ranges: &[H], places
 }
 
 // The place of the longest block with the address, or that of no block.
-fn place_of<N: AddressSpace, H: Guessed<N>>(blocks: &[H], address: N::Addr) -> usize
+fn place_of<N: AddressSpace, H: SearchHint<N>>(blocks: &[H], address: N::Addr) -> usize
     requires { All H.holds blocks.now }
     ensures { IsLongestAt N.WIDTH (map H.held blocks.now) (N.number address) result }
 {

@@ -5,16 +5,16 @@ ghost use Rattle.ipnetwork_c.specs.Ranges.{PlaceQuery, RangeQuery, no_place, pla
 ghost use Rattle.ipnetwork_c.specs.Numbers.{no_member};
 ghost use Rattle.ipnetwork_c.specs.Outcomes.{IsFault, Unless, Writes};
 
-use crate::begun::{begun_at_once, begun_by_halves, guess_by_three};
 use crate::fault::{NO_MEMBER, OK};
-use crate::guessed::Guessed;
 use crate::range_making::NO_PLACE;
+use crate::search_hint::SearchHint;
+use crate::upper_bound::{guess_by_three, upper_bound_at_once, upper_bound_by_halves};
 use ipnetwork_blocks::AddressSpace;
 
 /// The place beside the last of the ranges that begins at an address or before it, by an index of
 /// the ranges, or by none: that of no block if there is none.
 #[inline(always)]
-pub(crate) fn place_of<N: AddressSpace, H: Guessed<N>>(
+pub(crate) fn place_of<N: AddressSpace, H: SearchHint<N>>(
     address: &H::Octets,
     ranges: &[H],
     places: &[usize],
@@ -29,7 +29,7 @@ pub(crate) fn place_of<N: AddressSpace, H: Guessed<N>>(
 
 /// Puts that place in `place`, if it is that of a block.
 #[inline(always)]
-pub(crate) fn find<N: AddressSpace, H: Guessed<N>>(
+pub(crate) fn find<N: AddressSpace, H: SearchHint<N>>(
     address: &H::Octets,
     ranges: &[H],
     places: &[usize],
@@ -46,7 +46,7 @@ pub(crate) fn find<N: AddressSpace, H: Guessed<N>>(
 
 /// The same for the number of an address, with a guess of how many ranges begin up to it.
 #[inline(always)]
-pub(crate) fn place_near<N: AddressSpace, H: Guessed<N>>(
+pub(crate) fn place_near<N: AddressSpace, H: SearchHint<N>>(
     ranges: &[H],
     places: &[usize],
     index: &[u32],
@@ -65,7 +65,7 @@ pub(crate) fn place_near<N: AddressSpace, H: Guessed<N>>(
 // The place beside the last of the ranges that begins at the number or before it, with a guess of
 // how many do.
 #[inline(always)]
-fn place_by_guess<N: AddressSpace, H: Guessed<N>>(
+fn place_by_guess<N: AddressSpace, H: SearchHint<N>>(
     ranges: &[H],
     places: &[usize],
     index: &[u32],
@@ -74,7 +74,7 @@ fn place_by_guess<N: AddressSpace, H: Guessed<N>>(
 ) -> usize
     ensures { PlaceQuery H.held ranges.now places.now (H.value number) result }
 {
-    match begun_at_once::<N, H>(ranges, number, guess) {
+    match upper_bound_at_once::<N, H>(ranges, number, guess) {
         Some(count) => found_before(places, count),
         None => place_by_halves::<N, H>(ranges, places, index, number),
     }
@@ -83,7 +83,7 @@ fn place_by_guess<N: AddressSpace, H: Guessed<N>>(
 // The same where the guess is none. It stands apart, so that what it needs costs the others
 // nothing.
 #[inline(never)]
-fn place_by_halves<N: AddressSpace, H: Guessed<N>>(
+fn place_by_halves<N: AddressSpace, H: SearchHint<N>>(
     ranges: &[H],
     places: &[usize],
     index: &[u32],
@@ -91,7 +91,7 @@ fn place_by_halves<N: AddressSpace, H: Guessed<N>>(
 ) -> usize
     ensures { PlaceQuery H.held ranges.now places.now (H.value number) result }
 {
-    let count = begun_by_halves::<N, H>(ranges, index, number);
+    let count = upper_bound_by_halves::<N, H>(ranges, index, number);
     found_before(places, count)
 }
 

@@ -1,16 +1,16 @@
 //! Tables of blocks in the caller's memory, asked for the longest block with an address.
 ghost use Rattle.ipnetwork_c.specs.Tables.{TableQuery};
 
-use crate::begun::begun;
 use crate::fault::{NO_MEMBER, OK, PREFIX};
-use crate::guessed::Guessed;
+use crate::search_hint::SearchHint;
+use crate::upper_bound::upper_bound;
 use ipnetwork_blocks::AddressSpace;
 
 /// Puts the place of the longest block with an address in `place`, by an index of the blocks, or by none. If the last block
 /// up to the address does not have it, a block that does lies around both, so that it begins with the bits that both
 /// share: the search goes on up to that address.
 #[inline(always)]
-pub(crate) fn find<N: AddressSpace, H: Guessed<N>>(
+pub(crate) fn find<N: AddressSpace, H: SearchHint<N>>(
     blocks: &[H],
     index: &[u32],
     address: N::Addr,
@@ -18,7 +18,7 @@ pub(crate) fn find<N: AddressSpace, H: Guessed<N>>(
 ) -> u32
     ensures { TableQuery N.WIDTH H.held blocks.now (N.number address) place.old place.new result }
 {
-    let mut end = begun::<N, H>(blocks, index, H::number_of(address));
+    let mut end = upper_bound::<N, H>(blocks, index, H::number_of(address));
     while end > 0 {
         let last = blocks[end - 1];
         if !last.fits() {
@@ -31,7 +31,7 @@ pub(crate) fn find<N: AddressSpace, H: Guessed<N>>(
         }
         let shared = N::shared_bits(block.ip(), address);
         let around = N::block_at(address, shared);
-        end = begun::<N, H>(&blocks[..end - 1], index, H::number_of(around.ip()));
+        end = upper_bound::<N, H>(&blocks[..end - 1], index, H::number_of(around.ip()));
     }
     NO_MEMBER
 }

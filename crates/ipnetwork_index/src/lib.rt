@@ -12,7 +12,6 @@ mod block_index;
 mod cuts;
 mod edges;
 mod entries;
-mod fours;
 mod halves;
 mod indexed_network;
 mod key;
@@ -24,6 +23,7 @@ mod places;
 mod ranges;
 mod route_index;
 mod search;
+mod simd_step;
 mod starts;
 mod sweep;
 

@@ -3,8 +3,8 @@ ghost use Rattle.std.specs.Prelude.{◌<◌, ◌≤◌, length, map};
 ghost use Rattle.ipnetwork_index.specs.Searches.{Ascends, IsSearchable, IsWithin, IsPlaceOf};
 ghost use Rattle.ipnetwork_index.specs.Private.Steps.{HasComeTo, IsBetween};
 
-use crate::fours::below_of_four;
 use crate::key::Key;
+use crate::simd_step::below_of_four;
 
 /// The place of the first key that is not less than this one. The keys ascend, and the last four of
 /// them are not less. For each part of the numbers from `base` on `starts` tells a place that the

@@ -13,7 +13,7 @@ use Rattle.ipnetwork_blocks.proofs.RangeLists.{cond_by}
 use Rattle.ipnetwork_blocks.proofs.LeastLists.{least_of_same}
 use Rattle.ipnetwork_sets.specs.Sets.{InBoth, InEither}
 use Rattle.ipnetwork_sets.specs.Private.LeastBlocks.{all_from, least_within, least_blocks, in_union, common_blocks, either_blocks, is_from, left_blocks}
-use Rattle.ipnetwork_sets.specs.Private.Left.{IsFrom, InLeft}
+use Rattle.ipnetwork_sets.specs.Private.Remainder.{IsFrom, InLeft}
 
 -- ---- the test of addresses in a row
 

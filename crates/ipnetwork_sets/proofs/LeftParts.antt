@@ -13,7 +13,7 @@ use Rattle.ipnetwork_blocks.proofs.HalfBlocks.{size_half}
 use Rattle.ipnetwork_blocks.proofs.WiderBlocks.{half_begins}
 use Rattle.ipnetwork_blocks.proofs.LeastLists.{own_address, contains_head}
 use Rattle.ipnetwork_sets.specs.Sets.{IsAddressSet}
-use Rattle.ipnetwork_sets.specs.Private.Left.{IsPiece, IsLeftIn, IsWidest, IsBehind, Skips}
+use Rattle.ipnetwork_sets.specs.Private.Remainder.{IsPiece, IsLeftIn, IsWidest, IsBehind, Skips}
 use Rattle.ipnetwork_sets.proofs.Lists.{set_block}
 use Rattle.ipnetwork_sets.proofs.Steps.{smaller_inside, tail_is_set, union_cons, union_from}
 

@@ -12,7 +12,7 @@ use Rattle.ipnetwork_blocks.specs.AggregateLaws.{AggregateIsApart, AggregateHasO
 use Rattle.ipnetwork_blocks.proofs.LeastLists.{own_address, contains_head, least_of_none, least_of_one, least_of_same, least_unique}
 use Rattle.ipnetwork_sets.specs.Sets.{IsAddressSet, InFirstAlone, InNetworkAlone}
 use Rattle.ipnetwork_sets.specs.Private.LeastBlocks.{left_blocks}
-use Rattle.ipnetwork_sets.specs.Private.Left.{IsLeftIn, IsBehind, Skips, IsFree, IsAtHand, TakesPart, HasNoPart, InLeft, count_at_hand, IsNextPart}
+use Rattle.ipnetwork_sets.specs.Private.Remainder.{IsLeftIn, IsBehind, Skips, IsFree, IsAtHand, TakesPart, HasNoPart, InLeft, count_at_hand, IsNextPart}
 use Rattle.ipnetwork_sets.proofs.LeastBlocks.{left_is_least}
 use Rattle.ipnetwork_sets.proofs.Lists.{set_block}
 use Rattle.ipnetwork_sets.proofs.LeftParts.{widest_whole, widest_behind}

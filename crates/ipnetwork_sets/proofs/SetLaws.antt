@@ -11,7 +11,7 @@ use Rattle.ipnetwork_blocks.proofs.MaximalBlocks.{is_shortest, member_or_not}
 use Rattle.ipnetwork_sets.specs.Laws.{CommonPartIsShortest, DifferenceIsShortest, FreePartIsShortest, ComplementIsShortest, UnionIsShortest, SameAddressesAreOneSet, CommonPartCommutes, UnionCommutes, CommonPartOfOne, UnionOfOne, DifferenceIsDisjoint, PartsMakeTheWhole, FreeOfUnion, FreeOfCommonPart}
 use Rattle.ipnetwork_sets.specs.Sets.{IsAddressSet, InBoth, InFirstAlone, InEither, IsWithin, AreDisjoint}
 use Rattle.ipnetwork_sets.specs.Private.LeastBlocks.{in_union, common_blocks, either_blocks, left_blocks}
-use Rattle.ipnetwork_sets.specs.Private.Left.{InLeft}
+use Rattle.ipnetwork_sets.specs.Private.Remainder.{InLeft}
 use Rattle.ipnetwork_sets.proofs.Steps.{same_list}
 use Rattle.ipnetwork_sets.proofs.LeastBlocks.{union_told, common_is_least, either_is_least, left_is_least, left_or_not, left_fits}
 

@@ -1,6 +1,6 @@
 -- What the private functions promise each other, and how contracts see private fields.
 pub mod LeastBlocks
-pub mod Left
+pub mod Remainder
 pub mod Places
 pub mod Runs
 pub mod Search

@@ -5,7 +5,7 @@ ghost use Rattle.ipnetwork_blocks.specs.LeastList.{IsLeastList};
 ghost use Rattle.std.specs.List.{All};
 ghost use Rattle.ipnetwork_sets.specs.Sets.{IsAddressSet, HoldSet, InFirstAlone, InNetworkAlone};
 ghost use Rattle.ipnetwork_sets.specs.Private.LeastBlocks.{left_blocks};
-ghost use Rattle.ipnetwork_sets.specs.Private.Left.{IsPiece, IsAtHand, TakesPart, HasNoPart, IsNextPart};
+ghost use Rattle.ipnetwork_sets.specs.Private.Remainder.{IsPiece, IsAtHand, TakesPart, HasNoPart, IsNextPart};
 
 use crate::held::split_held;
 use crate::pieces::{first_free, piece_behind};
@@ -41,7 +41,7 @@ impl<'a, N: AddressSpace, H: HoldsNetwork<N>> Model for Difference<'a, N, H> {
     ghost use Rattle.std.specs.List.{All};
     ghost use Rattle.ipnetwork_family.specs.Network.{Network};
     ghost use Rattle.ipnetwork_sets.specs.Private.LeastBlocks.{left_blocks};
-    ghost use Rattle.ipnetwork_sets.specs.Private.Left.{IsAtHand};
+    ghost use Rattle.ipnetwork_sets.specs.Private.Remainder.{IsAtHand};
 
     ghost Value = { List Network };
 

@@ -3,7 +3,7 @@
 ghost use Rattle.std.specs.Prelude.{◌≡◌, ◌+◌, ◌<◌, MatchOption, map};
 ghost use Rattle.ipnetwork_family.specs.Network.{block_of, high};
 ghost use Rattle.ipnetwork_sets.specs.Sets.{HoldSet};
-ghost use Rattle.ipnetwork_sets.specs.Private.Left.{IsPiece, IsWidest, IsBehind, Skips, IsFree};
+ghost use Rattle.ipnetwork_sets.specs.Private.Remainder.{IsPiece, IsWidest, IsBehind, Skips, IsFree};
 
 use crate::held::split_held;
 use crate::order::{begin_alike, ends_before};

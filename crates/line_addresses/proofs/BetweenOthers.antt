@@ -8,7 +8,7 @@ use Rattle.ipnetwork_addr.specs.Either.{NamesIp}
 use Rattle.ipnetwork_addr.specs.Texts.{IsAddressByte, Digit, UpperHex, LowerHex, Dot, Colon}
 use Rattle.ipnetwork_addr.specs.declared.ip.IpAddr.{IpAddr}
 use Rattle.line_addresses.specs.Addresses.{Spelled, address_of, with_text, before_mark, before_port, or_else, address_in, addresses_of}
-use Rattle.line_addresses.specs.Runs.{is_run_byte}
+use Rattle.line_addresses.specs.LineRuns.{is_run_byte}
 use Rattle.line_addresses.proofs.LineParts.{behind_cut, part_first}
 use Rattle.line_addresses.proofs.Shown.{nothing_shown}
 

@@ -7,7 +7,7 @@ use Rattle.ipnetwork_addr.specs.Computed.Ipv6Text.{v6_of, gap_below}
 use Rattle.ipnetwork_addr.specs.declared.ip.IpAddr.TheVariants.{V4, V6}
 use Rattle.line_addresses.specs.Addresses.{Spelled, address_of, before_port, address_in, addresses_of}
 use Rattle.line_addresses.specs.Mapped.{unmapped}
-use Rattle.line_addresses.specs.Runs.{is_run_byte}
+use Rattle.line_addresses.specs.LineRuns.{is_run_byte}
 use Rattle.line_addresses.specs.Words.{is_blank, words_of}
 
 -- the address 10.1.1.1

@@ -7,7 +7,7 @@ use Rattle.std.proofs.lemmas.List.{append-nil, drop_all, drop_more, get_or-drop,
 use Rattle.std.proofs.lemmas.List.Elements.{All-from_get_or}
 use Rattle.std.proofs.lemmas.List.Folds.{drop_split}
 use Rattle.std.proofs.lemmas.List.Splits.{slice_split-cons_yes, slice_split_at, slice_split_none}
-use Rattle.line_addresses.specs.Private.Runs.{IsPartEnd}
+use Rattle.line_addresses.specs.Private.LineRuns.{IsPartEnd}
 
 -- the text is empty, or it is cut at its first byte
 abbrev pub BeginsWithCut : (ℕ → Bool) → List ℕ → Type 0

@@ -6,8 +6,8 @@ use Rattle.std.proofs.lemmas.List.{take-take}
 use Rattle.ipnetwork_addr.specs.declared.ip.IpAddr.{IpAddr}
 use Rattle.line_addresses.specs.Addresses.{address_in, addresses_of}
 use Rattle.line_addresses.specs.Found.{IsNextAddress}
-use Rattle.line_addresses.specs.Private.Runs.{IsRunEnd, Shows}
-use Rattle.line_addresses.specs.Runs.{is_run_byte}
+use Rattle.line_addresses.specs.Private.LineRuns.{IsRunEnd, Shows}
+use Rattle.line_addresses.specs.LineRuns.{is_run_byte}
 use Rattle.line_addresses.proofs.LineParts.{part_at, cut_at, at_end}
 use Rattle.line_addresses.proofs.Shown.{nothing_shown}
 

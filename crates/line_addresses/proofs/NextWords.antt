@@ -2,7 +2,7 @@
 use Rattle.std.proofs.Common.{◌≡◌, ℕ, suc, ◌+◌, ◌-◌, ◌<◌, ◌≤◌, true, List, [], ◌∷◌, length, length-take, length-drop, drop, None, Some, refl, ap, subst, ◌∙◌, arith}
 use Rattle.std.specs.Prelude.{slice_get, slice_index}
 use Rattle.std.specs.List.{cons_option, slice_range}
-use Rattle.line_addresses.specs.Private.Runs.{IsWordEnd}
+use Rattle.line_addresses.specs.Private.LineRuns.{IsWordEnd}
 use Rattle.line_addresses.specs.Words.{is_blank, unless_empty, words_of}
 use Rattle.line_addresses.proofs.LineParts.{part_at, cut_at, at_end}
 

@@ -7,7 +7,7 @@ use Rattle.std.proofs.lemmas.List.Sums.{position_or_len_is}
 use Rattle.byte_search.specs.Bytes.{IsAbsent, IsNext}
 use Rattle.ipnetwork_addr.specs.declared.ip.IpAddr.{IpAddr}
 use Rattle.line_addresses.specs.Addresses.{Spelled, address_of, with_text, spelled, is_colon, is_port, before_port}
-use Rattle.line_addresses.specs.Private.Runs.{Shows}
+use Rattle.line_addresses.specs.Private.LineRuns.{Shows}
 
 -- where the first colon stands
 place : (run : List ℕ) (colon : ℕ) → IsNext 58 run 0 colon → position_or_len is_colon run ≡ colon

@@ -7,7 +7,7 @@ use Rattle.ipnetwork_addr.specs.Computed.Ipv6Text.{v6_of, gap_below}
 use Rattle.ipnetwork_addr.specs.Texts.{IsAddressByte}
 use Rattle.ipnetwork_addr.specs.declared.ip.IpAddr.{IpAddr}
 use Rattle.line_addresses.specs.Addresses.{address_of, with_text, spelled, ends_with_mark, before_mark, before_port, or_else, address_in}
-use Rattle.line_addresses.specs.Private.Runs.{Shows}
+use Rattle.line_addresses.specs.Private.LineRuns.{Shows}
 
 -- an empty text names no address
 pub nothing_named : address_of [] ≡ None

@@ -4,7 +4,7 @@ use Rattle.std.specs.Char.{is_ascii_digit}
 use Rattle.std.specs.List.{list_all, before_first, after_first}
 use Rattle.ipnetwork_addr.specs.Computed.Either.{ip_of}
 use Rattle.ipnetwork_addr.specs.declared.ip.IpAddr.{IpAddr}
-use Rattle.line_addresses.specs.Runs.{runs_of}
+use Rattle.line_addresses.specs.LineRuns.{runs_of}
 
 -- an address, and the text that names it
 pub record Spelled : Type 0 where

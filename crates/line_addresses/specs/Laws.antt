@@ -6,7 +6,7 @@ use Rattle.ipnetwork_addr.specs.Texts.{IsAddressByte}
 use Rattle.ipnetwork_addr.specs.declared.ip.IpAddr.{IpAddr}
 use Rattle.ipnetwork_addr.specs.declared.ip.IpAddr.TheVariants.{V4}
 use Rattle.line_addresses.specs.Addresses.{Spelled, address_of, address_in, addresses_of, is_mark, is_port}
-use Rattle.line_addresses.specs.Runs.{is_run_byte}
+use Rattle.line_addresses.specs.LineRuns.{is_run_byte}
 
 -- the address of a text is the one that it names
 abbrev pub NamedAddress : Type 0

@@ -6,5 +6,5 @@ pub mod Found
 pub mod Laws
 pub mod Mapped
 pub mod Private
-pub mod Runs
+pub mod LineRuns
 pub mod Words

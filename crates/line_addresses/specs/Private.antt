@@ -1,2 +1,2 @@
 -- What the contracts of private functions cite.
-pub mod Runs
+pub mod LineRuns

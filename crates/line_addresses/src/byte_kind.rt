@@ -1,7 +1,7 @@
 //! The kinds of bytes, by a table.
 ghost use Rattle.std.specs.Prelude.{◌≡◌, ◌↔◌, IsTrue};
 ghost use Rattle.ipnetwork_addr.specs.Texts.{IsAddressByte};
-ghost use Rattle.line_addresses.specs.Runs.{is_run_byte};
+ghost use Rattle.line_addresses.specs.LineRuns.{is_run_byte};
 
 /// Whether runs are made of this byte: an ASCII letter or digit, `.`, `:` or `_`.
 #[inline(always)]

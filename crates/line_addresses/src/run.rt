@@ -1,7 +1,7 @@
 //! The address of a run.
 ghost use Rattle.std.specs.Prelude.{◌≡◌, ◌≤◌, None, MatchOption, length, take};
 ghost use Rattle.line_addresses.specs.Addresses.{address_of, ends_with_mark, address_in, before_port};
-ghost use Rattle.line_addresses.specs.Private.Runs.{IsRunEnd, Shows};
+ghost use Rattle.line_addresses.specs.Private.LineRuns.{IsRunEnd, Shows};
 
 use crate::byte_kind::{is_address_byte, is_run_byte};
 use crate::laws;

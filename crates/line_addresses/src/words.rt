@@ -1,7 +1,7 @@
 //! The words of a line.
 ghost use Rattle.std.specs.Prelude.{◌≡◌, ◌≤◌, ◌-◌, None, Some, MatchOption, length, slice_get};
 ghost use Rattle.line_addresses.specs.Words.{words_of, is_blank};
-ghost use Rattle.line_addresses.specs.Private.Runs.{IsWordEnd};
+ghost use Rattle.line_addresses.specs.Private.LineRuns.{IsWordEnd};
 
 /// The word of this number, from 1 on, of a line: its words are what stands between runs of spaces and tabs.
 ///

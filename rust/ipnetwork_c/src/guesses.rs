@@ -3,8 +3,8 @@
 //! Guesses of where the searches for several rows of a column end, made before these searches: no
 //! guess waits for another one, and no search for what the list or its index has there.
 
-use crate::begun::guess_by_three;
-use crate::guessed::Guessed;
+use crate::search_hint::SearchHint;
+use crate::upper_bound::guess_by_three;
 use fosibegan::ipnetwork_blocks::AddressSpace;
 
 // For how many rows guesses are made at once.
@@ -24,7 +24,7 @@ impl Guesses {
 
     /// The guess for a row. Of the rows in order, the first of each `ROWS` has them made for all.
     #[inline(always)]
-    pub(crate) fn of_row<N: AddressSpace, H: Guessed<N>>(
+    pub(crate) fn of_row<N: AddressSpace, H: SearchHint<N>>(
         &mut self,
         list: &[H],
         index: &[u32],
@@ -40,7 +40,7 @@ impl Guesses {
 
 // Guesses for the first of these addresses.
 #[inline(never)]
-fn guess_rows<N: AddressSpace, H: Guessed<N>>(
+fn guess_rows<N: AddressSpace, H: SearchHint<N>>(
     list: &[H],
     index: &[u32],
     addresses: &[H::Octets],

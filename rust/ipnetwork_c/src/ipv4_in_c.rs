@@ -3,10 +3,10 @@
 //! The struct of an IPv4 network: the network that it holds, its order, and what lists and columns ask of it.
 
 use crate::fault::{self, OK, PREFIX};
-use crate::guessed::Guessed;
 use crate::listed::Listed;
 use crate::numbered::Numbered;
 use crate::printed_columns::PrintsRow;
+use crate::search_hint::SearchHint;
 use crate::structs::{Ipv4InC, number_of_four};
 use crate::text_columns::ReadsRow;
 use fosibegan::plain_std::arrayvec::ArrayString;
@@ -117,7 +117,7 @@ impl Numbered<Ipv4Network> for Ipv4InC {
     }
 }
 
-impl Guessed<Ipv4Network> for Ipv4InC {
+impl SearchHint<Ipv4Network> for Ipv4InC {
     #[inline(always)]
     fn seems_up_to(&self, number: u32) -> bool {
         number_of_four(&self.address) <= number

@@ -3,10 +3,10 @@
 //! The struct of an IPv6 network: the network that it holds, its order, and what lists and columns ask of it.
 
 use crate::fault::{self, OK, PREFIX};
-use crate::guessed::Guessed;
 use crate::listed::Listed;
 use crate::numbered::Numbered;
 use crate::printed_columns::PrintsRow;
+use crate::search_hint::SearchHint;
 use crate::structs::{Ipv6InC, address_of, number_of};
 use crate::text_columns::ReadsRow;
 use fosibegan::plain_std::arrayvec::ArrayString;
@@ -139,7 +139,7 @@ impl Numbered<Ipv6Network> for Ipv6InC {
     }
 }
 
-impl Guessed<Ipv6Network> for Ipv6InC {
+impl SearchHint<Ipv6Network> for Ipv6InC {
     #[inline(always)]
     fn seems_up_to(&self, number: u128) -> bool {
         (number_of(&self.address) >> 64) as u64 <= (number >> 64) as u64

@@ -4,8 +4,8 @@
 //! memory.
 
 use crate::fault::{OK, PREFIX, SHORT_BUFFER};
-use crate::guessed::Guessed;
 use crate::listed::all_fit;
+use crate::search_hint::SearchHint;
 use crate::tables::find;
 use fosibegan::ipnetwork_blocks::AddressSpace;
 
@@ -13,7 +13,7 @@ use fosibegan::ipnetwork_blocks::AddressSpace;
 pub(crate) const NO_PLACE: usize = usize::MAX;
 
 /// Sorts where the blocks begin and end, and asks the blocks for the first address of each range.
-pub(crate) fn make<N: AddressSpace, H: Guessed<N>>(
+pub(crate) fn make<N: AddressSpace, H: SearchHint<N>>(
     blocks: &[H],
     ranges: &mut [H],
     places: &mut [usize],
@@ -34,7 +34,7 @@ pub(crate) fn make<N: AddressSpace, H: Guessed<N>>(
 }
 
 // Puts where each block begins, and where it has ended, and returns how many these are.
-fn put_cuts<N: AddressSpace, H: Guessed<N>>(blocks: &[H], ranges: &mut [H]) -> usize
+fn put_cuts<N: AddressSpace, H: SearchHint<N>>(blocks: &[H], ranges: &mut [H]) -> usize
 {
     let mut count = 0;
     for row in 0..blocks.len() {
@@ -45,7 +45,7 @@ fn put_cuts<N: AddressSpace, H: Guessed<N>>(blocks: &[H], ranges: &mut [H]) -> u
 
 // Puts after so many others where the block begins, and the address after its last, if there is
 // one.
-fn put_ends<N: AddressSpace, H: Guessed<N>>(block: N, ranges: &mut [H], count: usize) -> usize
+fn put_ends<N: AddressSpace, H: SearchHint<N>>(block: N, ranges: &mut [H], count: usize) -> usize
 {
     let _ = block.prefix();
     put_first::<N, H>(block.network(), ranges, count);
@@ -59,20 +59,20 @@ fn put_ends<N: AddressSpace, H: Guessed<N>>(block: N, ranges: &mut [H], count: u
 }
 
 // Puts the network of an address alone at a place.
-fn put_first<N: AddressSpace, H: Guessed<N>>(address: N::Addr, ranges: &mut [H], place: usize) {
+fn put_first<N: AddressSpace, H: SearchHint<N>>(address: N::Addr, ranges: &mut [H], place: usize) {
     let width = (H::half() + 1) as u8;
     ranges[place] = H::holding(N::block_at(address, width));
 }
 
 // Puts beside each range the place of the longest block with its first address.
-fn put_places<N: AddressSpace, H: Guessed<N>>(blocks: &[H], ranges: &[H], places: &mut [usize]) {
+fn put_places<N: AddressSpace, H: SearchHint<N>>(blocks: &[H], ranges: &[H], places: &mut [usize]) {
     for row in 0..ranges.len() {
         places[row] = place_of::<N, H>(blocks, ranges[row].own_address());
     }
 }
 
 // The place of the longest block with the address, or that of no block.
-fn place_of<N: AddressSpace, H: Guessed<N>>(blocks: &[H], address: N::Addr) -> usize {
+fn place_of<N: AddressSpace, H: SearchHint<N>>(blocks: &[H], address: N::Addr) -> usize {
     let mut place = NO_PLACE;
     let _ = find::<N, H>(blocks, &[], address, &mut place);
     place

@@ -3,16 +3,16 @@
 //! Ranges in the caller's memory, asked for the longest block with an address: one search, whatever
 //! lies in what.
 
-use crate::begun::{begun_at_once, begun_by_halves, guess_by_three};
 use crate::fault::{NO_MEMBER, OK};
-use crate::guessed::Guessed;
 use crate::range_making::NO_PLACE;
+use crate::search_hint::SearchHint;
+use crate::upper_bound::{guess_by_three, upper_bound_at_once, upper_bound_by_halves};
 use fosibegan::ipnetwork_blocks::AddressSpace;
 
 /// The place beside the last of the ranges that begins at an address or before it, by an index of
 /// the ranges, or by none: that of no block if there is none.
 #[inline(always)]
-pub(crate) fn place_of<N: AddressSpace, H: Guessed<N>>(
+pub(crate) fn place_of<N: AddressSpace, H: SearchHint<N>>(
     address: &H::Octets,
     ranges: &[H],
     places: &[usize],
@@ -25,7 +25,7 @@ pub(crate) fn place_of<N: AddressSpace, H: Guessed<N>>(
 
 /// Puts that place in `place`, if it is that of a block.
 #[inline(always)]
-pub(crate) fn find<N: AddressSpace, H: Guessed<N>>(
+pub(crate) fn find<N: AddressSpace, H: SearchHint<N>>(
     address: &H::Octets,
     ranges: &[H],
     places: &[usize],
@@ -39,7 +39,7 @@ pub(crate) fn find<N: AddressSpace, H: Guessed<N>>(
 
 /// The same for the number of an address, with a guess of how many ranges begin up to it.
 #[inline(always)]
-pub(crate) fn place_near<N: AddressSpace, H: Guessed<N>>(
+pub(crate) fn place_near<N: AddressSpace, H: SearchHint<N>>(
     ranges: &[H],
     places: &[usize],
     index: &[u32],
@@ -56,14 +56,14 @@ pub(crate) fn place_near<N: AddressSpace, H: Guessed<N>>(
 // The place beside the last of the ranges that begins at the number or before it, with a guess of
 // how many do.
 #[inline(always)]
-fn place_by_guess<N: AddressSpace, H: Guessed<N>>(
+fn place_by_guess<N: AddressSpace, H: SearchHint<N>>(
     ranges: &[H],
     places: &[usize],
     index: &[u32],
     number: H::Number,
     guess: usize,
 ) -> usize {
-    match begun_at_once::<N, H>(ranges, number, guess) {
+    match upper_bound_at_once::<N, H>(ranges, number, guess) {
         Some(count) => found_before(places, count),
         None => place_by_halves::<N, H>(ranges, places, index, number),
     }
@@ -72,14 +72,14 @@ fn place_by_guess<N: AddressSpace, H: Guessed<N>>(
 // The same where the guess is none. It stands apart, so that what it needs costs the others
 // nothing.
 #[inline(never)]
-fn place_by_halves<N: AddressSpace, H: Guessed<N>>(
+fn place_by_halves<N: AddressSpace, H: SearchHint<N>>(
     ranges: &[H],
     places: &[usize],
     index: &[u32],
     number: H::Number,
 ) -> usize
 {
-    let count = begun_by_halves::<N, H>(ranges, index, number);
+    let count = upper_bound_by_halves::<N, H>(ranges, index, number);
     found_before(places, count)
 }
 

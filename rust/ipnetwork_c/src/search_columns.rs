@@ -3,10 +3,10 @@
 //! Lists asked for many addresses in one call, a row for each.
 
 use crate::fault::{OK, SHORT_BUFFER};
-use crate::guessed::Guessed;
 use crate::guesses::Guesses;
 use crate::halves::{self, Parts};
 use crate::ranges::place_near;
+use crate::search_hint::SearchHint;
 use crate::structs::{Ipv4InC, Ipv6InC, number_of_four};
 use crate::{sets, tables};
 use fosibegan::ipnetwork::{Ipv4Network, Ipv6Network};
@@ -45,7 +45,7 @@ pub(crate) fn v6_contains(
 /// Puts for each address the place of the longest block that has it, and its fault, by an index of
 /// the blocks, or by none.
 #[inline(always)]
-pub(crate) fn table_find_each<N: AddressSpace, H: Guessed<N>>(
+pub(crate) fn table_find_each<N: AddressSpace, H: SearchHint<N>>(
     blocks: &[H],
     index: &[u32],
     addresses: &[H::Octets],
@@ -63,7 +63,7 @@ pub(crate) fn table_find_each<N: AddressSpace, H: Guessed<N>>(
 
 // The fault of the call for one address, as a byte.
 #[inline(always)]
-fn table_find_one<N: AddressSpace, H: Guessed<N>>(
+fn table_find_one<N: AddressSpace, H: SearchHint<N>>(
     blocks: &[H],
     index: &[u32],
     address: &H::Octets,
@@ -74,7 +74,7 @@ fn table_find_one<N: AddressSpace, H: Guessed<N>>(
 
 /// Puts for each address the place that the ranges tell, and its fault.
 #[inline(always)]
-pub(crate) fn ranges_find_each<N: AddressSpace, H: Guessed<N>>(
+pub(crate) fn ranges_find_each<N: AddressSpace, H: SearchHint<N>>(
     addresses: &[H::Octets],
     places: &mut [usize],
     faults: &mut [u8],
@@ -95,7 +95,7 @@ pub(crate) fn ranges_find_each<N: AddressSpace, H: Guessed<N>>(
 
 // The fault of the call for one address, as a byte.
 #[inline(always)]
-fn ranges_find_one<N: AddressSpace, H: Guessed<N>>(
+fn ranges_find_one<N: AddressSpace, H: SearchHint<N>>(
     address: &H::Octets,
     guess: usize,
     place: &mut usize,

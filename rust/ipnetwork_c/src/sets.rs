@@ -3,17 +3,17 @@
 //! Lists that are those of sets: the maximal blocks of their union, in ascending order, as `aggregate_held` leaves
 //! them.
 
-use crate::begun::{begun_at_once, begun_by_halves, guess_by_last};
 use crate::fault::{OK, PREFIX};
-use crate::guessed::Guessed;
 use crate::numbered::Numbered;
+use crate::search_hint::SearchHint;
+use crate::upper_bound::{guess_by_last, upper_bound_at_once, upper_bound_by_halves};
 use fosibegan::ipnetwork_blocks::AddressSpace;
 
 /// Whether an address lies in the set of a list, as 1 or 0, by an index of the list, or by none. If
 /// the list is not that of a set, an address may be missed. `PREFIX` if the prefix length of the
 /// struct that the search ends at is not one of the family.
 #[inline(always)]
-pub(crate) fn contains<N: AddressSpace, H: Guessed<N>>(
+pub(crate) fn contains<N: AddressSpace, H: SearchHint<N>>(
     list: &[H],
     index: &[u32],
     address: &H::Octets,
@@ -26,7 +26,7 @@ pub(crate) fn contains<N: AddressSpace, H: Guessed<N>>(
 
 /// The same for the number of an address, with a guess of how many blocks begin up to it.
 #[inline(always)]
-pub(crate) fn contains_near<N: AddressSpace, H: Guessed<N>>(
+pub(crate) fn contains_near<N: AddressSpace, H: SearchHint<N>>(
     list: &[H],
     index: &[u32],
     number: H::Number,
@@ -50,7 +50,7 @@ fn found_near<N: AddressSpace, H: Numbered<N>>(
     number: H::Number,
     guess: usize,
 ) -> Option<u8> {
-    if let Some(count) = begun_at_once::<N, H>(list, number, guess) {
+    if let Some(count) = upper_bound_at_once::<N, H>(list, number, guess) {
         return answer_after::<N, H>(list, count, number);
     }
     found_by_halves::<N, H>(list, index, number)
@@ -64,7 +64,7 @@ fn found_by_halves<N: AddressSpace, H: Numbered<N>>(
     number: H::Number,
 ) -> Option<u8>
 {
-    let count = begun_by_halves::<N, H>(list, index, number);
+    let count = upper_bound_by_halves::<N, H>(list, index, number);
     answer_after::<N, H>(list, count, number)
 }
 

@@ -12,7 +12,7 @@ use std::alloc::AllocError;
 // The blocks of each operation on two sets, of IPv4 and of IPv6.
 type Common<'a> = IpBlocks<Intersection<'a, Ipv4Network>, Intersection<'a, Ipv6Network>>;
 
-type Left<'a> = IpBlocks<Difference<'a, Ipv4Network>, Difference<'a, Ipv6Network>>;
+type Remainder<'a> = IpBlocks<Difference<'a, Ipv4Network>, Difference<'a, Ipv6Network>>;
 
 type Either<'a> = IpBlocks<Union<'a, Ipv4Network>, Union<'a, Ipv6Network>>;
 
@@ -45,7 +45,7 @@ impl IpAddressSet {
     /// let other = IpAddressSet::from_lists(v4, Vec::new(rt.alloc()));
     /// assert_eq!(rt; set.difference(&other).next(), Some("192.0.2.64/26".parse()?));
     /// ```
-    pub fn difference<'a>(&'a self, other: &'a IpAddressSet) -> Left<'a>
+    pub fn difference<'a>(&'a self, other: &'a IpAddressSet) -> Remainder<'a>
         ensures { IsIpLeastList (InIpFirstAlone self.now other.now) result }
     {
         IpBlocks::of(
@@ -62,7 +62,7 @@ impl IpAddressSet {
     /// let set = IpAddressSet::from_lists(v4, Vec::new(rt.alloc()));
     /// assert!(rt; set.complement().eq(["128.0.0.0/1".parse()?, "::/0".parse()?]));
     /// ```
-    pub fn complement(&self) -> Left<'_>
+    pub fn complement(&self) -> Remainder<'_>
         ensures { IsIpLeastList (InIpComplement self.now) result }
     {
         IpBlocks::of(self.v4().complement(), self.v6().complement())

@@ -2,8 +2,8 @@
 
 //! The place of a number among ascending ones.
 
-use crate::ipnetwork_index::fours::below_of_four;
 use crate::ipnetwork_index::key::Key;
+use crate::ipnetwork_index::simd_step::below_of_four;
 
 /// The place of the first key that is not less than this one. The keys ascend, and the last four of
 /// them are not less. For each part of the numbers from `base` on `starts` tells a place that the

@@ -1,5 +1,5 @@
 use Rattle.std.proofs.Common.{◌≤◌, arith}
-use Rattle.ipnetwork_blocks.proofs.Runs.{StartsRun, starts_at}
+use Rattle.ipnetwork_blocks.proofs.BlockRuns.{StartsRun, starts_at}
 use Rattle.ipnetwork_blocks.proofs.subnet_iterator.subnets.Goals as goal
 
 pub invariant_of-result : goal.invariant_of-result

@@ -21,9 +21,9 @@ loop-end-init g c =
     let ns : List Network = map g.H.HoldsNetwork.held c.args.blocks.now in
     let x_is : g.H.Numbered.value c.number_of.result ≡ x = c.number_of.ensures in
     record {
-      within = c.begun-end.ensures.within;
-      searched = λ t. search_begins w ns x c.begun-end.result t (subst (λ (y : ℕ). IsSplit ns y c.begun-end.result c.begun-end.result) x_is (stands_split ns (g.H.Numbered.value c.number_of.result) c.begun-end.result c.begun-end.ensures.stands (by_address w ns t)));
-      comes = First c.begun-end.result (subst (λ (y : ℕ). StandsAt ns y c.begun-end.result) x_is c.begun-end.ensures.stands);
+      within = c.upper_bound-end.ensures.within;
+      searched = λ t. search_begins w ns x c.upper_bound-end.result t (subst (λ (y : ℕ). IsSplit ns y c.upper_bound-end.result c.upper_bound-end.result) x_is (stands_split ns (g.H.Numbered.value c.number_of.result) c.upper_bound-end.result c.upper_bound-end.ensures.stands (by_address w ns t)));
+      comes = First c.upper_bound-end.result (subst (λ (y : ℕ). StandsAt ns y c.upper_bound-end.result) x_is c.upper_bound-end.ensures.stands);
       place = refl;
     }
 
@@ -56,7 +56,7 @@ loop-end-preserved g c =
     let size = length-map c.args.blocks.now g.H.HoldsNetwork.held in
     let within = c.loop-end.invariant.within in
     let end : ℕ = c.loop-end.end in
-    let next : ℕ = c.begun-end-in-loop-end.result in
+    let next : ℕ = c.upper_bound-end-in-loop-end.result in
     let shared : ℕ = c.shared_bits-shared.result in
     let b : Network = g.H.HoldsNetwork.held c.index-blocks-end.result in
     let is = read_map g.H.HoldsNetwork.held c.args.blocks.now (end - 1) c.index-blocks-end.result (omega arith) c.index-blocks-end.is in
@@ -67,11 +67,11 @@ loop-end-preserved g c =
     let bound_is : y ≡ (block_at w x shared).address = c.number_of-in-loop-end.ensures ∙ c.ip-in-loop-end.ensures.made ∙ ap (λ (n : Network). n.address) c.block_at-around.ensures.made in
     let part : take (end - 1) ns ≡ map g.H.HoldsNetwork.held (take (end - 1) c.args.blocks.now) = take-map g.H.HoldsNetwork.held (end - 1) c.args.blocks.now in
     let most : length (take (end - 1) c.args.blocks.now) ≡ end - 1 = length-take-le (end - 1) c.args.blocks.now (omega arith) in
-    let less : next ≤ end - 1 = omega (arith, most, c.begun-end-in-loop-end.ensures.within) in
+    let less : next ≤ end - 1 = omega (arith, most, c.upper_bound-end-in-loop-end.ensures.within) in
     let again : end ≡ end - 1 + 1 = omega arith in
     let stands : StandsAt (take (end - 1) ns) (block_at w x shared).address next =
     subst (λ (z : ℕ). StandsAt (take (end - 1) ns) z next) bound_is
-    (subst (λ (l : List Network). StandsAt l y next) (sym part) c.begun-end-in-loop-end.ensures.stands) in
+    (subst (λ (l : List Network). StandsAt l y next) (sym part) c.upper_bound-end-in-loop-end.ensures.stands) in
     let split : IsTable w ns → IsSplit (take (end - 1) ns) (block_at w x shared).address next next = λ t.
     stands_split (take (end - 1) ns) (block_at w x shared).address next stands (taken_ascends ns (end - 1) (omega arith) (by_address w ns t)) in
     record {

@@ -2,7 +2,7 @@ use Rattle.std.proofs.Common.{◌≡◌, ◌+◌, length, map}
 use Rattle.std.specs.List.{All}
 use Rattle.std.specs.Option.{option_map}
 use Rattle.ipnetwork_sets.specs.Private.LeastBlocks.{left_blocks}
-use Rattle.ipnetwork_sets.specs.Private.Left.{IsAtHand, count_at_hand}
+use Rattle.ipnetwork_sets.specs.Private.Remainder.{IsAtHand, count_at_hand}
 use Rattle.ipnetwork_sets.proofs.difference.next_left.Given as goal
 
 abbrev pub invariant-loop-part : goal.invariant-loop-part

@@ -1,6 +1,6 @@
 use Rattle.std.proofs.Common.{◌+◌, length, map}
 use Rattle.ipnetwork_sets.specs.Sets.{HoldSet}
-use Rattle.ipnetwork_sets.specs.Private.Left.{IsPiece, IsWidest, Skips}
+use Rattle.ipnetwork_sets.specs.Private.Remainder.{IsPiece, IsWidest, Skips}
 use Rattle.ipnetwork_sets.proofs.LeftParts.{steps_left}
 use Rattle.ipnetwork_sets.proofs.pieces.first_free.Given as goal
 

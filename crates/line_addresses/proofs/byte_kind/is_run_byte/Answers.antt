@@ -1,6 +1,6 @@
 use Rattle.std.proofs.Common.{◌≡◌, ℕ, ◌<◌, ◌==◌, not, get_or, refl, ap, ◌∙◌}
 use Rattle.std.proofs.lemmas.Bool.{agree_below_at}
-use Rattle.line_addresses.specs.Runs.{is_run_byte}
+use Rattle.line_addresses.specs.LineRuns.{is_run_byte}
 use Rattle.line_addresses.specs.declared.byte_kind.TheConstants.{KINDS}
 use Rattle.line_addresses.proofs.byte_kind.is_run_byte.Goals as goal
 

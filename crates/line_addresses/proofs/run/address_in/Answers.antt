@@ -2,7 +2,7 @@ use Rattle.std.proofs.Common.{◌≡◌, None, sym, subst, ◌∙◌, true≢fal
 use Rattle.std.specs.Prelude.{MatchOption, Option}
 use Rattle.std.proofs.lemmas.Bool.{eqb-true}
 use Rattle.line_addresses.specs.Addresses.{Spelled, before_mark}
-use Rattle.line_addresses.specs.Private.Runs.{Shows}
+use Rattle.line_addresses.specs.Private.LineRuns.{Shows}
 use Rattle.line_addresses.proofs.Shown.{some_from, shown_by_nothing, begun_by_other, whole, marked, no_mark, no_rest, left}
 use Rattle.line_addresses.proofs.run.address_in.Goals as goal
 use Rattle.line_addresses.proofs.run.address_in.Goals.{then-ends_with_mark+in_default-address_of, else-ends_with_mark}

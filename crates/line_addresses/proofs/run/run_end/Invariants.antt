@@ -1,6 +1,6 @@
 use Rattle.std.proofs.Common.{◌≡◌, ℕ, ◌<◌, ◌≤◌, false, not}
 use Rattle.std.specs.Prelude.{slice_index}
-use Rattle.line_addresses.specs.Runs.{is_run_byte}
+use Rattle.line_addresses.specs.LineRuns.{is_run_byte}
 use Rattle.line_addresses.proofs.run.run_end.Given as goal
 
 abbrev pub invariant-loop-at : goal.invariant-loop-at

@@ -12,7 +12,7 @@ use crate::plain_std::alloc::AllocError;
 // The blocks of each operation on two sets, of IPv4 and of IPv6.
 type Common<'a> = IpBlocks<Intersection<'a, Ipv4Network>, Intersection<'a, Ipv6Network>>;
 
-type Left<'a> = IpBlocks<Difference<'a, Ipv4Network>, Difference<'a, Ipv6Network>>;
+type Remainder<'a> = IpBlocks<Difference<'a, Ipv4Network>, Difference<'a, Ipv6Network>>;
 
 type Either<'a> = IpBlocks<Union<'a, Ipv4Network>, Union<'a, Ipv6Network>>;
 
@@ -53,7 +53,7 @@ impl IpAddressSet {
     /// # Ok(())
     /// # });
     /// ```
-    pub fn difference<'a>(&'a self, other: &'a IpAddressSet) -> Left<'a> {
+    pub fn difference<'a>(&'a self, other: &'a IpAddressSet) -> Remainder<'a> {
         IpBlocks::of(
             self.v4().difference(other.v4()),
             self.v6().difference(other.v6()),
@@ -73,7 +73,7 @@ impl IpAddressSet {
     /// # Ok(())
     /// # });
     /// ```
-    pub fn complement(&self) -> Left<'_> {
+    pub fn complement(&self) -> Remainder<'_> {
         IpBlocks::of(self.v4().complement(), self.v6().complement())
     }
 

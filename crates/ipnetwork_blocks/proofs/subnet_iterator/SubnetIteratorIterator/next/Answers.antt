@@ -1,8 +1,8 @@
 use Rattle.std.proofs.Common.{ℕ, sym, ◌∙◌}
 use Rattle.ipnetwork_family.specs.Network.{Network}
-use Rattle.ipnetwork_blocks.specs.Private.Runs.{IsRun}
+use Rattle.ipnetwork_blocks.specs.Private.BlockRuns.{IsRun}
 use Rattle.ipnetwork_blocks.proofs.Addresses.{same_network, other_network}
-use Rattle.ipnetwork_blocks.proofs.Runs.{Steps, step_at_last, step_before_last, run_of, list_of, list_falls}
+use Rattle.ipnetwork_blocks.proofs.BlockRuns.{Steps, step_at_last, step_before_last, run_of, list_of, list_falls}
 use Rattle.ipnetwork_blocks.proofs.subnet_iterator.SubnetIteratorIterator.next.Given.{Over}
 use Rattle.ipnetwork_blocks.proofs.subnet_iterator.SubnetIteratorIterator.next.Goals as goal
 use Rattle.ipnetwork_blocks.proofs.subnet_iterator.SubnetIteratorIterator.next.Goals.{Joined-eq, then-eq, else-eq}

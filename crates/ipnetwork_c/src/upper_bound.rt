@@ -3,15 +3,15 @@ ghost use Rattle.std.specs.Prelude.{◌≡◌, ◌↔◌, ◌+◌, ◌<◌, ◌�
 ghost use Rattle.ipnetwork_c.specs.Searches.{StandsAt};
 ghost use Rattle.ipnetwork_c.specs.Private.Sets.{LastUpTo, NextAfter, IsBetween};
 
-use crate::guessed::Guessed;
 use crate::numbered::Numbered;
+use crate::search_hint::SearchHint;
 use ipnetwork_blocks::AddressSpace;
 
 /// How many of a list in ascending order begin at the number or before it. Of any other list, a
 /// number of structs of which the last does, and the next one does not. The index only says where
 /// the search begins: one that is not that of the list costs time, and changes nothing else.
 #[inline(always)]
-pub(crate) fn begun<N: AddressSpace, H: Guessed<N>>(
+pub(crate) fn upper_bound<N: AddressSpace, H: SearchHint<N>>(
     list: &[H],
     index: &[u32],
     number: H::Number,
@@ -20,16 +20,16 @@ pub(crate) fn begun<N: AddressSpace, H: Guessed<N>>(
     ensures stands { StandsAt (map H.held list.now) (H.value number) result }
 {
     let guess = guess_by_last::<N, H>(list, index, number);
-    match begun_at_once::<N, H>(list, number, guess) {
+    match upper_bound_at_once::<N, H>(list, number, guess) {
         Some(count) => count,
-        None => begun_by_halves::<N, H>(list, index, number),
+        None => upper_bound_by_halves::<N, H>(list, index, number),
     }
 }
 
 /// A guess of how many begin up to the number, by the last struct of its part: for lists of which a
 /// part mostly has one. No branch depends on whether it begins up to the number.
 #[inline(always)]
-pub(crate) fn guess_by_last<N: AddressSpace, H: Guessed<N>>(
+pub(crate) fn guess_by_last<N: AddressSpace, H: SearchHint<N>>(
     list: &[H],
     index: &[u32],
     number: H::Number,
@@ -45,7 +45,7 @@ pub(crate) fn guess_by_last<N: AddressSpace, H: Guessed<N>>(
 
 /// The same by the first three of its part: for lists of which a part often has several.
 #[inline(always)]
-pub(crate) fn guess_by_three<N: AddressSpace, H: Guessed<N>>(
+pub(crate) fn guess_by_three<N: AddressSpace, H: SearchHint<N>>(
     list: &[H],
     index: &[u32],
     number: H::Number,
@@ -62,7 +62,7 @@ pub(crate) fn guess_by_three<N: AddressSpace, H: Guessed<N>>(
 
 /// How many begin up to the number, if that is the guess.
 #[inline(always)]
-pub(crate) fn begun_at_once<N: AddressSpace, H: Numbered<N>>(
+pub(crate) fn upper_bound_at_once<N: AddressSpace, H: Numbered<N>>(
     list: &[H],
     number: H::Number,
     guess: usize,
@@ -81,7 +81,7 @@ pub(crate) fn begun_at_once<N: AddressSpace, H: Numbered<N>>(
 /// The same by halves: of the part of the number, and of the whole list if that is not in the
 /// index.
 #[inline(never)]
-pub(crate) fn begun_by_halves<N: AddressSpace, H: Numbered<N>>(
+pub(crate) fn upper_bound_by_halves<N: AddressSpace, H: Numbered<N>>(
     list: &[H],
     index: &[u32],
     number: H::Number,
@@ -89,18 +89,18 @@ pub(crate) fn begun_by_halves<N: AddressSpace, H: Numbered<N>>(
     ensures { StandsAt (map H.held list.now) (H.value number) result }
 {
     if list.is_empty() || index.is_empty() {
-        return begun_between::<N, H>(list, 0, list.len(), number);
+        return upper_bound_between::<N, H>(list, 0, list.len(), number);
     }
     let part = part_of::<N, H>(list, index, number);
     let from = from_start::<N, H>(list, start_of(index, part), number);
     let to = end_of::<N, H>(list, index, part, from, number);
-    begun_between::<N, H>(list, from, to, number)
+    upper_bound_between::<N, H>(list, from, to, number)
 }
 
 // The same, of which is known that the structs before `begin` begin up to the number, and that at
 // `end` after it. A step leaves a number of structs and not an end, so that it is compiled to no
 // branch that depends on the list.
-fn begun_between<N: AddressSpace, H: Numbered<N>>(
+fn upper_bound_between<N: AddressSpace, H: Numbered<N>>(
     list: &[H],
     begin: usize,
     end: usize,
@@ -173,7 +173,11 @@ fn part_end(index: &[u32], part: usize, count: usize) -> usize
 
 // 1 if the struct there seems to begin up to the number, and 0 if not.
 #[inline(always)]
-fn one_up_to<N: AddressSpace, H: Guessed<N>>(list: &[H], place: usize, number: H::Number) -> usize
+fn one_up_to<N: AddressSpace, H: SearchHint<N>>(
+    list: &[H],
+    place: usize,
+    number: H::Number,
+) -> usize
     requires { place < length list.now }
     ensures { result ≤ 1 }
 {

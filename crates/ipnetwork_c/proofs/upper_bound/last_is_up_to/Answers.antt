@@ -1,7 +1,7 @@
 use Rattle.std.proofs.Common.{map, refl, arith}
 use Rattle.ipnetwork_c.proofs.Indexed.{read_before_tells}
 use Rattle.ipnetwork_c.proofs.Searching.{none_last}
-use Rattle.ipnetwork_c.proofs.begun.last_is_up_to.Goals as goal
+use Rattle.ipnetwork_c.proofs.upper_bound.last_is_up_to.Goals as goal
 
 pub returns-then-last-list : goal.returns-then-last-list
 returns-then-last-list g c = ((λ _. none_last (map g.H.HoldsNetwork.held c.args.list.now) (g.H.Numbered.value c.args.number) c.args.at (omega arith)), (λ _. refl))

@@ -3,7 +3,7 @@ use Rattle.std.proofs.lemmas.List.{length-map}
 use Rattle.ipnetwork_sets.proofs.Lists.{read_pair}
 use Rattle.ipnetwork_c.proofs.Indexed.{next_told}
 use Rattle.ipnetwork_c.proofs.Searching.{none_next}
-use Rattle.ipnetwork_c.proofs.begun.next_is_after.Goals as goal
+use Rattle.ipnetwork_c.proofs.upper_bound.next_is_after.Goals as goal
 
 pub returns-then-at-list : goal.returns-then-at-list
 returns-then-at-list g c = ((λ _. none_next g.H.HoldsNetwork.held c.args.list.now (g.H.Numbered.value c.args.number) c.args.at (omega arith)), (λ _. refl))

@@ -1,7 +1,7 @@
 use Rattle.std.proofs.Common.{map, arith}
 use Rattle.std.proofs.lemmas.List.{length-map}
 use Rattle.ipnetwork_c.proofs.Indexed.{ends_at}
-use Rattle.ipnetwork_c.proofs.begun.begun_at_once.Goals as goal
+use Rattle.ipnetwork_c.proofs.upper_bound.upper_bound_at_once.Goals as goal
 
 pub returns : goal.returns
 returns g c =

@@ -2,7 +2,7 @@ use Rattle.std.proofs.Common.{◌≡◌, ℕ, ◌+◌, ◌*◌, List, length, ma
 use Rattle.std.proofs.lemmas.List.{length-map}
 use Rattle.ipnetwork_index.specs.Private.Steps.{IsOneIfLess}
 use Rattle.ipnetwork_index.proofs.Searching.{four_step, read_number}
-use Rattle.ipnetwork_index.proofs.fours.below_of_four.Goals as goal
+use Rattle.ipnetwork_index.proofs.simd_step.below_of_four.Goals as goal
 
 pub returns : goal.returns
 returns g c =

@@ -5,7 +5,7 @@ use Rattle.ipnetwork_family.specs.Network.{Network}
 use Rattle.ipnetwork_sets.proofs.Lists.{read_pair, not_below}
 use Rattle.ipnetwork_c.specs.Private.Sets.{IsBetween}
 use Rattle.ipnetwork_c.proofs.Searching.{between_behind, between_before, between_met}
-use Rattle.ipnetwork_c.proofs.begun.begun_between.Goals as goal
+use Rattle.ipnetwork_c.proofs.upper_bound.upper_bound_between.Goals as goal
 
 pub loop-count-init : goal.loop-count-init
 loop-count-init g c =

@@ -1,6 +1,6 @@
 use Rattle.std.proofs.Common.{◌+◌, ◌≤◌, length, map}
 use Rattle.ipnetwork_c.specs.Private.Sets.{IsBetween}
-use Rattle.ipnetwork_c.proofs.begun.begun_between.Given as goal
+use Rattle.ipnetwork_c.proofs.upper_bound.upper_bound_between.Given as goal
 
 abbrev pub invariant-loop-count : goal.invariant-loop-count
 invariant-loop-count g l = record {

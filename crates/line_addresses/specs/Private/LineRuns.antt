@@ -2,7 +2,7 @@
 use Rattle.std.specs.Prelude.{◌≡◌, ℕ, ◌<◌, ◌≤◌, Bool, true, false, not, List, Option, Some, length, slice_index, take}
 use Rattle.ipnetwork_addr.specs.declared.ip.IpAddr.{IpAddr}
 use Rattle.line_addresses.specs.Addresses.{Spelled}
-use Rattle.line_addresses.specs.Runs.{is_run_byte}
+use Rattle.line_addresses.specs.LineRuns.{is_run_byte}
 use Rattle.line_addresses.specs.Words.{is_blank}
 
 -- from one index on, no byte up to the other is cut out by the test; there the line ends, or such a byte stands

@@ -7,7 +7,7 @@ use Rattle.ipnetwork_family.specs.Network.{Network, IsNetwork, HostBitsAreZero, 
 use Rattle.ipnetwork_family.proofs.Blocks.{div_within, size_pos, size_divides, has_ends, block_fits_too, block_begins}
 use Rattle.ipnetwork_family.proofs.Members.{count_up-one, count_up-next}
 use Rattle.ipnetwork_blocks.specs.FollowingBlock.{following_block}
-use Rattle.ipnetwork_blocks.specs.Private.Runs.{blocks_left, IsRun, AreEnds}
+use Rattle.ipnetwork_blocks.specs.Private.BlockRuns.{blocks_left, IsRun, AreEnds}
 use Rattle.ipnetwork_blocks.specs.Subnets.{block_number, subnets_of}
 use Rattle.ipnetwork_blocks.proofs.FollowingBlock.{high_after}
 

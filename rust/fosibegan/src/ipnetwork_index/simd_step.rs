@@ -1,4 +1,4 @@
-// Written by scripts/plain out of crates/ipnetwork_index/src/fours.rt
+// Written by scripts/plain out of crates/ipnetwork_index/src/simd_step.rt
 
 //! Four numbers compared at once.
 
