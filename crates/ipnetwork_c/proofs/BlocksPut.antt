@@ -57,20 +57,6 @@ block_put {C} held blocks before list count next c n h room few is told =
           };
     }
 
--- there is none
-pub block_counted : {C : Type 0} (held : C → Network) (blocks : List Network) (before list : List C) (count next : ℕ) (n : Network) → HasBlocks held blocks before list count → length list ≤ count
-    → next ≡ min (count + 1) (2 ^ 128 - 1) → HasBlocks held (blocks ++ n ∷ []) before list next
-block_counted held blocks before list count next n h full told =
-    let rows = h.rows in
-    let counted = h.counted in
-    let most = min-le_left (length blocks) (2 ^ 128 - 1) in
-    let more = one_more blocks n in
-    record {
-      counted = counts_on blocks n count next counted told;
-      rows = rows;
-      front = λ fits. absurd (omega arith);
-    }
-
 -- what an iterator over blocks gives are the blocks of its list
 pub given : {N C : Type 0} (pair : N → Network) (held : C → Network) (blocks : List Network) (before after : List C) (count : ℕ)
     → PutsItems (YieldsFirstBy pair (λ (left : List Network). left)) pair held blocks before after count → HasBlocks held blocks before after count

@@ -254,15 +254,6 @@ moved w table x y place same h =
     ))
     h
 
--- the place beside the ranges before one
-pub place_none : (places : List ℕ) (i : ℕ) → (i ≡ 0) ⊎ (length places < i) → place_before places i ≡ no_place
-place_none places zero e = refl
-place_none places (suc i) e =
-    ⊎_elim
-    (λ (z : suc i ≡ 0). absurd (omega (arith, z)))
-    (λ (past : length places < suc i). get_or_past places i no_place (omega (arith, past)))
-    e
-
 pub place_behind : (places : List ℕ) (i : ℕ) → 0 < i → i ≤ length places → place_before places i ≡ get_or places (i - 1) 0
 place_behind places zero some l = absurd (omega (arith, some))
 place_behind places (suc i) some l = let e : suc i - 1 ≡ i = omega arith in get_or_default places i no_place 0 (omega (arith, l)) ∙ ap (λ k. get_or places k 0) (sym e)

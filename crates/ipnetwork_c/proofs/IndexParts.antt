@@ -55,25 +55,6 @@ span_is held list first last a b some first_is last_is a_is b_is =
     let to : b ≡ address_at ns (length list - 1) = b_is ∙ own_is held list (length list - 1) last (omega arith) last_is in
     subst (λ (k : ℕ). b - a ≡ address_at ns (k - 1) - address_at ns 0) (sym (length-map list held)) (omega (arith, from, to))
 
-pub parts_of_none : (ns : List Network) (count : ℕ) → length ns ≡ 0 → 1 ≤ count → AreLeastParts ns count 0
-parts_of_none [] count none some = record { enough = omega arith; least = λ smaller l. absurd (omega arith) }
-parts_of_none (n ∷ ns) count none some = absurd (omega (arith, none))
-
--- parts of this size are few enough, and those of smaller sizes are not
-pub parts_found : (ns : List Network) (count shift own : ℕ) → own ≡ min (span ns / 2 ^ shift) 18446744073709551615 → own < count → count ≤ 18446744073709551615
-    → ((smaller : ℕ) → smaller < shift → count ≤ span ns / 2 ^ smaller) → AreLeastParts ns count shift
-parts_found ns count shift own is less few more = record { enough = omega arith; least = more }
-
-pub parts_more : (ns : List Network) (count shift own : ℕ) → own ≡ min (span ns / 2 ^ shift) 18446744073709551615 → count ≤ own
-    → ((smaller : ℕ) → smaller < shift → count ≤ span ns / 2 ^ smaller) → (smaller : ℕ) → smaller < shift + 1 → count ≤ span ns / 2 ^ smaller
-parts_more ns count shift own is le more smaller l =
-    ⊎_elim
-    (λ (early : smaller < shift). more smaller early)
-    (λ (here : shift ≤ smaller).
-    let e : shift ≡ smaller = omega arith in
-    subst (λ (k : ℕ). count ≤ span ns / 2 ^ k) e (omega arith))
-    (cases_lt smaller shift)
-
 -- one part of all numbers reaches over each list
 pub parts_all : (ns : List Network) (w count half : ℕ) → half + 1 ≡ w → span ns < 2 ^ w → 1 ≤ count → ((smaller : ℕ) → smaller < half + 1 → count ≤ span ns / 2 ^ smaller) → AreLeastParts ns count (half + 1)
 parts_all ns w count half e small some more =
@@ -98,13 +79,6 @@ before_more ns number at n h l is less = record {
       let e : at + 1 - 1 ≡ at = omega arith in
       let same = ap (λ (o : Network). o.address) (the_one ns at n m is (subst (λ (j : ℕ). slice_get ns j ≡ Some m) e got)) in
       omega (arith, same, less);
-}
-
-pub before_found : (ns : List Network) (number at : ℕ) (n : Network) → LastBefore ns number at → n ≡ get_or ns at n → number ≤ n.address → BeginBefore ns number at
-before_found ns number at n h is more = record {
-  within = h.within;
-  last = h.last;
-  next = λ m got. let same = ap (λ (o : Network). o.address) (the_one ns at n m is got) in omega (arith, same, more);
 }
 
 pub before_all : (ns : List Network) (number at : ℕ) → LastBefore ns number at → length ns ≤ at → BeginBefore ns number at

@@ -48,12 +48,6 @@ finds_last w ns x i b false byte one split some within is has told = record {
 
 -- ---- where a search stands in any list
 
-pub between_all : {X : Type 0} (held : X → Network) (list : List X) (x : ℕ) → IsBetween (map held list) x 0 (length list)
-between_all held list x = record {
-  last = λ n none is. absurd (omega (arith, none));
-  next = λ n is. let l = slice_get_within (map held list) (length list) n is in let size = length-map list held in absurd (omega arith);
-}
-
 pub the_one : (ns : List Network) (k : ℕ) (b n : Network) → b ≡ get_or ns k b → slice_get ns k ≡ Some n → b ≡ n
 the_one ns k b n is got = is ∙ get_or_from_slice_get ns k n b got
 
@@ -149,8 +143,3 @@ set_answered w held list x before after ends finds = (ends.0, ends.1, On (ends.2
 
 pub set_refused : {C : Type 0} (w : ℕ) (held : C → Network) (list : List C) (x before : ℕ) → EndDoesNotFit w (map held list) x → SetQuery w held list x before before 3
 set_refused w held list x before ends = (ends.0, ends.1, Nothing (ends.2, refl) refl)
-
--- the number of a fault that a search returns is that of a byte
-pub set_fault_is_byte : {C : Type 0} {before after code : ℕ} (w : ℕ) (held : C → Network) (list : List C) (x : ℕ) → SetQuery w held list x before after code → code < 256
-set_fault_is_byte _ _ _ _ (_, _, Nothing (_, is) _) = omega (arith, is)
-set_fault_is_byte _ _ _ _ (_, _, On (_, (is, _))) = omega (arith, is)

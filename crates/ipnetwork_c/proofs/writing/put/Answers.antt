@@ -5,9 +5,3 @@ use Rattle.ipnetwork_c.proofs.writing.put.Goals as goal
 pub returns : goal.returns
 returns g c = λ blocks start next told h.
     block_put g.H.HoldsNetwork.held blocks start c.args.list.now c.args.count next c.holding.result (g.N.CidrNetwork.pair c.args.block) h (omega arith) (omega arith) c.holding.ensures.1 told
-
-pub bounds-list-count : goal.bounds-list-count
-bounds-list-count g c = omega arith
-
-pub overflow_cast-count : goal.overflow_cast-count
-overflow_cast-count g c = omega arith

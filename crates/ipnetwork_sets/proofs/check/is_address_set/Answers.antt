@@ -17,15 +17,6 @@ returns-then-not-has_no_host_bits g c =
     refused (λ h. iff_false c.has_no_host_bits.ensures.told c.if-not-has_no_host_bits.true
     (set_has_block g.N.CidrNetwork.WIDTH (map held c.args.list.now) c.loop-next.next _ c.one_block.ensures.apart h (omega arith) is))
 
-pub overflow_sub-next : goal.overflow_sub-next
-overflow_sub-next g c = omega arith
-
-pub bounds-list-next : goal.bounds-list-next
-bounds-list-next g c = omega arith
-
-pub bounds-list-next-then-next-gt0 : goal.bounds-list-next-then-next-gt0
-bounds-list-next-then-next-gt0 g c = omega arith
-
 pub held_network-block-requires : goal.held_network-block-requires
 held_network-block-requires g c =
     subst g.H.HoldsNetwork.holds (sym c.index-list-next.is) (c.requires c.loop-next.next c.index-list-next.result (omega arith))

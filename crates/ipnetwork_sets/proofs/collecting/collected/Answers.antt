@@ -19,9 +19,6 @@ loop-block-preserved g c = record {
   room = omega (arith, c.loop-block.invariant.room, c.in_ok-push.ensures.capacity);
 }
 
-pub loop-block-smaller : goal.loop-block-smaller
-loop-block-smaller g c = omega (arith, ap length c.in-Some.ensures.step)
-
 pub of_blocks-requires : goal.of_blocks-requires
 of_blocks-requires g c =
     let all : map g.N.CidrNetwork.pair c.loop-block.memory.items ≡ g.B.SetBlocks.left c.args.blocks =

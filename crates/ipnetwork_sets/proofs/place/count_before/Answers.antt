@@ -8,9 +8,6 @@ use Rattle.ipnetwork_sets.proofs.place.count_before.Goals as goal
 pub returns-then-begun-eq0 : goal.returns-then-begun-eq0
 returns-then-begun-eq0 g c = before_none g.N.CidrNetwork.WIDTH (map g.N.CidrNetwork.pair c.args.blocks.now) (g.N.CidrNetwork.pair c.args.network) c.one_block.ensures.apart c.requires c.ip.ensures.network _ (rw c.network.ensures at c.count_up_to-begun.ensures) (omega arith)
 
-pub bounds-blocks-begun : goal.bounds-blocks-begun
-bounds-blocks-begun g c = omega (arith, length-map c.args.blocks.now g.N.CidrNetwork.pair, c.count_up_to-begun.ensures.within)
-
 pub returns-then-overlaps : goal.returns-then-overlaps
 returns-then-overlaps g c =
     let begun : ℕ = c.count_up_to-begun.result in

@@ -6,9 +6,6 @@ use Rattle.ipnetwork_sets.proofs.Lists.{read_pair}
 use Rattle.ipnetwork_sets.proofs.Searched.{split_one}
 use Rattle.ipnetwork_sets.proofs.search.count_up_to.Goals as goal
 
-pub bounds-blocks-from : goal.bounds-blocks-from
-bounds-blocks-from g c = omega (arith, length-map c.args.blocks.now g.N.CidrNetwork.pair, c.loop-left.invariant.within)
-
 pub loop-left-preserved : goal.loop-left-preserved
 loop-left-preserved g c =
     let bs : List Network = map g.N.CidrNetwork.pair c.args.blocks.now in

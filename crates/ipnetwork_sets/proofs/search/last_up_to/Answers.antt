@@ -5,9 +5,6 @@ use Rattle.ipnetwork_sets.proofs.Lists.{read_pair}
 use Rattle.ipnetwork_sets.proofs.Searched.{split_none_at, split_last}
 use Rattle.ipnetwork_sets.proofs.search.last_up_to.Goals as goal
 
-pub bounds-blocks-count : goal.bounds-blocks-count
-bounds-blocks-count g c = omega (arith, length-map c.args.blocks.now g.N.CidrNetwork.pair, c.count_up_to-count.ensures.within)
-
 pub returns-then-count-eq0 : goal.returns-then-count-eq0
 returns-then-count-eq0 g c =
     split_none_at (map g.N.CidrNetwork.pair c.args.blocks.now) (g.N.CidrNetwork.number c.args.addr) c.count_up_to-count.result c.count_up_to-count.result c.count_up_to-count.ensures

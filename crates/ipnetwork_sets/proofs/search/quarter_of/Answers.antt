@@ -6,15 +6,6 @@ use Rattle.ipnetwork_sets.proofs.Lists.{read_pair}
 use Rattle.ipnetwork_sets.proofs.Searched.{at_most, split_quarters}
 use Rattle.ipnetwork_sets.proofs.search.quarter_of.Goals as goal
 
-pub bounds-blocks-from : goal.bounds-blocks-from
-bounds-blocks-from g c = omega (arith, length-map c.args.blocks.now g.N.CidrNetwork.pair, c.requires.split.within, c.requires.some, c.size_of_quarter-quarter.ensures.most, c.size_of_quarter-quarter.ensures.least)
-
-pub bounds-blocks-from-2 : goal.bounds-blocks-from-2
-bounds-blocks-from-2 g c = omega (arith, length-map c.args.blocks.now g.N.CidrNetwork.pair, c.requires.split.within, c.requires.some, c.size_of_quarter-quarter.ensures.most, c.size_of_quarter-quarter.ensures.least)
-
-pub bounds-blocks-from-3 : goal.bounds-blocks-from-3
-bounds-blocks-from-3 g c = omega (arith, length-map c.args.blocks.now g.N.CidrNetwork.pair, c.requires.split.within, c.requires.some, c.size_of_quarter-quarter.ensures.most, c.size_of_quarter-quarter.ensures.least)
-
 pub overflow_add-result : goal.overflow_add-result
 overflow_add-result g c =
     let p : ℕ = c.size_of_quarter-quarter.result in

@@ -19,9 +19,6 @@ loop-next-init g c =
       second = c.in-Some.ensures.2;
     }
 
-pub loop-next-smaller-in-Some-take_next : goal.loop-next-smaller-in-Some-take_next
-loop-next-smaller-in-Some-take_next g c = omega (arith, c.in-Some-take_next.ensures.3)
-
 pub loop-next-preserved-in-Some-take_next : goal.loop-next-preserved-in-Some-take_next
 loop-next-preserved-in-Some-take_next g c =
     let w : ℕ = g.N.CidrNetwork.WIDTH in
@@ -33,9 +30,6 @@ loop-next-preserved-in-Some-take_next g c =
       first = c.in-Some-take_next.ensures.2;
       second = c.loop-next.invariant.second;
     }
-
-pub loop-next-smaller : goal.loop-next-smaller
-loop-next-smaller g c = omega (arith, c.in-Some-take_next-2.ensures.3)
 
 pub loop-next-preserved : goal.loop-next-preserved
 loop-next-preserved g c =

@@ -4,9 +4,6 @@ use Rattle.ipnetwork_index.proofs.ranges.Ranges.lookup.Goals as goal
 pub place_of-place-requires : goal.place_of-place-requires
 place_of-place-requires g c = record { lasts = c.requires.1.lasts; of = c.requires.1.placed }
 
-pub of-requires : goal.of-requires
-of-requires g c = c.requires.1.answered.size
-
 pub returns : goal.returns
 returns g c = λ t i.
     made_finds g.N.CidrNetwork.pair g.N.CidrNetwork.WIDTH t c.args.self.now.answers.prefixes.items
