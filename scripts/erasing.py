@@ -20,7 +20,7 @@ GHOST_ATTRIBUTE = re.compile(r"#!?\[(?:tactic|cycle)\b[^\]]*\]")
 MODEL = re.compile(r"impl\b[^{;]*?\bModel\s+for\b[^{]*\{")
 CLAUSE = re.compile(r"\*?\s*(?:\w+\s*)?\{")
 # What stays is Rust's own, or has one of these names in the stand-in.
-ATTRIBUTES = {"allow", "cfg", "derive", "doc", "inline", "must_use", "non_exhaustive", "repr", "test", "export_name"}
+ATTRIBUTES = {"allow", "cfg", "derive", "doc", "inline", "macro_export", "must_use", "non_exhaustive", "repr", "test", "export_name"}
 WIDTH = 100
 GHOST_WORDS = {"ghost", "requires", "ensures", "derive_where"}
 

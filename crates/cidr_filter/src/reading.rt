@@ -10,7 +10,7 @@ use crate::rows::TEXT;
 use ipnetwork::{Ipv4Network, Ipv6Network};
 use ipnetwork_sets::AddressSet;
 use lists::{ListReader, OpenLists, ReadFault, Refusals, read_named, read_text};
-use log_programs::places::LIST;
+use log_programs::rows::LIST;
 use options::items::{Item, Text};
 use std::alloc::{AllocError, Global};
 

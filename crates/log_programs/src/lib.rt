@@ -4,4 +4,5 @@
 
 pub mod finding;
 pub mod places;
+pub mod rows;
 pub mod telling;

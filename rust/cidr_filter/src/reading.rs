@@ -8,7 +8,7 @@ use crate::rows::TEXT;
 use fosibegan::ipnetwork::{Ipv4Network, Ipv6Network};
 use fosibegan::ipnetwork_sets::AddressSet;
 use cidr_programs::lists::{ListReader, OpenLists, ReadFault, Refusals, read_named, read_text};
-use cidr_programs::log_programs::places::LIST;
+use cidr_programs::log_programs::rows::LIST;
 use cidr_programs::options::items::{Item, Text};
 use fosibegan::plain_std::alloc::{AllocError, Global};
 

@@ -3,8 +3,10 @@
 //! The options of the command line.
 
 use crate::filter::WithoutAddress;
-use cidr_programs::log_programs::places::{AFTER, ANYWHERE, FIELD, LIST, SEPARATOR, WORDS};
-use cidr_programs::options::table::{Kind, Pair, Row, Table};
+use cidr_programs::log_programs::rows::{
+    AFTER, ANYWHERE, FIELD, LIST, SEPARATOR, WORDS, log_pairs, log_rows,
+};
+use cidr_programs::options::table::{Kind, Pair, Row, Table, letter, long, pair};
 
 /// The row of `-e`.
 pub(crate) const TEXT: usize = 9;
@@ -42,62 +44,12 @@ pub(crate) const NAMES: usize = 19;
 /// The row of `-q`.
 pub(crate) const QUIET: usize = 20;
 
-// An option by its letter, and what is told of a wrong value.
-macro_rules! letter {
-    ($letter:expr, $kind:ident, $problem:expr) => {
-        Row {
-            letter: Some($letter),
-            name: "",
-            kind: Kind::$kind,
-            joins: false,
-            problem: $problem,
-        }
-    };
-}
-
-// An option by its long name, whether a value may follow that behind a `=`, and what is told of a wrong value.
-macro_rules! name {
-    ($name:expr, $kind:ident, $joins:expr, $problem:expr) => {
-        Row {
-            letter: None,
-            name: $name,
-            kind: Kind::$kind,
-            joins: $joins,
-            problem: $problem,
-        }
-    };
-}
-
-// Two options that do not go together, and what is told of them.
-macro_rules! pair {
-    ($first:expr, $second:expr, $problem:expr) => {
-        Pair {
-            first: $first,
-            second: $second,
-            problem: $problem,
-        }
-    };
-}
-
 // The options.
-const ROWS: [Row; 21] = [
-    letter!(b'a', Flag, ""),
-    letter!(b'w', Flag, ""),
-    letter!(b'k', Field, "is no field number"),
-    letter!(
-        b'd',
-        Separator,
-        "is not one ASCII byte other than LF, CR and NUL"
-    ),
-    name!("--after", Text, false, "is no text"),
-    name!("--mapped", Flag, false, ""),
-    letter!(b'f', File, "is no file name"),
-    name!("--help", Alone, false, "is not the only argument"),
-    name!("--version", Alone, false, "is not the only argument"),
+const ROWS: [Row; 21] = log_rows![
     letter!(b'e', Text, "is no network or range"),
     letter!(b'm', Number, "is no number of lines"),
-    name!("--longest", Flag, false, ""),
-    name!("--bad", Rule, true, "is not drop, keep or stop"),
+    long!("--longest", Flag, false, ""),
+    long!("--bad", Rule, true, "is not drop, keep or stop"),
     letter!(b'v', Flag, ""),
     letter!(b'c', Flag, ""),
     letter!(b'o', Flag, ""),
@@ -109,29 +61,17 @@ const ROWS: [Row; 21] = [
 ];
 
 // Which do not go together.
-const PAIRS: [Pair; 14] = [
-    pair!(LONGEST, INVERTS, "--longest goes with neither -v nor -c"),
-    pair!(LONGEST, COUNTS, "--longest goes with neither -v nor -c"),
-    pair!(ANYWHERE, WORDS, "-a goes with none of -k, -d and -w"),
-    pair!(ANYWHERE, FIELD, "-a goes with none of -k, -d and -w"),
-    pair!(ANYWHERE, SEPARATOR, "-a goes with none of -k, -d and -w"),
-    pair!(
-        AFTER,
-        ANYWHERE,
-        "--after goes with none of -a, -k, -d and -w"
-    ),
-    pair!(AFTER, WORDS, "--after goes with none of -a, -k, -d and -w"),
-    pair!(AFTER, FIELD, "--after goes with none of -a, -k, -d and -w"),
-    pair!(
-        AFTER,
-        SEPARATOR,
-        "--after goes with none of -a, -k, -d and -w"
-    ),
-    pair!(WORDS, SEPARATOR, "-w does not go with -d"),
-    pair!(ONLY, INVERTS, "-o goes with neither -v nor --longest"),
-    pair!(ONLY, LONGEST, "-o goes with neither -v nor --longest"),
-    pair!(NAMED, COUNTS, "-H goes with neither -c nor -h"),
-    pair!(NAMED, UNNAMED, "-H goes with neither -c nor -h"),
+const PAIRS: [Pair; 14] = log_pairs![
+    [
+        pair!(LONGEST, INVERTS, "--longest goes with neither -v nor -c"),
+        pair!(LONGEST, COUNTS, "--longest goes with neither -v nor -c"),
+    ],
+    [
+        pair!(ONLY, INVERTS, "-o goes with neither -v nor --longest"),
+        pair!(ONLY, LONGEST, "-o goes with neither -v nor --longest"),
+        pair!(NAMED, COUNTS, "-H goes with neither -c nor -h"),
+        pair!(NAMED, UNNAMED, "-H goes with neither -c nor -h"),
+    ],
 ];
 
 /// The options, of which one that names a list has to be given.

@@ -5,4 +5,5 @@
 
 pub mod finding;
 pub mod places;
+pub mod rows;
 pub mod telling;

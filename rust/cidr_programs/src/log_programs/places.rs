@@ -2,31 +2,11 @@
 
 //! Where the addresses of a line are looked for, by the options that every program for logs has.
 
+use crate::log_programs::rows::{AFTER, ANYWHERE, FIELD, SEPARATOR, WORDS};
 use crate::line_addresses::{Place, Text};
 use crate::options::given::{is_given, value_of};
 use crate::options::items::Item;
 use crate::options::values::{byte_in, field_in};
-
-/// The row of `-a`.
-pub const ANYWHERE: usize = 0;
-
-/// The row of `-w`.
-pub const WORDS: usize = 1;
-
-/// The row of `-k`.
-pub const FIELD: usize = 2;
-
-/// The row of `-d`.
-pub const SEPARATOR: usize = 3;
-
-/// The row of `--after`.
-pub const AFTER: usize = 4;
-
-/// The row of `--mapped`.
-pub const MAPPED: usize = 5;
-
-/// The row of `-f`.
-pub const LIST: usize = 6;
 
 /// Where addresses of a line are looked for: anywhere, after a text, in a word, or in a field.
 ///

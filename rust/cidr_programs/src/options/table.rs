@@ -104,3 +104,72 @@ pub(crate) fn named(rows: &[Row], name: &str) -> Option<usize> {
 pub(crate) fn joined(rows: &[Row], name: &str) -> Option<usize> {
     rows.iter().position(|row| row.joins && row.name == name)
 }
+
+/// An option by its letter: that, its kind, and what is told of a wrong value.
+///
+/// ```
+/// # use cidr_programs::in_examples::*;
+/// use cidr_programs::options::table::{Kind, Row, letter};
+///
+/// const FIELD: Row = letter!(b'k', Field, "is no field number");
+/// assert_eq!(FIELD.letter, Some(b'k'));
+/// ```
+#[macro_export]
+macro_rules! letter {
+    ($letter:expr, $kind:ident, $problem:expr) => {
+        Row {
+            letter: Some($letter),
+            name: "",
+            kind: Kind::$kind,
+            joins: false,
+            problem: $problem,
+        }
+    };
+}
+
+/// An option by its long name: that, its kind, whether a value may follow the name behind a `=`, and what is told of a wrong
+/// value.
+///
+/// ```
+/// # use cidr_programs::in_examples::*;
+/// use cidr_programs::options::table::{Kind, Row, long};
+///
+/// const RULE: Row = long!("--bad", Rule, true, "is not drop, keep or stop");
+/// assert!(RULE.joins);
+/// ```
+#[macro_export]
+macro_rules! long {
+    ($name:expr, $kind:ident, $joins:expr, $problem:expr) => {
+        Row {
+            letter: None,
+            name: $name,
+            kind: Kind::$kind,
+            joins: $joins,
+            problem: $problem,
+        }
+    };
+}
+
+/// Two options that do not go together, by the indices of their rows, and what is told of them.
+///
+/// ```
+/// # use cidr_programs::in_examples::*;
+/// use cidr_programs::options::table::{Pair, pair};
+///
+/// const WORDS_OR_SEPARATOR: Pair = pair!(1, 3, "-w does not go with -d");
+/// assert_eq!(WORDS_OR_SEPARATOR.second, 3);
+/// ```
+#[macro_export]
+macro_rules! pair {
+    ($first:expr, $second:expr, $problem:expr) => {
+        Pair {
+            first: $first,
+            second: $second,
+            problem: $problem,
+        }
+    };
+}
+
+pub use letter;
+pub use long;
+pub use pair;

@@ -1,0 +1,113 @@
+//! The rows of the options that every program for logs has.
+ghost use Rattle.std.specs.Prelude.{[]};
+ghost use Rattle.log_programs.specs.Rows.{shared, together};
+ghost use Rattle.options.specs.Table.{IsTable};
+
+use options::table::{Kind, Pair, Row, Table, letter, long, pair};
+
+/// The row of `-a`.
+pub const ANYWHERE: usize = 0;
+
+/// The row of `-w`.
+pub const WORDS: usize = 1;
+
+/// The row of `-k`.
+pub const FIELD: usize = 2;
+
+/// The row of `-d`.
+pub const SEPARATOR: usize = 3;
+
+/// The row of `--after`.
+pub const AFTER: usize = 4;
+
+/// The row of `--mapped`.
+pub const MAPPED: usize = 5;
+
+/// The row of `-f`.
+pub const LIST: usize = 6;
+
+/// The rows of these options, of `--help` and of `--version`, and then those of a program.
+///
+/// ```
+/// use log_programs::rows::{LIST, log_rows};
+/// use options::table::{Kind, Row, letter, long};
+///
+/// const ROWS: [Row; 10] = log_rows![letter!(b'q', Flag, "")];
+/// assert_eq!(rt; ROWS[LIST].letter, Some(b'f'));
+/// assert_eq!(rt; ROWS[9].letter, Some(b'q'));
+/// ```
+#[macro_export]
+macro_rules! log_rows {
+    ($($row:expr),* $(,)?) => {
+        [
+            letter!(b'a', Flag, ""),
+            letter!(b'w', Flag, ""),
+            letter!(b'k', Field, "is no field number"),
+            letter!(b'd', Separator, "is not one ASCII byte other than LF, CR and NUL"),
+            long!("--after", Text, false, "is no text"),
+            long!("--mapped", Flag, false, ""),
+            letter!(b'f', File, "is no file name"),
+            long!("--help", Alone, false, "is not the only argument"),
+            long!("--version", Alone, false, "is not the only argument"),
+            $($row),*
+        ]
+    };
+}
+
+/// The pairs of these options that do not go together, between the first and the last pairs of a program.
+///
+/// ```
+/// use log_programs::rows::{AFTER, ANYWHERE, FIELD, MAPPED, SEPARATOR, WORDS, log_pairs};
+/// use options::table::{Pair, pair};
+///
+/// const PAIRS: [Pair; 9] = log_pairs![[pair!(MAPPED, WORDS, "--mapped does not go with -w")], []];
+/// assert_eq!(rt; PAIRS[8].problem, "-w does not go with -d");
+/// ```
+#[macro_export]
+macro_rules! log_pairs {
+    ([$($first:expr),* $(,)?], [$($last:expr),* $(,)?] $(,)?) => {
+        [
+            $($first,)*
+            pair!(ANYWHERE, WORDS, "-a goes with none of -k, -d and -w"),
+            pair!(ANYWHERE, FIELD, "-a goes with none of -k, -d and -w"),
+            pair!(ANYWHERE, SEPARATOR, "-a goes with none of -k, -d and -w"),
+            pair!(AFTER, ANYWHERE, "--after goes with none of -a, -k, -d and -w"),
+            pair!(AFTER, WORDS, "--after goes with none of -a, -k, -d and -w"),
+            pair!(AFTER, FIELD, "--after goes with none of -a, -k, -d and -w"),
+            pair!(AFTER, SEPARATOR, "--after goes with none of -a, -k, -d and -w"),
+            pair!(WORDS, SEPARATOR, "-w does not go with -d"),
+            $($last),*
+        ]
+    };
+}
+
+pub use log_pairs;
+pub use log_rows;
+
+// These options.
+const ROWS: [Row; 9] = log_rows![];
+
+// Which do not go together.
+const PAIRS: [Pair; 8] = log_pairs![[], []];
+
+/// The table of these options alone, of which none has to be given.
+///
+/// ```
+/// use options::faults::fault_of;
+/// use options::items::{Item, Text};
+///
+/// let table = log_programs::rows::shared();
+/// let words_and_separator = [Item::Flag(1), Item::Value(3, Text::new(","))];
+/// let fault = fault_of(&table, &words_and_separator);
+/// assert!(rt; fault.is_some_and(|fault| fault.problem.as_str() == "-w does not go with -d"));
+/// ```
+pub fn shared() -> Table<'static>
+    ensures { IsTable result shared together [] [] }
+{
+    Table {
+        rows: &ROWS,
+        pairs: &PAIRS,
+        needs: &[],
+        lacking: "",
+    }
+}
