@@ -20,7 +20,7 @@ use Rattle.options.specs.declared.table.Table.{Table}
 
 -- ---- tests
 
-neither : (a b : Bool) → (a || b) ≡ false → (a ≡ false) × (b ≡ false)
+pub neither : (a b : Bool) → (a || b) ≡ false → (a ≡ false) × (b ≡ false)
 neither true b h = absurd (true≢false h)
 neither false b h = (refl, h)
 
@@ -28,7 +28,7 @@ second : (a b : Bool) → b ≡ true → (a || b) ≡ true
 second true b h = refl
 second false b h = h
 
-all_past : {X : Type 0} (p : X → Bool) (xs : List X) → list_any p xs ≡ false → position_or_len p xs ≡ length xs
+pub all_past : {X : Type 0} (p : X → Bool) (xs : List X) → list_any p xs ≡ false → position_or_len p xs ≡ length xs
 all_past p [] h = refl
 all_past p (x ∷ xs) h =
     let none = neither (p x) (list_any p xs) h in

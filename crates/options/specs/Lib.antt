@@ -1,6 +1,7 @@
 -- What the contracts of this crate cite.
 pub mod Faults
 pub mod Given
+pub mod Grammar
 pub mod Items
 pub mod Numbers
 pub mod Refusing

@@ -1,10 +1,11 @@
 //! What holds of command lines, whatever options a program has. Each function's contract is a law: it does nothing, and a
 //! proof that calls it may use the law.
 ghost use Rattle.std.specs.Prelude.{map};
+ghost use Rattle.options.specs.Grammar.{SayWhatIsRead};
 ghost use Rattle.options.specs.Table.{entry_of};
 ghost use Rattle.options.specs.WordRules.{OthersAreNoOptions, OthersAskForNothing, WordsHaveOneFault, is_option_word};
 
-use crate::table::Table;
+use crate::table::{Row, Table};
 
 /// Of the words of a command line at most one fault is told.
 pub fn words_have_one_fault(table: &Table<'_>, words: &[String])
@@ -24,5 +25,13 @@ pub fn other_words_are_no_options(table: &Table<'_>, word: &str, words: &[String
 {
     let _table = table;
     let _word = word;
+    let _words = words;
+}
+
+/// What words say is one thing, by the grammar of command lines, and it is what `items_of` gives.
+pub fn words_say_what_is_read(rows: &[Row], words: &[String])
+    ensures { SayWhatIsRead rows.now words.now }
+{
+    let _rows = rows;
     let _words = words;
 }
