@@ -1,22 +1,21 @@
 -- What the laws let one conclude, where a weaker law would not.
-use Rattle.std.proofs.Common.{◌≡◌, ℕ, ◌<◌, length, true, false, List, [], ◌∷◌, ◌++◌, inl, inr, refl, sym, ap, subst, ◌∙◌, arith}
-use Rattle.std.specs.Prelude.{codes, bytes_eq, Some, None, String}
+use Rattle.std.proofs.Common.{◌≡◌, ℕ, ◌<◌, length, true, false, List, [], ◌∷◌, ◌++◌, inl, inr, map, refl, sym, ap, ◌∙◌, arith}
+use Rattle.std.specs.Prelude.{codes, Some, None}
 use Rattle.std.specs.List.{AllByRecursion, list_all, list_any}
-use Rattle.std.specs.String.{string_bytes}
 use Rattle.ipnetwork.specs.declared.ip_network.IpNetwork.TheVariants.{V4, V6}
 use Rattle.cidr_filter.specs.Filters.{IsVerdict, Filters}
-use Rattle.cidr_filter.specs.Laws.{LinesHaveOneVerdict, LogsHaveOneOutput, OutputsOfPartsFollow, NumbersAreNotShown, LinesThatEndRunsAreWhole, is_option_word}
+use Rattle.cidr_filter.specs.Laws.{LinesHaveOneVerdict, LogsHaveOneOutput, OutputsOfPartsFollow, NumbersAreNotShown, LinesThatEndRunsAreWhole}
 use Rattle.program.specs.LogLines.{LogLine, log_lines, content}
 use Rattle.cidr_filter.specs.declared.filter.Filter.{Filter}
 use Rattle.cidr_filter.specs.declared.filter.Verdict.{Verdict}
 use Rattle.cidr_filter.specs.declared.filter.Verdict.TheVariants as verdicts
 use Rattle.program.specs.LogLines.{ended}
-use Rattle.options.specs.Items.{begins, free_items, next_mode}
-use Rattle.options.specs.WordRules.{AsksNothing, HasFault, IsOther, OthersAreNoOptions, OthersAskForNothing, WordsHaveOneFault, is_unknown}
-use Rattle.options.specs.declared.faults.Fault.{Fault}
-use Rattle.options.specs.declared.items.Mode.TheVariants as modes
-use Rattle.options.specs.declared.table.Row.{Row}
-use Rattle.options.specs.declared.table.Table.{Table}
+use Rattle.options.specs.Items.{free_items}
+use Rattle.options.specs.Table.{entry_of}
+use Rattle.options.specs.WordRules.{OthersAreNoOptions, flags_of, values_of, names_of, joined_of, is_option_word, is_unknown}
+use Rattle.options.specs.declared.table.Row as options
+use Rattle.options.proofs.LawExamples.{no_options}
+use Rattle.cidr_filter.specs.Options.{entries}
 
 -- ---- one verdict
 
@@ -105,42 +104,22 @@ long_line_is_not_lost law filter read rest line e long judges none =
 
 -- ---- words that are no options
 
-abbrev is_other : (text : List ℕ) → is_option_word text ≡ false → begins (codes "-") text ≡ true → bytes_eq text (codes "-") ≡ false → bytes_eq text (codes "--") ≡ false → IsOther is_option_word text
-is_other text other dash input dashes = record { other = other; dash = dash; input = input; dashes = dashes }
+-- the letters of options without a value and with one, the long names, and those that a value may follow in their word
+pub letters_and_names : (flags_of entries ≡ codes "awvcoHhnlq") × (values_of entries ≡ codes "kdfem")
+    × (names_of entries ≡ codes "--after" ∷ codes "--mapped" ∷ codes "--help" ∷ codes "--version" ∷ codes "--longest" ∷ codes "--bad" ∷ [])
+    × (joined_of entries ≡ codes "--bad" ∷ [])
+letters_and_names = (refl, refl, refl, refl)
 
 -- a letter beside an option, a letter of none, also behind others, one less, and a value that does not follow its name
-pub no_options : (rows : List Row) → ((text : List ℕ) → OthersAreNoOptions rows is_option_word text)
-    → AllByRecursion (λ text. list_any is_unknown (free_items rows text) ≡ true) (codes "--longesu" ∷ codes "-x" ∷ codes "-vx" ∷ codes "--ba" ∷ codes "--after=x" ∷ [])
-no_options rows law = (
-  law (codes "--longesu") (is_other (codes "--longesu") refl refl refl refl),
-  (
-    law (codes "-x") (is_other (codes "-x") refl refl refl refl),
-    (
-      law (codes "-vx") (is_other (codes "-vx") refl refl refl refl),
-      (law (codes "--ba") (is_other (codes "--ba") refl refl refl refl), (law (codes "--after=x") (is_other (codes "--after=x") refl refl refl refl), tt)),
-    ),
-  ),
-)
-
--- nor does such a word ask for something behind a word, whatever follows it
-pub not_behind_a_word : {Z : Type 0} (table : Table) (first word : String Z) (others : List (String Z)) → OthersAskForNothing table is_option_word (first ∷ word ∷ others)
-    → next_mode table.rows.now modes.Free (string_bytes first) ≡ modes.Free → string_bytes word ≡ codes "-x" → AsksNothing table (first ∷ word ∷ others)
-not_behind_a_word table first word others law free w =
-    law (first ∷ []) word others refl free
-    (subst (λ (text : List ℕ). IsOther is_option_word text) (sym w) (is_other (codes "-x") refl refl refl refl))
+pub none_of_these : (rows : List options.Row) → map entry_of rows ≡ entries → ((word : List ℕ) → OthersAreNoOptions rows (is_option_word (map entry_of rows)) word)
+    → AllByRecursion (λ word. list_any is_unknown (free_items rows word) ≡ true) (codes "--longesu" ∷ codes "-x" ∷ codes "-vx" ∷ codes "--ba" ∷ codes "--after=x" ∷ [])
+none_of_these rows has law = no_options entries rows has law (codes "--longesu" ∷ codes "-x" ∷ codes "-vx" ∷ codes "--ba" ∷ codes "--after=x" ∷ []) refl
 
 -- the law leaves out the words of options, and no others
-pub words_of_options : list_all is_option_word
+pub words_of_options : list_all (is_option_word entries)
     (codes "-f" ∷ codes "-flist" ∷ codes "-e" ∷ codes "-k3" ∷ codes "-vk" ∷ codes "-cd," ∷ codes "--bad" ∷ codes "--bad=drop" ∷ codes "--longest" ∷ codes "--mapped" ∷ codes "--after" ∷ codes "-vcawoHhnlqm5" ∷ []) ≡ true
 words_of_options = refl
 
-pub words_of_none : list_any is_option_word
+pub words_of_none : list_any (is_option_word entries)
     ([] ∷ codes "--" ∷ codes "f" ∷ codes "-K" ∷ codes "-vxk1" ∷ codes "--bad-drop" ∷ codes "--longest=" ∷ codes "--map" ∷ codes "--after=x" ∷ codes "---" ∷ codes "-v-" ∷ []) ≡ false
 words_of_none = refl
-
--- ---- one fault
-
--- two words are not both the first that is wrong, nor is one word wrong in two ways
-pub not_two_faults : {Z : Type 0} (table : Table) (words : List (String Z)) (a b : Fault) → WordsHaveOneFault table words → HasFault table words a → HasFault table words b
-    → (a.subject ≡ b.subject) × (a.problem ≡ b.problem)
-not_two_faults table words a b law p q = (ap (λ (fault : Fault). fault.subject) (law a b p q), ap (λ (fault : Fault). fault.problem) (law a b p q))

@@ -1,7 +1,6 @@
--- What follows from the clauses of a command line and of a log.
+-- What follows from the clauses of a log.
 use Rattle.std.specs.Prelude.{◌≡◌, ℕ, ◌+◌, Bool, false, List, [], ◌∷◌, ◌++◌, length, codes}
 use Rattle.program.specs.LogLines.{LogLine, log_lines, content, IsWhole}
-use Rattle.options.specs.WordRules.{is_word_of}
 use Rattle.cidr_filter.specs.Filters.{IsVerdict, Filters}
 use Rattle.cidr_filter.specs.declared.filter.Filter.{Filter}
 use Rattle.cidr_filter.specs.declared.filter.Verdict.{Verdict}
@@ -34,10 +33,3 @@ abbrev pub LinesThatEndRunsAreWhole : Type 0
 LinesThatEndRunsAreWhole = (filter : Filter) (read rest : List ℕ) (lines others : List LogLine) (line : LogLine) (verdict : Verdict) → log_lines read ≡ lines ++ line ∷ others
     → IsWhole (rest ≡ []) line → IsVerdict filter (content line) verdict
     → (whole : LogLine) × (behind : List LogLine) × (log_lines (read ++ rest) ≡ lines ++ whole ∷ behind) × IsVerdict filter (content whole) verdict
-
--- a word of options: a long name, `--bad=` and a value, or a `-` and letters, of which the last may be one that takes a value,
--- which anything may follow
-abbrev pub is_option_word : List ℕ → Bool
-is_option_word word =
-    is_word_of (codes "awvcoHhnlq") (codes "kdfem")
-    (codes "--after" ∷ codes "--mapped" ∷ codes "--help" ∷ codes "--version" ∷ codes "--longest" ∷ codes "--bad" ∷ []) (codes "--bad" ∷ []) word

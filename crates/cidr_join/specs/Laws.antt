@@ -1,7 +1,6 @@
--- What follows from the clauses of a command line and of a log.
+-- What follows from the clauses of a log.
 use Rattle.std.specs.Prelude.{◌≡◌, ℕ, ◌+◌, ◌-◌, ◌^◌, min, Bool, List, [], ◌∷◌, ◌++◌, codes}
 use Rattle.program.specs.LogLines.{LogLine, log_lines}
-use Rattle.options.specs.WordRules.{is_word_of}
 use Rattle.cidr_join.specs.Joins.{Joins}
 use Rattle.cidr_join.specs.Tallies.{Row, counted_by, IsTally}
 use Rattle.cidr_join.specs.TallyRuns.{Marks}
@@ -24,10 +23,3 @@ Tallies join lines rows = (marks : List (List ℕ)) × Marks join lines marks ×
 abbrev pub TalliesOfPartsAddUp : Type 0
 TalliesOfPartsAddUp = (join : Join) (first second : List ℕ) (a b whole : List Row) → Tallies join (log_lines (first ++ 10 ∷ [])) a → Tallies join (log_lines second) b
     → Tallies join (log_lines (first ++ 10 ∷ second)) whole → (text : List ℕ) → counted_by whole text ≡ min (counted_by a text + counted_by b text) (2 ^ 64 - 1)
-
--- a word of options: a long name, or a `-` and letters, of which the last may be one that takes a value, which anything may
--- follow
-abbrev pub is_option_word : List ℕ → Bool
-is_option_word word =
-    is_word_of (codes "aw") (codes "kdf")
-    (codes "--after" ∷ codes "--mapped" ∷ codes "--help" ∷ codes "--version" ∷ codes "--last" ∷ codes "--last-wins" ∷ codes "--network" ∷ codes "--tally" ∷ codes "--group" ∷ []) [] word

@@ -1,13 +1,14 @@
 -- What the laws let one conclude, where a weaker law would not.
-use Rattle.std.proofs.Common.{◌≡◌, ◌∙◌, ℕ, Bool, true, false, List, [], ◌∷◌, refl, sym, ap, subst, arith}
+use Rattle.std.proofs.Common.{◌≡◌, ◌∙◌, ℕ, Bool, true, false, not, ◌&&◌, map, List, [], ◌∷◌, refl, sym, ap, subst, arith}
 use Rattle.std.specs.Prelude.{codes, bytes_eq, String}
-use Rattle.std.specs.List.{list_all, list_any}
+use Rattle.std.specs.List.{AllByRecursion, list_all, list_any}
+use Rattle.std.proofs.lemmas.Bool.{and_parts, not-true}
 use Rattle.std.specs.String.{string_bytes}
 use Rattle.options.specs.Given.{times}
 use Rattle.options.specs.Grammar.{NoFlags, OneMore, Opens, OpenLetter, Says, NoWords, OneFile, TwoWords, SayWhatIsRead}
-use Rattle.options.specs.Items.{begins, items_of, next_mode}
-use Rattle.options.specs.Table.{Entry, flag, valued, long}
-use Rattle.options.specs.WordRules.{AsksNothing, HasFault, IsOther, OthersAskForNothing, WordsHaveOneFault, is_option_word}
+use Rattle.options.specs.Items.{begins, free_items, items_of, next_mode}
+use Rattle.options.specs.Table.{Entry, entry_of, flag, valued, long}
+use Rattle.options.specs.WordRules.{AsksNothing, HasFault, IsOther, OthersAreNoOptions, OthersAskForNothing, WordsHaveOneFault, is_option_word, is_unknown}
 use Rattle.options.specs.declared.faults.Fault.{Fault}
 use Rattle.options.specs.declared.items.Item.{Item}
 use Rattle.options.specs.declared.items.Item.TheVariants as says
@@ -67,15 +68,29 @@ words_of_none = refl
 pub words_of_options : list_all (is_option_word entries) (codes "-v" ∷ codes "-vvk" ∷ codes "-k3" ∷ codes "--after" ∷ codes "--rule" ∷ codes "--rule=" ∷ codes "--rule=a=b" ∷ []) ≡ true
 words_of_options = refl
 
-abbrev pub is_other : (is_option : List ℕ → Bool) (text : List ℕ) → is_option text ≡ false → begins (codes "-") text ≡ true → bytes_eq text (codes "-") ≡ false → bytes_eq text (codes "--") ≡ false → IsOther is_option text
-is_other is_option text other dash input dashes = record { other = other; dash = dash; input = input; dashes = dashes }
+-- none of these is a word of options, or `-`, or `--`, and each begins with a `-`
+abbrev pub is_other : (List ℕ → Bool) → List ℕ → Bool
+is_other is_option word = not (is_option word) && (begins (codes "-") word && (not (bytes_eq word (codes "-")) && not (bytes_eq word (codes "--"))))
 
--- such a word does not ask for something behind a word, whatever follows it
-pub not_behind_a_word : {Z : Type 0} (table : Table) (is_option : List ℕ → Bool) (first word : String Z) (others : List (String Z)) → OthersAskForNothing table is_option (first ∷ word ∷ others)
-    → next_mode table.rows.now modes.Free (string_bytes first) ≡ modes.Free → is_option (codes "-x") ≡ false → string_bytes word ≡ codes "-x" → AsksNothing table (first ∷ word ∷ others)
-not_behind_a_word table is_option first word others law free other w =
-    law (first ∷ []) word others refl free
-    (subst (λ (text : List ℕ). IsOther is_option text) (sym w) (is_other is_option (codes "-x") other refl refl refl))
+as_other : (is_option : List ℕ → Bool) (word : List ℕ) → is_other is_option word ≡ true → IsOther is_option word
+as_other is_option word h =
+    let parts = and_parts _ _ h in
+    let more = and_parts _ _ parts.1 in
+    let most = and_parts _ _ more.1 in
+    record { other = not-true _ parts.0; dash = more.0; input = not-true _ most.0; dashes = not-true _ most.1 }
+
+-- so a table with these options has none for them, as many as they are
+pub no_options : (entries : List Entry) (rows : List Row) → map entry_of rows ≡ entries → ((word : List ℕ) → OthersAreNoOptions rows (is_option_word (map entry_of rows)) word)
+    → (words : List (List ℕ)) → list_all (is_other (is_option_word entries)) words ≡ true → AllByRecursion (λ word. list_any is_unknown (free_items rows word) ≡ true) words
+no_options entries rows e law [] h = tt
+no_options entries rows e law (word ∷ words) h =
+    let parts = and_parts _ _ h in
+    (law word (as_other (is_option_word (map entry_of rows)) word (rw e parts.0)), no_options entries rows e law words parts.1)
+
+-- and where an option may stand the words ask for nothing, whatever comes before such a word and follows it
+pub not_behind_a_word : {Z : Type 0} (table : Table) (first word : String Z) (others : List (String Z)) → OthersAskForNothing table (is_option_word (map entry_of table.rows.now)) (first ∷ word ∷ others)
+    → next_mode table.rows.now modes.Free (string_bytes first) ≡ modes.Free → is_other (is_option_word (map entry_of table.rows.now)) (string_bytes word) ≡ true → AsksNothing table (first ∷ word ∷ others)
+not_behind_a_word table first word others law free other = law (first ∷ []) word others refl free (as_other (is_option_word (map entry_of table.rows.now)) (string_bytes word) other)
 
 -- ---- one fault
 
