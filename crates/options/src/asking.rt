@@ -43,6 +43,31 @@ pub struct About<'a> {
 /// What the words after the program's name say, by a table of options, if they are right. If they ask for the help or the
 /// version, that is printed, and if something is wrong with them, that and the usage are reported, or that memory ran out:
 /// the error is the exit status.
+///
+/// ```
+/// use lines::output::Output;
+/// use options::asking::{About, asked};
+/// use options::table::{Kind, Row, Table, letter};
+///
+/// let about = About {
+///     program: "sum",
+///     help: "Adds.\n",
+///     version: "sum 1\n",
+///     usage: "usage: sum [-v] FILE..\n",
+/// };
+/// let rows = [letter!(b'v', Flag, "")];
+/// let table = Table { rows: &rows, pairs: &[], needs: &[0], lacking: "-v is not given" };
+/// let (mut slice, mut room) = ([0; 64], [b'.'; 64]);
+/// let mut output = Output::new(room.as_mut_slice(), &mut slice);
+/// let (mut slice, mut told) = ([0; 64], [b'.'; 64]);
+/// let mut errors = Output::new(told.as_mut_slice(), &mut slice);
+/// let words = Vec::new(rt.alloc());
+/// let items = asked(rt.alloc(), &about, &table, words.as_slice(), &mut output, &mut errors);
+/// assert!(rt; matches!(items, Err(2)));
+/// assert_eq!(rt; errors.finish(), Ok(()));
+/// drop(errors);
+/// assert!(rt; told.starts_with(b"sum: -v is not given\nusage: sum [-v] FILE..\n."));
+/// ```
 pub fn asked<'a, W: Write, E: Write>(
     alloc: Global,
     about: &About<'_>,

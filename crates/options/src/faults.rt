@@ -10,6 +10,13 @@ use crate::table::{Kind, Pair, Row, Table, kind_at};
 use crate::values::is_right;
 
 /// What a fault is about.
+///
+/// ```
+/// use options::faults::Subject;
+///
+/// let subject = Subject::Option(7);
+/// assert!(rt; matches!(subject, Subject::Option(7)));
+/// ```
 #[derive(Debug, Drop)]
 pub enum Subject<'a> {
     /// The command line.
@@ -23,6 +30,17 @@ pub enum Subject<'a> {
 }
 
 /// What is wrong with a command line.
+///
+/// ```
+/// use options::faults::{Fault, Subject};
+/// use options::items::Text;
+///
+/// let fault = Fault {
+///     subject: Subject::Word(Text::new("-x")),
+///     problem: Text::new("is no option"),
+/// };
+/// assert_eq!(rt; fault.problem.as_str(), "is no option");
+/// ```
 #[derive(Debug, Drop)]
 pub struct Fault<'a> {
     /// What it is about.
@@ -193,6 +211,19 @@ fn is_read_once(rows: &[Row], items: &[Item<'_>]) -> bool
 /// What is wrong with a command line that says this: the first option that is none or has a wrong value or none, then the first
 /// FILE that is empty, then the first pair of options that do not go together, then that none is given of those of which one
 /// has to be, and then that standard input is read twice.
+///
+/// ```
+/// use options::faults::fault_of;
+/// use options::items::{Item, Text};
+/// use options::table::{Kind, Row, Table, letter};
+///
+/// let rows = [letter!(b'k', Field, "is no field number")];
+/// let table = Table { rows: &rows, pairs: &[], needs: &[0], lacking: "-k is not given" };
+/// let zero = fault_of(&table, &[Item::Value(0, Text::new("0"))]);
+/// assert!(rt; zero.is_some_and(|fault| fault.problem.as_str() == "is no field number"));
+/// let nothing = fault_of(&table, &[]);
+/// assert!(rt; nothing.is_some_and(|fault| fault.problem.as_str() == "-k is not given"));
+/// ```
 pub fn fault_of<'a>(table: &Table<'_>, items: &[Item<'a>]) -> Option<Fault<'a>>
     ensures { result ≡ fault_of table.now items.now }
 {

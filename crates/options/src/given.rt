@@ -8,6 +8,15 @@ use crate::items::Item;
 use std::alloc::{AllocError, Global};
 
 /// Whether the option of a row is given.
+///
+/// ```
+/// use options::given::is_given;
+/// use options::items::{Item, Text};
+///
+/// let items = [Item::Flag(0), Item::Value(3, Text::new("7"))];
+/// assert!(rt; is_given(&items, 3));
+/// assert!(rt; !is_given(&items, 1));
+/// ```
 pub fn is_given(items: &[Item<'_>], row: usize) -> bool
     ensures { result ≡ is_given items.now row }
 {
@@ -32,6 +41,15 @@ pub(crate) fn times(items: &[Item<'_>], row: usize) -> usize
 }
 
 /// The last value of the option of a row, or an empty text.
+///
+/// ```
+/// use options::given::value_of;
+/// use options::items::{Item, Text};
+///
+/// let items = [Item::Value(3, Text::new("7")), Item::Value(3, Text::new("9"))];
+/// assert_eq!(rt; value_of(&items, 3), "9");
+/// assert_eq!(rt; value_of(&items, 0), "");
+/// ```
 pub fn value_of<'a>(items: &[Item<'a>], row: usize) -> &'a str
     ensures { result.now ≡ value_of items.now row }
 {
@@ -57,6 +75,16 @@ fn value_in<'a>(item: &Item<'a>, row: usize, value: &'a str) -> &'a str
 }
 
 /// The FILEs.
+///
+/// ```
+/// use options::given::files_of;
+/// use options::items::{Item, Text};
+///
+/// let items = [Item::File(Text::new("a")), Item::Flag(0), Item::File(Text::new("b"))];
+/// let files = files_of(rt.alloc(), &items)?;
+/// assert_eq!(rt; files.len(), 2);
+/// assert_eq!(rt; files[1].as_str(), "b");
+/// ```
 pub fn files_of(alloc: Global, items: &[Item<'_>]) -> Result<Vec<String>, AllocError>
     ensures { IfOk result (λ files. map string_bytes files.items ≡ files_of items.now) }
 {

@@ -4,6 +4,11 @@ ghost use Rattle.std.specs.Prelude.{◌≡◌};
 use std::marker::Model;
 
 /// A text of a command line.
+///
+/// ```
+/// let text = options::items::Text::new("10.0.0.0/8");
+/// assert_eq!(rt; text.as_str(), "10.0.0.0/8");
+/// ```
 #[derive(Debug, Drop)]
 pub struct Text<'a> {
     text: &'a str,
@@ -20,6 +25,10 @@ impl<'a> Model for Text<'a> {
 
 impl<'a> Text<'a> {
     /// This text.
+    ///
+    /// ```
+    /// assert!(rt; options::items::Text::new("").as_str().is_empty());
+    /// ```
     pub fn new(text: &'a str) -> Text<'a>
         ensures { result ≡ text.now }
     {
@@ -27,6 +36,10 @@ impl<'a> Text<'a> {
     }
 
     /// It.
+    ///
+    /// ```
+    /// assert_eq!(rt; options::items::Text::new("-").as_str(), "-");
+    /// ```
     pub fn as_str(&self) -> &'a str
         ensures { result.now ≡ self.now }
     {
@@ -35,6 +48,13 @@ impl<'a> Text<'a> {
 }
 
 /// An option, by the index of its row, or a FILE.
+///
+/// ```
+/// use options::items::{Item, Text};
+///
+/// let item = Item::Joined(2, Text::new("7"), Text::new("-k7"));
+/// assert!(rt; matches!(item, Item::Joined(2, _, _)));
+/// ```
 #[derive(Debug, Drop)]
 pub enum Item<'a> {
     /// An option without a value.
@@ -52,6 +72,12 @@ pub enum Item<'a> {
 }
 
 /// Where a word stands.
+///
+/// ```
+/// use options::items::Mode;
+///
+/// assert!(rt; Mode::Value(2) != Mode::Free);
+/// ```
 #[derive(Clone, Copy, Debug, PartialEq, Eq)]
 pub enum Mode {
     /// An option, a FILE or a `--` may stand here.

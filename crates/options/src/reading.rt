@@ -9,6 +9,19 @@ use crate::table::{Row, joined, kind_at, lettered, named};
 use std::alloc::{AllocError, Global};
 
 /// What the words say, one thing after another.
+///
+/// ```
+/// use options::items::Item;
+/// use options::reading::items_of;
+/// use options::table::{Kind, Row, letter};
+///
+/// let rows = [letter!(b'v', Flag, ""), letter!(b'k', Field, "is no field number")];
+/// let mut words = Vec::new(rt.alloc());
+/// words.push(String::from_str(rt.alloc(), "-vk7")?)?;
+/// words.push(String::from_str(rt.alloc(), "log")?)?;
+/// let items = items_of(rt.alloc(), &rows, words.as_slice())?;
+/// assert!(rt; matches!(items.as_slice(), [Item::Flag(0), Item::Value(1, _), Item::File(_)]));
+/// ```
 pub fn items_of<'a>(
     alloc: Global,
     rows: &[Row],

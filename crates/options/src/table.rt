@@ -3,6 +3,12 @@ ghost use Rattle.std.specs.Prelude.{◌≡◌, ◌<◌, IfSome, length};
 ghost use Rattle.options.specs.Table.{takes_value, kind_at, has_letter, lettered, named, joined};
 
 /// Which values an option has.
+///
+/// ```
+/// use options::table::Kind;
+///
+/// assert!(rt; Kind::Alone != Kind::Flag);
+/// ```
 #[derive(Clone, Copy, Debug, PartialEq, Eq)]
 pub enum Kind {
     /// None.
@@ -27,6 +33,13 @@ pub enum Kind {
 
 impl Kind {
     /// Whether an option of this kind has a value.
+    ///
+    /// ```
+    /// use options::table::Kind;
+    ///
+    /// assert!(rt; Kind::File.takes_value());
+    /// assert!(rt; !Kind::Alone.takes_value());
+    /// ```
     pub fn takes_value(self) -> bool
         ensures { result ≡ takes_value self }
     {
@@ -38,6 +51,19 @@ impl Kind {
 }
 
 /// An option.
+///
+/// ```
+/// use options::table::{Kind, Row};
+///
+/// let quiet = Row {
+///     letter: Some(b'q'),
+///     name: "--quiet",
+///     kind: Kind::Flag,
+///     joins: false,
+///     problem: "",
+/// };
+/// assert!(rt; !quiet.kind.takes_value());
+/// ```
 #[derive(Clone, Copy, Debug)]
 pub struct Row {
     /// Its letter, if it has one.
@@ -53,6 +79,13 @@ pub struct Row {
 }
 
 /// Two options that do not go together, by the indices of their rows; an option with itself: it is given once at the most.
+///
+/// ```
+/// use options::table::{Pair, pair};
+///
+/// let twice: Pair = pair!(6, 6, "-f is given more than once");
+/// assert_eq!(rt; twice.first, twice.second);
+/// ```
 #[derive(Clone, Copy, Debug)]
 pub struct Pair {
     /// The first.
@@ -64,6 +97,14 @@ pub struct Pair {
 }
 
 /// The options of a program.
+///
+/// ```
+/// use options::table::{Kind, Row, Table, letter};
+///
+/// let rows = [letter!(b'f', File, "is no file name")];
+/// let table = Table { rows: &rows, pairs: &[], needs: &[0], lacking: "-f is not given" };
+/// assert_eq!(rt; table.rows[table.needs[0]].letter, Some(b'f'));
+/// ```
 #[derive(Clone, Copy, Debug)]
 pub struct Table<'a> {
     /// Each of them.

@@ -8,6 +8,14 @@ use crate::options::table::{Kind, Pair, Row, Table, kind_at};
 use crate::options::values::is_right;
 
 /// What a fault is about.
+///
+/// ```
+/// # use cidr_programs::in_examples::*;
+/// use cidr_programs::options::faults::Subject;
+///
+/// let subject = Subject::Option(7);
+/// assert!(matches!(subject, Subject::Option(7)));
+/// ```
 #[derive(Debug)]
 pub enum Subject<'a> {
     /// The command line.
@@ -21,6 +29,18 @@ pub enum Subject<'a> {
 }
 
 /// What is wrong with a command line.
+///
+/// ```
+/// # use cidr_programs::in_examples::*;
+/// use cidr_programs::options::faults::{Fault, Subject};
+/// use cidr_programs::options::items::Text;
+///
+/// let fault = Fault {
+///     subject: Subject::Word(Text::new("-x")),
+///     problem: Text::new("is no option"),
+/// };
+/// assert_eq!(fault.problem.as_str(), "is no option");
+/// ```
 #[derive(Debug)]
 pub struct Fault<'a> {
     /// What it is about.
@@ -163,6 +183,20 @@ fn is_read_once(rows: &[Row], items: &[Item<'_>]) -> bool {
 /// What is wrong with a command line that says this: the first option that is none or has a wrong value or none, then the first
 /// FILE that is empty, then the first pair of options that do not go together, then that none is given of those of which one
 /// has to be, and then that standard input is read twice.
+///
+/// ```
+/// # use cidr_programs::in_examples::*;
+/// use cidr_programs::options::faults::fault_of;
+/// use cidr_programs::options::items::{Item, Text};
+/// use cidr_programs::options::table::{Kind, Row, Table, letter};
+///
+/// let rows = [letter!(b'k', Field, "is no field number")];
+/// let table = Table { rows: &rows, pairs: &[], needs: &[0], lacking: "-k is not given" };
+/// let zero = fault_of(&table, &[Item::Value(0, Text::new("0"))]);
+/// assert!(zero.is_some_and(|fault| fault.problem.as_str() == "is no field number"));
+/// let nothing = fault_of(&table, &[]);
+/// assert!(nothing.is_some_and(|fault| fault.problem.as_str() == "-k is not given"));
+/// ```
 pub fn fault_of<'a>(table: &Table<'_>, items: &[Item<'a>]) -> Option<Fault<'a>> {
     if let Some(fault) = first_fault(table.rows, false, items) {
         return Some(fault);

@@ -8,6 +8,16 @@ use crate::options::items::Item;
 use fosibegan::plain_std::alloc::{AllocError, Global};
 
 /// Whether the option of a row is given.
+///
+/// ```
+/// # use cidr_programs::in_examples::*;
+/// use cidr_programs::options::given::is_given;
+/// use cidr_programs::options::items::{Item, Text};
+///
+/// let items = [Item::Flag(0), Item::Value(3, Text::new("7"))];
+/// assert!(is_given(&items, 3));
+/// assert!(!is_given(&items, 1));
+/// ```
 pub fn is_given(items: &[Item<'_>], row: usize) -> bool {
     items.iter().any(|item| names(item, row))
 }
@@ -26,6 +36,16 @@ pub(crate) fn times(items: &[Item<'_>], row: usize) -> usize {
 }
 
 /// The last value of the option of a row, or an empty text.
+///
+/// ```
+/// # use cidr_programs::in_examples::*;
+/// use cidr_programs::options::given::value_of;
+/// use cidr_programs::options::items::{Item, Text};
+///
+/// let items = [Item::Value(3, Text::new("7")), Item::Value(3, Text::new("9"))];
+/// assert_eq!(value_of(&items, 3), "9");
+/// assert_eq!(value_of(&items, 0), "");
+/// ```
 pub fn value_of<'a>(items: &[Item<'a>], row: usize) -> &'a str {
     let mut value = "";
     let mut at = 0;
@@ -47,6 +67,20 @@ fn value_in<'a>(item: &Item<'a>, row: usize, value: &'a str) -> &'a str {
 }
 
 /// The FILEs.
+///
+/// ```
+/// # use cidr_programs::in_examples::*;
+/// # ended(|| {
+/// use cidr_programs::options::given::files_of;
+/// use cidr_programs::options::items::{Item, Text};
+///
+/// let items = [Item::File(Text::new("a")), Item::Flag(0), Item::File(Text::new("b"))];
+/// let files = files_of(Global, &items)?;
+/// assert_eq!(files.len(), 2);
+/// assert_eq!(files[1].as_str(), "b");
+/// # Ok(())
+/// # });
+/// ```
 pub fn files_of(alloc: Global, items: &[Item<'_>]) -> Result<Vec<String>, AllocError> {
     let mut files = Vec::new(alloc);
     let mut at = 0;

@@ -9,6 +9,23 @@ use crate::options::table::{Row, joined, kind_at, lettered, named};
 use fosibegan::plain_std::alloc::{AllocError, Global};
 
 /// What the words say, one thing after another.
+///
+/// ```
+/// # use cidr_programs::in_examples::*;
+/// # ended(|| {
+/// use cidr_programs::options::items::Item;
+/// use cidr_programs::options::reading::items_of;
+/// use cidr_programs::options::table::{Kind, Row, letter};
+///
+/// let rows = [letter!(b'v', Flag, ""), letter!(b'k', Field, "is no field number")];
+/// let mut words = Vec::new(Global);
+/// words.push(String::from_str(Global, "-vk7")?)?;
+/// words.push(String::from_str(Global, "log")?)?;
+/// let items = items_of(Global, &rows, words.as_slice())?;
+/// assert!(matches!(items.as_slice(), [Item::Flag(0), Item::Value(1, _), Item::File(_)]));
+/// # Ok(())
+/// # });
+/// ```
 pub fn items_of<'a>(
     alloc: Global,
     rows: &[Row],

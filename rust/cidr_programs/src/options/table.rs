@@ -3,6 +3,13 @@
 //! A table of options.
 
 /// Which values an option has.
+///
+/// ```
+/// # use cidr_programs::in_examples::*;
+/// use cidr_programs::options::table::Kind;
+///
+/// assert!(Kind::Alone != Kind::Flag);
+/// ```
 #[derive(Clone, Copy, Debug, PartialEq, Eq)]
 pub enum Kind {
     /// None.
@@ -27,6 +34,14 @@ pub enum Kind {
 
 impl Kind {
     /// Whether an option of this kind has a value.
+    ///
+    /// ```
+    /// # use cidr_programs::in_examples::*;
+    /// use cidr_programs::options::table::Kind;
+    ///
+    /// assert!(Kind::File.takes_value());
+    /// assert!(!Kind::Alone.takes_value());
+    /// ```
     pub fn takes_value(self) -> bool {
         match self {
             Kind::Flag | Kind::Alone => false,
@@ -36,6 +51,20 @@ impl Kind {
 }
 
 /// An option.
+///
+/// ```
+/// # use cidr_programs::in_examples::*;
+/// use cidr_programs::options::table::{Kind, Row};
+///
+/// let quiet = Row {
+///     letter: Some(b'q'),
+///     name: "--quiet",
+///     kind: Kind::Flag,
+///     joins: false,
+///     problem: "",
+/// };
+/// assert!(!quiet.kind.takes_value());
+/// ```
 #[derive(Clone, Copy, Debug)]
 pub struct Row {
     /// Its letter, if it has one.
@@ -51,6 +80,14 @@ pub struct Row {
 }
 
 /// Two options that do not go together, by the indices of their rows; an option with itself: it is given once at the most.
+///
+/// ```
+/// # use cidr_programs::in_examples::*;
+/// use cidr_programs::options::table::{Pair, pair};
+///
+/// let twice: Pair = pair!(6, 6, "-f is given more than once");
+/// assert_eq!(twice.first, twice.second);
+/// ```
 #[derive(Clone, Copy, Debug)]
 pub struct Pair {
     /// The first.
@@ -62,6 +99,15 @@ pub struct Pair {
 }
 
 /// The options of a program.
+///
+/// ```
+/// # use cidr_programs::in_examples::*;
+/// use cidr_programs::options::table::{Kind, Row, Table, letter};
+///
+/// let rows = [letter!(b'f', File, "is no file name")];
+/// let table = Table { rows: &rows, pairs: &[], needs: &[0], lacking: "-f is not given" };
+/// assert_eq!(table.rows[table.needs[0]].letter, Some(b'f'));
+/// ```
 #[derive(Clone, Copy, Debug)]
 pub struct Table<'a> {
     /// Each of them.
