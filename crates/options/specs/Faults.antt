@@ -46,11 +46,7 @@ option_fault rows (says.Lacks row) = Some (about (subjects.Option row) (codes "h
 
 abbrev pub name_fault : Item → Option Fault
 name_fault (says.File name) = if length name == 0 then Some (about (subjects.Word name) (codes "is no file name")) else None
-name_fault (says.Flag row) = None
-name_fault (says.Value row value) = None
-name_fault (says.Joined row value word) = None
-name_fault (says.Unknown word) = None
-name_fault (says.Lacks row) = None
+name_fault item = None
 
 abbrev pub item_fault : List Row → Bool → Item → Option Fault
 item_fault rows of_files item = if of_files then name_fault item else option_fault rows item
@@ -79,30 +75,17 @@ is_one_given items needs = list_any (is_given items) needs
 -- this names standard input
 abbrev pub is_file : Kind → Bool
 is_file kinds.File = true
-is_file kinds.Flag = false
-is_file kinds.Alone = false
-is_file kinds.Text = false
-is_file kinds.Number = false
-is_file kinds.Field = false
-is_file kinds.Separator = false
-is_file kinds.Rule = false
-is_file kinds.Lengths = false
+is_file kind = false
 
 abbrev pub is_input : List Row → Item → Bool
 is_input rows (says.File name) = bytes_eq name (codes "-")
 is_input rows (says.Value row text) = is_file (kind_at rows row) && bytes_eq text (codes "-")
 is_input rows (says.Joined row text word) = is_file (kind_at rows row) && bytes_eq text (codes "-")
-is_input rows (says.Flag row) = false
-is_input rows (says.Unknown word) = false
-is_input rows (says.Lacks row) = false
+is_input rows item = false
 
 abbrev pub is_name : Item → Bool
 is_name (says.File name) = true
-is_name (says.Flag row) = false
-is_name (says.Value row text) = false
-is_name (says.Joined row text word) = false
-is_name (says.Unknown word) = false
-is_name (says.Lacks row) = false
+is_name item = false
 
 abbrev pub has_file : List Item → Bool
 has_file items = list_any is_name items

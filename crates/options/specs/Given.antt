@@ -9,9 +9,7 @@ abbrev pub names : ℕ → Item → Bool
 names row (says.Flag one) = one == row
 names row (says.Value one text) = one == row
 names row (says.Joined one text word) = one == row
-names row (says.File name) = false
-names row (says.Unknown word) = false
-names row (says.Lacks one) = false
+names row item = false
 
 -- it is given, and how often
 abbrev pub is_given : List Item → ℕ → Bool
@@ -24,10 +22,7 @@ times items row = count_by (names row) items
 abbrev pub value_in : ℕ → List ℕ → Item → List ℕ
 value_in row value (says.Value one text) = if one == row then text else value
 value_in row value (says.Joined one text word) = if one == row then text else value
-value_in row value (says.Flag one) = value
-value_in row value (says.File name) = value
-value_in row value (says.Unknown word) = value
-value_in row value (says.Lacks one) = value
+value_in row value item = value
 
 -- its last value, or else this, and an empty text
 abbrev pub last_value : ℕ → List ℕ → List Item → List ℕ
@@ -40,11 +35,7 @@ value_of items row = last_value row [] items
 -- the FILEs, in their order
 abbrev pub file_in : Item → List (List ℕ)
 file_in (says.File name) = name ∷ []
-file_in (says.Flag row) = []
-file_in (says.Value row text) = []
-file_in (says.Joined row text word) = []
-file_in (says.Unknown word) = []
-file_in (says.Lacks row) = []
+file_in item = []
 
 abbrev pub files_of : List Item → List (List ℕ)
 files_of [] = []

@@ -11,13 +11,7 @@ use Rattle.options.specs.declared.table.Table.{Table}
 abbrev pub takes_value : Kind → Bool
 takes_value kinds.Flag = false
 takes_value kinds.Alone = false
-takes_value kinds.File = true
-takes_value kinds.Text = true
-takes_value kinds.Number = true
-takes_value kinds.Field = true
-takes_value kinds.Separator = true
-takes_value kinds.Rule = true
-takes_value kinds.Lengths = true
+takes_value kind = true
 
 -- which values an option has, and that of a row
 abbrev pub kind_of : Option Row → Kind

@@ -73,11 +73,7 @@ WordsHaveOneFault table words = (a b : Fault) → HasFault table words a → Has
 -- no option
 abbrev pub is_unknown : Item → Bool
 is_unknown (says.Unknown word) = true
-is_unknown (says.Flag row) = false
-is_unknown (says.Value row text) = false
-is_unknown (says.Joined row text word) = false
-is_unknown (says.File name) = false
-is_unknown (says.Lacks row) = false
+is_unknown item = false
 
 -- a word of another kind that begins with a `-`, and is neither `-` nor `--`
 pub record IsOther (is_option_word : List ℕ → Bool) (word : List ℕ) : Type 0 where
