@@ -1,6 +1,7 @@
 -- Values at which a misreading of the definitions would show. Each of these computes.
-use Rattle.std.proofs.Common.{◌≡◌, ◌==◌, ℕ, Bool, List, ◌∷◌, [], true, false, not, refl, length}
-use Rattle.std.specs.Prelude.{codes, String, Some, None, ◌&&◌, ◌||◌}
+use Rattle.std.proofs.Common.{◌≡◌, ◌==◌, ℕ, List, ◌∷◌, [], true, false, refl, map}
+use Rattle.std.specs.Prelude.{codes, String, Some, None}
+use Rattle.std.specs.Option.{is_some}
 use Rattle.std.specs.Fmt.{digits}
 use Rattle.std.specs.String.{string_bytes}
 use Rattle.ipnetwork_family.specs.Network.{Network}
@@ -9,20 +10,29 @@ use Rattle.ipnetwork_blocks.specs.Aggregate.{InUnion}
 use Rattle.lists.specs.declared.entry.EntryFault.TheVariants.{Prefix}
 use Rattle.lists.specs.declared.fault.LineFault.TheVariants.{Entry}
 use Rattle.program.specs.Told.{in_list, refusals_text}
+use Rattle.options.specs.Faults.{pair_fault}
+use Rattle.options.specs.Items.{free_items, is_of_option}
+use Rattle.options.specs.declared.items.Item.TheVariants as says
+use Rattle.options.specs.declared.items.Mode.TheVariants as modes
+use Rattle.options.specs.declared.table.Row.{Row}
+use Rattle.options.proofs.Tables.{rows_of, pairs_of}
 use Rattle.program.specs.Words.{is}
 use Rattle.cidr_merge.specs.Answers.{IsLeft, IsLeftOfSecond, AreBoth, merged, merged_ranges}
 use Rattle.cidr_merge.specs.Answers.{block_line, range_line}
-use Rattle.cidr_merge.specs.CommandLines.{begins_dashed, is_dashed, is_name, is_option}
-use Rattle.cidr_merge.specs.CommandLines.{operation_called, operation_named, options_of, lists_of}
-use Rattle.cidr_merge.specs.CommandLines.{are_options, are_lists, are_sides, before_dashes}
-use Rattle.cidr_merge.specs.CommandLines.{behind_dashes, form_of}
+use Rattle.cidr_merge.specs.Faults.{name_fault}
+use Rattle.cidr_merge.specs.Forms.{form_of, shape_of, prefix_in}
+use Rattle.cidr_merge.specs.Options.{entries, pairs}
+use Rattle.cidr_merge.specs.Sides.{before_dashes, behind_dashes}
+use Rattle.cidr_merge.specs.Tasks.{task_called}
 use Rattle.cidr_merge.specs.Runs.{answer_status}
 use Rattle.cidr_merge.specs.declared.command_line.Operation.TheVariants.{Union, Common, Minus}
 use Rattle.cidr_merge.specs.declared.command_line.Operation.TheVariants.{Differ}
-use Rattle.cidr_merge.specs.declared.command_line.Form.TheVariants.{Blocks, Counts, Exported}
+use Rattle.cidr_merge.specs.declared.command_line.Form.TheVariants.{Blocks, Ranges, Counts, Exported}
 use Rattle.cidr_merge.specs.declared.exports.Export.TheVariants.{Csv}
 use Rattle.cidr_merge.specs.declared.reading.Sets.{Sets}
 use Rattle.cidr_merge.specs.declared.merge_join.Side.TheVariants.{First, Second}
+use Rattle.cidr_merge.specs.declared.shapes.Shape.TheVariants as shapes
+use Rattle.cidr_merge.specs.declared.tasks.Task.TheVariants as tasks
 
 -- ---- what is printed
 
@@ -134,105 +144,60 @@ a_refused_line union list e = rw e
 
 -- ---- the command line
 
--- standard input begins with no dash
-pub dashes : (begins_dashed (codes "-") ≡ false) × (begins_dashed (codes "--") ≡ true)
-    × (begins_dashed (codes "a-b") ≡ false)
-dashes = (refl, refl, refl)
+abbrev pub rows : List Row
+rows = rows_of entries
 
-pub operations : {Z : Type 0} (word : String Z)
-    → (string_bytes word ≡ codes "differ" → operation_named word ≡ Some Differ)
-    × (string_bytes word ≡ codes "Union" → operation_named word ≡ None)
-operations word = (λ e. rw e, λ e. rw e)
+pub tasks_called : map task_called (codes "differ" ∷ codes "Union" ∷ codes "list" ∷ codes "overlap" ∷ [] ∷ [])
+    ≡ Some (tasks.Merge Differ) ∷ None ∷ Some tasks.List ∷ None ∷ None ∷ []
+tasks_called = refl
 
--- a file behind a dot and standard input are names, an empty word and an option are not
-pub names : {Z : Type 0} (word : String Z)
-    → (string_bytes word ≡ codes "./-x" → is_name word ≡ true)
-    × (string_bytes word ≡ codes "-" → is_name word ≡ true)
-    × (string_bytes word ≡ [] → is_name word ≡ false)
-    × (string_bytes word ≡ codes "--count" → is_name word ≡ false)
-names word = (λ e. rw e, λ e. rw e, λ e. rw e, λ e. rw e)
+-- the word after a `--format` or a `--prefix` is its value, and nothing is said twice by one word
+pub what_words_say : map (free_items rows) (codes "--skip-bad" ∷ codes "--format" ∷ codes "--format=csv" ∷ codes "-x" ∷ codes "-" ∷ codes "a" ∷ [] ∷ [])
+    ≡ (says.Flag 3 ∷ []) ∷ [] ∷ (says.Unknown (codes "--format=csv") ∷ []) ∷ (says.Unknown (codes "-x") ∷ []) ∷ (says.File (codes "-") ∷ [])
+    ∷ (says.File (codes "a") ∷ []) ∷ (says.File [] ∷ []) ∷ []
+what_words_say = refl
 
-pub options : {Z : Type 0} (word : String Z)
-    → (string_bytes word ≡ codes "--skip-bad" → is_option word ≡ true)
-    × (string_bytes word ≡ codes "--help" → is_option word ≡ false)
-options word = (λ e. rw e, λ e. rw e)
+-- options end at the first word that is `-`, `--` or begins with no `-`, which is no value
+pub options_end : map (is_of_option modes.Free) (codes "--count" ∷ codes "-x" ∷ codes "--" ∷ codes "-" ∷ codes "a" ∷ [] ∷ [])
+    ≡ true ∷ true ∷ false ∷ false ∷ false ∷ false ∷ []
+options_end = refl
 
--- two ways to print, and one of them twice
-pub ways_to_print : {Z : Type 0} (word count : String Z) → string_bytes count ≡ codes "--count"
-    → (string_bytes word ≡ codes "--ranges" → are_options (word ∷ count ∷ []) ≡ false)
-    × (string_bytes word ≡ codes "--count" → are_options (word ∷ count ∷ []) ≡ true)
-ways_to_print word count c = (λ e. rw (e, c), λ e. rw (e, c))
+pub any_value : (word : List ℕ) → is_of_option (modes.Value 2) word ≡ true
+any_value word = refl
 
-pub counts_are_printed : {Z : Type 0} (skip count : String Z)
-    → string_bytes skip ≡ codes "--skip-bad" → string_bytes count ≡ codes "--count"
-    → form_of Blocks (skip ∷ count ∷ []) ≡ Counts
-counts_are_printed skip count s c = simp (s, c)
+-- a file behind a dot, standard input and a `--` are no wrong names, an empty word and an option are
+pub wrong_names : map (λ word. is_some (name_fault rows tasks.Check word)) (codes "./-x" ∷ codes "-" ∷ codes "--" ∷ [] ∷ codes "--count" ∷ [])
+    ≡ false ∷ false ∷ false ∷ true ∷ true ∷ []
+wrong_names = refl
 
--- a file may be named twice, standard input may not
-pub named_twice : {Z : Type 0} (list dashes again : String Z) → string_bytes dashes ≡ codes "--"
-    → (string_bytes list ≡ codes "-" → string_bytes again ≡ codes "-"
-    → are_lists (list ∷ dashes ∷ again ∷ []) ≡ false)
-    × (string_bytes list ≡ codes "a" → string_bytes again ≡ codes "a"
-    → are_lists (list ∷ dashes ∷ again ∷ []) ≡ true)
-named_twice list dashes again d = (λ l a. rw (l, d, a), λ l a. rw (l, d, a))
+-- two ways to print, one of them twice, a form that is given twice, also without a value
+pub ways_to_print : map (λ items. is_some (pair_fault items (pairs_of pairs)))
+    ((says.Flag 0 ∷ says.Flag 1 ∷ []) ∷ (says.Flag 1 ∷ says.Flag 1 ∷ []) ∷ (says.Value 2 (codes "csv") ∷ []) ∷ (says.Value 2 (codes "csv") ∷ says.Lacks 2 ∷ [])
+    ∷ (says.Value 2 (codes "csv") ∷ says.Flag 1 ∷ []) ∷ (says.Value 2 (codes "csv") ∷ says.Flag 0 ∷ []) ∷ []) ≡ true ∷ false ∷ false ∷ true ∷ true ∷ true ∷ []
+ways_to_print = refl
 
--- options end at the first word that is `-` or begins with none; what comes after it are lists,
--- whatever it is
-pub options_before_lists : {Z : Type 0} (minus option list other : String Z)
-    → is_dashed option ≡ true → is (codes "--format") option ≡ false → is_dashed list ≡ false
-    → (options_of (minus ∷ option ∷ list ∷ other ∷ []) ≡ option ∷ [])
-    × (lists_of (minus ∷ option ∷ list ∷ other ∷ []) ≡ list ∷ other ∷ [])
-options_before_lists minus option list other o f l = (rw (o, f, l), rw (o, f, l))
+pub forms_said : map (form_of Blocks) ((says.Flag 3 ∷ says.Flag 1 ∷ []) ∷ (says.Flag 3 ∷ says.Value 2 (codes "csv") ∷ []) ∷ [] ∷ (says.Flag 0 ∷ []) ∷ [])
+    ≡ Counts ∷ Exported Csv ∷ Blocks ∷ Ranges ∷ []
+forms_said = refl
 
--- the word after a `--format` is its value, whatever it begins with
-pub a_value_is_no_list : {Z : Type 0} (union format value list : String Z)
-    → string_bytes format ≡ codes "--format" → string_bytes value ≡ codes "csv"
-    → string_bytes list ≡ codes "a"
-    → lists_of (union ∷ format ∷ value ∷ list ∷ []) ≡ list ∷ []
-a_value_is_no_list union format value list f v l = simp (f, v, l)
+pub usual_form : form_of (Exported Csv) (says.Flag 3 ∷ []) ≡ Exported Csv
+usual_form = refl
 
-pub a_form_is_named : {Z : Type 0} (skip format value : String Z)
-    → string_bytes skip ≡ codes "--skip-bad" → string_bytes format ≡ codes "--format"
-    → string_bytes value ≡ codes "csv"
-    → form_of Blocks (skip ∷ format ∷ value ∷ []) ≡ Exported Csv
-a_form_is_named skip format value s f v = simp (s, f, v)
+pub shapes_said : map shape_of ((says.Flag 4 ∷ []) ∷ (says.Flag 4 ∷ says.Flag 5 ∷ []) ∷ (says.Flag 3 ∷ []) ∷ []) ≡ shapes.Json ∷ shapes.StrictJson ∷ shapes.Lines ∷ []
+shapes_said = refl
+
+-- a `+` may stand before a prefix length, and zeros
+pub prefix_lengths : map prefix_in (codes "24" ∷ codes "+024" ∷ codes "128" ∷ codes "129" ∷ codes "++8" ∷ codes "+" ∷ [] ∷ codes "-1" ∷ codes "8 " ∷ [])
+    ≡ Some 24 ∷ Some 24 ∷ Some 128 ∷ None ∷ None ∷ None ∷ None ∷ None ∷ None ∷ []
+prefix_lengths = refl
 
 -- the sides are cut at the first `--`, which is of neither
 pub two_sides : {Z : Type 0} (list dashes other : String Z)
     → is (codes "--") list ≡ false → is (codes "--") dashes ≡ true
     → (before_dashes (list ∷ dashes ∷ other ∷ []) ≡ list ∷ [])
     × (behind_dashes (list ∷ dashes ∷ other ∷ []) ≡ other ∷ [])
-    × (are_sides Minus (list ∷ dashes ∷ other ∷ []) ≡ true)
-    × (are_sides Common (list ∷ dashes ∷ []) ≡ false)
-two_sides list dashes other l d = (rw (l, d), rw (l, d), rw (l, d), rw (l, d))
+two_sides list dashes other l d = (rw (l, d), rw (l, d))
 
-pub no_dashes : {Z : Type 0} (list other : String Z) → is (codes "--") list ≡ false
-    → is (codes "--") other ≡ false → are_sides Differ (list ∷ other ∷ []) ≡ false
-no_dashes list other l o = rw (l, o)
-
-pub no_first_side : {Z : Type 0} (dashes other : String Z) → is (codes "--") dashes ≡ true
-    → are_sides Differ (dashes ∷ other ∷ []) ≡ false
-no_first_side dashes other d = rw d
-
-pub sides_of_a_union : {Z : Type 0} (list dashes other : String Z) → is (codes "--") list ≡ false
-    → is (codes "--") dashes ≡ true → is (codes "--") other ≡ false
-    → are_sides Union (list ∷ dashes ∷ other ∷ []) ≡ false
-sides_of_a_union list dashes other l d o = rw (l, d, o)
-
--- ---- every word
-
-pub one_byte_begins_with_no_dash : (byte : ℕ) → begins_dashed (byte ∷ []) ≡ false
-one_byte_begins_with_no_dash byte = refl
-
-pub no_option_is_a_name : {Z : Type 0} (word : String Z) → is_dashed word ≡ true
-    → is (codes "--") word ≡ false → is_name word ≡ false
-no_option_is_a_name word dashed dashes = by (length (string_bytes word) == 0) where
-  by : (b : Bool) → (not b && (not (is_dashed word) || is (codes "--") word)) ≡ false
-  by true = refl
-  by false = rw (dashed, dashes)
-
-pub the_names_of_operations : (operation_called (codes "union") ≡ Some Union)
-    × (operation_called (codes "common") ≡ Some Common)
-    × (operation_called (codes "minus") ≡ Some Minus) × (operation_called
-    (codes "differ") ≡ Some Differ)
-the_names_of_operations = (refl, refl, refl, refl)
+-- a byte alone is no option
+pub one_byte_ends_options : (byte : ℕ) → (byte == 45) ≡ false → is_of_option modes.Free (byte ∷ []) ≡ false
+one_byte_ends_options byte other = rw other

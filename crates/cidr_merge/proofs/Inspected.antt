@@ -1,8 +1,7 @@
 -- How a run ends that looks lists over.
-use Rattle.std.proofs.Common.{◌≡◌, ◌+◌, ◌-◌, ◌||◌, ◌≤◌, ◌∙◌, ℕ, Bool, true, false, not, List, []}
-use Rattle.std.proofs.Common.{◌∷◌, ◌++◌, refl, sym, ap, subst, arith, inl, inr, length, take, drop}
-use Rattle.std.proofs.Common.{length-take, map}
-use Rattle.std.specs.Prelude.{◌⊎◌, if◌then◌else◌, Option, None, Some, Result, Ok, Err, OnOk}
+use Rattle.std.proofs.Common.{◌≡◌, ◌-◌, ◌||◌, ◌∙◌, ℕ, Bool, true, false, not, List, []}
+use Rattle.std.proofs.Common.{◌∷◌, ◌++◌, refl, sym, ap, subst, inl, inr, length, take, drop, map}
+use Rattle.std.specs.Prelude.{◌⊎◌, if◌then◌else◌, Option, Result, Ok, Err, OnOk}
 use Rattle.std.specs.Prelude.{IsFalse, is_err, String}
 use Rattle.std.specs.List.{concat}
 use Rattle.std.specs.Io.KnownBytes.{Appends}
@@ -15,19 +14,14 @@ use Rattle.lists.specs.KnownLists.{KnownLists}
 use Rattle.lists.specs.declared.named.ReadFault.{ReadFault}
 use Rattle.program.specs.Endings.{Ending, Refuses, status_of, end_text}
 use Rattle.program.specs.Messages.{Tells}
-use Rattle.program.specs.Told.{name_at, fault_text}
-use Rattle.program.specs.Usage.{usage_text}
-use Rattle.cidr_merge.specs.CommandLines.{options_len, options_of, lists_of}
+use Rattle.program.specs.Told.{fault_text}
 use Rattle.cidr_merge.specs.Findings.{lists_findings, IsFound}
-use Rattle.cidr_merge.specs.InspectionRuns.{findings_status, EndsChecking, EndsFinding, EndsUnless}
+use Rattle.cidr_merge.specs.InspectionRuns.{findings_status, EndsChecking, EndsFinding}
 use Rattle.cidr_merge.specs.InspectionRuns.{EndsInspecting, WritesFindings}
-use Rattle.cidr_merge.specs.Inspections.{inspection_fault}
 use Rattle.cidr_merge.specs.Texts.{AreTexts, TextsStop}
 use Rattle.cidr_merge.specs.Private.Reported.{TellsFound}
-use Rattle.cidr_merge.specs.Problems.{problem_text}
 use Rattle.cidr_merge.specs.Writing.{FailsToWrite}
-use Rattle.cidr_merge.specs.declared.inspections.Inspection.{Inspection}
-use Rattle.cidr_merge.specs.declared.usage.UsageFault.{UsageFault}
+use Rattle.cidr_merge.specs.declared.command_line.Inspection.{Inspection}
 
 -- ---- what was found is written
 
@@ -86,78 +80,28 @@ pub checked : {Z W E T : Type 0} (names : List (String Z)) (texts : List (List �
 checked names texts end mid written found status h s wrote works failed is told =
     findings_written _ end mid written found status h.0 h.1 s wrote works failed is told
 
--- ---- what the words say
+-- ---- the lists
 
--- the words after the first, and those of them from a place on
-abbrev pub others_of : {Z : Type 0} → List (String Z) → List (String Z)
-others_of words = take (length words - 1) (drop 1 words)
-
+-- those from a place on
 abbrev pub names_from : {Z : Type 0} → ℕ → List (String Z) → List (String Z)
-names_from count words = take (length (others_of words) - count) (drop count (others_of words))
+names_from first words = take (length words - first) (drop first words)
 
-module _ {Z : Type 0} (words : List (String Z)) (count : ℕ)
-    (n : count ≡ options_len false (others_of words)) where
-  options_are : take count (others_of words) ≡ options_of words
-  options_are =
-      ap (λ k. take k (others_of words)) n
-      ∙ ap (λ l. take (options_len false l) l) (take_rest words 1)
+module _ {Z W E : Type 0} (known : KnownLists) (words : List (String Z)) (inspection : Inspection)
+    (first : ℕ) (end : Ending W E) where
+  -- one was not read
+  pub stopped : (fault : ReadFault) → TextsStop known first (names_from first words) fault
+      → Refuses (fault_text words fault) end → EndsInspecting known words inspection first end
+  stopped fault stops h = inl (fault, subst (λ ns. TextsStop known first ns fault) (take_rest words first) stops, h)
 
-  names_are : names_from count words ≡ lists_of words
-  names_are =
-      take_rest (others_of words) count ∙ ap (λ k. drop k (others_of words)) n
-      ∙ ap (λ l. drop (options_len false l) l) (take_rest words 1)
-
-  fault_is : (inspection : Inspection)
-      → inspection_fault inspection (options_of words) (lists_of words)
-      ≡ inspection_fault inspection (take count (others_of words)) (names_from count words)
-  fault_is inspection =
-      sym (ap (λ os. inspection_fault inspection os (lists_of words)) options_are)
-      ∙ sym (ap (λ ns. inspection_fault inspection (take count (others_of words)) ns) names_are)
-
-  module _ {W E : Type 0} (program usage : List ℕ) (known : KnownLists) (inspection : Inspection)
-      (end : Ending W E) (result : Option UsageFault)
-      (r : result ≡ inspection_fault inspection (take count (others_of words))
-      (names_from count words)) where
-    -- something is wrong with them
-    pub refused : (fault : UsageFault) → result ≡ Some fault
-        → Refuses (usage_text program usage words fault.subject
-        (problem_text (name_at words 0) fault.problem)) end
-        → EndsInspecting program usage known words inspection end
-    refused fault e h =
-        subst (λ f. EndsUnless program usage known words inspection f end)
-        (sym e ∙ r ∙ sym (fault_is inspection)) h
-
-    number_is : count ≤ length (others_of words) → 1 + count ≡ 1 + length (options_of words)
-    number_is l = omega (arith, l, length-take count (others_of words), ap length options_are)
-
-    -- a list was not read
-    pub stopped : (fault : ReadFault) → result ≡ None → count ≤ length (others_of words)
-        → TextsStop known (1 + count) (names_from count words) fault
-        → Refuses (fault_text words fault) end
-        → EndsInspecting program usage known words inspection end
-    stopped fault e l stops h =
-        subst (λ f. EndsUnless program usage known words inspection f end)
-        (sym e ∙ r ∙ sym (fault_is inspection))
-        (inl (
-          fault,
-          subst (λ ns. TextsStop known (1 + length
-              (options_of words)) ns fault) names_are (subst
-              (λ (k : ℕ). TextsStop known k (names_from count words) fault) (number_is l) stops),
-          h,
-        ))
-
-    -- all were
-    pub read : {X : Type 0} (texts held : List X) (items : X → List ℕ) → held ≡ texts
-        → result ≡ None → AreTexts known (names_from count words) (map items texts)
-        → EndsFinding inspection (names_from count words) (map items held) end
-        → EndsInspecting program usage known words inspection end
-    read texts held items t e are h =
-        subst (λ f. EndsUnless program usage known words inspection f end)
-        (sym e ∙ r ∙ sym (fault_is inspection))
-        (inr (
-          map items texts,
-          subst (λ ns. AreTexts known ns (map items texts)) names_are are,
-          subst (λ ns. EndsFinding inspection ns (map items texts) end) names_are
-              (subst (λ ts. EndsFinding inspection (names_from count words)
-              (map items ts) end) t h),
-        ))
+  -- all were
+  pub read : {X : Type 0} (texts held : List X) (items : X → List ℕ) → held ≡ texts
+      → AreTexts known (names_from first words) (map items texts)
+      → EndsFinding inspection (names_from first words) (map items held) end
+      → EndsInspecting known words inspection first end
+  read texts held items t are h =
+      inr (
+        map items texts,
+        subst (λ ns. AreTexts known ns (map items texts)) (take_rest words first) are,
+        subst (λ ns. EndsFinding inspection ns (map items texts) end) (take_rest words first)
+            (subst (λ ts. EndsFinding inspection (names_from first words) (map items ts) end) t h),
+      )

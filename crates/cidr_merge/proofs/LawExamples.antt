@@ -1,21 +1,28 @@
 -- What the laws let one conclude, where weaker laws would not.
 use Rattle.std.proofs.Common.{◌≡◌, ◌≢◌, ◌∙◌, ℕ, List, [], ◌∷◌, ◌++◌, true, false, ap, sym, subst}
 use Rattle.std.proofs.Common.{arith, inl, inr, length, refl}
-use Rattle.std.specs.Prelude.{◌⊎◌, bytes_eq, codes, None, String}
+use Rattle.std.specs.Prelude.{◌⊎◌, bytes_eq, codes, None, Ok, String, drop}
 use Rattle.std.proofs.lemmas.Bool.{true≢false}
 use Rattle.std.proofs.lemmas.Slice.Eq.{bytes_eq-Decides}
 use Rattle.std.specs.List.{Contains}
 use Rattle.std.specs.Str.Lines.{lines}
 use Rattle.ipnetwork_addr.specs.declared.ip.IpAddr.TheVariants.{V4, V6}
 use Rattle.ipnetwork_blocks.proofs.LeastLists.{contains_cons, contains_head, contains_nil}
-use Rattle.cidr_merge.specs.CommandLines.{operation_called, form_called, is_option_text}
 use Rattle.cidr_merge.specs.EntriesWithin.{HasAllOf, LiesInAnother, TellsWithin, TellsNotWithin}
 use Rattle.cidr_merge.specs.EntriesWithin.{IsToldWithin, EachWithinAnotherIsTold}
-use Rattle.cidr_merge.specs.Inspections.{inspection_called}
-use Rattle.cidr_merge.specs.Laws.{NoOtherForm, NoOtherInspection, NoOtherOperation, NoOtherOption}
+use Rattle.cidr_merge.specs.Forms.{form_called}
+use Rattle.cidr_merge.specs.Laws.{NoOtherForm, NoOtherOption, NoOtherTask, SidesAreCut, is_of_merges}
 use Rattle.cidr_merge.specs.Overlaps.{Listed, lists_entries, IsInOrder}
 use Rattle.cidr_merge.specs.Parts.{UnionPrints, HaveLines, AreShort, UnionsOfPartsPrintTheSame}
 use Rattle.cidr_merge.specs.Repetitions.{repetitions}
+use Rattle.cidr_merge.specs.Tasks.{task_called}
+use Rattle.options.specs.Table.{named}
+use Rattle.options.specs.declared.table.Row.{Row}
+use Rattle.options.specs.declared.table.Table.{Table}
+use Rattle.program.specs.Words.{is}
+use Rattle.cidr_merge.specs.CommandLines.{command_of}
+use Rattle.cidr_merge.specs.declared.command_line.Command.TheVariants as commands
+use Rattle.cidr_merge.specs.declared.command_line.Request.{Request}
 use Rattle.cidr_merge.proofs.CheckExamples.{entry}
 
 -- a list may be cut into two parts, and into three
@@ -56,20 +63,23 @@ no : {text name : List ℕ} → bytes_eq text name ≡ false → text ≢ name
 no {text} {name} e same = true≢false (sym ((bytes_eq-Decides text name).1 same) ∙ e)
 
 -- a word that is shorter than a name by a letter or two, and one that differs from it by a letter
-pub no_operations : NoOtherOperation → (operation_called (codes "diff") ≡ None)
-    × (operation_called (codes "COMMON") ≡ None) × (operation_called [] ≡ None)
-no_operations law = (
-  law (codes "diff") (no refl) (no refl) (no refl) (no refl) (no refl),
-  law (codes "COMMON") (no refl) (no refl) (no refl) (no refl) (no refl),
-  law [] (no refl) (no refl) (no refl) (no refl) (no refl),
+pub no_tasks : NoOtherTask → (task_called (codes "diff") ≡ None)
+    × (task_called (codes "COMMON") ≡ None) × (task_called [] ≡ None) × (task_called (codes "overlap") ≡ None)
+no_tasks law = (
+  law (codes "diff") (no refl) (no refl) (no refl) (no refl) (no refl) (no refl) (no refl) (no refl) (no refl),
+  law (codes "COMMON") (no refl) (no refl) (no refl) (no refl) (no refl) (no refl) (no refl) (no refl) (no refl),
+  law [] (no refl) (no refl) (no refl) (no refl) (no refl) (no refl) (no refl) (no refl) (no refl),
+  law (codes "overlap") (no refl) (no refl) (no refl) (no refl) (no refl) (no refl) (no refl) (no refl) (no refl),
 )
 
-pub no_options : NoOtherOption → (is_option_text (codes "--skip") ≡ false)
-    × (is_option_text (codes "--") ≡ false) × (is_option_text (codes "--counts") ≡ false)
-no_options law = (
+pub no_options : (rows : List Row) → NoOtherOption rows → (is_of_merges (named (codes "--skip") rows) ≡ false)
+    × (is_of_merges (named (codes "--") rows) ≡ false) × (is_of_merges (named (codes "--counts") rows) ≡ false)
+    × (is_of_merges (named (codes "--prefix") rows) ≡ false)
+no_options rows law = (
   law (codes "--skip") (no refl) (no refl) (no refl) (no refl) (no refl) (no refl),
   law (codes "--") (no refl) (no refl) (no refl) (no refl) (no refl) (no refl),
   law (codes "--counts") (no refl) (no refl) (no refl) (no refl) (no refl) (no refl),
+  law (codes "--prefix") (no refl) (no refl) (no refl) (no refl) (no refl) (no refl),
 )
 
 pub ranges_are_no_form : NoOtherForm → form_called (codes "ranges") ≡ None
@@ -77,10 +87,20 @@ ranges_are_no_form law =
     law (codes "ranges") (no refl) (no refl) (no refl) (no refl) (no refl) (no refl) (no refl)
     (no refl) (no refl)
 
-pub no_inspections : NoOtherInspection → (inspection_called (codes "overlap") false ≡ None)
-    × (inspection_called (codes "union") true ≡ None)
-no_inspections law =
-    (law (codes "overlap") false (no refl) (no refl), law (codes "union") true (no refl) (no refl))
+-- ---- sides
+
+-- of `minus a -- b` the lists of the second side are `b` alone, without the `--`
+pub second_side : {Z : Type 0} (table : Table) (minus a dashes b : String Z) (request : Request) → SidesAreCut table (minus ∷ a ∷ dashes ∷ b ∷ [])
+    → command_of table (minus ∷ a ∷ dashes ∷ b ∷ []) ≡ Ok (commands.Merge request) → request.first ≡ 1 → is (codes "--") a ≡ false → is (codes "--") dashes ≡ true
+    → drop request.second (minus ∷ a ∷ dashes ∷ b ∷ []) ≡ b ∷ []
+second_side table minus a dashes b request law e first x y = rw (first, x, y) at (law request e).1
+
+pub dashes_are_no_list : {Z : Type 0} (table : Table) (minus a dashes b : String Z) (request : Request) → SidesAreCut table (minus ∷ a ∷ dashes ∷ b ∷ [])
+    → command_of table (minus ∷ a ∷ dashes ∷ b ∷ []) ≡ Ok (commands.Merge request) → request.first ≡ 1 → is (codes "--") a ≡ false → is (codes "--") dashes ≡ true
+    → request.second ≡ 2 → ⊥
+dashes_are_no_list table minus a dashes b request law e first x y second =
+    let lists = rw second at (second_side table minus a dashes b request law e first x y) in
+    omega (arith, ap length lists)
 
 -- ---- entries that lie in another
 

@@ -1,74 +1,67 @@
 -- What the definitions promise, part by part: a definition without one of these parts would not
 -- give it.
-use Rattle.std.proofs.Common.{◌≡◌, ◌+◌, ◌≤◌, ◌↔◌, ◌⊎◌, inl, inr, ◌++◌, ◌∙◌, ◌==◌, sym, subst, not}
-use Rattle.std.proofs.Common.{ℕ, Bool, List, [], ◌∷◌, true, false, length, drop}
-use Rattle.std.specs.Prelude.{codes, ◌&&◌, if◌then◌else◌, String, None, Some, slice_range}
-use Rattle.std.specs.List.{Contains, concat}
+use Rattle.std.proofs.Common.{◌≡◌, ◌+◌, ◌≤◌, ◌↔◌, ◌⊎◌, inl, inr, ◌++◌, ◌∙◌, ◌==◌, sym, not}
+use Rattle.std.proofs.Common.{ℕ, Bool, List, [], ◌∷◌, true, false, length, drop, refl, min}
+use Rattle.std.specs.Prelude.{codes, ◌&&◌, if◌then◌else◌, String, None, Ok, Err, slice_range}
+use Rattle.std.specs.List.{Contains, concat, position_or_len}
 use Rattle.std.specs.String.{string_bytes}
 use Rattle.ipnetwork_blocks.specs.Aggregate.{IsAggregate}
 use Rattle.lists.specs.Lists.{ReadLists, nothing_read, at_list, TakesLines}
 use Rattle.lists.specs.Refusals.{Refused, no_refusals}
 use Rattle.lines.specs.Outputs.{Written}
-use Rattle.program.specs.Endings.{Ending, HasTold, HasWritten}
+use Rattle.options.specs.Given.{is_given}
+use Rattle.options.specs.Refusing.{refusal_text}
+use Rattle.options.specs.declared.faults.Fault.{Fault}
+use Rattle.options.specs.declared.items.Item.{Item}
+use Rattle.options.specs.declared.table.Row.{Row}
+use Rattle.options.specs.declared.table.Table.{Table}
+use Rattle.program.specs.Endings.{Ending, Refuses, HasTold, HasWritten}
 use Rattle.lists.specs.KnownLists.{KnownLists}
 use Rattle.program.specs.Messages.{Tells}
 use Rattle.program.specs.Runs.{text_asked}
 use Rattle.program.proofs.Runs.{otherwise}
-use Rattle.program.specs.Told.{name_at, was_refused, fault_text, in_list, refusals_text}
-use Rattle.program.specs.Usage.{usage_text}
+use Rattle.program.specs.Told.{was_refused, fault_text, in_list, refusals_text}
+use Rattle.program.specs.Words.{is}
 use Rattle.ipnetwork_addr.specs.declared.ip.IpAddr.{IpAddr}
 use Rattle.lists.specs.declared.named.ReadFault.{ReadFault}
 use Rattle.cidr_merge.specs.Answers.{IsAnswer}
-use Rattle.cidr_merge.specs.CommandLines.{has, word_at_is, operation_named, options_of, lists_of}
-use Rattle.cidr_merge.specs.CommandLines.{before_dashes, behind_dashes, are_options, are_lists}
-use Rattle.cidr_merge.specs.CommandLines.{are_sides, usual_of, form_of, shape_of, can_print, AreFor}
-use Rattle.cidr_merge.specs.CommandLines.{Says, AreForNone}
-use Rattle.cidr_merge.specs.Endings.{EndsAs}
-use Rattle.cidr_merge.specs.FindRuns.{sought_fault_text, EndsFindUnless, EndsFind}
-use Rattle.cidr_merge.specs.FindWords.{sought_of, searched_of, find_fault, AreAddresses}
+use Rattle.cidr_merge.specs.CommandLines.{command_of, request_of}
+use Rattle.cidr_merge.specs.Endings.{EndsAs, EndsAsked}
+use Rattle.cidr_merge.specs.FindRuns.{sought_fault_text, EndsFind}
+use Rattle.cidr_merge.specs.FindWords.{sought_of, searched_of, AreAddresses}
 use Rattle.cidr_merge.specs.FindWords.{StopsAtWord, with_addresses}
 use Rattle.cidr_merge.specs.Findings.{lists_findings}
 use Rattle.cidr_merge.specs.Finds.{lists_matches, lists_refusals}
-use Rattle.cidr_merge.specs.InspectionRuns.{EndsUnless}
-use Rattle.cidr_merge.specs.Inspections.{inspection_of, inspection_fault}
+use Rattle.cidr_merge.specs.Forms.{form_of, shape_of}
+use Rattle.cidr_merge.specs.InspectionRuns.{EndsInspecting}
+use Rattle.cidr_merge.specs.Options.{IsOptions, skip_bad}
 use Rattle.cidr_merge.specs.Parts.{UnionPrints, HaveLines, AreShort}
 use Rattle.cidr_merge.specs.Reading.{ReadsLists, ReadsSide, ReadsSides}
 use Rattle.cidr_merge.specs.Runs.{answer_status, WritesAnswer, StopsReading, EndsAnswering}
-use Rattle.cidr_merge.specs.Runs.{EndsMerging, EndsCommand}
+use Rattle.cidr_merge.specs.Runs.{EndsMerging}
 use Rattle.cidr_merge.specs.Shapes.{Source, source, StopsOne}
-use Rattle.cidr_merge.specs.Splits.{EndsSplit}
 use Rattle.cidr_merge.specs.Stopping.{Stops, StopsInSides}
 use Rattle.cidr_merge.specs.Texts.{AreTexts, TextsStop}
-use Rattle.cidr_merge.specs.Problems.{problem_text}
-use Rattle.cidr_merge.specs.Usage.{fault_in}
 use Rattle.cidr_merge.specs.Writing.{FailsToWrite}
+use Rattle.cidr_merge.specs.declared.command_line.Command.TheVariants as commands
+use Rattle.cidr_merge.specs.declared.command_line.Form.{Form}
 use Rattle.cidr_merge.specs.declared.command_line.Form.TheVariants.{Blocks}
+use Rattle.cidr_merge.specs.declared.command_line.Inspection.TheVariants.{Check}
 use Rattle.cidr_merge.specs.declared.command_line.Operation.{Operation}
 use Rattle.cidr_merge.specs.declared.command_line.Operation.TheVariants.{Union}
 use Rattle.cidr_merge.specs.declared.command_line.Request.{Request}
-use Rattle.cidr_merge.specs.declared.inspections.Inspection.TheVariants.{Check}
 use Rattle.cidr_merge.specs.declared.reading.Sets.{Sets}
 use Rattle.cidr_merge.specs.declared.query.QueryFault.{QueryFault}
-use Rattle.cidr_merge.specs.declared.usage.UsageFault.{UsageFault}
 
 -- ---- command lines
 
-pub what_an_operation_needs : {Z : Type 0} (name : String Z) (others : List (String Z))
-    (operation : Operation) → AreFor (name ∷ others) operation
-    → (operation_named name ≡ Some operation) × (are_options (options_of (name ∷ others)) ≡ true)
-    × (can_print operation (form_of Blocks (options_of (name ∷ others))) ≡ true)
-    × (are_lists (lists_of (name ∷ others)) ≡ true) × (are_sides operation
-    (lists_of (name ∷ others)) ≡ true)
-what_an_operation_needs name others operation h = h
-
-pub what_a_request_says : {Z : Type 0} (words : List (String Z)) (request : Request)
-    → Says words request
-    → (request.form ≡ form_of (usual_of words) (options_of words))
-    × (request.skips_bad ≡ has (codes "--skip-bad") (options_of words))
-    × (request.shape ≡ shape_of (options_of words))
-    × (slice_range words request.first request.middle ≡ before_dashes (lists_of words))
-    × (drop request.second words ≡ behind_dashes (lists_of words))
-what_a_request_says words request h = (h.form, h.skips, h.shape, h.firsts, h.seconds)
+pub what_a_request_says : {Z : Type 0} (operation : Operation) (usual : Form) (items : List Item)
+    (lists : List (String Z)) (first : ℕ) (request : Request) → request ≡ request_of operation usual items lists first
+    → (request.operation ≡ operation) × (request.form ≡ form_of usual items)
+    × (request.skips_bad ≡ is_given items skip_bad) × (request.shape ≡ shape_of items)
+    × (request.first ≡ first) × (request.middle ≡ first + position_or_len (is (codes "--")) lists)
+    × (request.second ≡ min (first + length lists) (first + position_or_len (is (codes "--")) lists + 1))
+what_a_request_says operation usual items lists first request e = rw e (refl, refl, refl, refl, refl, refl, refl)
 
 -- ---- what was read
 
@@ -155,51 +148,43 @@ what_a_failed_writer_is end h = h
 pub what_a_run_does : {Z W E : Type 0} (program help version usage : List ℕ) (known : KnownLists)
     (words : List (String Z)) (end : Ending W E)
     → text_asked help version words ≡ None → EndsAs program help version usage known words end
-    → ((word_at_is (codes "split") words 0 ≡ true) × EndsSplit program usage known words end)
-    ⊎ (((word_at_is (codes "find") words 0 ≡ true) × EndsFind program usage known words end)
-    ⊎ ((word_at_is (codes "split") words 0 ≡ false) × (word_at_is (codes "find") words 0 ≡ false)
-    × EndsCommand program usage known words (inspection_of words) end))
+    → Refuses (codes "out of memory\n") end
+    ⊎ ((table : Table) × IsOptions table × EndsAsked program usage table.rows.now known words (command_of table words) end)
 what_a_run_does program help version usage known words end e h =
     otherwise help version words _ end e h
 
-pub what_an_operation_does : {Z W E : Type 0} (program usage : List ℕ) (known : KnownLists)
-    (words : List (String Z)) (end : Ending W E)
-    → inspection_of words ≡ None → EndsCommand program usage known words (inspection_of words) end
-    → ((request : Request) × AreFor words request.operation × Says words request
-    × EndsMerging known words request end)
-    ⊎ ((fault : UsageFault) × AreForNone words × (fault_in words ≡ Some fault)
-    × (((end.output_after ≡ end.output) × (end.status ≡ 2))
-    × HasTold end (usage_text program usage words fault.subject
-    (problem_text (name_at words 0) fault.problem))))
-what_an_operation_does program usage known words end f h =
-    subst (λ i. EndsCommand program usage known words i end) f h
+-- by what is asked for, and by what is wrong
+pub what_is_asked_is_done : {Z W E : Type 0} (program usage : List ℕ) (rows : List Row) (known : KnownLists)
+    (words : List (String Z)) (request : Request) (end : Ending W E)
+    → EndsAsked program usage rows known words (Ok (commands.Merge request)) end → EndsMerging known words request end
+what_is_asked_is_done program usage rows known words request end h = h
 
-pub what_a_check_does : {Z W E : Type 0} (program usage : List ℕ) (known : KnownLists)
-    (words : List (String Z)) (end : Ending W E)
-    → inspection_of words ≡ Some Check
-    → inspection_fault Check (options_of words) (lists_of words) ≡ None
-    → EndsCommand program usage known words (inspection_of words) end
-    → ((fault : ReadFault) × TextsStop known (1 + length (options_of words)) (lists_of words) fault
+pub what_is_wrong_is_told : {Z W E : Type 0} (program usage : List ℕ) (rows : List Row) (known : KnownLists)
+    (words : List (String Z)) (fault : Fault) (end : Ending W E)
+    → EndsAsked program usage rows known words (Err fault) end
+    → ((end.output_after ≡ end.output) × (end.status ≡ 2)) × HasTold end (refusal_text program usage rows fault)
+what_is_wrong_is_told program usage rows known words fault end h = h
+
+pub what_a_check_does : {Z W E : Type 0} (known : KnownLists) (words : List (String Z)) (first : ℕ) (end : Ending W E)
+    → EndsInspecting known words Check first end
+    → ((fault : ReadFault) × TextsStop known first (drop first words) fault
     × (((end.output_after ≡ end.output) × (end.status ≡ 2))
     × HasTold end (fault_text words fault)))
-    ⊎ ((texts : List (List ℕ)) × AreTexts known (lists_of words) texts
-    × (FailsToWrite end ⊎ (HasWritten end (concat (lists_findings false (lists_of words) texts))
+    ⊎ ((texts : List (List ℕ)) × AreTexts known (drop first words) texts
+    × (FailsToWrite end ⊎ (HasWritten end (concat (lists_findings false (drop first words) texts))
     × HasTold end []
-    × (end.status ≡ (if length (lists_findings false (lists_of words) texts) == 0 then 0 else 1)))))
-what_a_check_does program usage known words end f g h =
-    subst (λ r. EndsUnless program usage known words Check r end) g
-    (subst (λ i. EndsCommand program usage known words i end) f h)
+    × (end.status ≡ (if length (lists_findings false (drop first words) texts) == 0 then 0 else 1)))))
+what_a_check_does known words first end h = h
 
 abbrev found_in : {Z : Type 0} → List (String Z) → List IpAddr → List (List ℕ) → List (List ℕ)
 found_in words addresses texts =
     lists_matches (with_addresses (sought_of words) addresses) (searched_of words) texts
 
-pub what_a_find_does : {Z W E : Type 0} (program usage : List ℕ) (known : KnownLists)
-    (words : List (String Z)) (end : Ending W E) → find_fault (drop 1 words) ≡ None
-    → EndsFind program usage known words end
+pub what_a_find_does : {Z W E : Type 0} (program usage : List ℕ) (rows : List Row) (known : KnownLists)
+    (words : List (String Z)) (end : Ending W E) → EndsFind program usage rows known words end
     → ((fault : QueryFault) × StopsAtWord 1 (sought_of words) fault
     × (((end.output_after ≡ end.output) × (end.status ≡ 2))
-    × HasTold end (sought_fault_text program usage words fault)))
+    × HasTold end (sought_fault_text program usage rows words fault)))
     ⊎ ((addresses : List IpAddr) × AreAddresses (sought_of words) addresses
     × (((fault : ReadFault) × TextsStop known (2 + length (sought_of words))
     (searched_of words) fault × (((end.output_after ≡ end.output) × (end.status ≡ 2))
@@ -211,8 +196,7 @@ pub what_a_find_does : {Z W E : Type 0} (program usage : List ℕ) (known : Know
     ⊎ (HasWritten end (concat (found_in words addresses texts)) × Tells errors end.errors_after []
     × (end.status ≡ (if length (lists_refusals (searched_of words) texts) == 0
     then (if length (found_in words addresses texts) == 0 then 1 else 0) else 2))))))))
-what_a_find_does program usage known words end f h =
-    subst (λ r. EndsFindUnless program usage known words r end) f h
+what_a_find_does program usage rows known words end h = h
 
 -- ---- what the laws take: no more than this
 

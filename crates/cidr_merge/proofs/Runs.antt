@@ -1,27 +1,27 @@
 -- How a run ends.
 use Rattle.lines.specs.Outputs.{Written}
-use Rattle.std.proofs.Common.{◌≡◌, ◌==◌, ◌∙◌, ℕ, List, Bool, false, not, codes, sym, ap, subst, inl}
-use Rattle.std.proofs.Common.{inr, length}
-use Rattle.std.specs.Prelude.{Option, None, Some, Result, Ok, Err, OnOk, IfErr, String, slice_range}
+use Rattle.std.proofs.Common.{◌≡◌, ◌==◌, ◌∙◌, ℕ, List, Bool, not, codes, sym, ap, subst, inl, inr, length}
+use Rattle.std.specs.Prelude.{None, Result, Ok, Err, OnOk, IfErr, String, slice_range}
 use Rattle.lists.specs.Lists.{nothing_read}
 use Rattle.lists.specs.Refusals.{Refused, no_refusals}
-use Rattle.program.specs.Endings.{Ending}
+use Rattle.program.specs.Endings.{Ending, Refuses}
 use Rattle.lists.specs.KnownLists.{KnownLists}
 use Rattle.program.specs.Messages.{Tells}
-use Rattle.program.specs.Runs.{text_asked}
 use Rattle.program.specs.Told.{in_list, refusals_text}
+use Rattle.options.specs.declared.faults.Fault.{Fault}
+use Rattle.options.specs.declared.table.Table.{Table}
+use Rattle.program.specs.Runs.{text_asked}
 use Rattle.program.proofs.Runs.{not_asked}
-use Rattle.cidr_merge.specs.CommandLines.{word_at_is}
-use Rattle.cidr_merge.specs.Endings.{EndsAs}
+use Rattle.cidr_merge.specs.CommandLines.{command_of}
+use Rattle.cidr_merge.specs.Endings.{EndsAsked, EndsAs}
+use Rattle.cidr_merge.specs.Options.{IsOptions}
+use Rattle.cidr_merge.specs.declared.command_line.Command.{Command}
 use Rattle.cidr_merge.specs.Reading.{ReadsSide, ReadsSides}
-use Rattle.cidr_merge.specs.InspectionRuns.{EndsInspecting}
-use Rattle.cidr_merge.specs.Inspections.{inspection_of}
-use Rattle.cidr_merge.specs.Runs.{EndsAnswering, EndsMerging, EndsRequest, EndsCommand}
+use Rattle.cidr_merge.specs.Runs.{EndsAnswering, EndsMerging}
 use Rattle.cidr_merge.specs.Shapes.{source}
 use Rattle.cidr_merge.specs.Stopping.{Stops, StopsInSides}
 use Rattle.cidr_merge.specs.declared.command_line.Request.{Request}
 use Rattle.lists.specs.declared.named.ReadFault.{ReadFault}
-use Rattle.cidr_merge.specs.declared.inspections.Inspection.{Inspection}
 use Rattle.cidr_merge.specs.declared.reading.Sets.{Sets}
 use Rattle.cidr_merge.proofs.ReadInTurn.{slice_rest}
 
@@ -92,29 +92,15 @@ merged known words request first second refused is_empty end told sides tells f 
   ),
 )
 
-module _ {Z W E : Type 0} (program help version usage : List ℕ) (known : KnownLists)
-    (words : List (String Z)) (end : Ending W E) (asked : Option Inspection)
-    (is : asked ≡ inspection_of words) (no_text : text_asked help version words ≡ None)
-    (no_split : word_at_is (codes "split") words 0 ≡ false)
-    (no_find : word_at_is (codes "find") words 0 ≡ false) where
-  commanded : EndsCommand program usage known words asked end
-      → EndsAs program help version usage known words end
-  commanded h =
+module _ {Z W E : Type 0} (program help version usage : List ℕ) (known : KnownLists) (words : List (String Z))
+    (end : Ending W E) (no_text : text_asked help version words ≡ None) where
+  -- there is no memory for what the words say
+  pub no_memory : Refuses (codes "out of memory\n") end → EndsAs program help version usage known words end
+  no_memory h = not_asked help version words _ end no_text (inl h)
+
+  -- they ask for this, or this is wrong with them
+  pub asked_ends : (table : Table) → IsOptions table → (asked : Result Command Fault) → asked ≡ command_of table words
+      → EndsAsked program usage table.rows.now known words asked end → EndsAs program help version usage known words end
+  asked_ends table options asked e h =
       not_asked help version words _ end no_text
-      (inr (inr (
-        no_split,
-        no_find,
-        subst (λ i. EndsCommand program usage known words i end) is h,
-      )))
-
-  -- the lists were looked over
-  pub inspected : (inspection : Inspection) → asked ≡ Some inspection
-      → EndsInspecting program usage known words inspection end
-      → EndsAs program help version usage known words end
-  inspected inspection e h =
-      commanded (subst (λ i. EndsCommand program usage known words i end) (sym e) h)
-
-  -- or something else was done
-  pub requested : asked ≡ None → EndsRequest program usage known words end
-      → EndsAs program help version usage known words end
-  requested e h = commanded (subst (λ i. EndsCommand program usage known words i end) (sym e) h)
+      (inr (table, options, subst (λ (r : Result Command Fault). EndsAsked program usage table.rows.now known words r end) e h))

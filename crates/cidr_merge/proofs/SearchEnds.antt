@@ -1,7 +1,7 @@
 -- How a run ends that searches lists.
-use Rattle.std.proofs.Common.{◌≡◌, ◌==◌, ◌+◌, ◌||◌, ◌∙◌, ℕ, Bool, true, false, not, List, sym, ap}
-use Rattle.std.proofs.Common.{subst, inl, inr, length, drop}
-use Rattle.std.specs.Prelude.{if◌then◌else◌, Option, None, Some, Result, Ok, Err, OnOk, IsFalse}
+use Rattle.std.proofs.Common.{◌≡◌, ◌==◌, ◌+◌, ◌||◌, ◌∙◌, ℕ, Bool, true, false, not, List, ap}
+use Rattle.std.proofs.Common.{subst, inl, inr, length}
+use Rattle.std.specs.Prelude.{if◌then◌else◌, Result, Ok, Err, OnOk, IsFalse}
 use Rattle.std.specs.Prelude.{is_err, String}
 use Rattle.std.specs.Io.KnownBytes.{Appends}
 use Rattle.lines.specs.Outputs.{Written}
@@ -11,19 +11,14 @@ use Rattle.lists.specs.KnownLists.{KnownLists}
 use Rattle.lists.specs.declared.named.ReadFault.{ReadFault}
 use Rattle.program.specs.Endings.{Ending, Refuses, status_of, end_text}
 use Rattle.program.specs.Messages.{Tells}
-use Rattle.program.specs.Told.{name_at, fault_text}
-use Rattle.program.specs.Usage.{usage_text}
-use Rattle.cidr_merge.specs.CommandLines.{before_dashes}
+use Rattle.program.specs.Told.{fault_text}
 use Rattle.cidr_merge.specs.Finds.{lists_matches, lists_refusals}
-use Rattle.cidr_merge.specs.FindRuns.{sought_fault_text, EndsSearching, EndsReadingAll}
-use Rattle.cidr_merge.specs.FindRuns.{EndsTakingWords, EndsFindUnless, EndsFind}
-use Rattle.cidr_merge.specs.FindWords.{sought_of, searched_of, find_fault, AreAddresses}
-use Rattle.cidr_merge.specs.FindWords.{StopsAtWord, with_addresses}
+use Rattle.options.specs.declared.table.Row.{Row}
+use Rattle.cidr_merge.specs.FindRuns.{sought_fault_text, EndsSearching, EndsReadingAll, EndsFind}
+use Rattle.cidr_merge.specs.FindWords.{sought_of, searched_of, AreAddresses, StopsAtWord, with_addresses}
 use Rattle.cidr_merge.specs.Private.Reported.{TellsFound}
 use Rattle.cidr_merge.specs.Texts.{AreTexts, TextsStop}
-use Rattle.cidr_merge.specs.Problems.{problem_text}
 use Rattle.cidr_merge.specs.declared.query.QueryFault.{QueryFault}
-use Rattle.cidr_merge.specs.declared.usage.UsageFault.{UsageFault}
 use Rattle.cidr_merge.proofs.Inspected.{works_before, fails_now, written_all}
 
 status_by : (no_told no_printed told printed : Bool) → told ≡ not no_told → printed ≡ not no_printed
@@ -94,42 +89,15 @@ module _ {Z W E : Type 0} (known : KnownLists) (words sought names : List (Strin
         h,
       )
 
-module _ {Z W E : Type 0} (program usage : List ℕ) (known : KnownLists)
-    (words others : List (String Z)) (end : Ending W E) (o : others ≡ drop 1 words)
-    (result : Option UsageFault) (r : result ≡ find_fault others) where
-  -- something is wrong with them
-  pub wrong_words : (fault : UsageFault) → result ≡ Some fault
-      → Refuses (usage_text program usage words fault.subject
-      (problem_text (name_at words 0) fault.problem)) end → EndsFind program usage known words end
-  wrong_words fault e h =
-      subst (λ f. EndsFindUnless program usage known words f end) (sym e ∙ r ∙ ap find_fault o) h
+module _ {Z W E : Type 0} (program usage : List ℕ) (rows : List Row) (known : KnownLists)
+    (words sought : List (String Z)) (end : Ending W E) (s : sought ≡ sought_of words) where
+  -- words are no addresses
+  pub no_addresses : (fault : QueryFault) → StopsAtWord 1 sought fault
+      → Refuses (sought_fault_text program usage rows words fault) end
+      → EndsFind program usage rows known words end
+  no_addresses fault wrong h = inl (fault, subst (λ ss. StopsAtWord 1 ss fault) s wrong, h)
 
-  -- nothing, addresses apart
-  right_words : result ≡ None → EndsTakingWords program usage known words end
-      → EndsFind program usage known words end
-  right_words e h =
-      subst (λ f. EndsFindUnless program usage known words f end) (sym e ∙ r ∙ ap find_fault o) h
-
-  pub no_addresses : (sought : List (String Z)) (fault : QueryFault) → result ≡ None
-      → sought ≡ before_dashes others → StopsAtWord 1 sought fault
-      → Refuses (sought_fault_text program usage words fault) end
-      → EndsFind program usage known words end
-  no_addresses sought fault e b wrong h =
-      right_words e (inl (
-        fault,
-        subst (λ ss. StopsAtWord 1 ss fault)
-            (b ∙ ap before_dashes o) wrong,
-        h,
-      ))
-
-  pub right_addresses : (sought : List (String Z)) (addresses : List IpAddr) → result ≡ None
-      → sought ≡ before_dashes others → AreAddresses sought addresses
-      → EndsReadingAll known words addresses end
-      → EndsFind program usage known words end
-  right_addresses sought addresses e b are h =
-      right_words e (inr (
-        addresses,
-        subst (λ ss. AreAddresses ss addresses)
-            (b ∙ ap before_dashes o) are,
-        h,
-      ))
+  -- or they are
+  pub right_addresses : (addresses : List IpAddr) → AreAddresses sought addresses
+      → EndsReadingAll known words addresses end → EndsFind program usage rows known words end
+  right_addresses addresses are h = inr (addresses, subst (λ ss. AreAddresses ss addresses) s are, h)

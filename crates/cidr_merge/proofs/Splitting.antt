@@ -14,7 +14,7 @@ use Rattle.cidr_merge.specs.Shapes.{source}
 use Rattle.cidr_merge.specs.Splits.{EndsCutting, EndsSplitting}
 use Rattle.cidr_merge.specs.Stopping.{Stops}
 use Rattle.cidr_merge.specs.declared.reading.Sets.{Sets}
-use Rattle.cidr_merge.specs.declared.split_words.SplitRequest.{SplitRequest}
+use Rattle.cidr_merge.specs.declared.command_line.SplitRequest.{SplitRequest}
 use Rattle.cidr_merge.proofs.ReadInTurn.{slice_rest}
 
 -- the lists were read

@@ -1,57 +1,50 @@
 -- What is wrong with words, at values at which a misreading would show. Each of these computes.
-use Rattle.std.proofs.Common.{◌≡◌, ℕ, List, ◌∷◌, ◌++◌, []}
-use Rattle.std.specs.Prelude.{codes, String, Some, None}
+use Rattle.std.proofs.Common.{◌≡◌, ℕ, List, ◌∷◌, ◌++◌, [], refl}
+use Rattle.std.specs.Prelude.{codes, String, Result, Ok, Err, None}
 use Rattle.std.specs.String.{string_bytes}
-use Rattle.program.specs.Usage.{usage_text}
-use Rattle.cidr_merge.specs.CommandLines.{operation_named, AreFor}
-use Rattle.cidr_merge.specs.Problems.{problem_text}
-use Rattle.cidr_merge.specs.Usage.{at_word, fault_in}
-use Rattle.cidr_merge.specs.declared.command_line.Operation.{Operation}
-use Rattle.cidr_merge.specs.declared.problems.Problem.{Problem}
-use Rattle.cidr_merge.specs.declared.problems.Problem.TheVariants.{NotAnOperation, NotAnOption}
-use Rattle.cidr_merge.specs.declared.problems.Problem.TheVariants.{NotAlone, QuietBehind, NotAForm}
-use Rattle.cidr_merge.specs.declared.problems.Problem.TheVariants.{RangesAndCount, AnotherForm}
-use Rattle.cidr_merge.specs.declared.problems.Problem.TheVariants.{FormOfDiffer, EmptyName}
-use Rattle.cidr_merge.specs.declared.problems.Problem.TheVariants.{OptionAmongLists, InputTwice}
-use Rattle.cidr_merge.specs.declared.problems.Problem.TheVariants.{SecondSideOfUnion, ThirdSide}
-use Rattle.cidr_merge.specs.declared.problems.Problem.TheVariants.{NoList, OneSide, EmptyFirstSide}
-use Rattle.cidr_merge.specs.declared.problems.Problem.TheVariants.{EmptySecondSide}
-use Rattle.cidr_merge.specs.declared.usage.UsageFault.{UsageFault}
-use Rattle.cidr_merge.proofs.Faults.{for_none, for_some}
+use Rattle.options.specs.Faults.{problem_at}
+use Rattle.options.specs.Refusing.{subject_text}
+use Rattle.options.specs.declared.faults.Fault.{Fault}
+use Rattle.options.specs.declared.table.Table.{Table}
+use Rattle.options.proofs.Tables.{rows_of, pairs_of}
+use Rattle.cidr_merge.specs.CommandLines.{command_of}
+use Rattle.cidr_merge.specs.Faults.{no_task_fault}
+use Rattle.cidr_merge.specs.Options.{entries, pairs, another_form, format, prefix}
+use Rattle.cidr_merge.specs.Tasks.{task_called, no_option, no_file, one_side}
+use Rattle.cidr_merge.specs.declared.command_line.Command.{Command}
+use Rattle.cidr_merge.specs.declared.command_line.Operation.TheVariants.{Union}
+use Rattle.cidr_merge.specs.declared.tasks.Task.TheVariants as tasks
 
--- words that are for an operation have no fault, and words without one are for an operation
-pub no_fault : {Z : Type 0} (words : List (String Z)) (operation : Operation) (fault : UsageFault)
-    → AreFor words operation → fault_in words ≡ Some fault → ⊥
-no_fault words operation fault h e = for_none words fault e operation h
+abbrev pub table : Table
+table = record { rows = record { ref_ptr = (0, 0); now = rows_of entries }; pairs = record { ref_ptr = (0, 0); now = pairs_of pairs }; needs = record { ref_ptr = (0, 0); now = [] }; lacking = record { ref_ptr = (0, 0); now = [] } }
 
-pub an_operation : {Z : Type 0} (words : List (String Z)) → fault_in words ≡ None
-    → (operation : Operation) × AreFor words operation
-an_operation words e = for_some words e
+-- what is told of words
+abbrev pub told : Result Command Fault → List ℕ
+told (Ok command) = []
+told (Err fault) = subject_text table.rows.now fault.subject ++ fault.problem
+
+-- of words of these bytes, behind others, this is told
+abbrev Behind : (Z : Type 0) → List (String Z) → List (List ℕ) → List ℕ → Type 0
+Behind Z words [] text = told (command_of table words) ≡ text
+Behind Z words (bytes ∷ others) text = (word : String Z) → string_bytes word ≡ bytes → Behind Z (words ++ word ∷ []) others text
+
+abbrev Have : (Z : Type 0) → List (List ℕ) → List ℕ → Type 0
+Have Z words text = Behind Z [] words text
 
 -- what comes first is told: the operation before all others
-pub no_operation_before_all : {Z : Type 0} (word : String Z) (others : List (String Z))
-    → operation_named word ≡ None → fault_in (word ∷ others) ≡ Some (at_word 0 NotAnOperation)
-no_operation_before_all word others e = rw e
-
--- words of these bytes, behind others, have this fault
-abbrev Behind : (Z : Type 0) → List (String Z) → List (List ℕ) → UsageFault → Type 0
-Behind Z words [] fault = fault_in words ≡ Some fault
-Behind Z words (text ∷ texts) fault =
-    (word : String Z) → string_bytes word ≡ text → Behind Z (words ++ word ∷ []) texts fault
-
--- words of these bytes have this problem, with the word at a place
-abbrev Have : (Z : Type 0) → List (List ℕ) → ℕ → Problem → Type 0
-Have Z texts place problem = Behind Z [] texts (at_word place problem)
+pub no_task_before_all : {Z : Type 0} (word : String Z) (others : List (String Z)) → task_called (string_bytes word) ≡ None
+    → command_of table (word ∷ others) ≡ Err (no_task_fault table.rows.now (string_bytes word))
+no_task_before_all word others e = rw e refl
 
 -- of options the first that is none, before what they are together, and both before the lists
 pub options_first : {Z : Type 0}
-    → Have Z (codes "union" ∷ codes "--count" ∷ codes "-x" ∷ [] ∷ []) 2 NotAnOption
-    × Have Z (codes "union" ∷ codes "--count" ∷ codes "--ranges" ∷ codes "--x" ∷ []) 3 NotAnOption
-    × Have Z (codes "minus" ∷ codes "--count" ∷ codes "--ranges" ∷ [] ∷ []) 2 RangesAndCount
-    × Have Z (codes "union" ∷ codes "--format" ∷ codes "--format" ∷ codes "csv" ∷ []) 2 NotAForm
-    × Have Z (codes "union" ∷ codes "--ranges" ∷ codes "--format" ∷ codes "csv" ∷ []) 2 AnotherForm
-    × Have Z (codes "differ" ∷ codes "--format" ∷ codes "csv" ∷ []) 1 FormOfDiffer
-    × Have Z (codes "common" ∷ codes "--" ∷ codes "a" ∷ []) 1 EmptyFirstSide
+    → Have Z (codes "union" ∷ codes "--count" ∷ codes "-x" ∷ [] ∷ []) (codes "-x: " ++ no_option (tasks.Merge Union))
+    × Have Z (codes "union" ∷ codes "--count" ∷ codes "--ranges" ∷ codes "--x" ∷ []) (codes "--x: " ++ no_option (tasks.Merge Union))
+    × Have Z (codes "minus" ∷ codes "--count" ∷ codes "--ranges" ∷ [] ∷ []) (codes "--ranges: not together with --count")
+    × Have Z (codes "union" ∷ codes "--format" ∷ codes "--format" ∷ codes "csv" ∷ []) (codes "--format: " ++ problem_at table.rows.now format)
+    × Have Z (codes "union" ∷ codes "--ranges" ∷ codes "--format" ∷ codes "csv" ∷ []) another_form
+    × Have Z (codes "differ" ∷ codes "--format" ∷ codes "csv" ∷ []) (codes "--format: differ can be printed only as plain or range")
+    × Have Z (codes "common" ∷ codes "--" ∷ codes "a" ∷ []) (codes "--: no FILE before it")
 options_first = (
   (λ _ o _ a _ b _ c. simp (o, a, b, c)),
   (λ _ o _ a _ b _ c. simp (o, a, b, c)),
@@ -64,14 +57,14 @@ options_first = (
 
 -- of lists the first name that is none, then standard input, and then the sides
 pub names_before_sides : {Z : Type 0}
-    → Have Z (codes "union" ∷ codes "-" ∷ codes "-" ∷ [] ∷ []) 3 EmptyName
-    × Have Z (codes "union" ∷ codes "--count" ∷ codes "a" ∷ codes "--count" ∷ []) 3 OptionAmongLists
-    × Have Z (codes "union" ∷ codes "a" ∷ codes "-" ∷ codes "--" ∷ codes "-" ∷ []) 2 InputTwice
-    × Have Z (codes "union" ∷ codes "a" ∷ codes "--" ∷ codes "b" ∷ []) 2 SecondSideOfUnion
-    × Have Z (codes "differ" ∷ codes "a" ∷ codes "--" ∷ codes "--" ∷ []) 2 ThirdSide
-    × Have Z (codes "union" ∷ codes "--ranges" ∷ []) 0 NoList
-    × Have Z (codes "minus" ∷ codes "a" ∷ []) 0 OneSide
-    × Have Z (codes "minus" ∷ codes "a" ∷ codes "--" ∷ []) 2 EmptySecondSide
+    → Have Z (codes "union" ∷ codes "-" ∷ codes "-" ∷ [] ∷ []) (codes "'': not the name of a file")
+    × Have Z (codes "union" ∷ codes "--count" ∷ codes "a" ∷ codes "--count" ∷ []) (codes "--count: " ++ no_file (tasks.Merge Union))
+    × Have Z (codes "union" ∷ codes "a" ∷ codes "-" ∷ codes "--" ∷ codes "-" ∷ []) (codes "-: standard input can be read only once")
+    × Have Z (codes "union" ∷ codes "a" ∷ codes "--" ∷ codes "b" ∷ []) (codes "--: " ++ one_side)
+    × Have Z (codes "differ" ∷ codes "a" ∷ codes "--" ∷ codes "--" ∷ []) (codes "--: only one -- is taken")
+    × Have Z (codes "union" ∷ codes "--ranges" ∷ []) (codes "union: no FILE")
+    × Have Z (codes "minus" ∷ codes "a" ∷ []) (codes "minus: no -- with a FILE behind it")
+    × Have Z (codes "minus" ∷ codes "a" ∷ codes "--" ∷ []) (codes "--: no FILE after it")
 names_before_sides = (
   (λ _ o _ a _ b _ c. simp (o, a, b, c)),
   (λ _ o _ a _ b _ c. simp (o, a, b, c)),
@@ -85,15 +78,32 @@ names_before_sides = (
 
 -- an option of another operation, and words that have places of their own
 pub words_of_other_places : {Z : Type 0}
-    → Have Z (codes "union" ∷ codes "--prefix" ∷ []) 1 NotAnOption
-    × Have Z (codes "common" ∷ codes "--quiet" ∷ []) 1 QuietBehind
-    × Have Z (codes "union" ∷ codes "a" ∷ codes "--help" ∷ []) 2 NotAlone
-words_of_other_places =
-    ((λ _ o _ a. simp (o, a)), (λ _ o _ a. simp (o, a)), (λ _ o _ a _ b. simp (o, a, b)))
+    → Have Z (codes "union" ∷ codes "--prefix" ∷ []) (codes "--prefix: " ++ no_option (tasks.Merge Union))
+    × Have Z (codes "common" ∷ codes "--quiet" ∷ []) (codes "--quiet: taken only once, as the first word")
+    × Have Z (codes "union" ∷ codes "a" ∷ codes "--help" ∷ []) (codes "--help: taken only alone")
+    × Have Z (codes "overlaps" ∷ codes "-x" ∷ []) (codes "-x: not an option; overlaps takes none")
+    × Have Z (codes "find" ∷ codes "--" ∷ codes "a" ∷ []) (codes "--: no ADDRESS before it")
+words_of_other_places = (
+  (λ _ o _ a. simp (o, a)),
+  (λ _ o _ a. simp (o, a)),
+  (λ _ o _ a _ b. simp (o, a, b)),
+  (λ _ o _ a. simp (o, a)),
+  (λ _ o _ a _ b. simp (o, a, b)),
+)
 
-pub what_is_told : {Z : Type 0} (operation first : String Z)
-    → string_bytes operation ≡ codes "overlaps" → string_bytes first ≡ codes "-x"
-    → usage_text (codes "cidr_merge") (codes "usage: cidr_merge\n") (operation ∷ first ∷ [])
-    (at_word 1 NotAnOption).subject (problem_text (string_bytes operation) NotAnOption)
-    ≡ codes "cidr_merge: -x: not an option; overlaps takes none\nusage: cidr_merge\n"
-what_is_told operation first o a = rw (o, a)
+-- the options of `split` and `check` stand in their order
+pub options_in_their_order : {Z : Type 0}
+    → Have Z (codes "split" ∷ codes "--json" ∷ []) (codes "--json: " ++ no_option tasks.Split)
+    × Have Z (codes "split" ∷ codes "--skip-bad" ∷ []) (codes "split: no --prefix N before the first FILE")
+    × Have Z (codes "split" ∷ codes "--prefix" ∷ codes "129" ∷ []) (codes "129: " ++ problem_at table.rows.now prefix)
+    × Have Z (codes "split" ∷ codes "--prefix" ∷ []) (codes "'': " ++ problem_at table.rows.now prefix)
+    × Have Z (codes "split" ∷ codes "--prefix" ∷ codes "8" ∷ codes "--strict" ∷ []) (codes "--strict: " ++ no_file tasks.Split)
+    × Have Z (codes "check" ∷ codes "--strict" ∷ codes "--strict" ∷ []) (codes "--strict: " ++ no_option tasks.Check)
+options_in_their_order = (
+  (λ _ o _ a. simp (o, a)),
+  (λ _ o _ a. simp (o, a)),
+  (λ _ o _ a _ b. simp (o, a, b)),
+  (λ _ o _ a. simp (o, a)),
+  (λ _ o _ a _ b _ c. simp (o, a, b, c)),
+  (λ _ o _ a _ b. simp (o, a, b)),
+)

@@ -1,210 +1,84 @@
 -- What the words of a command line ask for.
-use Rattle.std.specs.Prelude.{◌≡◌, ℕ, ◌+◌, ◌==◌, ◌||◌, ◌&&◌, Bool, true, false, not, List, [], ◌∷◌}
-use Rattle.std.specs.Prelude.{Option, None, Some, take, drop, length, nat_lt, nat_le, if◌then◌else◌}
-use Rattle.std.specs.Prelude.{slice_range, codes, bytes_eq, String}
-use Rattle.std.specs.List.{list_all, position_or_len}
-use Rattle.std.specs.Option.{is_some}
+use Rattle.std.specs.Prelude.{ℕ, ◌+◌, Bool, List, [], ◌∷◌, Option, None, Some, Result, Ok, Err, length, drop, min, if◌then◌else◌, codes, String}
+use Rattle.std.specs.List.{position_or_len}
 use Rattle.std.specs.String.{string_bytes}
-use Rattle.program.specs.Told.{name_at}
-use Rattle.program.specs.Words.{is, count}
-use Rattle.cidr_merge.specs.declared.command_line.Operation.{Operation}
-use Rattle.cidr_merge.specs.declared.command_line.Operation.TheVariants.{Union, Common, Minus}
-use Rattle.cidr_merge.specs.declared.command_line.Operation.TheVariants.{Differ}
+use Rattle.program.specs.Words.{is}
+use Rattle.options.specs.Faults.{about}
+use Rattle.options.specs.Given.{is_given}
+use Rattle.options.specs.Items.{option_items, options_len}
+use Rattle.options.specs.declared.faults.Fault.{Fault}
+use Rattle.options.specs.declared.faults.Subject.TheVariants as subjects
+use Rattle.options.specs.declared.items.Item.{Item}
+use Rattle.options.specs.declared.items.Mode.TheVariants as modes
+use Rattle.options.specs.declared.table.Table.{Table}
+use Rattle.cidr_merge.specs.Faults.{fault_of, find_fault, no_task_fault}
+use Rattle.cidr_merge.specs.Forms.{form_of, shape_of, length_of}
+use Rattle.cidr_merge.specs.Options as own
+use Rattle.cidr_merge.specs.Tasks.{task_called}
+use Rattle.cidr_merge.specs.declared.command_line.Command.{Command}
+use Rattle.cidr_merge.specs.declared.command_line.Command.TheVariants as commands
 use Rattle.cidr_merge.specs.declared.command_line.Form.{Form}
-use Rattle.cidr_merge.specs.declared.command_line.Form.TheVariants.{Blocks, Ranges, Counts}
-use Rattle.cidr_merge.specs.declared.command_line.Form.TheVariants.{Exported}
-use Rattle.cidr_merge.specs.declared.exports.Export.TheVariants.{Netmask, Wildcard, Csv, Nft, Ipset}
-use Rattle.cidr_merge.specs.declared.exports.Export.TheVariants.{Json, Addresses}
+use Rattle.cidr_merge.specs.declared.command_line.Form.TheVariants.{Blocks, Exported}
+use Rattle.cidr_merge.specs.declared.command_line.Inspection.{Inspection}
+use Rattle.cidr_merge.specs.declared.command_line.Inspection.TheVariants as inspections
+use Rattle.cidr_merge.specs.declared.command_line.Operation.{Operation}
+use Rattle.cidr_merge.specs.declared.command_line.Operation.TheVariants as operations
 use Rattle.cidr_merge.specs.declared.command_line.Request.{Request}
-use Rattle.cidr_merge.specs.declared.shapes.Shape.{Shape}
-use Rattle.cidr_merge.specs.declared.shapes.Shape.TheVariants as shapes
+use Rattle.cidr_merge.specs.declared.exports.Export.TheVariants.{Addresses}
+use Rattle.cidr_merge.specs.declared.tasks.Task.{Task}
+use Rattle.cidr_merge.specs.declared.tasks.Task.TheVariants as tasks
 
--- whether one of the words is this text
-abbrev pub has : {Z : Type 0} → List ℕ → List (String Z) → Bool
-has text words = nat_lt 0 (count text words)
+-- how lists are merged, of which the first is the word at this index: those of the first side stand before a `--`, and those
+-- of the second behind it
+abbrev pub request_of : {Z : Type 0} → Operation → Form → List Item → List (String Z) → ℕ → Request
+request_of operation usual items lists first = record {
+  operation = operation;
+  form = form_of usual items;
+  skips_bad = is_given items own.skip_bad;
+  shape = shape_of items;
+  first = first;
+  middle = first + position_or_len (is (codes "--")) lists;
+  second = min (first + length lists) (first + position_or_len (is (codes "--")) lists + 1);
+}
 
--- there is a word at this index, and it is this text
-abbrev pub word_at_is : {Z : Type 0} → List ℕ → List (String Z) → ℕ → Bool
-word_at_is text words place = nat_lt place (length words) && bytes_eq (name_at words place) text
+-- how a `check` looks lists over, strictly or not
+abbrev pub inspection_of : Bool → Inspection
+inspection_of strictly = if strictly then inspections.Strict else inspections.Check
 
--- the operation that is called so; `list` is the union, of which each address is printed
-abbrev pub operation_called : List ℕ → Option Operation
-operation_called text =
-    if bytes_eq text (codes "union") || bytes_eq text (codes "list") then Some Union
-    else if bytes_eq text (codes "common") then Some Common
-    else if bytes_eq text (codes "minus") then Some Minus
-    else if bytes_eq text (codes "differ") then Some Differ
-    else None
+-- what is asked for by options and lists, of which the first is the word at this index: `list` prints each address
+abbrev pub asked_for : {Z : Type 0} → Task → List Item → List (String Z) → ℕ → Command
+asked_for (tasks.Merge operation) items lists first = commands.Merge (request_of operation Blocks items lists first)
+asked_for tasks.List items lists first = commands.Merge (request_of operations.Union (Exported Addresses) items lists first)
+asked_for tasks.Split items lists first = commands.Split (record { length = length_of items; skips_bad = is_given items own.skip_bad; shape = shape_of items; first = first })
+asked_for tasks.Check items lists first = commands.Inspect (inspection_of (is_given items own.strict)) first
+asked_for tasks.Overlaps items lists first = commands.Inspect inspections.Overlaps first
+asked_for tasks.Find items lists first = commands.Find
 
-abbrev pub operation_named : {Z : Type 0} → String Z → Option Operation
-operation_named word = operation_called (string_bytes word)
+-- what is wrong with the words behind the first: options and lists, or, for a `find`, addresses and lists
+abbrev pub words_fault : {Z : Type 0} → Table → Task → List ℕ → List Item → List (String Z) → List (String Z) → Option Fault
+words_fault table tasks.Find name items others lists = find_fault table.rows.now name others
+words_fault table task name items others lists = fault_of table task name items lists
 
--- the text begins with a `-` (byte 45), and is not only that
-abbrev pub begins_dashed : List ℕ → Bool
-begins_dashed [] = false
-begins_dashed (byte ∷ bytes) = nat_lt 0 (length bytes) && byte == 45
+-- that, or what is asked for
+abbrev pub unless : Option Fault → Command → Result Command Fault
+unless None command = Ok command
+unless (Some fault) command = Err fault
 
-abbrev pub is_dashed : {Z : Type 0} → String Z → Bool
-is_dashed word = begins_dashed (string_bytes word)
+-- the options stand before the first word that is a FILE or `--`; from there on, the lists
+abbrev pub lists_of : {Z : Type 0} → Table → List (String Z) → List (String Z)
+lists_of table others = drop (options_len table.rows.now modes.Free others) others
 
--- how many of the words are options and their values: those before the first that is `-` or does
--- not begin with `-`, where the word after a `--format` is its value, whatever it is; the first
--- word may be such a value
-abbrev pub belongs : {Z : Type 0} → Bool → String Z → Bool
-belongs is_value word = is_value || is_dashed word
+abbrev pub command_for : {Z : Type 0} → Table → List ℕ → Task → List (String Z) → Result Command Fault
+command_for table name task others =
+    unless (words_fault table task name (option_items table.rows.now modes.Free others) others (lists_of table others))
+    (asked_for task (option_items table.rows.now modes.Free others) (lists_of table others) (1 + options_len table.rows.now modes.Free others))
 
-abbrev pub options_len : {Z : Type 0} → Bool → List (String Z) → ℕ
-options_len is_value [] = 0
-options_len is_value (word ∷ words) =
-    if belongs is_value word then 1 + options_len (is (codes "--format") word) words else 0
+-- what the first word says to do
+abbrev pub command_by : {Z : Type 0} → Table → List ℕ → Option Task → List (String Z) → Result Command Fault
+command_by table name None others = Err (no_task_fault table.rows.now name)
+command_by table name (Some task) others = command_for table name task others
 
--- the options follow the operation
-abbrev pub options_of : {Z : Type 0} → List (String Z) → List (String Z)
-options_of words = take (options_len false (drop 1 words)) (drop 1 words)
-
--- from there on, its lists
-abbrev pub lists_of : {Z : Type 0} → List (String Z) → List (String Z)
-lists_of words = drop (options_len false (drop 1 words)) (drop 1 words)
-
--- those before the first `--`, and those after it
-abbrev pub before_dashes : {Z : Type 0} → List (String Z) → List (String Z)
-before_dashes lists = take (position_or_len (is (codes "--")) lists) lists
-
-abbrev pub behind_dashes : {Z : Type 0} → List (String Z) → List (String Z)
-behind_dashes lists = drop (position_or_len (is (codes "--")) lists + 1) lists
-
--- the forms that `--format` names
-abbrev pub form_called : List ℕ → Option Form
-form_called text =
-    if bytes_eq text (codes "plain") then Some Blocks
-    else if bytes_eq text (codes "range") then Some Ranges
-    else if bytes_eq text (codes "netmask") then Some (Exported Netmask)
-    else if bytes_eq text (codes "wildcard") then Some (Exported Wildcard)
-    else if bytes_eq text (codes "csv") then Some (Exported Csv)
-    else if bytes_eq text (codes "nft") then Some (Exported Nft)
-    else if bytes_eq text (codes "ipset") then Some (Exported Ipset)
-    else if bytes_eq text (codes "json") then Some (Exported Json)
-    else if bytes_eq text (codes "addresses") then Some (Exported Addresses)
-    else None
-
--- there are six options; the word after a `--format` names a form
-abbrev pub is_option_text : List ℕ → Bool
-is_option_text text =
-    bytes_eq text (codes "--ranges") || bytes_eq text (codes "--count")
-    || bytes_eq text (codes "--format") || bytes_eq text (codes "--skip-bad")
-    || bytes_eq text (codes "--json") || bytes_eq text (codes "--strict")
-
-abbrev pub is_option : {Z : Type 0} → String Z → Bool
-is_option word = is_option_text (string_bytes word)
-
-abbrev pub names_form : {Z : Type 0} → String Z → Bool
-names_form word = is_some (form_called (string_bytes word))
-
-abbrev pub is_right : {Z : Type 0} → Bool → String Z → Bool
-is_right is_value word = if is_value then names_form word else is_option word
-
-abbrev pub are_right : {Z : Type 0} → Bool → List (String Z) → Bool
-are_right is_value [] = true
-are_right is_value (word ∷ words) =
-    is_right is_value word && are_right (is (codes "--format") word) words
-
--- `--format` is given twice, or together with another option that says how to print
-abbrev pub named_twice : {Z : Type 0} → List (String Z) → Bool
-named_twice options = nat_lt 1 (count (codes "--format") options)
-    || (nat_lt 0 (count (codes "--format") options)
-    && (has (codes "--ranges") options || has (codes "--count") options))
-
--- `--strict` is given without `--json`
-abbrev pub is_strict_alone : {Z : Type 0} → List (String Z) → Bool
-is_strict_alone options = has (codes "--strict") options && not (has (codes "--json") options)
-
--- how the options say that lists are written
-abbrev pub shape_of : {Z : Type 0} → List (String Z) → Shape
-shape_of options =
-    if has (codes "--json") options
-    then (if has (codes "--strict") options then shapes.StrictJson else shapes.Json)
-    else shapes.Lines
-
--- the options that say how to print exclude each other, and `--strict` needs `--json`
-abbrev pub are_options : {Z : Type 0} → List (String Z) → Bool
-are_options options =
-    are_right false options && not (has (codes "--ranges") options && has (codes "--count") options)
-    && not (named_twice options) && not (is_strict_alone options)
-
--- a list has a name, which does not begin with `-` unless it is `-`, standard input; that is named
--- at most once, and one `--` may stand among the names
-abbrev pub is_name : {Z : Type 0} → String Z → Bool
-is_name word =
-    not (length (string_bytes word) == 0) && (not (is_dashed word) || is (codes "--") word)
-
-abbrev pub are_lists : {Z : Type 0} → List (String Z) → Bool
-are_lists lists =
-    list_all is_name lists && nat_le (count (codes "-") lists) 1
-    && nat_le (count (codes "--") lists) 1
-
--- the union needs a list and no `--`, and each other operation a list before a `--` and one after
--- it
-abbrev pub are_two_sides : {Z : Type 0} → List (String Z) → Bool
-are_two_sides lists =
-    nat_lt 0 (length (before_dashes lists)) && nat_lt 0 (length (behind_dashes lists))
-
-abbrev pub are_sides : {Z : Type 0} → Operation → List (String Z) → Bool
-are_sides Union lists = nat_lt 0 (length lists) && not (has (codes "--") lists)
-are_sides Common lists = are_two_sides lists
-are_sides Minus lists = are_two_sides lists
-are_sides Differ lists = are_two_sides lists
-
--- how an operation of this name prints without an option: `list` each address, and any other the
--- blocks
-abbrev pub usual_form : {Z : Type 0} → String Z → Form
-usual_form name = if is (codes "list") name then Exported Addresses else Blocks
-
-abbrev pub usual_of : {Z : Type 0} → List (String Z) → Form
-usual_of [] = Blocks
-usual_of (name ∷ others) = usual_form name
-
--- how the options say to print: the form after a `--format`, and without one the usual form
-abbrev pub form_or : Form → Option Form → Form
-form_or usual None = usual
-form_or usual (Some form) = form
-
-abbrev pub form_of : {Z : Type 0} → Form → List (String Z) → Form
-form_of usual options =
-    if has (codes "--ranges") options then Ranges
-    else if has (codes "--count") options then Counts
-    else form_or usual
-    (form_called (name_at options (1 + position_or_len (is (codes "--format")) options)))
-
--- the forms that other programs read cannot tell the sides of `differ`
-abbrev pub is_exported : Form → Bool
-is_exported Blocks = false
-is_exported Ranges = false
-is_exported Counts = false
-is_exported (Exported export) = true
-
-abbrev pub can_print : Operation → Form → Bool
-can_print Union form = true
-can_print Common form = true
-can_print Minus form = true
-can_print Differ form = not (is_exported form)
-
--- the words after the first, which names the operation, are options of it and its lists
-abbrev pub AreFor : {Z : Type 0} → List (String Z) → Operation → Type 0
-AreFor [] operation = ⊥
-AreFor (name ∷ others) operation =
-    (operation_named name ≡ Some operation) × (are_options (options_of (name ∷ others)) ≡ true)
-    × (can_print operation (form_of Blocks (options_of (name ∷ others))) ≡ true)
-    × (are_lists (lists_of (name ∷ others)) ≡ true)
-    × (are_sides operation (lists_of (name ∷ others)) ≡ true)
-
--- the request has the form, the lists and their shape that the words say
-pub record Says {Z : Type 0} (words : List (String Z)) (request : Request) : Type 0 where
-  pub form : request.form ≡ form_of (usual_of words) (options_of words)
-  pub skips : request.skips_bad ≡ has (codes "--skip-bad") (options_of words)
-  pub shape : request.shape ≡ shape_of (options_of words)
-  pub firsts : slice_range words request.first request.middle ≡ before_dashes (lists_of words)
-  pub seconds : drop request.second words ≡ behind_dashes (lists_of words)
-
--- the words are for no operation
-abbrev pub AreForNone : {Z : Type 0} → List (String Z) → Type 0
-AreForNone words = (operation : Operation) → ¬ (AreFor words operation)
+-- what the words after the program's name ask for, or what is wrong with them
+abbrev pub command_of : {Z : Type 0} → Table → List (String Z) → Result Command Fault
+command_of table [] = Err (about subjects.CommandLine (codes "no operation"))
+command_of table (name ∷ others) = command_by table (string_bytes name) (task_called (string_bytes name)) others

@@ -1,21 +1,36 @@
--- How the program ends: what its first word asks for.
-use Rattle.std.specs.Prelude.{◌≡◌, ℕ, List, true, false, ◌⊎◌, codes, String}
+-- How the program ends: what its words ask for.
+use Rattle.std.specs.Prelude.{ℕ, List, ◌⊎◌, Result, Ok, Err, codes, String}
 use Rattle.lists.specs.KnownLists.{KnownLists}
-use Rattle.program.specs.Endings.{Ending}
+use Rattle.options.specs.Refusing.{refusal_text}
+use Rattle.options.specs.declared.faults.Fault.{Fault}
+use Rattle.options.specs.declared.table.Row.{Row}
+use Rattle.options.specs.declared.table.Table.{Table}
+use Rattle.program.specs.Endings.{Ending, Refuses}
 use Rattle.program.specs.Runs.{EndsRun}
-use Rattle.cidr_merge.specs.CommandLines.{word_at_is}
+use Rattle.cidr_merge.specs.CommandLines.{command_of}
 use Rattle.cidr_merge.specs.FindRuns.{EndsFind}
-use Rattle.cidr_merge.specs.Inspections.{inspection_of}
-use Rattle.cidr_merge.specs.Runs.{EndsCommand}
-use Rattle.cidr_merge.specs.Splits.{EndsSplit}
+use Rattle.cidr_merge.specs.InspectionRuns.{EndsInspecting}
+use Rattle.cidr_merge.specs.Options.{IsOptions}
+use Rattle.cidr_merge.specs.Runs.{EndsMerging}
+use Rattle.cidr_merge.specs.Splits.{EndsSplitting}
+use Rattle.cidr_merge.specs.declared.command_line.Command.{Command}
+use Rattle.cidr_merge.specs.declared.command_line.Command.TheVariants as commands
 
--- how a run ends of a program of this name, help, version and usage: with the help or the version,
--- if the words ask for it. Else the first word is `split`, and the lists are split, or `find`, and
--- they are searched, or it names another command, or nothing
-abbrev pub EndsAs : {Z W E : Type 0} → List ℕ → List ℕ → List ℕ → List ℕ → KnownLists
-    → List (String Z) → Ending W E → Type 0
+-- what is asked for is done
+abbrev pub EndsCommand : {Z W E : Type 0} → List ℕ → List ℕ → List Row → KnownLists → List (String Z) → Command → Ending W E → Type 0
+EndsCommand program usage rows known words (commands.Merge request) end = EndsMerging known words request end
+EndsCommand program usage rows known words (commands.Split request) end = EndsSplitting known words request end
+EndsCommand program usage rows known words (commands.Inspect inspection first) end = EndsInspecting known words inspection first end
+EndsCommand program usage rows known words commands.Find end = EndsFind program usage rows known words end
+
+-- or something is wrong with the words, and that and the usage are reported
+abbrev pub EndsAsked : {Z W E : Type 0} → List ℕ → List ℕ → List Row → KnownLists → List (String Z) → Result Command Fault → Ending W E → Type 0
+EndsAsked program usage rows known words (Ok command) end = EndsCommand program usage rows known words command end
+EndsAsked program usage rows known words (Err fault) end = Refuses (refusal_text program usage rows fault) end
+
+-- how a run ends of a program of this name, help, version and usage: with the help or the version, if the words ask for
+-- it. Else they are read by the table of its options, unless there is no memory for that
+abbrev pub EndsAs : {Z W E : Type 0} → List ℕ → List ℕ → List ℕ → List ℕ → KnownLists → List (String Z) → Ending W E → Type 0
 EndsAs program help version usage known words end = EndsRun help version words
-    (((word_at_is (codes "split") words 0 ≡ true) × EndsSplit program usage known words end)
-    ⊎ (((word_at_is (codes "find") words 0 ≡ true) × EndsFind program usage known words end)
-    ⊎ ((word_at_is (codes "split") words 0 ≡ false) × (word_at_is (codes "find") words 0 ≡ false)
-    × EndsCommand program usage known words (inspection_of words) end))) end
+    (Refuses (codes "out of memory\n") end
+    ⊎ ((table : Table) × IsOptions table × EndsAsked program usage table.rows.now known words (command_of table words) end)) end

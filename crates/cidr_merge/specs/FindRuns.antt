@@ -1,6 +1,5 @@
 -- How a run ends that searches lists for addresses.
-use Rattle.std.specs.Prelude.{◌≡◌, ◌==◌, ◌⊎◌, ℕ, ◌+◌, Option, None, Some, List, [], length, drop}
-use Rattle.std.specs.Prelude.{if◌then◌else◌, String}
+use Rattle.std.specs.Prelude.{◌≡◌, ◌==◌, ◌⊎◌, ℕ, ◌+◌, List, [], length, if◌then◌else◌, String}
 use Rattle.std.specs.List.{concat}
 use Rattle.lines.specs.Outputs.{Written}
 use Rattle.lists.specs.KnownLists.{KnownLists}
@@ -10,17 +9,15 @@ use Rattle.ipnetwork_addr.specs.declared.ip.IpAddr.{IpAddr}
 use Rattle.program.specs.Endings.{Ending, Refuses, HasTold, HasWritten}
 use Rattle.program.specs.Messages.{Tells}
 use Rattle.program.specs.Told.{name_at, fault_text}
-use Rattle.program.specs.Usage.{usage_text}
-use Rattle.program.specs.declared.usage.Subject.TheVariants.{Word}
 use Rattle.cidr_merge.specs.Finds.{lists_matches, lists_refusals}
-use Rattle.cidr_merge.specs.FindWords.{sought_of, searched_of, sought_problem, find_fault}
-use Rattle.cidr_merge.specs.FindWords.{AreAddresses, StopsAtWord, with_addresses}
+use Rattle.options.specs.Refusing.{refusal_text}
+use Rattle.options.specs.declared.table.Row.{Row}
+use Rattle.cidr_merge.specs.Faults.{sought_fault}
+use Rattle.cidr_merge.specs.FindWords.{sought_of, searched_of, AreAddresses, StopsAtWord, with_addresses}
 use Rattle.cidr_merge.specs.Texts.{AreTexts, TextsStop}
-use Rattle.cidr_merge.specs.Problems.{problem_text}
 use Rattle.cidr_merge.specs.Writing.{FailsToWrite}
 use Rattle.cidr_merge.specs.declared.query.QueryFault.{QueryFault}
 use Rattle.cidr_merge.specs.declared.query.QueryFault.TheVariants.{NotAnAddress, OutOfMemory}
-use Rattle.cidr_merge.specs.declared.usage.UsageFault.{UsageFault}
 
 -- the exit status: 2 if a refused line was told, else 0 if a line was printed, and else 1
 abbrev pub search_status : List (List ℕ) → List (List ℕ) → ℕ
@@ -52,31 +49,12 @@ EndsReadingAll known words addresses end =
 
 -- what is reported of words that are not taken as addresses: the first that is none, and the usage,
 -- or that memory ran out
-abbrev pub sought_fault_text : {Z : Type 0} → List ℕ → List ℕ → List (String Z) → QueryFault
-    → List ℕ
-sought_fault_text program usage words (NotAnAddress place) =
-    usage_text program usage words (Word place)
-    (problem_text (name_at words 0) (sought_problem (name_at words place)))
-sought_fault_text program usage words OutOfMemory = fault_text words faults.OutOfMemory
+abbrev pub sought_fault_text : {Z : Type 0} → List ℕ → List ℕ → List Row → List (String Z) → QueryFault → List ℕ
+sought_fault_text program usage rows words (NotAnAddress place) = refusal_text program usage rows (sought_fault rows (name_at words place))
+sought_fault_text program usage rows words OutOfMemory = fault_text words faults.OutOfMemory
 
 -- that is reported before anything is read, or the words before the `--` name addresses
-abbrev pub EndsTakingWords : {Z W E : Type 0} → List ℕ → List ℕ → KnownLists → List (String Z)
-    → Ending W E → Type 0
-EndsTakingWords program usage known words end =
-    ((fault : QueryFault) × StopsAtWord 1 (sought_of words) fault
-    × Refuses (sought_fault_text program usage words fault) end)
-    ⊎ ((addresses : List IpAddr) × AreAddresses (sought_of words) addresses
-    × EndsReadingAll known words addresses end)
-
--- the lists are searched, unless something is wrong with the words: that and the usage are reported
-abbrev pub EndsFindUnless : {Z W E : Type 0} → List ℕ → List ℕ → KnownLists → List (String Z)
-    → Option UsageFault → Ending W E → Type 0
-EndsFindUnless program usage known words None end = EndsTakingWords program usage known words end
-EndsFindUnless program usage known words (Some fault) end =
-    Refuses (usage_text program usage words fault.subject
-    (problem_text (name_at words 0) fault.problem)) end
-
-abbrev pub EndsFind : {Z W E : Type 0} → List ℕ → List ℕ → KnownLists → List (String Z) → Ending W E
-    → Type 0
-EndsFind program usage known words end =
-    EndsFindUnless program usage known words (find_fault (drop 1 words)) end
+abbrev pub EndsFind : {Z W E : Type 0} → List ℕ → List ℕ → List Row → KnownLists → List (String Z) → Ending W E → Type 0
+EndsFind program usage rows known words end =
+    ((fault : QueryFault) × StopsAtWord 1 (sought_of words) fault × Refuses (sought_fault_text program usage rows words fault) end)
+    ⊎ ((addresses : List IpAddr) × AreAddresses (sought_of words) addresses × EndsReadingAll known words addresses end)

@@ -1,18 +1,12 @@
 -- What the words of a `find` say: addresses, and lists in which they are sought.
-use Rattle.std.specs.Prelude.{◌≡◌, ℕ, ◌+◌, List, [], ◌∷◌, ◌++◌, Option, Some, length, drop}
-use Rattle.std.specs.Prelude.{if◌then◌else◌, codes, map, String}
+use Rattle.std.specs.Prelude.{◌≡◌, ℕ, ◌+◌, List, [], ◌∷◌, ◌++◌, length, drop, map, String}
 use Rattle.std.specs.List.{zip}
 use Rattle.std.specs.String.{string_bytes}
 use Rattle.ipnetwork_addr.specs.Either.{NamesIp}
 use Rattle.ipnetwork_addr.specs.declared.ip.IpAddr.{IpAddr}
-use Rattle.cidr_merge.specs.CommandLines.{begins_dashed, word_at_is, before_dashes, behind_dashes}
-use Rattle.cidr_merge.specs.Problems.{misplaced}
-use Rattle.cidr_merge.specs.Usage.{at_word, first_of, lists_fault, sides_fault}
+use Rattle.cidr_merge.specs.Sides.{before_dashes, behind_dashes}
 use Rattle.cidr_merge.specs.declared.query.QueryFault.{QueryFault}
 use Rattle.cidr_merge.specs.declared.query.QueryFault.TheVariants.{NotAnAddress, OutOfMemory}
-use Rattle.cidr_merge.specs.declared.problems.Problem.{Problem}
-use Rattle.cidr_merge.specs.declared.problems.Problem.TheVariants as problems
-use Rattle.cidr_merge.specs.declared.usage.UsageFault.{UsageFault}
 
 -- the words for addresses stand after `find` and before the first `--`
 abbrev pub sought_of : {Z : Type 0} → List (String Z) → List (String Z)
@@ -21,19 +15,6 @@ sought_of words = before_dashes (drop 1 words)
 -- the names of the lists stand after it
 abbrev pub searched_of : {Z : Type 0} → List (String Z) → List (String Z)
 searched_of words = behind_dashes (drop 1 words)
-
--- what is wrong with the words after `find`, whatever the addresses are: none stands before the
--- `--`, or there is not one `--`, or no list behind it, or a list has no name
-abbrev pub find_fault : {Z : Type 0} → List (String Z) → Option UsageFault
-find_fault others =
-    if word_at_is (codes "--") others 0 then Some (at_word 1 problems.NoAddress)
-    else first_of (sides_fault 1 others)
-    (lists_fault (2 + length (before_dashes others)) (behind_dashes others))
-
--- what is wrong with the text of a word that is no address: none begins with a `-`, as options do
-abbrev pub sought_problem : List ℕ → Problem
-sought_problem text =
-    if begins_dashed text then misplaced problems.NotAnOption text else problems.NotAnAddress
 
 -- the words are the texts of these addresses
 abbrev pub AreAddresses : {Z : Type 0} → List (String Z) → List IpAddr → Type 0

@@ -1,23 +1,17 @@
 -- How a run ends that looks lists over.
-use Rattle.std.specs.Prelude.{◌≡◌, ◌==◌, ◌⊎◌, ℕ, ◌+◌, Bool, true, false, Option, None, Some, List}
-use Rattle.std.specs.Prelude.{[], ◌++◌, length, if◌then◌else◌, codes, String}
+use Rattle.std.specs.Prelude.{◌≡◌, ◌==◌, ◌⊎◌, ℕ, Bool, true, false, List, [], ◌++◌, length, drop, if◌then◌else◌, codes, String}
 use Rattle.std.specs.List.{concat}
 use Rattle.lists.specs.KnownLists.{KnownLists}
 use Rattle.lists.specs.declared.named.ReadFault.{ReadFault}
 use Rattle.program.specs.Endings.{Ending, Refuses, HasTold, HasWritten}
-use Rattle.program.specs.Told.{name_at, fault_text}
-use Rattle.program.specs.Usage.{usage_text}
-use Rattle.cidr_merge.specs.CommandLines.{options_of, lists_of}
+use Rattle.program.specs.Told.{fault_text}
 use Rattle.cidr_merge.specs.Findings.{lists_findings}
-use Rattle.cidr_merge.specs.Inspections.{inspection_fault}
 use Rattle.cidr_merge.specs.Overlaps.{OrderedFindings}
 use Rattle.cidr_merge.specs.Repetitions.{found_among}
 use Rattle.cidr_merge.specs.Texts.{AreTexts, TextsStop}
-use Rattle.cidr_merge.specs.Problems.{problem_text}
 use Rattle.cidr_merge.specs.Writing.{FailsToWrite}
-use Rattle.cidr_merge.specs.declared.inspections.Inspection.{Inspection}
-use Rattle.cidr_merge.specs.declared.inspections.Inspection.TheVariants.{Check, Strict, Overlaps}
-use Rattle.cidr_merge.specs.declared.usage.UsageFault.{UsageFault}
+use Rattle.cidr_merge.specs.declared.command_line.Inspection.{Inspection}
+use Rattle.cidr_merge.specs.declared.command_line.Inspection.TheVariants.{Check, Strict, Overlaps}
 
 -- the exit status: 1 if there is a finding, and 0 if there is none
 abbrev pub findings_status : List (List ℕ) → ℕ
@@ -49,26 +43,9 @@ EndsFinding Check names texts end = EndsChecking names texts end
 EndsFinding Strict names texts end = EndsOrdered true names texts end
 EndsFinding Overlaps names texts end = EndsOrdered false names texts end
 
--- a list was not read, nothing was written, and the cause was reported; or all were read
-abbrev pub EndsReading : {Z W E : Type 0} → KnownLists → List (String Z) → Inspection → Ending W E
-    → Type 0
-EndsReading known words inspection end =
-    ((fault : ReadFault) × TextsStop known (1 + length (options_of words)) (lists_of words) fault
-    × Refuses (fault_text words fault) end)
-    ⊎ ((texts : List (List ℕ)) × AreTexts known (lists_of words) texts
-    × EndsFinding inspection (lists_of words) texts end)
-
--- the lists are looked over, unless something is wrong with the words: that and the usage are
--- reported
-abbrev pub EndsUnless : {Z W E : Type 0} → List ℕ → List ℕ → KnownLists → List (String Z)
-    → Inspection → Option UsageFault → Ending W E → Type 0
-EndsUnless program usage known words inspection None end = EndsReading known words inspection end
-EndsUnless program usage known words inspection (Some fault) end =
-    Refuses (usage_text program usage words fault.subject
-    (problem_text (name_at words 0) fault.problem)) end
-
-abbrev pub EndsInspecting : {Z W E : Type 0} → List ℕ → List ℕ → KnownLists → List (String Z)
-    → Inspection → Ending W E → Type 0
-EndsInspecting program usage known words inspection end =
-    EndsUnless program usage known words inspection
-    (inspection_fault inspection (options_of words) (lists_of words)) end
+-- the lists from the word at this index on are looked over: one was not read, nothing was written, and the cause was
+-- reported; or all were read
+abbrev pub EndsInspecting : {Z W E : Type 0} → KnownLists → List (String Z) → Inspection → ℕ → Ending W E → Type 0
+EndsInspecting known words inspection first end =
+    ((fault : ReadFault) × TextsStop known first (drop first words) fault × Refuses (fault_text words fault) end)
+    ⊎ ((texts : List (List ℕ)) × AreTexts known (drop first words) texts × EndsFinding inspection (drop first words) texts end)

@@ -1,28 +1,50 @@
 -- What no other text is, and what is computed of lists.
-use Rattle.std.specs.Prelude.{◌≡◌, ◌≢◌, ◌↔◌, ℕ, Bool, List, Option, None, Result, false, codes}
-use Rattle.std.specs.Prelude.{IsTrue}
+use Rattle.std.specs.Prelude.{◌≡◌, ◌≢◌, ◌↔◌, ℕ, Bool, List, Option, None, Some, Result, Ok, false, nat_lt, drop, slice_range, codes, IsTrue, String}
 use Rattle.ipnetwork_addr.specs.declared.ip.IpAddr.{IpAddr}
 use Rattle.lists.specs.Entries.{ReadsEntry}
 use Rattle.lists.specs.Lists.{Names}
 use Rattle.lists.specs.declared.entry.Entry.{Entry}
 use Rattle.lists.specs.declared.entry.EntryFault.{EntryFault}
-use Rattle.cidr_merge.specs.CommandLines.{operation_called, form_called, is_option_text}
 use Rattle.cidr_merge.specs.Finds.{has}
-use Rattle.cidr_merge.specs.Inspections.{inspection_called}
+use Rattle.cidr_merge.specs.Forms.{form_called}
 use Rattle.cidr_merge.specs.NumberedLines.{reading_of}
+use Rattle.cidr_merge.specs.Options.{prefix}
+use Rattle.cidr_merge.specs.Tasks.{task_called}
+use Rattle.options.specs.Table.{named}
+use Rattle.options.specs.declared.table.Row.{Row}
+use Rattle.options.specs.declared.table.Table.{Table}
+use Rattle.cidr_merge.specs.CommandLines.{command_of}
+use Rattle.cidr_merge.specs.Sides.{before_dashes, behind_dashes}
+use Rattle.cidr_merge.specs.declared.command_line.Command.TheVariants as commands
+use Rattle.cidr_merge.specs.declared.command_line.Request.{Request}
 
--- no text but these five names an operation
-abbrev pub NoOtherOperation : Type 0
-NoOtherOperation =
-    (text : List ℕ) → text ≢ codes "union" → text ≢ codes "list" → text ≢ codes "common"
-    → text ≢ codes "minus" → text ≢ codes "differ" → operation_called text ≡ None
+-- no word but these nine says to do something
+abbrev pub NoOtherTask : Type 0
+NoOtherTask =
+    (text : List ℕ) → text ≢ codes "union" → text ≢ codes "common" → text ≢ codes "minus"
+    → text ≢ codes "differ" → text ≢ codes "list" → text ≢ codes "split" → text ≢ codes "check"
+    → text ≢ codes "overlaps" → text ≢ codes "find" → task_called text ≡ None
+
+-- the row of an option of the operations that merge
+abbrev pub is_of_merges : Option ℕ → Bool
+is_of_merges None = false
+is_of_merges (Some row) = nat_lt row prefix
 
 -- no text but these six is an option of an operation
-abbrev pub NoOtherOption : Type 0
-NoOtherOption =
+abbrev pub NoOtherOption : List Row → Type 0
+NoOtherOption rows =
     (text : List ℕ) → text ≢ codes "--ranges" → text ≢ codes "--count" → text ≢ codes "--format"
     → text ≢ codes "--skip-bad" → text ≢ codes "--json" → text ≢ codes "--strict"
-    → is_option_text text ≡ false
+    → is_of_merges (named text rows) ≡ false
+
+-- the lists of the sides of a request are those before the first `--` behind the options, and those after it
+abbrev pub AreCut : {Z : Type 0} → List (String Z) → Request → Type 0
+AreCut words request =
+    (slice_range words request.first request.middle ≡ before_dashes (drop request.first words))
+    × (drop request.second words ≡ behind_dashes (drop request.first words))
+
+abbrev pub SidesAreCut : {Z : Type 0} → Table → List (String Z) → Type 0
+SidesAreCut table words = (request : Request) → command_of table words ≡ Ok (commands.Merge request) → AreCut words request
 
 -- no text but these nine names a form
 abbrev pub NoOtherForm : Type 0
@@ -30,12 +52,6 @@ NoOtherForm =
     (text : List ℕ) → text ≢ codes "plain" → text ≢ codes "range" → text ≢ codes "netmask"
     → text ≢ codes "wildcard" → text ≢ codes "csv" → text ≢ codes "nft" → text ≢ codes "ipset"
     → text ≢ codes "json" → text ≢ codes "addresses" → form_called text ≡ None
-
--- no text but these two says to look lists over, strictly or not
-abbrev pub NoOtherInspection : Type 0
-NoOtherInspection =
-    (text : List ℕ) → (strictly : Bool) → text ≢ codes "check" → text ≢ codes "overlaps"
-    → inspection_called text strictly ≡ None
 
 -- what reading a line gives is what is computed
 abbrev pub LinesAreReadAsComputed : Type 0

@@ -1,30 +1,22 @@
 -- How a run ends: its exit status, what was written, and what was reported.
-use Rattle.std.specs.Prelude.{◌≡◌, ℕ, List, [], Bool, true, false, not, ◌&&◌, ◌⊎◌, Option, None}
-use Rattle.std.specs.Prelude.{Some, if◌then◌else◌, String}
+use Rattle.std.specs.Prelude.{◌≡◌, ℕ, List, [], Bool, true, false, not, ◌&&◌, ◌⊎◌, if◌then◌else◌, String}
 use Rattle.lists.specs.Refusals.{Refused}
 use Rattle.ipnetwork_sets.specs.Equality.{same_blocks}
 use Rattle.lines.specs.Outputs.{Written}
-use Rattle.program.specs.Endings.{Ending, IsSilent, Refuses, HasTold, HasWritten}
+use Rattle.program.specs.Endings.{Ending, IsSilent, HasTold, HasWritten}
 use Rattle.lists.specs.KnownLists.{KnownLists}
 use Rattle.program.specs.Messages.{Tells}
-use Rattle.program.specs.Told.{name_at, was_refused, fault_text, in_list, refusals_text}
+use Rattle.program.specs.Told.{was_refused, fault_text, in_list, refusals_text}
 use Rattle.lists.specs.declared.named.ReadFault.{ReadFault}
 use Rattle.cidr_merge.specs.Answers.{IsAnswer}
-use Rattle.cidr_merge.specs.CommandLines.{AreFor, AreForNone, Says}
-use Rattle.cidr_merge.specs.InspectionRuns.{EndsInspecting}
-use Rattle.cidr_merge.specs.Problems.{problem_text}
 use Rattle.cidr_merge.specs.Reading.{ReadsSides}
 use Rattle.cidr_merge.specs.Stopping.{StopsInSides}
-use Rattle.program.specs.Usage.{usage_text}
-use Rattle.cidr_merge.specs.Usage.{fault_in}
 use Rattle.cidr_merge.specs.Writing.{FailsToWrite}
-use Rattle.cidr_merge.specs.declared.inspections.Inspection.{Inspection}
 use Rattle.cidr_merge.specs.declared.command_line.Operation.{Operation}
 use Rattle.cidr_merge.specs.declared.command_line.Operation.TheVariants.{Union, Common, Minus}
 use Rattle.cidr_merge.specs.declared.command_line.Operation.TheVariants.{Differ}
 use Rattle.cidr_merge.specs.declared.command_line.Request.{Request}
 use Rattle.cidr_merge.specs.declared.reading.Sets.{Sets}
-use Rattle.cidr_merge.specs.declared.usage.UsageFault.{UsageFault}
 
 -- whether the operation is `differ`, and the blocks of its sides are not the same
 abbrev pub are_unequal : Operation → Sets → Sets → Bool
@@ -71,21 +63,3 @@ EndsMerging {Z} {W} {E} known words request end = (refused : Refused) × (told :
     × (StopsReading known words request refused (record end { errors = told })
     ⊎ ((first second : Sets) × ReadsSides known words request first second refused
     × EndsAnswering request (was_refused refused) first second (record end { errors = told })))
-
--- the words say a request, which is done, or something is wrong with them, and that and the usage
--- are reported
-abbrev pub EndsRequest : {Z W E : Type 0} → List ℕ → List ℕ → KnownLists → List (String Z)
-    → Ending W E → Type 0
-EndsRequest program usage known words end =
-    ((request : Request) × AreFor words request.operation × Says words request
-    × EndsMerging known words request end)
-    ⊎ ((fault : UsageFault) × AreForNone words × (fault_in words ≡ Some fault)
-    × Refuses (usage_text program usage words fault.subject
-    (problem_text (name_at words 0) fault.problem)) end)
-
--- the first word says to look lists over, or what to do with them else
-abbrev pub EndsCommand : {Z W E : Type 0} → List ℕ → List ℕ → KnownLists → List (String Z)
-    → Option Inspection → Ending W E → Type 0
-EndsCommand program usage known words None end = EndsRequest program usage known words end
-EndsCommand program usage known words (Some inspection) end =
-    EndsInspecting program usage known words inspection end

@@ -8,18 +8,14 @@ use Rattle.lists.specs.Refusals.{Refused, no_refusals}
 use Rattle.lists.specs.declared.named.ReadFault.{ReadFault}
 use Rattle.program.specs.Endings.{Ending, IsSilent, Refuses, HasTold, HasWritten}
 use Rattle.program.specs.Messages.{Tells}
-use Rattle.program.specs.Told.{name_at, was_refused, fault_text, in_list, refusals_text}
-use Rattle.program.specs.Usage.{usage_text}
+use Rattle.program.specs.Told.{was_refused, fault_text, in_list, refusals_text}
 use Rattle.cidr_merge.specs.Pieces.{split_text, split_count, split_refusal}
 use Rattle.cidr_merge.specs.Reading.{ReadsSide}
 use Rattle.cidr_merge.specs.Shapes.{source}
-use Rattle.cidr_merge.specs.SplitWords.{SaysSplit, SplitFault}
 use Rattle.cidr_merge.specs.Stopping.{Stops}
-use Rattle.cidr_merge.specs.Problems.{problem_text}
 use Rattle.cidr_merge.specs.Writing.{FailsToWrite}
 use Rattle.cidr_merge.specs.declared.reading.Sets.{Sets}
-use Rattle.cidr_merge.specs.declared.split_words.SplitRequest.{SplitRequest}
-use Rattle.cidr_merge.specs.declared.usage.UsageFault.{UsageFault}
+use Rattle.cidr_merge.specs.declared.command_line.SplitRequest.{SplitRequest}
 
 -- the pieces were written, and nothing more was reported; the exit status is 3 if lines were
 -- skipped, and else 0
@@ -58,13 +54,3 @@ EndsSplitting {Z} {W} {E} known words request end = (refused : Refused) × (told
     ⊎ ((sets : Sets) × ReadsSide (source known request.shape) request.first
     (drop request.first words) no_refusals sets refused
     × EndsCutting request (was_refused refused) sets (record end { errors = told })))
-
--- the words say a request, which is done, or something is wrong with them, and that and the usage
--- are reported
-abbrev pub EndsSplit : {Z W E : Type 0} → List ℕ → List ℕ → KnownLists → List (String Z)
-    → Ending W E → Type 0
-EndsSplit program usage known words end =
-    ((request : SplitRequest) × SaysSplit words request × EndsSplitting known words request end)
-    ⊎ ((fault : UsageFault) × SplitFault words fault
-    × Refuses (usage_text program usage words fault.subject
-    (problem_text (name_at words 0) fault.problem)) end)

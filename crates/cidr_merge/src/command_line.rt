@@ -1,16 +1,22 @@
-//! What the arguments ask for.
-ghost use Rattle.std.specs.Prelude.{◌≡◌, ◌+◌, ◌^◌, ◌<◌, Some, length, IfOk, MatchResult};
-ghost use Rattle.cidr_merge.specs.CommandLines.{operation_named, usual_form, form_called, form_of};
-ghost use Rattle.cidr_merge.specs.CommandLines.{AreFor, AreForNone, Says};
-ghost use Rattle.cidr_merge.specs.Private.Words.{IsWithin};
-ghost use Rattle.cidr_merge.specs.Usage.{fault_in};
+//! What the words of a command line ask for.
+ghost use Rattle.std.specs.Prelude.{◌≡◌, ◌+◌, ◌^◌, ◌<◌, length, IfOk};
+ghost use Rattle.cidr_merge.specs.CommandLines.{request_of, inspection_of, asked_for, words_fault, command_for, command_of};
+ghost use Rattle.cidr_merge.specs.Forms.{form_called, form_of, shape_of, without_plus, prefix_in, length_of};
+ghost use Rattle.cidr_merge.specs.Private.Words.{IsWithin, IsCommandWithin};
 
 use crate::exports::Export;
-use crate::problems::Problem;
-use crate::shapes::{Shape, shape_of};
-use crate::usage::{UsageFault, fault_of, fault_of_word, nothing_said};
-use crate::words::{has, options_count, place_of};
-use program::words::{is, text_at};
+use crate::faults::{fault_of, find_fault, no_task_fault};
+use crate::rows::{COUNT, FORMAT, JSON, PREFIX, RANGES, SKIP_BAD, STRICT, table};
+use crate::shapes::Shape;
+use crate::tasks::{Task, task_called};
+use crate::words::place_of;
+use options::faults::{Fault, Subject, about};
+use options::given::{is_given, value_of};
+use options::items::Item;
+use options::reading::options_of;
+use options::table::Table;
+use options::values::length_in;
+use std::alloc::{AllocError, Global};
 
 /// What is done with the lists.
 #[derive(Clone, Copy, Debug, PartialEq, Eq)]
@@ -58,82 +64,217 @@ pub struct Request {
     pub second: usize,
 }
 
-/// The operation, its options and its lists, which the words after the program's name say. Does not
-/// allocate.
-pub(crate) fn request_of(words: &[String]) -> Result<Request, UsageFault>
-    ensures within { IfOk result (IsWithin (length words.now)) }
-    ensures asked { MatchResult result (λ request. AreFor words.now request.operation
-        × Says words.now request) (λ fault. AreForNone words.now
-        × (fault_in words.now ≡ Some fault)) }
+/// How lists are split.
+#[derive(Clone, Copy, Debug, PartialEq, Eq)]
+pub struct SplitRequest {
+    /// The prefix length into which networks are cut.
+    pub length: u8,
+    /// Whether refused lines are skipped.
+    pub skips_bad: bool,
+    /// How the lists are written.
+    pub shape: Shape,
+    /// The index of the first list among the words.
+    pub first: usize,
+}
+
+/// How lists are looked over.
+#[derive(Clone, Copy, Debug, PartialEq, Eq)]
+pub enum Inspection {
+    /// Their wrong entries are printed.
+    Check,
+    /// Those are, and then each entry that has addresses of another, with that.
+    Strict,
+    /// Those are, and then the pairs of entries that overlap.
+    Overlaps,
+}
+
+/// What is asked for.
+#[derive(Clone, Copy, Debug, PartialEq, Eq)]
+pub enum Command {
+    /// Lists are merged.
+    Merge(Request),
+    /// Lists are split.
+    Split(SplitRequest),
+    /// The lists from the word at this index on are looked over.
+    Inspect(Inspection, usize),
+    /// Addresses are sought in lists.
+    Find,
+}
+
+/// What the words after the program's name ask for, or what is wrong with them, unless memory runs out.
+pub(crate) fn command_of<'a>(
+    alloc: Global,
+    table: &Table<'_>,
+    words: &'a [String],
+) -> Result<Result<Command, Fault<'a>>, AllocError>
+    ensures asked { IfOk result (λ asked. asked ≡ command_of table.now words.now) }
+    ensures within { IfOk result (λ asked. IfOk asked (IsCommandWithin (length words.now))) }
 {
     let Some((name, others)) = words.split_first() else {
-        return Err(nothing_said());
+        return Ok(Err(about(Subject::CommandLine, "no operation")));
     };
-    let Some(operation) = operation_of(name) else {
-        return Err(fault_of_word(0, Problem::NotAnOperation));
-    };
-    let count = options_count(others);
-    let options = &others[..count];
-    let lists = &others[count..];
-    if let Some(fault) = fault_of(operation, options, lists) {
-        return Err(fault);
+    match task_called(name.as_str()) {
+        Some(task) => command_for(alloc, table, task, name.as_str(), others),
+        None => Ok(Err(no_task_fault(table.rows, name.as_str()))),
     }
-    let first = 1 + count;
+}
+
+// What words ask for of which the first has this name.
+fn command_for<'a>(
+    alloc: Global,
+    table: &Table<'_>,
+    task: Task,
+    name: &'a str,
+    others: &'a [String],
+) -> Result<Result<Command, Fault<'a>>, AllocError>
+    requires { 2 + length others.now < 2 ^ 64 }
+    ensures asked { IfOk result
+        (λ asked. asked ≡ command_for table.now name.now task others.now) }
+    ensures within { IfOk result
+        (λ asked. IfOk asked (IsCommandWithin (1 + length others.now))) }
+{
+    let (items, count) = options_of(alloc, table.rows, others)?;
+    let items = items.as_slice();
+    let lists = &others[count..];
+    if let Some(fault) = words_fault(table, task, name, items, others, lists) {
+        return Ok(Err(fault));
+    }
+    Ok(Ok(asked_for(task, items, lists, 1 + count)))
+}
+
+// What is wrong with the words behind the first: options and lists, or, for a `find`, addresses and lists.
+fn words_fault<'a>(
+    table: &Table<'_>,
+    task: Task,
+    name: &'a str,
+    items: &[Item<'a>],
+    others: &'a [String],
+    lists: &'a [String],
+) -> Option<Fault<'a>>
+    ensures { result ≡ words_fault table.now task name.now items.now others.now lists.now }
+{
+    match task {
+        Task::Find => find_fault(table.rows, name, others),
+        _ => fault_of(table, task, name, items, lists),
+    }
+}
+
+// What is asked for by options and lists, of which the first is the word at this index.
+fn asked_for(task: Task, items: &[Item<'_>], lists: &[String], first: usize) -> Command
+    requires some { 0 < first }
+    requires fits { first + length lists.now + 1 < 2 ^ 64 }
+    ensures asked { result ≡ asked_for task items.now lists.now first }
+    ensures within { IsCommandWithin (first + length lists.now) result }
+{
+    match task {
+        Task::Merge(operation) => {
+            Command::Merge(request_of(operation, Form::Blocks, items, lists, first))
+        }
+        Task::List => {
+            let usual = Form::Exported(Export::Addresses);
+            Command::Merge(request_of(Operation::Union, usual, items, lists, first))
+        }
+        Task::Split => Command::Split(SplitRequest {
+            length: length_of(items),
+            skips_bad: is_given(items, SKIP_BAD),
+            shape: shape_of(items),
+            first,
+        }),
+        Task::Check => Command::Inspect(inspection_of(is_given(items, STRICT)), first),
+        Task::Overlaps => Command::Inspect(Inspection::Overlaps, first),
+        Task::Find => Command::Find,
+    }
+}
+
+// How lists are merged by these options.
+fn request_of(
+    operation: Operation,
+    usual: Form,
+    items: &[Item<'_>],
+    lists: &[String],
+    first: usize,
+) -> Request
+    requires { first + length lists.now + 1 < 2 ^ 64 }
+    ensures asked { result ≡ request_of operation usual items.now lists.now first }
+    ensures within { IsWithin (first + length lists.now) result }
+{
     let middle = first + place_of(lists, "--");
-    Ok(Request {
+    Request {
         operation,
-        form: form_of(usual_form(name), options),
-        skips_bad: has(options, "--skip-bad"),
-        shape: shape_of(options),
+        form: form_of(usual, items),
+        skips_bad: is_given(items, SKIP_BAD),
+        shape: shape_of(items),
         first,
         middle,
-        second: words.len().min(middle + 1),
-    })
-}
-
-// The operation of this name.
-fn operation_of(word: &String) -> Option<Operation>
-    ensures { result ≡ operation_named word.now }
-{
-    if is(word, "union") || is(word, "list") {
-        Some(Operation::Union)
-    } else if is(word, "common") {
-        Some(Operation::Common)
-    } else if is(word, "minus") {
-        Some(Operation::Minus)
-    } else if is(word, "differ") {
-        Some(Operation::Differ)
-    } else {
-        None
+        second: (first + lists.len()).min(middle + 1),
     }
 }
 
-// How an operation of this name prints without an option.
-fn usual_form(word: &String) -> Form
-    ensures { result ≡ usual_form word.now }
+// How a `check` looks lists over, strictly or not.
+fn inspection_of(strictly: bool) -> Inspection
+    ensures { result ≡ inspection_of strictly }
 {
-    if is(word, "list") {
-        Form::Exported(Export::Addresses)
+    if strictly {
+        Inspection::Strict
     } else {
-        Form::Blocks
+        Inspection::Check
     }
 }
 
 /// How these options say to print, or else this form.
-pub(crate) fn form_of(usual: Form, options: &[String]) -> Form
-    requires { 1 + length options.now < 2 ^ 64 }
-    ensures { result ≡ form_of usual options.now }
+pub(crate) fn form_of(usual: Form, items: &[Item<'_>]) -> Form
+    ensures { result ≡ form_of usual items.now }
 {
-    if has(options, "--ranges") {
+    if is_given(items, RANGES) {
         return Form::Ranges;
     }
-    if has(options, "--count") {
+    if is_given(items, COUNT) {
         return Form::Counts;
     }
-    let value = text_at(options, 1 + place_of(options, "--format"));
-    match form_called(value) {
+    match form_called(value_of(items, FORMAT)) {
         Some(form) => form,
         None => usual,
+    }
+}
+
+// How these options say that lists are written.
+fn shape_of(items: &[Item<'_>]) -> Shape
+    ensures { result ≡ shape_of items.now }
+{
+    if !is_given(items, JSON) {
+        return Shape::Lines;
+    }
+    if is_given(items, STRICT) {
+        Shape::StrictJson
+    } else {
+        Shape::Json
+    }
+}
+
+// The prefix length into which networks are cut.
+fn length_of(items: &[Item<'_>]) -> u8
+    ensures { result ≡ length_of items.now }
+{
+    match prefix_in(value_of(items, PREFIX)) {
+        Some(length) => length,
+        None => 0,
+    }
+}
+
+/// The prefix length that a text names, which may begin with a `+`.
+pub(crate) fn prefix_in(text: &str) -> Option<u8>
+    ensures { result ≡ prefix_in text.now }
+{
+    length_in(without_plus(text.as_bytes()), 128)
+}
+
+// What follows a `+` at the head of a text, or the text.
+fn without_plus(text: &[u8]) -> &[u8]
+    ensures { result.now ≡ without_plus text.now }
+{
+    match text {
+        [b'+', digits @ ..] => digits,
+        _ => text,
     }
 }
 

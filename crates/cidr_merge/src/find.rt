@@ -1,23 +1,25 @@
 //! The run of a `find`.
-ghost use Rattle.std.specs.Prelude.{◌≡◌, ◌<◌, None, drop, length, if◌then◌else◌};
+ghost use Rattle.std.specs.Prelude.{◌≡◌, ◌<◌, drop, length, if◌then◌else◌};
 ghost use Rattle.program.specs.Endings.{ending};
 ghost use Rattle.program.specs.Messages.{Tells};
-ghost use Rattle.cidr_merge.specs.CommandLines.{before_dashes};
+ghost use Rattle.cidr_merge.specs.Sides.{before_dashes};
 ghost use Rattle.cidr_merge.specs.FindRuns.{EndsFind, EndsReadingAll};
 ghost use Rattle.cidr_merge.specs.FindRuns.{sought_fault_text};
-ghost use Rattle.cidr_merge.specs.FindWords.{find_fault, AreAddresses};
+ghost use Rattle.cidr_merge.specs.FindWords.{AreAddresses};
 
 use crate::context::Context;
-use crate::find_words::{before_dashes, behind_dashes, find_fault, sought_problem};
+use crate::faults::sought_fault;
 use crate::help::{PROGRAM, USAGE};
 use crate::query::{Query, QueryFault, addresses_of};
 use crate::reading::refuse_lists;
 use crate::searching::search_lists;
 use crate::texts::{WholeLists, texts_of};
-use crate::usage::{fault_of_word, refuse};
+use crate::words::{before_dashes, behind_dashes};
 use ipnetwork::IpAddr;
 use lines::output::Output;
 use lists::{OpenLists, ReadFault};
+use options::refusing::refuse;
+use options::table::Row;
 use program::ending::{FAILED, end};
 use program::words::text_at;
 use std::io::Write;
@@ -28,37 +30,40 @@ const FOUND: u8 = 0;
 /// The exit status if no entry has an address that is sought.
 const NOTHING_FOUND: u8 = 1;
 
-/// Does what the words after the program's name ask for, of which the first is `find`, and returns
-/// the exit status.
+/// Prints the entries of lists that have addresses, and returns the exit status. The words between the first and a `--` are
+/// the addresses, and those behind it name the lists.
 pub(crate) fn find<L: OpenLists, W: Write, E: Write>(
+    rows: &[Row],
     context: &Context<'_, L>,
     output: &mut Output<'_, W>,
     errors: &mut Output<'_, E>,
 ) -> u8
     requires { 0 < length context.now.words.now }
-    ensures { EndsFind PROGRAM.now USAGE.now (L.known context.now.lists.now) context.now.words.now
-        (ending output.old output.new errors.old errors.new result) }
+    ensures { EndsFind PROGRAM.now USAGE.now rows.now (L.known context.now.lists.now)
+        context.now.words.now (ending output.old output.new errors.old errors.new result) }
 {
     let others = &context.words[1..];
-    if let Some(fault) = find_fault(others) {
-        return refuse(context.words, fault, errors);
-    }
     match addresses_of(context.alloc, before_dashes(others), 1) {
         Ok(addresses) => find_all(addresses.as_slice(), context, output, errors),
-        Err(fault) => refuse_sought(fault, context.words, errors),
+        Err(fault) => refuse_sought(rows, fault, context.words, errors),
     }
 }
 
 // Reports why words are not taken as addresses, and returns the exit status.
-fn refuse_sought<E: Write>(fault: QueryFault, words: &[String], errors: &mut Output<'_, E>) -> u8
+fn refuse_sought<E: Write>(
+    rows: &[Row],
+    fault: QueryFault,
+    words: &[String],
+    errors: &mut Output<'_, E>,
+) -> u8
     ensures status { result ≡ 2 }
     ensures told { Tells errors.old errors.new
-        (sought_fault_text PROGRAM.now USAGE.now words.now fault) }
+        (sought_fault_text PROGRAM.now USAGE.now rows.now words.now fault) }
 {
     match fault {
         QueryFault::NotAnAddress(place) => {
-            let problem = sought_problem(text_at(words, place));
-            refuse(words, fault_of_word(place, problem), errors)
+            let fault = sought_fault(rows, text_at(words, place));
+            refuse(PROGRAM, USAGE, rows, &fault, errors)
         }
         QueryFault::OutOfMemory => refuse_lists(words, ReadFault::OutOfMemory, errors),
     }

@@ -1,5 +1,5 @@
 //! The run that looks lists over.
-ghost use Rattle.std.specs.Prelude.{◌≡◌, ◌<◌, length, map, if◌then◌else◌};
+ghost use Rattle.std.specs.Prelude.{◌≡◌, ◌≤◌, length, map, if◌then◌else◌};
 ghost use Rattle.std.specs.List.Sorted.{IsSorted};
 ghost use Rattle.program.specs.Endings.{ending};
 ghost use Rattle.cidr_merge.specs.InspectionRuns.{EndsChecking, EndsFinding, EndsInspecting};
@@ -10,17 +10,14 @@ ghost use Rattle.cidr_merge.specs.Private.Reported.{TellsFound};
 ghost use Rattle.cidr_merge.specs.Repetitions.{found_among};
 
 use crate::checking::check_lists;
+use crate::command_line::Inspection;
 use crate::context::Context;
 use crate::findings::either;
-use crate::help::{PROGRAM, USAGE};
-use crate::inspections::Inspection;
 use crate::overlapping::tell_pairs;
 use crate::placed::{Placed, entries_of};
 use crate::reading::refuse_lists;
 use crate::repeating::tell_repetitions;
 use crate::texts::{WholeLists, texts_of};
-use crate::usage::refuse;
-use crate::words::options_count;
 use lines::output::Output;
 use lists::OpenLists;
 use program::ending::{FAILED, end};
@@ -34,24 +31,20 @@ const NOTHING_FOUND: u8 = 0;
 /// The exit status if something was found.
 const FOUND: u8 = 1;
 
-/// Looks over the lists that the words name, and returns the exit status.
+/// Looks over the lists that the words name from the one at the index `first` on, and returns the exit status.
 pub(crate) fn inspect<L: OpenLists, W: Write, E: Write>(
     inspection: Inspection,
+    first: usize,
     context: &Context<'_, L>,
     output: &mut Output<'_, W>,
     errors: &mut Output<'_, E>,
 ) -> u8
-    requires { 0 < length context.now.words.now }
-    ensures { EndsInspecting PROGRAM.now USAGE.now (L.known context.now.lists.now)
-        context.now.words.now inspection (ending output.old output.new errors.old errors.new result) }
+    requires { first ≤ length context.now.words.now }
+    ensures { EndsInspecting (L.known context.now.lists.now) context.now.words.now inspection first
+        (ending output.old output.new errors.old errors.new result) }
 {
-    let others = &context.words[1..];
-    let count = options_count(others);
-    let names = &others[count..];
-    if let Some(fault) = inspection.fault(&others[..count], names) {
-        return refuse(context.words, fault, errors);
-    }
-    let texts = match texts_of(context, names, 1 + count) {
+    let names = &context.words[first..];
+    let texts = match texts_of(context, names, first) {
         Ok(texts) => texts,
         Err(fault) => return refuse_lists(context.words, fault, errors),
     };

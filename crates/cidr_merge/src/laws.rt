@@ -2,14 +2,15 @@
 //! and a proof that calls it may use the law.
 ghost use Rattle.cidr_merge.specs.EntriesWithin.{EachWithinAnotherIsTold};
 ghost use Rattle.cidr_merge.specs.Laws.{EntriesHaveWhatTheyName, LinesAreReadAsComputed};
-ghost use Rattle.cidr_merge.specs.Laws.{NoOtherForm, NoOtherInspection, NoOtherOperation};
-ghost use Rattle.cidr_merge.specs.Laws.{NoOtherOption};
+ghost use Rattle.cidr_merge.specs.Laws.{NoOtherForm, NoOtherOption, NoOtherTask, SidesAreCut};
+ghost use Rattle.cidr_merge.specs.Options.{IsOptions};
 ghost use Rattle.cidr_merge.specs.Parts.{UnionsOfPartsPrintTheSame};
 
 use ipnetwork::laws as network_laws;
 use ipnetwork_addr::laws as address_laws;
 use ipnetwork_blocks::laws as block_laws;
 use lists::laws as list_laws;
+use options::table::Table;
 
 /// A list may be merged in parts, of any number and in any order: the union of what the unions of
 /// the parts print prints what the union of the list does.
@@ -21,26 +22,31 @@ pub fn unions_of_parts_print_the_same()
     block_laws::same_union();
 }
 
-/// No word but `union`, `list`, `common`, `minus` and `differ` names an operation.
-pub fn no_other_operations()
-    ensures { NoOtherOperation }
+/// No word but `union`, `common`, `minus`, `differ`, `list`, `split`, `check`, `overlaps` and `find` says to do something.
+pub fn no_other_tasks()
+    ensures { NoOtherTask }
 {}
 
 /// No word but `--ranges`, `--count`, `--format`, `--skip-bad`, `--json` and `--strict` is an
 /// option of an operation.
-pub fn no_other_options()
-    ensures { NoOtherOption }
-{}
+pub fn no_other_options(table: &Table<'_>)
+    ensures { IsOptions table.now → NoOtherOption table.now.rows.now }
+{
+    let _table = table;
+}
+
+/// The lists of the sides of a request are those before the first `--` behind the options, and those after it.
+pub fn sides_are_cut(table: &Table<'_>, words: &[String])
+    ensures { SidesAreCut table.now words.now }
+{
+    let _table = table;
+    let _words = words;
+}
 
 /// No word but `plain`, `range`, `netmask`, `wildcard`, `csv`, `nft`, `ipset`, `json` and
 /// `addresses` names a form.
 pub fn no_other_forms()
     ensures { NoOtherForm }
-{}
-
-/// No word but `check` and `overlaps` says to look lists over.
-pub fn no_other_inspections()
-    ensures { NoOtherInspection }
 {}
 
 /// A strict check tells an entry of lists as lying in another, or as the same as another before it,

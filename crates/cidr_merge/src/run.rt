@@ -3,27 +3,28 @@ ghost use Rattle.std.specs.Prelude.{◌≡◌, ◌≤◌, ℕ, List, length, if�
 ghost use Rattle.lines.specs.Outputs.{Writes};
 ghost use Rattle.program.specs.Endings.{ending};
 ghost use Rattle.cidr_merge.specs.Answers.{IsAnswer};
-ghost use Rattle.cidr_merge.specs.Private.Words.{IsWithin};
-ghost use Rattle.cidr_merge.specs.Endings.{EndsAs};
+ghost use Rattle.cidr_merge.specs.Private.Words.{IsWithin, IsCommandWithin};
+ghost use Rattle.cidr_merge.specs.Endings.{EndsAs, EndsCommand};
 ghost use Rattle.cidr_merge.specs.Reading.{ReadsSides};
 ghost use Rattle.cidr_merge.specs.Runs.{answer_status, EndsAnswering, EndsMerging};
 ghost use Rattle.cidr_merge.specs.Stopping.{StopsInSides};
 
-use crate::command_line::{Operation, Request, request_of};
+use crate::command_line::{Command, Operation, Request, command_of};
 use crate::context::Context;
 use crate::find::find;
 use crate::help::{HELP, PROGRAM, USAGE, VERSION};
 use crate::inspecting::inspect;
-use crate::inspections::inspection_of;
 use crate::printing::{Merging, print};
 use crate::reading::{Sets, read_side, refuse_lists};
+use crate::rows::table;
 use crate::split::split;
-use crate::usage::refuse;
-use crate::words::word_at_is;
 use lines::fault::RunFault;
 use lines::output::Output;
 use lists::{OpenLists, ReadFault, Refusals};
+use options::refusing::refuse;
+use options::table::Row;
 use program::ending::{FAILED, end, print_text};
+use program::memory::refuse_memory;
 use program::start::text_asked;
 use program::telling::{InLists, tell_refusals};
 use std::io::Write;
@@ -37,22 +38,34 @@ pub(crate) fn run<L: OpenLists, W: Write, E: Write>(
     ensures { EndsAs PROGRAM.now HELP.now VERSION.now USAGE.now (L.known context.now.lists.now)
         context.now.words.now (ending output.old output.new errors.old errors.new result) }
 {
-    let words = context.words;
-    if let Some(text) = text_asked(HELP, VERSION, words) {
+    if let Some(text) = text_asked(HELP, VERSION, context.words) {
         return print_text(text, output, errors);
     }
-    if word_at_is(words, 0, "split") {
-        return split(context, output, errors);
+    let table = table();
+    match command_of(context.alloc, &table, context.words) {
+        Ok(Ok(command)) => obey(command, table.rows, context, output, errors),
+        Ok(Err(fault)) => refuse(PROGRAM, USAGE, table.rows, &fault, errors),
+        Err(_) => refuse_memory(errors),
     }
-    if word_at_is(words, 0, "find") {
-        return find(context, output, errors);
-    }
-    if let Some(inspection) = inspection_of(words) {
-        return inspect(inspection, context, output, errors);
-    }
-    match request_of(words) {
-        Ok(request) => merge(request, context, output, errors),
-        Err(fault) => refuse(words, fault, errors),
+}
+
+// Does what is asked for.
+fn obey<L: OpenLists, W: Write, E: Write>(
+    command: Command,
+    rows: &[Row],
+    context: &Context<'_, L>,
+    output: &mut Output<'_, W>,
+    errors: &mut Output<'_, E>,
+) -> u8
+    requires { IsCommandWithin (length context.now.words.now) command }
+    ensures { EndsCommand PROGRAM.now USAGE.now rows.now (L.known context.now.lists.now)
+        context.now.words.now command (ending output.old output.new errors.old errors.new result) }
+{
+    match command {
+        Command::Merge(request) => merge(request, context, output, errors),
+        Command::Split(request) => split(request, context, output, errors),
+        Command::Inspect(inspection, first) => inspect(inspection, first, context, output, errors),
+        Command::Find => find(rows, context, output, errors),
     }
 }
 

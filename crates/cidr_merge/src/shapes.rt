@@ -1,10 +1,8 @@
 //! How lists are written, and how one is read.
 ghost use Rattle.std.specs.Prelude.{◌≡◌, false, OnOk, IfErr};
-ghost use Rattle.cidr_merge.specs.CommandLines.{shape_of};
 ghost use Rattle.cidr_merge.specs.Shapes.{source, ReadsOne, StopsOne};
 
 use crate::context::Context;
-use crate::words::has;
 use lists::{ListReader, OpenLists, ReadFault, read_document, read_named};
 
 /// How lists are written.
@@ -16,20 +14,6 @@ pub enum Shape {
     Json,
     /// As documents of JSON, of which these strings are refused.
     StrictJson,
-}
-
-/// How these options say that lists are written.
-pub(crate) fn shape_of(options: &[String]) -> Shape
-    ensures { result ≡ shape_of options.now }
-{
-    if !has(options, "--json") {
-        return Shape::Lines;
-    }
-    if has(options, "--strict") {
-        Shape::StrictJson
-    } else {
-        Shape::Json
-    }
 }
 
 /// Opens the list of this name, which is the word at the index `place`, reads it to the end, and

@@ -1,16 +1,14 @@
 //! The run of a `split`.
-ghost use Rattle.std.specs.Prelude.{◌≡◌, min, ◌-◌, ◌^◌, OnOk, is_err};
+ghost use Rattle.std.specs.Prelude.{◌≡◌, ◌≤◌, length, min, ◌-◌, ◌^◌, OnOk, is_err};
 ghost use Rattle.lines.specs.Outputs.{Writes};
 ghost use Rattle.program.specs.Endings.{ending};
 ghost use Rattle.cidr_merge.specs.Pieces.{split_text, split_count};
-ghost use Rattle.cidr_merge.specs.Splits.{EndsSplit, EndsCutting};
+ghost use Rattle.cidr_merge.specs.Splits.{EndsSplitting, EndsCutting};
 
+use crate::command_line::SplitRequest;
 use crate::context::Context;
 use crate::cutting::{count_pieces, print_pieces, too_many_text};
-use crate::help::{PROGRAM, USAGE};
 use crate::reading::{Sets, read_side, refuse_lists};
-use crate::split_words::{SplitRequest, split_request};
-use crate::usage::refuse;
 use lines::fault::RunFault;
 use lines::output::Output;
 use lists::{OpenLists, Refusals};
@@ -19,21 +17,18 @@ use program::messages::tell;
 use program::telling::{InLists, tell_refusals};
 use std::io::Write;
 
-/// Does what the words after the program's name ask for, of which the first is `split`, and returns
-/// the exit status.
+/// Reads the lists, and prints their networks in pieces. Returns the exit status.
 pub(crate) fn split<L: OpenLists, W: Write, E: Write>(
+    request: SplitRequest,
     context: &Context<'_, L>,
     output: &mut Output<'_, W>,
     errors: &mut Output<'_, E>,
 ) -> u8
-    ensures { EndsSplit PROGRAM.now USAGE.now (L.known context.now.lists.now) context.now.words.now
+    requires { request.first ≤ length context.now.words.now }
+    ensures { EndsSplitting (L.known context.now.lists.now) context.now.words.now request
         (ending output.old output.new errors.old errors.new result) }
 {
     let words = context.words;
-    let request = match split_request(words) {
-        Ok(request) => request,
-        Err(fault) => return refuse(words, fault, errors),
-    };
     let none = Refusals::new();
     let (sets, refusals, read) = read_side(
         context,

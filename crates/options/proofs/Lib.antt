@@ -1,4 +1,5 @@
 -- The lemmas of this crate.
+pub mod BeforeFiles
 pub mod Examples
 pub mod Grammar
 pub mod LawExamples

@@ -4,11 +4,12 @@ use Rattle.std.specs.List.{list_any, count_by}
 use Rattle.options.specs.declared.items.Item.{Item}
 use Rattle.options.specs.declared.items.Item.TheVariants as says
 
--- the option of a row is this one
+-- the option of a row is this one, also without the value that it takes
 abbrev pub names : ℕ → Item → Bool
 names row (says.Flag one) = one == row
 names row (says.Value one text) = one == row
 names row (says.Joined one text word) = one == row
+names row (says.Lacks one) = one == row
 names row item = false
 
 -- it is given, and how often

@@ -49,16 +49,22 @@ pub struct Fault<'a> {
     pub problem: Text<'a>,
 }
 
-// This fault.
-fn about<'a>(subject: Subject<'a>, problem: &'a str) -> Fault<'a>
+/// This fault.
+///
+/// ```
+/// use options::faults::{Subject, about};
+///
+/// assert_eq!(rt; about(Subject::CommandLine, "no FILE").problem.as_str(), "no FILE");
+/// ```
+pub fn about<'a>(subject: Subject<'a>, problem: &'a str) -> Fault<'a>
     ensures { result ≡ about subject.entry problem.now }
 {
     let problem = Text::new(problem);
     Fault { subject, problem }
 }
 
-// What is told of a wrong value of the option of a row.
-fn problem_at(rows: &[Row], row: usize) -> &'static str
+/// What is told of a wrong value of the option of a row.
+pub fn problem_at(rows: &[Row], row: usize) -> &'static str
     ensures { result.now ≡ problem_at rows.now row }
 {
     match rows.get(row) {
@@ -160,8 +166,8 @@ fn given_pair<'a>(items: &[Item<'_>], pairs: &'a [Pair]) -> Option<&'a Pair>
     pairs.iter().find(|pair| are_both(items, pair))
 }
 
-// What is wrong with the first pair that is given.
-fn pair_fault<'a>(items: &[Item<'_>], pairs: &[Pair]) -> Option<Fault<'a>>
+/// What is wrong with the first pair that is given.
+pub fn pair_fault<'a>(items: &[Item<'_>], pairs: &[Pair]) -> Option<Fault<'a>>
     ensures { result ≡ pair_fault items.now pairs.now }
 {
     match given_pair(items, pairs) {

@@ -23,13 +23,15 @@ pub fn is_given(items: &[Item<'_>], row: usize) -> bool
     items.iter().any(|item| names(item, row))
 }
 
-// Whether the option of a row is this one.
-fn names(item: &Item<'_>, row: usize) -> bool
+/// Whether the option of a row is this one, also without the value that it takes.
+pub fn names(item: &Item<'_>, row: usize) -> bool
     ensures { result ≡ names row item.now }
 {
     match item {
-        Item::Flag(one) | Item::Value(one, _) | Item::Joined(one, _, _) => *one == row,
-        Item::File(_) | Item::Unknown(_) | Item::Lacks(_) => false,
+        Item::Flag(one) | Item::Value(one, _) | Item::Joined(one, _, _) | Item::Lacks(one) => {
+            *one == row
+        }
+        Item::File(_) | Item::Unknown(_) => false,
     }
 }
 
@@ -62,8 +64,8 @@ pub fn value_of<'a>(items: &[Item<'a>], row: usize) -> &'a str
     value
 }
 
-// The value of the option of a row, or else this.
-fn value_in<'a>(item: &Item<'a>, row: usize, value: &'a str) -> &'a str
+/// The value of the option of a row, or else this.
+pub fn value_in<'a>(item: &Item<'a>, row: usize, value: &'a str) -> &'a str
     ensures { result.now ≡ value_in row value.now item.now }
 {
     match item {

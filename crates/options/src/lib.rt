@@ -8,6 +8,6 @@ pub mod items;
 pub mod laws;
 pub mod numbers;
 pub mod reading;
-mod refusing;
+pub mod refusing;
 pub mod table;
 pub mod values;

@@ -16,7 +16,7 @@ use std::io::Write;
 ///
 /// The first line is `PROGRAM: PROBLEM`, `PROGRAM: WORD: PROBLEM` or `PROGRAM: OPTION: VALUE PROBLEM`, by what the fault is
 /// about, where an empty word is shown as `''`; the second is the usage.
-pub(crate) fn refuse<E: Write>(
+pub fn refuse<E: Write>(
     program: &str,
     usage: &str,
     rows: &[Row],

@@ -118,7 +118,7 @@ pub struct Table<'a> {
 }
 
 /// Which values the option of a row has.
-pub(crate) fn kind_at(rows: &[Row], row: usize) -> Kind
+pub fn kind_at(rows: &[Row], row: usize) -> Kind
     ensures { result ≡ kind_at rows.now row }
 {
     match rows.get(row) {
@@ -145,7 +145,7 @@ pub(crate) fn lettered(rows: &[Row], letter: u8) -> Option<usize>
 }
 
 /// The row of the option of a long name.
-pub(crate) fn named(rows: &[Row], name: &str) -> Option<usize>
+pub fn named(rows: &[Row], name: &str) -> Option<usize>
     ensures { result ≡ named name.now rows.now }
 {
     rows.iter().position(|row| row.name == name)

@@ -107,8 +107,8 @@ pub fn lengths_in(value: &str) -> Option<(u8, u8)>
     }
 }
 
-// The number that a text names, up to the greatest.
-fn length_in(text: &[u8], greatest: u8) -> Option<u8>
+/// The number that a text names, up to the greatest.
+pub fn length_in(text: &[u8], greatest: u8) -> Option<u8>
     ensures { result ≡ length_in greatest text.now }
 {
     if !is_number(text) {

@@ -1,14 +1,21 @@
 // Written by scripts/plain out of crates/cidr_merge/src/command_line.rt
 
-//! What the arguments ask for.
+//! What the words of a command line ask for.
 
 use fosibegan::plain_std::string::String;
 use crate::exports::Export;
-use crate::problems::Problem;
-use crate::shapes::{Shape, shape_of};
-use crate::usage::{UsageFault, fault_of, fault_of_word, nothing_said};
-use crate::words::{has, options_count, place_of};
-use cidr_programs::program::words::{is, text_at};
+use crate::faults::{fault_of, find_fault, no_task_fault};
+use crate::rows::{COUNT, FORMAT, JSON, PREFIX, RANGES, SKIP_BAD, STRICT, table};
+use crate::shapes::Shape;
+use crate::tasks::{Task, task_called};
+use crate::words::place_of;
+use cidr_programs::options::faults::{Fault, Subject, about};
+use cidr_programs::options::given::{is_given, value_of};
+use cidr_programs::options::items::Item;
+use cidr_programs::options::reading::options_of;
+use cidr_programs::options::table::Table;
+use cidr_programs::options::values::length_in;
+use fosibegan::plain_std::alloc::{AllocError, Global};
 
 /// What is done with the lists.
 #[derive(Clone, Copy, Debug, PartialEq, Eq)]
@@ -56,70 +63,185 @@ pub struct Request {
     pub second: usize,
 }
 
-/// The operation, its options and its lists, which the words after the program's name say. Does not
-/// allocate.
-pub(crate) fn request_of(words: &[String]) -> Result<Request, UsageFault> {
+/// How lists are split.
+#[derive(Clone, Copy, Debug, PartialEq, Eq)]
+pub struct SplitRequest {
+    /// The prefix length into which networks are cut.
+    pub length: u8,
+    /// Whether refused lines are skipped.
+    pub skips_bad: bool,
+    /// How the lists are written.
+    pub shape: Shape,
+    /// The index of the first list among the words.
+    pub first: usize,
+}
+
+/// How lists are looked over.
+#[derive(Clone, Copy, Debug, PartialEq, Eq)]
+pub enum Inspection {
+    /// Their wrong entries are printed.
+    Check,
+    /// Those are, and then each entry that has addresses of another, with that.
+    Strict,
+    /// Those are, and then the pairs of entries that overlap.
+    Overlaps,
+}
+
+/// What is asked for.
+#[derive(Clone, Copy, Debug, PartialEq, Eq)]
+pub enum Command {
+    /// Lists are merged.
+    Merge(Request),
+    /// Lists are split.
+    Split(SplitRequest),
+    /// The lists from the word at this index on are looked over.
+    Inspect(Inspection, usize),
+    /// Addresses are sought in lists.
+    Find,
+}
+
+/// What the words after the program's name ask for, or what is wrong with them, unless memory runs out.
+pub(crate) fn command_of<'a>(
+    alloc: Global,
+    table: &Table<'_>,
+    words: &'a [String],
+) -> Result<Result<Command, Fault<'a>>, AllocError> {
     let Some((name, others)) = words.split_first() else {
-        return Err(nothing_said());
+        return Ok(Err(about(Subject::CommandLine, "no operation")));
     };
-    let Some(operation) = operation_of(name) else {
-        return Err(fault_of_word(0, Problem::NotAnOperation));
-    };
-    let count = options_count(others);
-    let options = &others[..count];
-    let lists = &others[count..];
-    if let Some(fault) = fault_of(operation, options, lists) {
-        return Err(fault);
+    match task_called(name.as_str()) {
+        Some(task) => command_for(alloc, table, task, name.as_str(), others),
+        None => Ok(Err(no_task_fault(table.rows, name.as_str()))),
     }
-    let first = 1 + count;
+}
+
+// What words ask for of which the first has this name.
+fn command_for<'a>(
+    alloc: Global,
+    table: &Table<'_>,
+    task: Task,
+    name: &'a str,
+    others: &'a [String],
+) -> Result<Result<Command, Fault<'a>>, AllocError> {
+    let (items, count) = options_of(alloc, table.rows, others)?;
+    let items = items.as_slice();
+    let lists = &others[count..];
+    if let Some(fault) = words_fault(table, task, name, items, others, lists) {
+        return Ok(Err(fault));
+    }
+    Ok(Ok(asked_for(task, items, lists, 1 + count)))
+}
+
+// What is wrong with the words behind the first: options and lists, or, for a `find`, addresses and lists.
+fn words_fault<'a>(
+    table: &Table<'_>,
+    task: Task,
+    name: &'a str,
+    items: &[Item<'a>],
+    others: &'a [String],
+    lists: &'a [String],
+) -> Option<Fault<'a>> {
+    match task {
+        Task::Find => find_fault(table.rows, name, others),
+        _ => fault_of(table, task, name, items, lists),
+    }
+}
+
+// What is asked for by options and lists, of which the first is the word at this index.
+fn asked_for(task: Task, items: &[Item<'_>], lists: &[String], first: usize) -> Command {
+    match task {
+        Task::Merge(operation) => {
+            Command::Merge(request_of(operation, Form::Blocks, items, lists, first))
+        }
+        Task::List => {
+            let usual = Form::Exported(Export::Addresses);
+            Command::Merge(request_of(Operation::Union, usual, items, lists, first))
+        }
+        Task::Split => Command::Split(SplitRequest {
+            length: length_of(items),
+            skips_bad: is_given(items, SKIP_BAD),
+            shape: shape_of(items),
+            first,
+        }),
+        Task::Check => Command::Inspect(inspection_of(is_given(items, STRICT)), first),
+        Task::Overlaps => Command::Inspect(Inspection::Overlaps, first),
+        Task::Find => Command::Find,
+    }
+}
+
+// How lists are merged by these options.
+fn request_of(
+    operation: Operation,
+    usual: Form,
+    items: &[Item<'_>],
+    lists: &[String],
+    first: usize,
+) -> Request {
     let middle = first + place_of(lists, "--");
-    Ok(Request {
+    Request {
         operation,
-        form: form_of(usual_form(name), options),
-        skips_bad: has(options, "--skip-bad"),
-        shape: shape_of(options),
+        form: form_of(usual, items),
+        skips_bad: is_given(items, SKIP_BAD),
+        shape: shape_of(items),
         first,
         middle,
-        second: words.len().min(middle + 1),
-    })
-}
-
-// The operation of this name.
-fn operation_of(word: &String) -> Option<Operation> {
-    if is(word, "union") || is(word, "list") {
-        Some(Operation::Union)
-    } else if is(word, "common") {
-        Some(Operation::Common)
-    } else if is(word, "minus") {
-        Some(Operation::Minus)
-    } else if is(word, "differ") {
-        Some(Operation::Differ)
-    } else {
-        None
+        second: (first + lists.len()).min(middle + 1),
     }
 }
 
-// How an operation of this name prints without an option.
-fn usual_form(word: &String) -> Form {
-    if is(word, "list") {
-        Form::Exported(Export::Addresses)
+// How a `check` looks lists over, strictly or not.
+fn inspection_of(strictly: bool) -> Inspection {
+    if strictly {
+        Inspection::Strict
     } else {
-        Form::Blocks
+        Inspection::Check
     }
 }
 
 /// How these options say to print, or else this form.
-pub(crate) fn form_of(usual: Form, options: &[String]) -> Form {
-    if has(options, "--ranges") {
+pub(crate) fn form_of(usual: Form, items: &[Item<'_>]) -> Form {
+    if is_given(items, RANGES) {
         return Form::Ranges;
     }
-    if has(options, "--count") {
+    if is_given(items, COUNT) {
         return Form::Counts;
     }
-    let value = text_at(options, 1 + place_of(options, "--format"));
-    match form_called(value) {
+    match form_called(value_of(items, FORMAT)) {
         Some(form) => form,
         None => usual,
+    }
+}
+
+// How these options say that lists are written.
+fn shape_of(items: &[Item<'_>]) -> Shape {
+    if !is_given(items, JSON) {
+        return Shape::Lines;
+    }
+    if is_given(items, STRICT) {
+        Shape::StrictJson
+    } else {
+        Shape::Json
+    }
+}
+
+// The prefix length into which networks are cut.
+fn length_of(items: &[Item<'_>]) -> u8 {
+    match prefix_in(value_of(items, PREFIX)) {
+        Some(length) => length,
+        None => 0,
+    }
+}
+
+/// The prefix length that a text names, which may begin with a `+`.
+pub(crate) fn prefix_in(text: &str) -> Option<u8> {
+    length_in(without_plus(text.as_bytes()), 128)
+}
+
+// What follows a `+` at the head of a text, or the text.
+fn without_plus(text: &[u8]) -> &[u8] {
+    match text {
+        [b'+', digits @ ..] => digits,
+        _ => text,
     }
 }
 

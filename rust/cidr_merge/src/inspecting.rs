@@ -5,17 +5,14 @@
 use fosibegan::plain_std::vec::Vec;
 use fosibegan::plain_std::string::String;
 use crate::checking::check_lists;
+use crate::command_line::Inspection;
 use crate::context::Context;
 use crate::findings::either;
-use crate::help::{PROGRAM, USAGE};
-use crate::inspections::Inspection;
 use crate::overlapping::tell_pairs;
 use crate::placed::{Placed, entries_of};
 use crate::reading::refuse_lists;
 use crate::repeating::tell_repetitions;
 use crate::texts::{WholeLists, texts_of};
-use crate::usage::refuse;
-use crate::words::options_count;
 use cidr_programs::lines::output::Output;
 use cidr_programs::lists::OpenLists;
 use cidr_programs::program::ending::{FAILED, end};
@@ -29,20 +26,16 @@ const NOTHING_FOUND: u8 = 0;
 /// The exit status if something was found.
 const FOUND: u8 = 1;
 
-/// Looks over the lists that the words name, and returns the exit status.
+/// Looks over the lists that the words name from the one at the index `first` on, and returns the exit status.
 pub(crate) fn inspect<L: OpenLists, W: Write, E: Write>(
     inspection: Inspection,
+    first: usize,
     context: &Context<'_, L>,
     output: &mut Output<'_, W>,
     errors: &mut Output<'_, E>,
 ) -> u8 {
-    let others = &context.words[1..];
-    let count = options_count(others);
-    let names = &others[count..];
-    if let Some(fault) = inspection.fault(&others[..count], names) {
-        return refuse(context.words, fault, errors);
-    }
-    let texts = match texts_of(context, names, 1 + count) {
+    let names = &context.words[first..];
+    let texts = match texts_of(context, names, first) {
         Ok(texts) => texts,
         Err(fault) => return refuse_lists(context.words, fault, errors),
     };

@@ -2,21 +2,22 @@
 
 //! The run that the program makes.
 
-use crate::command_line::{Operation, Request, request_of};
+use crate::command_line::{Command, Operation, Request, command_of};
 use crate::context::Context;
 use crate::find::find;
 use crate::help::{HELP, PROGRAM, USAGE, VERSION};
 use crate::inspecting::inspect;
-use crate::inspections::inspection_of;
 use crate::printing::{Merging, print};
 use crate::reading::{Sets, read_side, refuse_lists};
+use crate::rows::table;
 use crate::split::split;
-use crate::usage::refuse;
-use crate::words::word_at_is;
 use cidr_programs::lines::fault::RunFault;
 use cidr_programs::lines::output::Output;
 use cidr_programs::lists::{OpenLists, ReadFault, Refusals};
+use cidr_programs::options::refusing::refuse;
+use cidr_programs::options::table::Row;
 use cidr_programs::program::ending::{FAILED, end, print_text};
+use cidr_programs::program::memory::refuse_memory;
 use cidr_programs::program::start::text_asked;
 use cidr_programs::program::telling::{InLists, tell_refusals};
 use fosibegan::plain_std::io::Write;
@@ -27,22 +28,30 @@ pub(crate) fn run<L: OpenLists, W: Write, E: Write>(
     output: &mut Output<'_, W>,
     errors: &mut Output<'_, E>,
 ) -> u8 {
-    let words = context.words;
-    if let Some(text) = text_asked(HELP, VERSION, words) {
+    if let Some(text) = text_asked(HELP, VERSION, context.words) {
         return print_text(text, output, errors);
     }
-    if word_at_is(words, 0, "split") {
-        return split(context, output, errors);
+    let table = table();
+    match command_of(context.alloc, &table, context.words) {
+        Ok(Ok(command)) => obey(command, table.rows, context, output, errors),
+        Ok(Err(fault)) => refuse(PROGRAM, USAGE, table.rows, &fault, errors),
+        Err(_) => refuse_memory(errors),
     }
-    if word_at_is(words, 0, "find") {
-        return find(context, output, errors);
-    }
-    if let Some(inspection) = inspection_of(words) {
-        return inspect(inspection, context, output, errors);
-    }
-    match request_of(words) {
-        Ok(request) => merge(request, context, output, errors),
-        Err(fault) => refuse(words, fault, errors),
+}
+
+// Does what is asked for.
+fn obey<L: OpenLists, W: Write, E: Write>(
+    command: Command,
+    rows: &[Row],
+    context: &Context<'_, L>,
+    output: &mut Output<'_, W>,
+    errors: &mut Output<'_, E>,
+) -> u8 {
+    match command {
+        Command::Merge(request) => merge(request, context, output, errors),
+        Command::Split(request) => split(request, context, output, errors),
+        Command::Inspect(inspection, first) => inspect(inspection, first, context, output, errors),
+        Command::Find => find(rows, context, output, errors),
     }
 }
 

@@ -2,9 +2,7 @@
 
 //! How lists are written, and how one is read.
 
-use fosibegan::plain_std::string::String;
 use crate::context::Context;
-use crate::words::has;
 use cidr_programs::lists::{ListReader, OpenLists, ReadFault, read_document, read_named};
 
 /// How lists are written.
@@ -16,18 +14,6 @@ pub enum Shape {
     Json,
     /// As documents of JSON, of which these strings are refused.
     StrictJson,
-}
-
-/// How these options say that lists are written.
-pub(crate) fn shape_of(options: &[String]) -> Shape {
-    if !has(options, "--json") {
-        return Shape::Lines;
-    }
-    if has(options, "--strict") {
-        Shape::StrictJson
-    } else {
-        Shape::Json
-    }
 }
 
 /// Opens the list of this name, which is the word at the index `place`, reads it to the end, and

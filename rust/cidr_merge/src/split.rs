@@ -2,12 +2,10 @@
 
 //! The run of a `split`.
 
+use crate::command_line::SplitRequest;
 use crate::context::Context;
 use crate::cutting::{count_pieces, print_pieces, too_many_text};
-use crate::help::{PROGRAM, USAGE};
 use crate::reading::{Sets, read_side, refuse_lists};
-use crate::split_words::{SplitRequest, split_request};
-use crate::usage::refuse;
 use cidr_programs::lines::fault::RunFault;
 use cidr_programs::lines::output::Output;
 use cidr_programs::lists::{OpenLists, Refusals};
@@ -16,18 +14,14 @@ use cidr_programs::program::messages::tell;
 use cidr_programs::program::telling::{InLists, tell_refusals};
 use fosibegan::plain_std::io::Write;
 
-/// Does what the words after the program's name ask for, of which the first is `split`, and returns
-/// the exit status.
+/// Reads the lists, and prints their networks in pieces. Returns the exit status.
 pub(crate) fn split<L: OpenLists, W: Write, E: Write>(
+    request: SplitRequest,
     context: &Context<'_, L>,
     output: &mut Output<'_, W>,
     errors: &mut Output<'_, E>,
 ) -> u8 {
     let words = context.words;
-    let request = match split_request(words) {
-        Ok(request) => request,
-        Err(fault) => return refuse(words, fault, errors),
-    };
     let none = Refusals::new();
     let (sets, refusals, read) = read_side(
         context,

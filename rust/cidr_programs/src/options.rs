@@ -8,6 +8,6 @@ pub mod given;
 pub mod items;
 pub mod numbers;
 pub mod reading;
-mod refusing;
+pub mod refusing;
 pub mod table;
 pub mod values;

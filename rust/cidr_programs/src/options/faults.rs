@@ -49,14 +49,21 @@ pub struct Fault<'a> {
     pub problem: Text<'a>,
 }
 
-// This fault.
-fn about<'a>(subject: Subject<'a>, problem: &'a str) -> Fault<'a> {
+/// This fault.
+///
+/// ```
+/// # use cidr_programs::in_examples::*;
+/// use cidr_programs::options::faults::{Subject, about};
+///
+/// assert_eq!(about(Subject::CommandLine, "no FILE").problem.as_str(), "no FILE");
+/// ```
+pub fn about<'a>(subject: Subject<'a>, problem: &'a str) -> Fault<'a> {
     let problem = Text::new(problem);
     Fault { subject, problem }
 }
 
-// What is told of a wrong value of the option of a row.
-fn problem_at(rows: &[Row], row: usize) -> &'static str {
+/// What is told of a wrong value of the option of a row.
+pub fn problem_at(rows: &[Row], row: usize) -> &'static str {
     match rows.get(row) {
         Some(row) => row.problem,
         None => "",
@@ -142,8 +149,8 @@ fn given_pair<'a>(items: &[Item<'_>], pairs: &'a [Pair]) -> Option<&'a Pair> {
     pairs.iter().find(|pair| are_both(items, pair))
 }
 
-// What is wrong with the first pair that is given.
-fn pair_fault<'a>(items: &[Item<'_>], pairs: &[Pair]) -> Option<Fault<'a>> {
+/// What is wrong with the first pair that is given.
+pub fn pair_fault<'a>(items: &[Item<'_>], pairs: &[Pair]) -> Option<Fault<'a>> {
     match given_pair(items, pairs) {
         Some(pair) => Some(about(Subject::CommandLine, pair.problem)),
         None => None,

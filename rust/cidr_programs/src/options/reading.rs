@@ -44,6 +44,34 @@ pub fn items_of<'a>(
     Ok(all)
 }
 
+/// What the options say that stand before all FILEs and a `--`, and how many words they and their values are.
+pub fn options_of<'a>(
+    alloc: Global,
+    rows: &[Row],
+    words: &'a [String],
+) -> Result<(Vec<Item<'a>>, usize), AllocError> {
+    let mut all = Vec::new(alloc);
+    let mut mode = Mode::Free;
+    let mut at = 0;
+    while at < words.len() && is_of_option(mode, words[at].as_str()) {
+        mode = put_word(rows, mode, words[at].as_str(), &mut all)?;
+        at += 1;
+    }
+    if let Mode::Value(row) = mode {
+        all.push(Item::Lacks(row))?;
+    }
+    Ok((all, at))
+}
+
+// Whether a word that stands so is an option or the value of one.
+fn is_of_option(mode: Mode, word: &str) -> bool {
+    match mode {
+        Mode::Free => !is_plain(word) && word != "--",
+        Mode::Value(_) => true,
+        Mode::Files => false,
+    }
+}
+
 // Adds what a word says, and returns where the word behind it stands.
 fn put_word<'a>(
     rows: &[Row],
@@ -80,8 +108,8 @@ fn put_free<'a>(rows: &[Row], word: &'a str, all: &mut Vec<Item<'a>>) -> Result<
     }
 }
 
-// Whether a word is a FILE where an option may stand.
-fn is_plain(word: &str) -> bool
+/// Whether a word is a FILE where an option may stand: it is `-`, or does not begin with a `-`.
+pub fn is_plain(word: &str) -> bool
 {
     word == "-" || !word.as_bytes().starts_with(b"-".as_slice())
 }

@@ -121,7 +121,7 @@ pub struct Table<'a> {
 }
 
 /// Which values the option of a row has.
-pub(crate) fn kind_at(rows: &[Row], row: usize) -> Kind {
+pub fn kind_at(rows: &[Row], row: usize) -> Kind {
     match rows.get(row) {
         Some(row) => row.kind,
         None => Kind::Flag,
@@ -142,7 +142,7 @@ pub(crate) fn lettered(rows: &[Row], letter: u8) -> Option<usize> {
 }
 
 /// The row of the option of a long name.
-pub(crate) fn named(rows: &[Row], name: &str) -> Option<usize> {
+pub fn named(rows: &[Row], name: &str) -> Option<usize> {
     rows.iter().position(|row| row.name == name)
 }
 

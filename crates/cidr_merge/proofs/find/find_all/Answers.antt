@@ -1,7 +1,7 @@
 use Rattle.std.proofs.Common.{◌∙◌, length, map, drop, refl, sym, ap, subst}
 use Rattle.std.proofs.lemmas.List.{take_rest}
 use Rattle.program.specs.Endings.{ending}
-use Rattle.cidr_merge.specs.CommandLines.{before_dashes, behind_dashes}
+use Rattle.cidr_merge.specs.Sides.{before_dashes, behind_dashes}
 use Rattle.cidr_merge.specs.FindRuns.{EndsSearching}
 use Rattle.cidr_merge.specs.FindWords.{with_addresses}
 use Rattle.cidr_merge.proofs.SearchEnds.{search_ended, searched, not_read}

@@ -1,20 +1,11 @@
 use Rattle.std.proofs.Common.{refl}
-use Rattle.cidr_merge.specs.declared.help.TheConstants.{PROGRAM, USAGE}
-use Rattle.cidr_merge.proofs.Inspected.{refused, stopped, read}
+use Rattle.cidr_merge.proofs.Inspected.{stopped, read}
 use Rattle.cidr_merge.proofs.WholeLists.{as_many_held}
 use Rattle.cidr_merge.proofs.inspecting.inspect.Goals as goal
 
-pub returns-in-Some : goal.returns-in-Some
-returns-in-Some g c =
-    refused c.args.context.now.words.now _ c.options_count-count.ensures.count PROGRAM.now USAGE.now
-    _ _ _ _ c.fault.ensures c.in-Some.fault c.in-Some.is
-    ((refl, c.refuse.ensures.status), c.refuse.ensures.told)
-
 pub returns-in-Err : goal.returns-in-Err
 returns-in-Err g c =
-    stopped c.args.context.now.words.now _ c.options_count-count.ensures.count PROGRAM.now USAGE.now
-    _ _ _ _ c.fault.ensures c.in-Err.fault c.in_default.is
-    c.options_count-count.ensures.within c.in-Err.ensures.err
+    stopped _ c.args.context.now.words.now c.args.inspection c.args.first _ c.in-Err.fault c.in-Err.ensures.err
     ((refl, c.refuse_lists.ensures.status), c.refuse_lists.ensures.told)
 
 pub look_over-requires : goal.look_over-requires
@@ -24,7 +15,5 @@ look_over-requires g c =
 
 pub returns : goal.returns
 returns g c =
-    read c.args.context.now.words.now _ c.options_count-count.ensures.count PROGRAM.now USAGE.now
-    _ _ _ _ c.fault.ensures c.in-Ok.texts.items c.as_slice-texts.result.now
-    (λ text. text.items) c.as_slice-texts.ensures.value c.in_default.is
-    c.in-Ok.ensures.ok c.look_over.ensures
+    read _ c.args.context.now.words.now c.args.inspection c.args.first _ c.in-Ok.texts.items c.as_slice-texts.result.now
+    (λ text. text.items) c.as_slice-texts.ensures.value c.in-Ok.ensures.ok c.look_over.ensures

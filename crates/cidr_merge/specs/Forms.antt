@@ -1,0 +1,49 @@
+-- What options say: how to print, how lists are written, and how networks are cut.
+use Rattle.std.specs.Prelude.{ℕ, ◌==◌, List, [], ◌∷◌, Option, None, Some, if◌then◌else◌, codes, bytes_eq}
+use Rattle.std.specs.Option.{unwrap_or}
+use Rattle.options.specs.Given.{is_given, value_of}
+use Rattle.options.specs.Values.{length_in}
+use Rattle.options.specs.declared.items.Item.{Item}
+use Rattle.cidr_merge.specs.Options as own
+use Rattle.cidr_merge.specs.declared.command_line.Form.{Form}
+use Rattle.cidr_merge.specs.declared.command_line.Form.TheVariants.{Blocks, Ranges, Counts, Exported}
+use Rattle.cidr_merge.specs.declared.exports.Export.TheVariants.{Netmask, Wildcard, Csv, Nft, Ipset, Json, Addresses}
+use Rattle.cidr_merge.specs.declared.shapes.Shape.{Shape}
+use Rattle.cidr_merge.specs.declared.shapes.Shape.TheVariants as shapes
+
+-- the forms that `--format` names
+abbrev pub form_called : List ℕ → Option Form
+form_called text =
+    if bytes_eq text (codes "plain") then Some Blocks
+    else if bytes_eq text (codes "range") then Some Ranges
+    else if bytes_eq text (codes "netmask") then Some (Exported Netmask)
+    else if bytes_eq text (codes "wildcard") then Some (Exported Wildcard)
+    else if bytes_eq text (codes "csv") then Some (Exported Csv)
+    else if bytes_eq text (codes "nft") then Some (Exported Nft)
+    else if bytes_eq text (codes "ipset") then Some (Exported Ipset)
+    else if bytes_eq text (codes "json") then Some (Exported Json)
+    else if bytes_eq text (codes "addresses") then Some (Exported Addresses)
+    else None
+
+-- how to print, or else this
+abbrev pub form_of : Form → List Item → Form
+form_of usual items =
+    if is_given items own.ranges then Ranges
+    else if is_given items own.count then Counts
+    else unwrap_or (form_called (value_of items own.format)) usual
+
+-- how lists are written
+abbrev pub shape_of : List Item → Shape
+shape_of items = if is_given items own.json then if is_given items own.strict then shapes.StrictJson else shapes.Json else shapes.Lines
+
+-- the prefix length that a text names: a number up to 128, behind a `+` (byte 43) or none
+abbrev pub without_plus : List ℕ → List ℕ
+without_plus [] = []
+without_plus (byte ∷ text) = if byte == 43 then text else byte ∷ text
+
+abbrev pub prefix_in : List ℕ → Option ℕ
+prefix_in text = length_in 128 (without_plus text)
+
+-- that into which networks are cut
+abbrev pub length_of : List Item → ℕ
+length_of items = unwrap_or (prefix_in (value_of items own.prefix)) 0

@@ -1,0 +1,49 @@
+-- What the first word says to do, and what is told of words that it does not take.
+use Rattle.std.specs.Prelude.{ℕ, Bool, true, false, List, Option, None, Some, if◌then◌else◌, codes, bytes_eq}
+use Rattle.cidr_merge.specs.declared.command_line.Operation.TheVariants as operations
+use Rattle.cidr_merge.specs.declared.tasks.Task.{Task}
+use Rattle.cidr_merge.specs.declared.tasks.Task.TheVariants as tasks
+
+-- what a word says to do
+abbrev pub task_called : List ℕ → Option Task
+task_called text =
+    if bytes_eq text (codes "union") then Some (tasks.Merge operations.Union)
+    else if bytes_eq text (codes "common") then Some (tasks.Merge operations.Common)
+    else if bytes_eq text (codes "minus") then Some (tasks.Merge operations.Minus)
+    else if bytes_eq text (codes "differ") then Some (tasks.Merge operations.Differ)
+    else if bytes_eq text (codes "list") then Some tasks.List
+    else if bytes_eq text (codes "split") then Some tasks.Split
+    else if bytes_eq text (codes "check") then Some tasks.Check
+    else if bytes_eq text (codes "overlaps") then Some tasks.Overlaps
+    else if bytes_eq text (codes "find") then Some tasks.Find
+    else None
+
+-- a `--` stands between two sides
+abbrev pub is_two_sided : Task → Bool
+is_two_sided (tasks.Merge operations.Union) = false
+is_two_sided (tasks.Merge operation) = true
+is_two_sided tasks.Find = true
+is_two_sided task = false
+
+-- what is told of a word that is no option where one may stand
+abbrev pub no_option : Task → List ℕ
+no_option tasks.Split = codes "not an option here; split takes --prefix N, --skip-bad, --json and, behind it, --strict, in this order"
+no_option tasks.Check = codes "not an option; check takes one --strict"
+no_option tasks.Overlaps = codes "not an option; overlaps takes none"
+no_option tasks.Find = codes "not an option; find takes none"
+no_option task = codes "not an option; union, common, minus, differ and list take --ranges, --count, --format FORM, --skip-bad, --json and --strict"
+
+-- of a word that begins with a `-` among the lists
+abbrev pub no_file : Task → List ℕ
+no_file tasks.Split = codes "not a FILE; split takes --prefix N, --skip-bad, --json and, behind it, --strict, in this order, before the first one"
+no_file tasks.Overlaps = codes "not a FILE, and overlaps takes no option"
+no_file tasks.Find = codes "not a FILE, and find takes no option"
+no_file task = codes "not a FILE; options stand before the first one"
+
+-- and of a `--` where there is one side, and before all else
+abbrev pub one_side : List ℕ
+one_side = codes "only common, minus, differ and find take a --"
+
+abbrev pub no_first : Task → List ℕ
+no_first tasks.Find = codes "no ADDRESS before it"
+no_first task = if is_two_sided task then codes "no FILE before it" else one_side

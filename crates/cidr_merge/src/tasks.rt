@@ -1,0 +1,101 @@
+//! What the first word says to do, and what is told of words that it does not take.
+ghost use Rattle.std.specs.Prelude.{◌≡◌};
+ghost use Rattle.cidr_merge.specs.Tasks.{task_called, is_two_sided, no_option, no_file, no_first};
+
+use crate::command_line::Operation;
+
+/// What the first word says to do.
+#[derive(Clone, Copy, Debug, PartialEq, Eq)]
+pub enum Task {
+    /// An operation, of which the blocks are printed.
+    Merge(Operation),
+    /// The union, of which each address is printed.
+    List,
+    /// The union, in pieces of one length.
+    Split,
+    /// Wrong entries are printed.
+    Check,
+    /// Wrong entries and those that overlap are printed.
+    Overlaps,
+    /// Entries that have addresses are printed.
+    Find,
+}
+
+/// What a word says to do.
+pub(crate) fn task_called(text: &str) -> Option<Task>
+    ensures { result ≡ task_called text.now }
+{
+    match text {
+        "union" => Some(Task::Merge(Operation::Union)),
+        "common" => Some(Task::Merge(Operation::Common)),
+        "minus" => Some(Task::Merge(Operation::Minus)),
+        "differ" => Some(Task::Merge(Operation::Differ)),
+        "list" => Some(Task::List),
+        "split" => Some(Task::Split),
+        "check" => Some(Task::Check),
+        "overlaps" => Some(Task::Overlaps),
+        "find" => Some(Task::Find),
+        _ => None,
+    }
+}
+
+/// Whether a `--` stands between two sides.
+pub(crate) fn is_two_sided(task: Task) -> bool
+    ensures { result ≡ is_two_sided task }
+{
+    match task {
+        Task::Merge(operation) => !matches!(operation, Operation::Union),
+        Task::Find => true,
+        Task::List | Task::Split | Task::Check | Task::Overlaps => false,
+    }
+}
+
+/// What is told of a word that is no option where one may stand.
+pub(crate) fn no_option(task: Task) -> &'static str
+    ensures { result.now ≡ no_option task }
+{
+    match task {
+        Task::Merge(_) | Task::List => {
+            "not an option; union, common, minus, differ and list take --ranges, --count, \
+             --format FORM, --skip-bad, --json and --strict"
+        }
+        Task::Split => {
+            "not an option here; split takes --prefix N, --skip-bad, --json and, behind it, \
+             --strict, in this order"
+        }
+        Task::Check => "not an option; check takes one --strict",
+        Task::Overlaps => "not an option; overlaps takes none",
+        Task::Find => "not an option; find takes none",
+    }
+}
+
+/// What is told of a word that begins with a `-` among the lists.
+pub(crate) fn no_file(task: Task) -> &'static str
+    ensures { result.now ≡ no_file task }
+{
+    match task {
+        Task::Merge(_) | Task::List | Task::Check => {
+            "not a FILE; options stand before the first one"
+        }
+        Task::Split => {
+            "not a FILE; split takes --prefix N, --skip-bad, --json and, behind it, --strict, \
+             in this order, before the first one"
+        }
+        Task::Overlaps => "not a FILE, and overlaps takes no option",
+        Task::Find => "not a FILE, and find takes no option",
+    }
+}
+
+/// What is told of a `--` before all else.
+pub(crate) fn no_first(task: Task) -> &'static str
+    ensures { result.now ≡ no_first task }
+{
+    match task {
+        Task::Find => "no ADDRESS before it",
+        _ if is_two_sided(task) => "no FILE before it",
+        _ => ONE_SIDE,
+    }
+}
+
+/// What is told of a `--` where there is one side.
+pub(crate) const ONE_SIDE: &str = "only common, minus, differ and find take a --";

@@ -1,0 +1,72 @@
+// Written by scripts/plain out of crates/cidr_merge/src/rows.rt
+
+//! The options of the command line.
+
+use cidr_programs::options::table::{Kind, Pair, Row, Table, long, pair};
+
+/// The row of `--ranges`.
+pub(crate) const RANGES: usize = 0;
+
+/// The row of `--count`.
+pub(crate) const COUNT: usize = 1;
+
+/// The row of `--format`.
+pub(crate) const FORMAT: usize = 2;
+
+/// The row of `--skip-bad`.
+pub(crate) const SKIP_BAD: usize = 3;
+
+/// The row of `--json`.
+pub(crate) const JSON: usize = 4;
+
+/// The row of `--strict`.
+pub(crate) const STRICT: usize = 5;
+
+/// The row of `--prefix`.
+pub(crate) const PREFIX: usize = 6;
+
+// The options.
+const ROWS: [Row; 10] = [
+    long!("--ranges", Flag, false, ""),
+    long!("--count", Flag, false, ""),
+    long!(
+        "--format",
+        Text,
+        false,
+        "not a form; the forms are plain, range, netmask, wildcard, csv, nft, ipset, json and \
+         addresses"
+    ),
+    long!("--skip-bad", Flag, false, ""),
+    long!("--json", Flag, false, ""),
+    long!("--strict", Flag, false, ""),
+    long!("--prefix", Text, false, "not a prefix length, 0 to 128"),
+    long!("--help", Alone, false, "taken only alone"),
+    long!("--version", Alone, false, "taken only alone"),
+    long!(
+        "--quiet",
+        Alone,
+        false,
+        "taken only once, as the first word"
+    ),
+];
+
+// What is told of `--format` beside an option that says how to print.
+const ANOTHER_FORM: &str = "--format: given twice, or together with --ranges or --count";
+
+// Which do not go together.
+const PAIRS: [Pair; 4] = [
+    pair!(RANGES, COUNT, "--ranges: not together with --count"),
+    pair!(FORMAT, FORMAT, ANOTHER_FORM),
+    pair!(FORMAT, RANGES, ANOTHER_FORM),
+    pair!(FORMAT, COUNT, ANOTHER_FORM),
+];
+
+/// The options.
+pub(crate) fn table() -> Table<'static> {
+    Table {
+        rows: &ROWS,
+        pairs: &PAIRS,
+        needs: &[],
+        lacking: "",
+    }
+}
