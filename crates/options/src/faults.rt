@@ -64,6 +64,13 @@ pub fn about<'a>(subject: Subject<'a>, problem: &'a str) -> Fault<'a>
 }
 
 /// What is told of a wrong value of the option of a row.
+///
+/// ```
+/// use options::faults::problem_at;
+/// use options::table::{Kind, Row, letter};
+///
+/// assert_eq!(rt; problem_at(&[letter!(b'k', Field, "is no field number")], 0), "is no field number");
+/// ```
 pub fn problem_at(rows: &[Row], row: usize) -> &'static str
     ensures { result.now ≡ problem_at rows.now row }
 {
@@ -167,6 +174,15 @@ fn given_pair<'a>(items: &[Item<'_>], pairs: &'a [Pair]) -> Option<&'a Pair>
 }
 
 /// What is wrong with the first pair that is given.
+///
+/// ```
+/// use options::faults::pair_fault;
+/// use options::items::Item;
+/// use options::table::{Pair, pair};
+///
+/// let items = [Item::Flag(1), Item::Flag(1)];
+/// assert!(rt; pair_fault(&items, &[pair!(1, 1, "-f is given twice")]).is_some());
+/// ```
 pub fn pair_fault<'a>(items: &[Item<'_>], pairs: &[Pair]) -> Option<Fault<'a>>
     ensures { result ≡ pair_fault items.now pairs.now }
 {

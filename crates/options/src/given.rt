@@ -24,6 +24,13 @@ pub fn is_given(items: &[Item<'_>], row: usize) -> bool
 }
 
 /// Whether the option of a row is this one, also without the value that it takes.
+///
+/// ```
+/// use options::given::names;
+/// use options::items::Item;
+///
+/// assert!(rt; names(&Item::Lacks(1), 1) && !names(&Item::Flag(0), 1));
+/// ```
 pub fn names(item: &Item<'_>, row: usize) -> bool
     ensures { result ≡ names row item.now }
 {
@@ -65,6 +72,13 @@ pub fn value_of<'a>(items: &[Item<'a>], row: usize) -> &'a str
 }
 
 /// The value of the option of a row, or else this.
+///
+/// ```
+/// use options::given::value_in;
+/// use options::items::{Item, Text};
+///
+/// assert_eq!(rt; value_in(&Item::Value(1, Text::new("7")), 1, ""), "7");
+/// ```
 pub fn value_in<'a>(item: &Item<'a>, row: usize, value: &'a str) -> &'a str
     ensures { result.now ≡ value_in row value.now item.now }
 {

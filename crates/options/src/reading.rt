@@ -43,6 +43,19 @@ pub fn items_of<'a>(
 }
 
 /// What the options say that stand before all FILEs and a `--`, and how many words they and their values are.
+///
+/// ```
+/// use options::reading::options_of;
+/// use options::table::{Kind, Row, letter};
+///
+/// let rows = [letter!(b'v', Flag, ""), letter!(b'k', Field, "is no field number")];
+/// let mut words = Vec::new(rt.alloc());
+/// for word in ["-vk", "7", "log", "-v"] {
+///     words.push(String::from_str(rt.alloc(), word)?)?;
+/// }
+/// let (items, count) = options_of(rt.alloc(), &rows, words.as_slice())?;
+/// assert_eq!(rt; (items.len(), count), (2, 2));
+/// ```
 pub fn options_of<'a>(
     alloc: Global,
     rows: &[Row],
@@ -120,6 +133,10 @@ fn put_free<'a>(rows: &[Row], word: &'a str, all: &mut Vec<Item<'a>>) -> Result<
 }
 
 /// Whether a word is a FILE where an option may stand: it is `-`, or does not begin with a `-`.
+///
+/// ```
+/// assert!(rt; options::reading::is_plain("-") && !options::reading::is_plain("-v"));
+/// ```
 pub fn is_plain(word: &str) -> bool
     ensures { result ≡ is_plain word.now }
 {

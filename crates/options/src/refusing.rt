@@ -16,6 +16,16 @@ use std::io::Write;
 ///
 /// The first line is `PROGRAM: PROBLEM`, `PROGRAM: WORD: PROBLEM` or `PROGRAM: OPTION: VALUE PROBLEM`, by what the fault is
 /// about, where an empty word is shown as `''`; the second is the usage.
+///
+/// ```
+/// use options::faults::{Subject, about};
+/// use options::refusing::refuse;
+///
+/// let mut slice = [0; 64];
+/// let mut errors = lines::output::Output::new(Vec::new(rt.alloc()), &mut slice);
+/// let fault = about(Subject::CommandLine, "no FILE");
+/// assert_eq!(rt; refuse("sum", "usage: sum FILE\n", &[], &fault, &mut errors), 2);
+/// ```
 pub fn refuse<E: Write>(
     program: &str,
     usage: &str,

@@ -118,6 +118,12 @@ pub struct Table<'a> {
 }
 
 /// Which values the option of a row has.
+///
+/// ```
+/// use options::table::{Kind, Row, kind_at, letter};
+///
+/// assert_eq!(rt; kind_at(&[letter!(b'v', Flag, "")], 0), Kind::Flag);
+/// ```
 pub fn kind_at(rows: &[Row], row: usize) -> Kind
     ensures { result ≡ kind_at rows.now row }
 {
@@ -145,6 +151,12 @@ pub(crate) fn lettered(rows: &[Row], letter: u8) -> Option<usize>
 }
 
 /// The row of the option of a long name.
+///
+/// ```
+/// use options::table::{Kind, Row, long, named};
+///
+/// assert_eq!(rt; named(&[long!("--bad", Rule, true, "")], "--bad"), Some(0));
+/// ```
 pub fn named(rows: &[Row], name: &str) -> Option<usize>
     ensures { result ≡ named name.now rows.now }
 {

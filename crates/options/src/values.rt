@@ -108,6 +108,10 @@ pub fn lengths_in(value: &str) -> Option<(u8, u8)>
 }
 
 /// The number that a text names, up to the greatest.
+///
+/// ```
+/// assert_eq!(rt; options::values::length_in(b"064", 128), Some(64));
+/// ```
 pub fn length_in(text: &[u8], greatest: u8) -> Option<u8>
     ensures { result ≡ length_in greatest text.now }
 {

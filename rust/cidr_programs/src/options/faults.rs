@@ -63,6 +63,14 @@ pub fn about<'a>(subject: Subject<'a>, problem: &'a str) -> Fault<'a> {
 }
 
 /// What is told of a wrong value of the option of a row.
+///
+/// ```
+/// # use cidr_programs::in_examples::*;
+/// use cidr_programs::options::faults::problem_at;
+/// use cidr_programs::options::table::{Kind, Row, letter};
+///
+/// assert_eq!(problem_at(&[letter!(b'k', Field, "is no field number")], 0), "is no field number");
+/// ```
 pub fn problem_at(rows: &[Row], row: usize) -> &'static str {
     match rows.get(row) {
         Some(row) => row.problem,
@@ -150,6 +158,16 @@ fn given_pair<'a>(items: &[Item<'_>], pairs: &'a [Pair]) -> Option<&'a Pair> {
 }
 
 /// What is wrong with the first pair that is given.
+///
+/// ```
+/// # use cidr_programs::in_examples::*;
+/// use cidr_programs::options::faults::pair_fault;
+/// use cidr_programs::options::items::Item;
+/// use cidr_programs::options::table::{Pair, pair};
+///
+/// let items = [Item::Flag(1), Item::Flag(1)];
+/// assert!(pair_fault(&items, &[pair!(1, 1, "-f is given twice")]).is_some());
+/// ```
 pub fn pair_fault<'a>(items: &[Item<'_>], pairs: &[Pair]) -> Option<Fault<'a>> {
     match given_pair(items, pairs) {
         Some(pair) => Some(about(Subject::CommandLine, pair.problem)),

@@ -23,6 +23,14 @@ pub fn is_given(items: &[Item<'_>], row: usize) -> bool {
 }
 
 /// Whether the option of a row is this one, also without the value that it takes.
+///
+/// ```
+/// # use cidr_programs::in_examples::*;
+/// use cidr_programs::options::given::names;
+/// use cidr_programs::options::items::Item;
+///
+/// assert!(names(&Item::Lacks(1), 1) && !names(&Item::Flag(0), 1));
+/// ```
 pub fn names(item: &Item<'_>, row: usize) -> bool {
     match item {
         Item::Flag(one) | Item::Value(one, _) | Item::Joined(one, _, _) | Item::Lacks(one) => {
@@ -59,6 +67,14 @@ pub fn value_of<'a>(items: &[Item<'a>], row: usize) -> &'a str {
 }
 
 /// The value of the option of a row, or else this.
+///
+/// ```
+/// # use cidr_programs::in_examples::*;
+/// use cidr_programs::options::given::value_in;
+/// use cidr_programs::options::items::{Item, Text};
+///
+/// assert_eq!(value_in(&Item::Value(1, Text::new("7")), 1, ""), "7");
+/// ```
 pub fn value_in<'a>(item: &Item<'a>, row: usize, value: &'a str) -> &'a str {
     match item {
         Item::Value(one, text) | Item::Joined(one, text, _) => {

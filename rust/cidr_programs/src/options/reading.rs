@@ -45,6 +45,23 @@ pub fn items_of<'a>(
 }
 
 /// What the options say that stand before all FILEs and a `--`, and how many words they and their values are.
+///
+/// ```
+/// # use cidr_programs::in_examples::*;
+/// # ended(|| {
+/// use cidr_programs::options::reading::options_of;
+/// use cidr_programs::options::table::{Kind, Row, letter};
+///
+/// let rows = [letter!(b'v', Flag, ""), letter!(b'k', Field, "is no field number")];
+/// let mut words = Vec::new(Global);
+/// for word in ["-vk", "7", "log", "-v"] {
+///     words.push(String::from_str(Global, word)?)?;
+/// }
+/// let (items, count) = options_of(Global, &rows, words.as_slice())?;
+/// assert_eq!((items.len(), count), (2, 2));
+/// # Ok(())
+/// # });
+/// ```
 pub fn options_of<'a>(
     alloc: Global,
     rows: &[Row],
@@ -109,8 +126,12 @@ fn put_free<'a>(rows: &[Row], word: &'a str, all: &mut Vec<Item<'a>>) -> Result<
 }
 
 /// Whether a word is a FILE where an option may stand: it is `-`, or does not begin with a `-`.
-pub fn is_plain(word: &str) -> bool
-{
+///
+/// ```
+/// # use cidr_programs::in_examples::*;
+/// assert!(cidr_programs::options::reading::is_plain("-") && !cidr_programs::options::reading::is_plain("-v"));
+/// ```
+pub fn is_plain(word: &str) -> bool {
     word == "-" || !word.as_bytes().starts_with(b"-".as_slice())
 }
 

@@ -14,6 +14,17 @@ use fosibegan::plain_std::io::Write;
 ///
 /// The first line is `PROGRAM: PROBLEM`, `PROGRAM: WORD: PROBLEM` or `PROGRAM: OPTION: VALUE PROBLEM`, by what the fault is
 /// about, where an empty word is shown as `''`; the second is the usage.
+///
+/// ```
+/// # use cidr_programs::in_examples::*;
+/// use cidr_programs::options::faults::{Subject, about};
+/// use cidr_programs::options::refusing::refuse;
+///
+/// let mut slice = [0; 64];
+/// let mut errors = cidr_programs::lines::output::Output::new(Vec::new(Global), &mut slice);
+/// let fault = about(Subject::CommandLine, "no FILE");
+/// assert_eq!(refuse("sum", "usage: sum FILE\n", &[], &fault, &mut errors), 2);
+/// ```
 pub fn refuse<E: Write>(
     program: &str,
     usage: &str,

@@ -121,6 +121,13 @@ pub struct Table<'a> {
 }
 
 /// Which values the option of a row has.
+///
+/// ```
+/// # use cidr_programs::in_examples::*;
+/// use cidr_programs::options::table::{Kind, Row, kind_at, letter};
+///
+/// assert_eq!(kind_at(&[letter!(b'v', Flag, "")], 0), Kind::Flag);
+/// ```
 pub fn kind_at(rows: &[Row], row: usize) -> Kind {
     match rows.get(row) {
         Some(row) => row.kind,
@@ -142,6 +149,13 @@ pub(crate) fn lettered(rows: &[Row], letter: u8) -> Option<usize> {
 }
 
 /// The row of the option of a long name.
+///
+/// ```
+/// # use cidr_programs::in_examples::*;
+/// use cidr_programs::options::table::{Kind, Row, long, named};
+///
+/// assert_eq!(named(&[long!("--bad", Rule, true, "")], "--bad"), Some(0));
+/// ```
 pub fn named(rows: &[Row], name: &str) -> Option<usize> {
     rows.iter().position(|row| row.name == name)
 }

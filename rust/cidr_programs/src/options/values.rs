@@ -98,6 +98,11 @@ pub fn lengths_in(value: &str) -> Option<(u8, u8)> {
 }
 
 /// The number that a text names, up to the greatest.
+///
+/// ```
+/// # use cidr_programs::in_examples::*;
+/// assert_eq!(cidr_programs::options::values::length_in(b"064", 128), Some(64));
+/// ```
 pub fn length_in(text: &[u8], greatest: u8) -> Option<u8> {
     if !is_number(text) {
         return None;
