@@ -3,11 +3,11 @@ _cidr_filter() {
     local word="${COMP_WORDS[COMP_CWORD]}" before="${COMP_WORDS[COMP_CWORD - 1]}"
     case "$before" in
         --bad) COMPREPLY=($(compgen -W "drop keep stop" -- "$word")) ;;
-        -e | -k | -d | -m | --after) COMPREPLY=() ;;
+        -k | -d | --after | -e | -m) COMPREPLY=() ;;
         -f) ;;
         *)
             if [[ "$word" == -* ]]; then
-                COMPREPLY=($(compgen -W "-f -e -k -d -w -a --after -o --mapped -v -c -l -q -m -n -H -h --longest --bad --quiet --help --version -- -" -- "$word"))
+                COMPREPLY=($(compgen -W "-f -e -k -d -w -a --after -o --mapped -v -c -l -q -m -H -n -h --longest --bad --quiet --help --version -- -" -- "$word"))
             fi
             ;;
     esac

@@ -4,21 +4,23 @@ _arguments \
     '*-f[the networks of a file]:list:_files' \
     '*-e[a network or a range]:text: ' \
     '*-k[the address is the Nth field]:number: ' \
-    '*-d[fields are cut at each single character]:character: ' \
-    '*-w[fields are what stands between runs of blanks]' \
+    '*-d[fields are cut at each single CHAR]:character: ' \
+    '*-w[fields are what stands between runs of spaces and tabs]' \
     '*-a[addresses are looked for anywhere in a line]' \
-    '*--after[the address is the first that follows a text]:text: ' \
-    '*-o[print the addresses that are in a network in place of lines]' \
-    '*--mapped[an IPv4-mapped address counts as its IPv4 one]' \
-    '*-v[lines whose address is in no network]' \
+    '*--after[the address is the first that follows the first TEXT of a line]:text: ' \
+    '*-o[print the addresses that are in a network]' \
+    '*--mapped[an address \:\:ffff\:A.B.C.D of a line counts as A.B.C.D]' \
+    '*-v[print the lines whose address is in no network]' \
     '*-c[print how many lines are selected]' \
-    '*-l[print the names of files that have a selected line]' \
-    '*-q[print nothing, and end at the first selected line]' \
-    '*-m[at most so many lines of each file are selected]:number: ' \
-    '*-n[print its number before a line]' \
-    '*-H[print the name of its file before a line]' '*-h[print no name before a line]' \
-    '*--longest[print the longest network before a line]' \
-    '*--bad[a line without an address]:what happens to it:(drop keep stop)' \
-    '--quiet[show no progress on a terminal]' \
-    '(- *)--help[print the help]' '(- *)--version[print the version]' \
+    '*-l[print the name of each FILE that has a selected line]' \
+    '*-q[print nothing]' \
+    '*-m[at most N lines of each FILE are selected]:number: ' \
+    '*-H[before a line print the name of its FILE]' \
+    '*-n[before a line print its number in its FILE and a colon]' \
+    '*-h[print no name before a line]' \
+    '*--longest[before a line print the longest network that holds its address]' \
+    '*--bad[a line without an address]:value:(drop keep stop)' \
+    '--quiet[do not show on a terminal how much was read]' \
+    '(- *)--help[print this text]' \
+    '(- *)--version[print the version]' \
     '*:log:_files'

@@ -6,7 +6,7 @@ _cidr_join() {
         -f) ;;
         *)
             if [[ "$word" == -* ]]; then
-                COMPREPLY=($(compgen -W "-f -k -d -w -a --after --mapped --last --network --tally --group --last-wins --quiet --help --version -- -" -- "$word"))
+                COMPREPLY=($(compgen -W "-f --last-wins -k -d -w -a --after --mapped --last --network --tally --group --quiet --help --version -- -" -- "$word"))
             fi
             ;;
     esac

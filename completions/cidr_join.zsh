@@ -1,18 +1,19 @@
 #compdef cidr_join
 # Completion of zsh for cidr_join: its options, and files.
 _arguments \
-    '-f[the networks of a file with their values]:list:_files' \
+    '*-f[networks and ranges]:list:_files' \
+    '*--last-wins[a network that stands twice in the list has its last value]' \
     '*-k[the address is the Nth field]:number: ' \
-    '*-d[fields are cut at each single character]:character: ' \
-    '*-w[fields are what stands between runs of blanks]' \
+    '*-d[fields are cut at each single CHAR]:character: ' \
+    '*-w[fields are what stands between runs of spaces and tabs]' \
     '*-a[the address is the first that stands anywhere in a line]' \
-    '*--after[the address is the first that follows a text]:text: ' \
-    '*--mapped[an IPv4-mapped address counts as its IPv4 one]' \
+    '*--after[the address is the first that follows the first TEXT of a line]:text: ' \
+    '*--mapped[an address \:\:ffff\:A.B.C.D of a line counts as A.B.C.D]' \
     '*--last[print the value behind a line]' \
     '*--network[print the network in place of its value]' \
     '*--tally[print how many lines have each value]' \
-    '*--group[print the block of one of two lengths, without a list]:lengths: ' \
-    '*--last-wins[a network that stands twice has its last value]' \
-    '--quiet[show no progress on a terminal]' \
-    '(- *)--help[print the help]' '(- *)--version[print the version]' \
+    '*--group[before a line print the block of length N that has its address]:lengths: ' \
+    '--quiet[do not show on a terminal how much was read]' \
+    '(- *)--help[print this text]' \
+    '(- *)--version[print the version]' \
     '*:log:_files'
