@@ -1,5 +1,5 @@
 -- What follows from the clauses of a log.
-use Rattle.std.specs.Prelude.{◌≡◌, ℕ, ◌+◌, Bool, false, List, [], ◌∷◌, ◌++◌, length, codes}
+use Rattle.std.specs.Prelude.{◌≡◌, ℕ, ◌+◌, false, List, [], ◌∷◌, ◌++◌, length}
 use Rattle.program.specs.LogLines.{LogLine, log_lines, content, IsWhole}
 use Rattle.cidr_filter.specs.Filters.{IsVerdict, Filters}
 use Rattle.cidr_filter.specs.declared.filter.Filter.{Filter}
