@@ -81,6 +81,7 @@ def splits(program, folder):
         ("split --prefix 9 made_up", (2, b"", refused)),
         ("split --prefix 9 --skip-bad made_up", (3, b"10.0.0.0/9\n10.128.0.0/9\n", refused)),
         ("split --skip-bad --prefix 9 made_up", (3, b"10.0.0.0/9\n10.128.0.0/9\n", refused)),
+        ("split --skip-bad --prefix +009 made_up", (3, b"10.0.0.0/9\n10.128.0.0/9\n", refused)),
         ("split --prefix 9 none", (2, b"", b"none: cannot open: no such file\n")),
         ("split --prefix 9 .", (2, b"", b".: cannot open: is a directory\n")),
     ]:

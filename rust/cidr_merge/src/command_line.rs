@@ -226,10 +226,7 @@ fn shape_of(items: &[Item<'_>]) -> Shape {
 
 // The prefix length into which networks are cut.
 fn length_of(items: &[Item<'_>]) -> u8 {
-    match prefix_in(value_of(items, PREFIX)) {
-        Some(length) => length,
-        None => 0,
-    }
+    prefix_in(value_of(items, PREFIX)).unwrap_or(0)
 }
 
 /// The prefix length that a text names, which may begin with a `+`.
