@@ -1,5 +1,6 @@
 -- What each command replies, computed. A word is the list of its bytes.
-use Rattle.std.specs.Prelude.{ℕ, Bool, if◌then◌else◌, List, ◌∷◌, ◌++◌, Option, None, Some, Result, Ok, Err, codes, decimal}
+use Rattle.std.specs.Prelude.{ℕ, Bool, if◌then◌else◌, List, ◌∷◌, ◌++◌, Option, None, Some, Result, Ok, Err, codes}
+use Rattle.std.specs.Prelude.{decimal}
 use Rattle.ipnetwork_addr.specs.Either.{canonical_ip}
 use Rattle.ipnetwork_addr.specs.Computed.Either.{ip_of}
 use Rattle.ipnetwork_addr.specs.Ipv4Text.{canonical_v4}

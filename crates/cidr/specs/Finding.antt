@@ -17,8 +17,10 @@ of_family family (Some found) = Some (family found.0, found.1)
 
 -- of the blocks of the address's family, the longest that holds the address, and its number, or that none does
 abbrev pub IsFound : Routes → IpAddr → Option (IpNetwork × ℕ) → Type 0
-IsFound routes (addresses.V4 address) found = (block : Option (Network × ℕ)) × Answers 32 routes.v4 address block × (found ≡ of_family V4 block)
-IsFound routes (addresses.V6 address) found = (block : Option (Network × ℕ)) × Answers 128 routes.v6 address block × (found ≡ of_family V6 block)
+IsFound routes (addresses.V4 address) found = (block : Option (Network × ℕ)) × Answers 32 routes.v4 address block
+    × (found ≡ of_family V4 block)
+IsFound routes (addresses.V6 address) found = (block : Option (Network × ℕ)) × Answers 128 routes.v6 address block
+    × (found ≡ of_family V6 block)
 
 -- the answer about it: the block, a blank and its number
 abbrev pub found_text : Option (IpNetwork × ℕ) → List ℕ
@@ -27,4 +29,5 @@ found_text (Some found) = ip_network_text found.0 ++ blank ∷ decimal found.1
 
 -- the answer says what was found
 abbrev pub Finds : Routes → IpAddr → List ℕ → Type 0
-Finds routes address answer = (found : Option (IpNetwork × ℕ)) × IsFound routes address found × (answer ≡ found_text found)
+Finds routes address answer = (found : Option (IpNetwork × ℕ)) × IsFound routes address found
+    × (answer ≡ found_text found)

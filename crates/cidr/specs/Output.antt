@@ -23,9 +23,11 @@ out_of_memory = codes "out of memory"
 -- over these routes a request gets this answer and leaves those routes, if it is not out of memory
 abbrev pub Gets : Routes → Request → List ℕ → Routes → Type 0
 -- the block has the number from now on
-Gets before (Add network number) answer after = (answer ≡ added (number_at before network)) × (after ≡ with_number before network number)
+Gets before (Add network number) answer after = (answer ≡ added (number_at before network))
+    × (after ≡ with_number before network number)
 -- the block has none from now on
-Gets before (Drop network) answer after = (answer ≡ dropped (number_at before network)) × (after ≡ without before network)
+Gets before (Drop network) answer after = (answer ≡ dropped (number_at before network))
+    × (after ≡ without before network)
 -- the routes are asked, and are unchanged
 Gets before (Find address) answer after = Finds before address answer × (after ≡ before)
 -- the routes are not asked, and are unchanged
@@ -33,7 +35,8 @@ Gets before (Plain text) answer after = (answer ≡ text) × (after ≡ before)
 
 -- it is out of memory: only an `add` of a block that had no number can be, and the routes are unchanged
 abbrev pub RunsOut : Routes → Request → List ℕ → Routes → Type 0
-RunsOut before (Add network number) answer after = (number_at before network ≡ None) × (answer ≡ out_of_memory) × (after ≡ before)
+RunsOut before (Add network number) answer after = (number_at before network ≡ None) × (answer ≡ out_of_memory)
+    × (after ≡ before)
 RunsOut before (Drop network) answer after = ⊥
 RunsOut before (Find address) answer after = ⊥
 RunsOut before (Plain text) answer after = ⊥
@@ -43,7 +46,8 @@ abbrev pub MayGet : Routes → Request → List ℕ → Routes → Type 0
 MayGet before request answer after = Gets before request answer after ⊎ RunsOut before request answer after
 
 -- starting with the routes `before`, these lines get these answers in turn, one each, and leave the routes `after`
-abbrev pub InTurn : (Routes → Request → List ℕ → Routes → Type 0) → Routes → List (List ℕ) → List (List ℕ) → Routes → Type 0
+abbrev pub InTurn : (Routes → Request → List ℕ → Routes → Type 0) → Routes → List (List ℕ) → List (List ℕ) → Routes
+    → Type 0
 InTurn Get = turns.InTurn (λ before line answer after. Get before (request_of line) answer after)
 
 -- the answers that these lines may get
@@ -62,7 +66,8 @@ replies answers = flat_map reply answers
 -- line. `lines` cuts at each line feed, drops one carriage return before it, and takes what follows the last one as a
 -- line, unless it is empty
 abbrev pub IsOutputFrom : Routes → List ℕ → List ℕ → Routes → Type 0
-IsOutputFrom before input output after = (answers : List (List ℕ)) × MayAnswer before (lines input) answers after × (output ≡ replies answers)
+IsOutputFrom before input output after = (answers : List (List ℕ)) × MayAnswer before (lines input) answers after
+    × (output ≡ replies answers)
 
 -- what may be written for an input: a run begins with no routes
 abbrev pub IsOutput : List ℕ → List ℕ → Type 0

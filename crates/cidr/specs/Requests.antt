@@ -1,12 +1,14 @@
 -- What a line asks. A line is the list of its bytes, without its end.
-use Rattle.std.specs.Prelude.{ℕ, nat_le, nat_lt, if◌then◌else◌, List, [], ◌∷◌, Option, None, Some, Result, Ok, Err, length, codes, bytes_eq}
+use Rattle.std.specs.Prelude.{ℕ, nat_le, nat_lt, if◌then◌else◌, List, [], ◌∷◌, Option, None, Some, Result, Ok, Err}
+use Rattle.std.specs.Prelude.{length, codes, bytes_eq}
 use Rattle.ipnetwork_addr.specs.Computed.Either.{ip_of}
 use Rattle.ipnetwork_addr.specs.declared.ip.IpAddr.{IpAddr}
 use Rattle.ipnetwork_family.specs.Computed.PrefixNumber.{prefix_number_of}
 use Rattle.ipnetwork_family.specs.declared.error.CidrFault.{CidrFault}
 use Rattle.ipnetwork.specs.Computed.IpNetworkText.{ip_network_of}
 use Rattle.ipnetwork.specs.declared.ip_network.IpNetwork.{IpNetwork}
-use Rattle.cidr.specs.Commands.{refused, read_answer, read4_answer, read6_answer, ends_answer, has_answer, has4_answer, rel_answer}
+use Rattle.cidr.specs.Commands.{refused, read_answer, read4_answer, read6_answer, ends_answer, has_answer, has4_answer}
+use Rattle.cidr.specs.Commands.{rel_answer}
 use Rattle.cidr.specs.Words.{words}
 
 -- what a line asks

@@ -1,5 +1,6 @@
 -- How a run ends.
-use Rattle.std.specs.Prelude.{◌≡◌, ℕ, ◌<◌, ◌≤◌, ◌||◌, IsTrue, IsFalse, List, length, Option, Some, IfSome, Result, Ok, Err, OnOk, IsOk}
+use Rattle.std.specs.Prelude.{◌≡◌, ℕ, ◌<◌, ◌≤◌, ◌||◌, IsTrue, IsFalse, List, length, Option, Some, IfSome, Result, Ok}
+use Rattle.std.specs.Prelude.{Err, OnOk, IsOk}
 use Rattle.std.specs.Io.KnownBytes.{Appends, Consumes, IsAtEnd}
 use Rattle.lines.specs.Faults.{ended_by_read, ended_by_write}
 use Rattle.lines.specs.Parts.{complete_part, IsBeginning}
@@ -15,7 +16,8 @@ BeginsOutput read written = (output : List ℕ) × IsOutput read output × IsBeg
 
 -- an output of the lines that some first bytes complete, within the limit, and of no others
 abbrev pub AnswersPart : ℕ → List ℕ → List ℕ → Type 0
-AnswersPart limit read written = (front : List ℕ) × IsBeginning front read × (length front ≤ limit) × IsOutput (complete_part front) written
+AnswersPart limit read written = (front : List ℕ) × IsBeginning front read × (length front ≤ limit)
+    × IsOutput (complete_part front) written
 
 -- what a run may have read and written, by how it ended. `unread_after` is what the reader has left
 abbrev pub EndsAs : ℕ → Option (List ℕ) → Result (Unit {0}) RunFault → List ℕ → List ℕ → Type 0
@@ -42,8 +44,8 @@ pub record Ran (limit : ℕ) (unread_before unread_after written_before written_
   -- how much of the input they are, and of an output of it
   pub ends : EndsAs limit unread_after result read written
 
--- what a run promises, with this limit, over a reader and a writer as they are before it and after it. A reader has left
--- what `remaining` says, and a writer holds what `contents` says, if they tell
+-- what a run promises, with this limit, over a reader and a writer as they are before it and after it. A reader has
+-- left what `remaining` says, and a writer holds what `contents` says, if they tell
 pub record IsRun {R W : Type 0} (remaining : R → Option (List ℕ)) (contents : W → Option (List ℕ)) (limit : ℕ)
     (reader_before reader_after : Watched R) (writer_before writer_after : Watched W)
     (result : Result (Unit {0}) RunFault) : Type 0 where
@@ -59,9 +61,10 @@ pub record IsRun {R W : Type 0} (remaining : R → Option (List ℕ)) (contents 
   pub writer_next : IsFalse (has_failed reader_before) → IsTrue (has_failed writer_before) → result ≡ Err Write
   pub uncalled : IsTrue (has_failed reader_before || has_failed writer_before)
       → (device_of reader_after ≡ device_of reader_before) × (device_of writer_after ≡ device_of writer_before)
-  -- so `Ok` means that an output of the whole input was written, and the result is `Ok` if the input is within the limit
-  -- and no device fails
+  -- so `Ok` means that an output of the whole input was written, and the result is `Ok` if the input is within the
+  -- limit and no device fails
   pub output : OnOk result (IfSome (remaining (device_of reader_before)) (λ input. (output : List ℕ)
-      × IsOutput input output × Appends (contents (device_of writer_before)) (contents (device_of writer_after)) output))
+      × IsOutput input output × Appends (contents (device_of writer_before))
+      (contents (device_of writer_after)) output))
   pub succeeds : (input : List ℕ) → remaining (device_of reader_before) ≡ Some input → length input ≤ limit
       → IsFalse (has_failed reader_after) → IsFalse (has_failed writer_after) → IsOk result

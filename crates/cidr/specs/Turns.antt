@@ -6,7 +6,8 @@ abbrev pub InTurn : {S Q A : Type 0} → (S → Q → A → S → Type 0) → S 
 -- no question changes nothing
 InTurn Gets before [] [] after = after ≡ before
 -- the first one is answered, and the others over the state that it leaves
-InTurn Gets before (question ∷ questions) (answer ∷ answers) after = (between : _) × Gets before question answer between × InTurn Gets between questions answers after
+InTurn Gets before (question ∷ questions) (answer ∷ answers) after = (between : _) × Gets before question answer between
+    × InTurn Gets between questions answers after
 -- no question goes without an answer, and no answer without a question
 InTurn Gets before [] (answer ∷ answers) after = ⊥
 InTurn Gets before (question ∷ questions) [] after = ⊥
@@ -16,6 +17,7 @@ abbrev pub FirstInTurn : {S Q A : Type 0} → (S → Q → A → S → Type 0) �
 -- no answer, to none of them
 FirstInTurn Gets before questions [] = Unit {0}
 -- the first question is answered, and the next ones over the state that it leaves
-FirstInTurn Gets before (question ∷ questions) (answer ∷ answers) = (between : _) × Gets before question answer between × FirstInTurn Gets between questions answers
+FirstInTurn Gets before (question ∷ questions) (answer ∷ answers) = (between : _) × Gets before question answer between
+    × FirstInTurn Gets between questions answers
 -- no answer comes without a question
 FirstInTurn Gets before [] (answer ∷ answers) = ⊥

@@ -11,7 +11,8 @@ use Rattle.cidr_filter.specs.declared.filter.Verdict.TheVariants as verdicts
 use Rattle.lists.specs.Opening.{open_fault_text}
 use Rattle.lists.specs.declared.opening.OpenFault.{OpenFault}
 
--- whether a line, given without its end, has an address where it is looked for. One of more than 1,048,576 bytes has none
+-- whether a line, given without its end, has an address where it is looked for. One of more than 1,048,576 bytes has
+-- none
 abbrev pub is_addressed : Filter → List ℕ → Bool
 is_addressed filter line = nat_le (length line) 1048576 && nat_lt 0 (length (addresses_in filter line))
 

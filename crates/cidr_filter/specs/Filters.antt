@@ -1,5 +1,7 @@
 -- Which lines of a log are selected.
-use Rattle.std.specs.Prelude.{◌≡◌, ℕ, ◌+◌, ◌-◌, ◌^◌, ◌<◌, ◌≤◌, ◌⊎◌, Bool, true, false, not, List, [], ◌∷◌, ◌++◌, Option, None, Some, length, take, map, flat_map, slice_get, codes, decimal, min, nat_lt, nat_le, if◌then◌else◌}
+use Rattle.std.specs.Prelude.{◌≡◌, ℕ, ◌+◌, ◌-◌, ◌^◌, ◌<◌, ◌≤◌, ◌⊎◌, Bool, true, false, not, List, [], ◌∷◌, ◌++◌, Option}
+use Rattle.std.specs.Prelude.{None, Some, length, take, map, flat_map, slice_get, codes, decimal, min, nat_lt, nat_le}
+use Rattle.std.specs.Prelude.{if◌then◌else◌}
 use Rattle.std.specs.List.{AllByRecursion}
 use Rattle.std.specs.Option.{option_to_list}
 use Rattle.ipnetwork_addr.specs.declared.ip.IpAddr.{IpAddr}
@@ -31,7 +33,8 @@ IsListed filter address = IsIn filter.listed address
 -- what the lists say about an address of theirs: nothing, or the longest block that holds it
 abbrev pub TellsBlock : Listed → IpAddr → Option IpNetwork → Type 0
 TellsBlock (Addresses sets) address told = told ≡ None
-TellsBlock (Blocks tables) address told = (block : IpNetwork) × (told ≡ Some block) × IsLongestBlock tables address block
+TellsBlock (Blocks tables) address told = (block : IpNetwork) × (told ≡ Some block)
+    × IsLongestBlock tables address block
 
 -- the address that a part of a line is, with its text, if there is such a part and it is one
 abbrev pub of_part : Option (List ℕ) → List Spelled
@@ -66,7 +69,8 @@ addresses_in filter line = asked_of filter (spelled_at filter.place line)
 abbrev pub FirstListed : Filter → List IpAddr → Option IpNetwork → Type 0
 FirstListed filter [] told = ⊥
 FirstListed filter (address ∷ addresses) told =
-    (IsListed filter address × TellsBlock filter.listed address told) ⊎ (¬ (IsListed filter address) × FirstListed filter addresses told)
+    (IsListed filter address × TellsBlock filter.listed address told)
+    ⊎ (¬ (IsListed filter address) × FirstListed filter addresses told)
 
 -- none of them is
 abbrev pub NoneListed : Filter → List IpAddr → Type 0
@@ -81,9 +85,12 @@ IsVerdictOfAddresses filter addresses verdicts.TooLong = ⊥
 
 -- what a line, without its end, is to the list. One of more than 1,048,576 bytes is too long, whatever is in it
 abbrev pub IsVerdict : Filter → List ℕ → Verdict → Type 0
-IsVerdict filter line (verdicts.Inside told) = (length line ≤ 1048576) × IsVerdictOfAddresses filter (addresses_in filter line) (verdicts.Inside told)
-IsVerdict filter line verdicts.Outside = (length line ≤ 1048576) × IsVerdictOfAddresses filter (addresses_in filter line) verdicts.Outside
-IsVerdict filter line verdicts.NoAddress = (length line ≤ 1048576) × IsVerdictOfAddresses filter (addresses_in filter line) verdicts.NoAddress
+IsVerdict filter line (verdicts.Inside told) = (length line ≤ 1048576)
+    × IsVerdictOfAddresses filter (addresses_in filter line) (verdicts.Inside told)
+IsVerdict filter line verdicts.Outside = (length line ≤ 1048576)
+    × IsVerdictOfAddresses filter (addresses_in filter line) verdicts.Outside
+IsVerdict filter line verdicts.NoAddress = (length line ≤ 1048576)
+    × IsVerdictOfAddresses filter (addresses_in filter line) verdicts.NoAddress
 IsVerdict filter line verdicts.TooLong = 1048576 < length line
 
 -- lines without an address are selected
@@ -152,7 +159,8 @@ head_of filter number = name_head filter.name ++ number_head filter.numbered num
 
 -- with `-o`: the text of an address and a line feed, if it is in the lists, behind what stands first
 abbrev pub text_of : Filter → List ℕ → IpAddr → List ℕ → List ℕ
-text_of filter head address text = if is_listed filter.listed (asked filter.mapped address) then head ++ (text ++ 10 ∷ []) else []
+text_of filter head address text = if is_listed filter.listed (asked filter.mapped address) then head
+    ++ (text ++ 10 ∷ []) else []
 
 abbrev pub texts_of : Filter → List ℕ → List Spelled → List ℕ
 texts_of filter head found = flat_map (λ one. text_of filter head one.address one.text) found
@@ -177,7 +185,8 @@ shown_of filter head verdict line text = shown_by filter.shows filter head verdi
 
 -- what is written for the line of this number: that, if it is selected
 abbrev pub output_of : Filter → ℕ → Verdict → LogLine → List ℕ
-output_of filter number verdict line = if is_selected filter verdict then shown_of filter (head_of filter number) verdict (content line) (printed line) else []
+output_of filter number verdict line = if is_selected filter verdict
+    then shown_of filter (head_of filter number) verdict (content line) (printed line) else []
 
 -- nothing is printed, and the run ends at the first selected line
 abbrev pub is_silent : Shown → Bool
@@ -201,13 +210,16 @@ one_if selected = if selected then 1 else 0
 -- many are selected, and none ends the run
 abbrev pub Filters : Filter → ℕ → List LogLine → List ℕ → ℕ → Type 0
 Filters filter before [] output count = (output ≡ []) × (count ≡ 0)
-Filters filter before (line ∷ lines) output count = (verdict : Verdict) × (others : List ℕ) × (more : ℕ) × IsVerdict filter (content line) verdict
+Filters filter before (line ∷ lines) output count = (verdict : Verdict) × (others : List ℕ) × (more : ℕ)
+    × IsVerdict filter (content line) verdict
     × (is_refused filter verdict ≡ false) × Filters filter (before + 1) lines others more
-    × (output ≡ output_of filter (before + 1) verdict line ++ others) × (count ≡ one_if (is_selected filter verdict) + more)
+    × (output ≡ output_of filter (before + 1) verdict line ++ others)
+    × (count ≡ one_if (is_selected filter verdict) + more)
 
 -- there are no lines, or the last of them is selected, and is a line whatever comes after it
 abbrev pub LastIsSelected : Filter → Type 0 → List LogLine → Type 0
-LastIsSelected filter ends lines = (lines ≡ []) ⊎ ((first : List LogLine) × (line : LogLine) × (verdict : Verdict) × (lines ≡ first ++ line ∷ [])
+LastIsSelected filter ends lines = (lines ≡ [])
+    ⊎ ((first : List LogLine) × (line : LogLine) × (verdict : Verdict) × (lines ≡ first ++ line ∷ [])
     × IsWhole ends line × IsVerdict filter (content line) verdict × (is_selected filter verdict ≡ true))
 
 -- no line behind these is asked for, of which so many are selected: they are as many as may be

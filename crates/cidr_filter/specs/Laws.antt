@@ -7,29 +7,35 @@ use Rattle.cidr_filter.specs.declared.filter.Verdict.{Verdict}
 
 -- a line has at most one verdict
 abbrev pub LinesHaveOneVerdict : Type 0
-LinesHaveOneVerdict = (filter : Filter) (line : List ℕ) (a b : Verdict) → IsVerdict filter line a → IsVerdict filter line b → a ≡ b
+LinesHaveOneVerdict = (filter : Filter) (line : List ℕ) (a b : Verdict) → IsVerdict filter line a
+    → IsVerdict filter line b → a ≡ b
 
 -- for the lines of a log, or of a part of it behind so many lines, at most one output is written,
 -- and as many are selected
 abbrev pub LogsHaveOneOutput : Type 0
-LogsHaveOneOutput = (filter : Filter) (before : ℕ) (log : List ℕ) (a b : List ℕ) (m n : ℕ) → Filters filter before (log_lines log) a m
+LogsHaveOneOutput = (filter : Filter) (before : ℕ) (log : List ℕ) (a b : List ℕ) (m n : ℕ)
+    → Filters filter before (log_lines log) a m
     → Filters filter before (log_lines log) b n → (a ≡ b) × (m ≡ n)
 
 -- a log that is cut after a line feed gives what its two parts give, one after the other, if the
 -- numbers of the second go on from those of the first
 abbrev pub OutputsOfPartsFollow : Type 0
-OutputsOfPartsFollow = (filter : Filter) (before : ℕ) (first second a b : List ℕ) (m n : ℕ) → Filters filter before (log_lines (first ++ 10 ∷ [])) a m
+OutputsOfPartsFollow = (filter : Filter) (before : ℕ) (first second a b : List ℕ) (m n : ℕ)
+    → Filters filter before (log_lines (first ++ 10 ∷ [])) a m
     → Filters filter (before + length (log_lines (first ++ 10 ∷ []))) (log_lines second) b n
     → Filters filter before (log_lines (first ++ 10 ∷ second)) (a ++ b) (m + n)
 
 -- where no line is numbered, it does not matter how many come before those of a part
 abbrev pub NumbersAreNotShown : Type 0
-NumbersAreNotShown = (filter : Filter) (before other : ℕ) (lines : List LogLine) (output : List ℕ) (count : ℕ) → filter.numbered ≡ false
+NumbersAreNotShown = (filter : Filter) (before other : ℕ) (lines : List LogLine) (output : List ℕ) (count : ℕ)
+    → filter.numbered ≡ false
     → Filters filter before lines output count → Filters filter other lines output count
 
--- a line that ends the run is a line of the log in its place, with the same verdict, whatever comes after what was read:
--- one whose end was not read too, if the log ends with it or it is too long with any end
+-- a line that ends the run is a line of the log in its place, with the same verdict, whatever comes after what was
+-- read: one whose end was not read too, if the log ends with it or it is too long with any end
 abbrev pub LinesThatEndRunsAreWhole : Type 0
-LinesThatEndRunsAreWhole = (filter : Filter) (read rest : List ℕ) (lines others : List LogLine) (line : LogLine) (verdict : Verdict) → log_lines read ≡ lines ++ line ∷ others
+LinesThatEndRunsAreWhole = (filter : Filter) (read rest : List ℕ) (lines others : List LogLine) (line : LogLine)
+    (verdict : Verdict) → log_lines read ≡ lines ++ line ∷ others
     → IsWhole (rest ≡ []) line → IsVerdict filter (content line) verdict
-    → (whole : LogLine) × (behind : List LogLine) × (log_lines (read ++ rest) ≡ lines ++ whole ∷ behind) × IsVerdict filter (content whole) verdict
+    → (whole : LogLine) × (behind : List LogLine) × (log_lines (read ++ rest) ≡ lines ++ whole ∷ behind)
+    × IsVerdict filter (content whole) verdict

@@ -30,7 +30,8 @@ has_address sets (addresses.V6 address) = is_among 128 sets.v6 address
 
 -- the keys of the table are the blocks of these networks: each with its host bits cleared
 abbrev pub HasBlocksOf : {V : Type 0} → ℕ → List Network → FinMap network_cmp V → Type 0
-HasBlocksOf w networks table = (n : Network) → IsSome (get table n) ↔ ((m : Network) × Contains networks m × (block_of w m ≡ n))
+HasBlocksOf w networks table = (n : Network) → IsSome (get table n) ↔
+    ((m : Network) × Contains networks m × (block_of w m ≡ n))
 
 -- a block of the tables
 abbrev pub IsStored : Tables → IpNetwork → Type 0

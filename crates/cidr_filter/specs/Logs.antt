@@ -1,5 +1,6 @@
 -- Logs that are filtered in turn.
-use Rattle.std.specs.Prelude.{◌≡◌, ℕ, ◌+◌, ◌||◌, ◌&&◌, ◌⊎◌, Bool, true, false, Option, List, [], ◌∷◌, ◌++◌, if◌then◌else◌, nat_lt, codes, bytes_eq}
+use Rattle.std.specs.Prelude.{◌≡◌, ℕ, ◌+◌, ◌||◌, ◌&&◌, ◌⊎◌, Bool, true, false, Option, List, [], ◌∷◌, ◌++◌}
+use Rattle.std.specs.Prelude.{if◌then◌else◌, nat_lt, codes, bytes_eq}
 use Rattle.lists.specs.KnownLists.{KnownLists}
 use Rattle.cidr_filter.specs.Addressed.{lacking_text, closed_text}
 use Rattle.cidr_filter.specs.Filters.{IsVerdict, is_refused, is_silent, is_below, is_within, Filters, AreAll}
@@ -24,17 +25,21 @@ filter_for filter name = record filter { name = label_of filter.named name }
 -- the log of this name was read to its end: this is the output of its lines, this many of them were selected, and it is
 -- reported if none of them has an address
 abbrev pub ReadsLog : Filter → KnownLists → List ℕ → List ℕ → ℕ → List ℕ → Type 0
-ReadsLog filter known name output selected told = (read : List ℕ) × IsAllOf known name read × Filters (filter_for filter name) 0 (log_lines read) output selected
+ReadsLog filter known name output selected told = (read : List ℕ) × IsAllOf known name read
+    × Filters (filter_for filter name) 0 (log_lines read) output selected
     × (told ≡ lacking_text filter name (log_lines read)) × (is_below filter.most selected ≡ true)
 
 -- or it was read up to the last line that may be selected, and nothing is reported of it
 abbrev pub LeavesLog : Filter → KnownLists → List ℕ → List ℕ → ℕ → List ℕ → Type 0
-LeavesLog filter known name output selected told = (read : List ℕ) × (lines : List LogLine) × (others : List LogLine) × known.may_open name true × IsFirstOf known name read
-    × (log_lines read ≡ lines ++ others) × Filters (filter_for filter name) 0 lines output selected × AreAll (filter_for filter name) (IsAllOf known name read) lines selected × (told ≡ [])
+LeavesLog filter known name output selected told = (read : List ℕ) × (lines : List LogLine) × (others : List LogLine)
+    × known.may_open name true × IsFirstOf known name read
+    × (log_lines read ≡ lines ++ others) × Filters (filter_for filter name) 0 lines output selected
+    × AreAll (filter_for filter name) (IsAllOf known name read) lines selected × (told ≡ [])
 
 -- or it cannot be opened, which is reported with the cause
 abbrev pub MissesLog : KnownLists → List ℕ → List ℕ → ℕ → List ℕ → Type 0
-MissesLog known name output selected told = (fault : OpenFault) × known.may_open name false × known.may_miss name fault × (output ≡ []) × (selected ≡ 0) × (told ≡ closed_text name fault)
+MissesLog known name output selected told = (fault : OpenFault) × known.may_open name false × known.may_miss name fault
+    × (output ≡ []) × (selected ≡ 0) × (told ≡ closed_text name fault)
 
 -- whether the run ends behind logs of which so many lines are selected: with `-q`, if there is one
 abbrev pub is_enough : Shown → ℕ → Bool
@@ -54,15 +59,19 @@ GoesOn false goes output selected told missed = goes
 -- selected, this is reported, and whether one could not be opened
 abbrev pub FiltersLogs : Filter → KnownLists → List (List ℕ) → List ℕ → ℕ → List ℕ → Bool → Type 0
 FiltersLogs filter known [] output selected told missed = NoLogs output selected told missed
-FiltersLogs filter known (name ∷ names) output selected told missed = (added : List ℕ) × (others : List ℕ) × (one : ℕ) × (more : ℕ) × (text : List ℕ) × (texts : List ℕ)
+FiltersLogs filter known (name ∷ names) output selected told missed = (added : List ℕ) × (others : List ℕ) × (one : ℕ)
+    × (more : ℕ) × (text : List ℕ) × (texts : List ℕ)
     × (is_missed : Bool) × (are_missed : Bool)
-    × ((ReadsLog filter known name added one text × (is_missed ≡ false)) ⊎ ((LeavesLog filter known name added one text × (is_missed ≡ false))
+    × ((ReadsLog filter known name added one text × (is_missed ≡ false))
+    ⊎ ((LeavesLog filter known name added one text × (is_missed ≡ false))
     ⊎ (MissesLog known name added one text × (is_missed ≡ true))))
-    × GoesOn (is_enough filter.shows one) (FiltersLogs filter known names others more texts are_missed) others more texts are_missed
-    × (output ≡ added ++ others) × (selected ≡ one + more) × (told ≡ text ++ texts) × (missed ≡ (is_missed || are_missed))
+    × GoesOn (is_enough filter.shows one)
+    (FiltersLogs filter known names others more texts are_missed) others more texts are_missed
+    × (output ≡ added ++ others) × (selected ≡ one + more) × (told ≡ text ++ texts)
+    × (missed ≡ (is_missed || are_missed))
 
--- so many lines of a log are selected where it ends a run, by the fault: fewer than may be, and at a failed write as many
--- at the most
+-- so many lines of a log are selected where it ends a run, by the fault: fewer than may be, and at a failed write as
+-- many at the most
 abbrev pub is_short : LogFault → Option ℕ → ℕ → Bool
 is_short (faults.Open cause) most count = is_below most count
 is_short faults.Read most count = is_below most count
@@ -71,12 +80,14 @@ is_short faults.Address most count = is_below most count
 is_short faults.Length most count = is_below most count
 is_short faults.Endless most count = is_below most count
 
--- what ends a run, by the fault: a line, given without its end, without an address, if the option says so, or one that is
--- too long and is not dropped
+-- what ends a run, by the fault: a line, given without its end, without an address, if the option says so, or one that
+-- is too long and is not dropped
 abbrev pub EndsRunBy : Filter → LogFault → List ℕ → Type 0
 EndsRunBy filter (faults.Open cause) line = ⊥
 EndsRunBy filter faults.Read line = ⊥
 EndsRunBy filter faults.Write line = ⊥
-EndsRunBy filter faults.Address line = IsVerdict filter line verdicts.NoAddress × (is_refused filter verdicts.NoAddress ≡ true)
-EndsRunBy filter faults.Length line = IsVerdict filter line verdicts.TooLong × (is_refused filter verdicts.TooLong ≡ true)
+EndsRunBy filter faults.Address line = IsVerdict filter line verdicts.NoAddress
+    × (is_refused filter verdicts.NoAddress ≡ true)
+EndsRunBy filter faults.Length line = IsVerdict filter line verdicts.TooLong
+    × (is_refused filter verdicts.TooLong ≡ true)
 EndsRunBy filter faults.Endless line = ⊥

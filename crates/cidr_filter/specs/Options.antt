@@ -7,8 +7,8 @@ use Rattle.options.specs.declared.table.Table.{Table}
 use Rattle.cidr_filter.specs.declared.filter.WithoutAddress.{WithoutAddress}
 use Rattle.cidr_filter.specs.declared.filter.WithoutAddress.TheVariants as without
 
--- the rows of the options that this program alone has: `-e`, `-m`, `--longest`, `--bad`, `-v`, `-c`, `-o`, `-H`, `-h`, `-n`,
--- `-l` and `-q`
+-- the rows of the options that this program alone has: `-e`, `-m`, `--longest`, `--bad`, `-v`, `-c`, `-o`, `-H`, `-h`,
+-- `-n`, `-l` and `-q`
 abbrev pub text : ℕ
 text = 9
 
@@ -48,17 +48,22 @@ quiet = 20
 -- the options, in the order of their rows
 abbrev pub entries : List Entry
 entries = rows.shared
-    ++ valued (codes "e") kinds.Text (codes "is no network or range") ∷ valued (codes "m") kinds.Number (codes "is no number of lines")
+    ++ valued (codes "e") kinds.Text (codes "is no network or range")
+    ∷ valued (codes "m") kinds.Number (codes "is no number of lines")
     ∷ long_flag (codes "--longest") ∷ long (codes "--bad") kinds.Rule true (codes "is not drop, keep or stop")
-    ∷ flag (codes "v") ∷ flag (codes "c") ∷ flag (codes "o") ∷ flag (codes "H") ∷ flag (codes "h") ∷ flag (codes "n") ∷ flag (codes "l") ∷ flag (codes "q") ∷ []
+    ∷ flag (codes "v") ∷ flag (codes "c") ∷ flag (codes "o") ∷ flag (codes "H") ∷ flag (codes "h") ∷ flag (codes "n")
+    ∷ flag (codes "l") ∷ flag (codes "q") ∷ []
 
--- which of them do not go together: `--longest` with `-v` or `-c`, those that say where addresses are looked for, `-o` with
--- `-v` or `--longest`, and `-H` with `-c` or `-h`. Of several such pairs the first is told
+-- which of them do not go together: `--longest` with `-v` or `-c`, those that say where addresses are looked for, `-o`
+-- with `-v` or `--longest`, and `-H` with `-c` or `-h`. Of several such pairs the first is told
 abbrev pub pairs : List (ℕ × ℕ × List ℕ)
 pairs =
-    (longest, inverts, codes "--longest goes with neither -v nor -c") ∷ (longest, counts, codes "--longest goes with neither -v nor -c") ∷ rows.together
-    ++ (only, inverts, codes "-o goes with neither -v nor --longest") ∷ (only, longest, codes "-o goes with neither -v nor --longest")
-    ∷ (named, counts, codes "-H goes with neither -c nor -h") ∷ (named, unnamed, codes "-H goes with neither -c nor -h") ∷ []
+    (longest, inverts, codes "--longest goes with neither -v nor -c")
+    ∷ (longest, counts, codes "--longest goes with neither -v nor -c") ∷ rows.together
+    ++ (only, inverts, codes "-o goes with neither -v nor --longest")
+    ∷ (only, longest, codes "-o goes with neither -v nor --longest")
+    ∷ (named, counts, codes "-H goes with neither -c nor -h") ∷ (named, unnamed, codes "-H goes with neither -c nor -h")
+    ∷ []
 
 -- the table has these, and of `-f` and `-e` one at least is given
 abbrev pub IsOptions : Table → Type 0
@@ -66,4 +71,5 @@ IsOptions table = IsTable table entries pairs (rows.list ∷ text ∷ []) (codes
 
 -- what becomes of a line without an address, by a value of `--bad`, or by an empty text
 abbrev pub bad_in : List ℕ → WithoutAddress
-bad_in value = if bytes_eq value (codes "keep") then without.Keep else if bytes_eq value (codes "stop") then without.Stop else without.Drop
+bad_in value = if bytes_eq value (codes "keep") then without.Keep
+    else if bytes_eq value (codes "stop") then without.Stop else without.Drop

@@ -19,7 +19,8 @@ use Rattle.cidr_filter.specs.declared.reading.Source.TheVariants as sources
 
 -- what an option reads: `-f` the list of that name, `-e` the value itself, and the others nothing
 abbrev pub source_by : ℕ → List ℕ → Source
-source_by row value = if row == rows.list then sources.List value else if row == own.text then sources.Text value else sources.Nothing
+source_by row value = if row == rows.list then sources.List value else if row == own.text then sources.Text value
+    else sources.Nothing
 
 abbrev pub source_of : Item → Source
 source_of (says.Value row value) = source_by row value
@@ -41,7 +42,8 @@ ReadsItem known number item before after = Reads known number (source_of item) b
 abbrev pub ReadsItems : KnownLists → ℕ → List Item → ReadLists → ReadLists → Type 0
 ReadsItems known number [] before after = after ≡ before
 ReadsItems known number (item ∷ items) before after =
-    (between : ReadLists) × ReadsItem known number item before between × ReadsItems known (number + 1) items between after
+    (between : ReadLists) × ReadsItem known number item before between
+    × ReadsItems known (number + 1) items between after
 
 -- the reading stops at what an option reads, and these are the refused lines then
 abbrev pub StopsReadingOf : KnownLists → ℕ → Source → ReadLists → ReadFault → Refused → Type 0
@@ -57,7 +59,8 @@ abbrev pub StopsAtItems : KnownLists → ℕ → List Item → ReadLists → Rea
 StopsAtItems known number [] before fault refused = ⊥
 StopsAtItems known number (item ∷ items) before fault refused =
     StopsAtItem known number item before fault refused
-    ⊎ ((between : ReadLists) × ReadsItem known number item before between × (between.is_out_of_memory ≡ false) × StopsAtItems known (number + 1) items between fault refused)
+    ⊎ ((between : ReadLists) × ReadsItem known number item before between × (between.is_out_of_memory ≡ false)
+    × StopsAtItems known (number + 1) items between fault refused)
 
 -- this was read of the lists of a command line, and there was memory for all that they name
 pub record IsReadOf (known : KnownLists) (items : List Item) (read : ReadLists) : Type 0 where
@@ -66,5 +69,7 @@ pub record IsReadOf (known : KnownLists) (items : List Item) (read : ReadLists) 
 
 -- these are the addresses of the networks that were read or, with `--longest`, their blocks
 abbrev pub HoldsRead : Bool → ReadLists → Listed → Type 0
-HoldsRead longest read (Addresses sets) = (longest ≡ false) × IsAggregate 32 read.v4 sets.v4 × IsAggregate 128 read.v6 sets.v6
-HoldsRead longest read (Blocks tables) = (longest ≡ true) × HasBlocksOf 32 read.v4 tables.v4 × HasBlocksOf 128 read.v6 tables.v6
+HoldsRead longest read (Addresses sets) = (longest ≡ false) × IsAggregate 32 read.v4 sets.v4
+    × IsAggregate 128 read.v6 sets.v6
+HoldsRead longest read (Blocks tables) = (longest ≡ true) × HasBlocksOf 32 read.v4 tables.v4
+    × HasBlocksOf 128 read.v6 tables.v6

@@ -1,5 +1,6 @@
 -- How a run ends: its exit status, what was written, and what was reported.
-use Rattle.std.specs.Prelude.{◌≡◌, ℕ, ◌-◌, ◌^◌, min, List, [], ◌∷◌, ◌++◌, Bool, true, false, ◌||◌, ◌⊎◌, Option, None, Some, if◌then◌else◌, length, nat_lt, map, codes, decimal, String}
+use Rattle.std.specs.Prelude.{◌≡◌, ℕ, ◌-◌, ◌^◌, min, List, [], ◌∷◌, ◌++◌, Bool, true, false, ◌||◌, ◌⊎◌, Option, None}
+use Rattle.std.specs.Prelude.{Some, if◌then◌else◌, length, nat_lt, map, codes, decimal, String}
 use Rattle.std.specs.String.{string_bytes}
 use Rattle.std.specs.declared.alloc.Global.{Global}
 use Rattle.lists.specs.Lists.{ReadLists, nothing_read}
@@ -34,7 +35,8 @@ use Rattle.program.specs.declared.log_fault.LogFault.{LogFault}
 
 -- a log that was opened was not filtered to its end, and ended the run: those before it were filtered, and its first
 -- lines; their outputs were written, the cause was reported after what there is to report of them, and the status is 2
-pub record StopsAtLog {W E : Type 0} (filter : Filter) (known : KnownLists) (names : List (List ℕ)) (end : Ending W E) : Type 0 where
+pub record StopsAtLog {W E : Type 0} (filter : Filter) (known : KnownLists) (names : List (List ℕ))
+    (end : Ending W E) : Type 0 where
   pub before : List (List ℕ)
   pub name : List ℕ
   pub behind : List (List ℕ)
@@ -71,10 +73,12 @@ abbrev pub EndsWith : {W E : Type 0} → Filter → List ℕ → ℕ → List �
 EndsWith filter output selected texts missed end =
     (HasWritten end (output ++ total_text (is_count filter.shows) selected) × HasTold end texts
     × (end.status ≡ status_by (is_enough filter.shows selected) missed selected))
-    ⊎ (FailsWriting end (output ++ total_text (is_count filter.shows) selected) × HasTold end (texts ++ codes "write error\n") × (end.status ≡ 2))
+    ⊎ (FailsWriting end (output ++ total_text (is_count filter.shows) selected)
+    × HasTold end (texts ++ codes "write error\n") × (end.status ≡ 2))
 
 -- all logs were filtered to their ends, or left, but those that could not be opened
-pub record FiltersAll {W E : Type 0} (filter : Filter) (known : KnownLists) (names : List (List ℕ)) (end : Ending W E) : Type 0 where
+pub record FiltersAll {W E : Type 0} (filter : Filter) (known : KnownLists) (names : List (List ℕ))
+    (end : Ending W E) : Type 0 where
   pub output : List ℕ
   pub selected : ℕ
   pub texts : List ℕ
@@ -124,37 +128,42 @@ filter_of items listed = record {
   name = [];
 }
 
--- this was read of the lists: if a line of them was refused, or there is no memory, nothing is written. Else the logs are
--- filtered by it
+-- this was read of the lists: if a line of them was refused, or there is no memory, nothing is written. Else the logs
+-- are filtered by it
 abbrev pub EndsFiltering : {W E : Type 0} → KnownLists → List Item → ReadLists → Ending W E → Type 0
 EndsFiltering known items read end =
     ((was_refused read.refused ≡ true) × Refuses [] end)
     ⊎ ((was_refused read.refused ≡ false) × (Refuses (codes "out of memory\n") end
-    ⊎ ((listed : Listed) × HoldsRead (is_given items own.longest) read listed × EndsLogs (filter_of items listed) known (inputs_of items) end)))
+    ⊎ ((listed : Listed) × HoldsRead (is_given items own.longest) read listed
+    × EndsLogs (filter_of items listed) known (inputs_of items) end)))
 
 -- the lists were not read to their ends, and these lines were refused before: nothing was written, and the cause was
 -- reported, by these names of the lists
 abbrev pub StopsReading : {Z W E : Type 0} → KnownLists → List Item → List (String Z) → Refused → Ending W E → Type 0
 StopsReading known items names refused end =
-    (fault : ReadFault) × StopsAtItems known 0 items (nothing_read no_refusals) fault refused × Refuses (fault_text names fault) end
+    (fault : ReadFault) × StopsAtItems known 0 items (nothing_read no_refusals) fault refused
+    × Refuses (fault_text names fault) end
 
 -- the refused lines of the lists were reported, and then either why the reading stopped, or the logs were filtered
 abbrev pub EndsReading : {Z W E : Type 0} → KnownLists → List Item → List (String Z) → Ending W E → Type 0
 EndsReading {Z} {W} {E} known items names end = (refused : Refused) × (told : Written E)
     × Tells end.errors told (refusals_text names (in_option items) refused)
     × (StopsReading known items names refused (record end { errors = told })
-    ⊎ ((read : ReadLists) × IsReadOf known items read × (read.refused ≡ refused) × EndsFiltering known items read (record end { errors = told })))
+    ⊎ ((read : ReadLists) × IsReadOf known items read × (read.refused ≡ refused)
+    × EndsFiltering known items read (record end { errors = told })))
 
 -- what is asked for is done, by the names of the lists, unless there is no memory for these and for those of the logs
 abbrev pub EndsRequest : {W E : Type 0} → KnownLists → List Item → Ending W E → Type 0
 EndsRequest known items end =
     Refuses (codes "out of memory\n") end
-    ⊎ ((names : List (String Global)) × (map string_bytes names ≡ map told_name items) × EndsReading known items names end)
+    ⊎ ((names : List (String Global)) × (map string_bytes names ≡ map told_name items)
+    × EndsReading known items names end)
 
 abbrev pub DoesRequest : {W E : Type 0} → KnownLists → Ending W E → List Item → Type 0
 DoesRequest known end items = EndsRequest known items end
 
 -- how a run ends of a program of this name, help, version and usage, by the table of its options
-abbrev pub EndsAs : {Z W E : Type 0} → List ℕ → List ℕ → List ℕ → List ℕ → KnownLists → List (String Z) → Ending W E → Type 0
+abbrev pub EndsAs : {Z W E : Type 0} → List ℕ → List ℕ → List ℕ → List ℕ → KnownLists → List (String Z) → Ending W E
+    → Type 0
 EndsAs program help version usage known words end =
     (table : Table) × IsOptions table × runs.EndsAs table program help version usage words (DoesRequest known end) end

@@ -14,9 +14,16 @@ pub record Stand : Type 0 where
   pub addressed : Bool
 
 abbrev pub stand : {W : Type 0} → Written W → Tally → Stand
-stand output tally = record { holds = output.holds; waits = output.waits; selected = tally.selected; lines = tally.lines; addressed = tally.is_addressed }
+stand output tally = record {
+  holds = output.holds;
+  waits = output.waits;
+  selected = tally.selected;
+  lines = tally.lines;
+  addressed = tally.is_addressed;
+}
 
 -- from one stand to the next these bytes were added to the output, this many lines were selected, and this many
 -- filtered
 abbrev pub Goes : Stand → Stand → List ℕ → ℕ → ℕ → Type 0
-Goes old new added selected lines = Puts old.holds old.waits new.holds new.waits added × Counts old.selected new.selected selected × Counts old.lines new.lines lines
+Goes old new added selected lines = Puts old.holds old.waits new.holds new.waits added
+    × Counts old.selected new.selected selected × Counts old.lines new.lines lines

@@ -38,7 +38,8 @@ Ends filter remained remains old new = ReadsAll (FiltersLines filter old new) re
 
 -- of what was read the first lines were filtered, up to the last that may be selected, and the reader of the log handed
 -- out no other
-pub record Leaves (filter : Filter) (log : LogReader) (remained remains : Option (List ℕ)) (old new : Stand) : Type 0 where
+pub record Leaves (filter : Filter) (log : LogReader) (remained remains : Option (List ℕ))
+    (old new : Stand) : Type 0 where
   pub first : List LogLine
   pub added : List ℕ
   pub count : ℕ
@@ -55,4 +56,5 @@ EndsBy Last filter log remained remains old new = Leaves filter log remained rem
 -- what is true if a log is not filtered to its end, by the fault
 abbrev pub Stops : Filter → Option (List ℕ) → Option (List ℕ) → Bool → Bool → Stand → Stand → LogFault → Type 0
 Stops filter remained remains read_failed write_failed old new fault =
-    StopsReading (EndsRunBy filter) (FiltersLines filter old new) (WritesBeginning filter old new) remained remains read_failed write_failed fault
+    StopsReading (EndsRunBy filter) (FiltersLines filter old new)
+    (WritesBeginning filter old new) remained remains read_failed write_failed fault

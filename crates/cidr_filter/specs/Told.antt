@@ -1,5 +1,6 @@
 -- Where refused lines stand that are reported on standard error.
-use Rattle.std.specs.Prelude.{ℕ, ◌+◌, Bool, true, false, List, [], Option, None, Some, if◌then◌else◌, slice_get, codes, take}
+use Rattle.std.specs.Prelude.{ℕ, ◌+◌, Bool, true, false, List, [], Option, None, Some, if◌then◌else◌, slice_get, codes}
+use Rattle.std.specs.Prelude.{take}
 use Rattle.std.specs.List.{count_by}
 use Rattle.lists.specs.declared.refusals.Refusal.{Refusal}
 use Rattle.program.specs.Told.{in_list}
@@ -30,7 +31,8 @@ texts_in items = count_by is_text items
 
 -- where a refused line stands: the list and the number of the line, or the `-e`, and which one that is
 abbrev pub in_option : List Item → Refusal → ℕ × ℕ
-in_option items refusal = if is_text_at items refusal.list then (refusal.list, texts_in (take (refusal.list + 1) items)) else in_list refusal
+in_option items refusal = if is_text_at items refusal.list then (refusal.list, texts_in (take (refusal.list + 1) items))
+    else in_list refusal
 
 -- the name by which refused lines of a list are told: its own, or `-e`
 abbrev pub told_as : Source → List ℕ

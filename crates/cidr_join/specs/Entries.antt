@@ -1,5 +1,6 @@
 -- What a line of a list says: a network or a range, and a value behind it.
-use Rattle.std.specs.Prelude.{◌≡◌, ◌≢◌, ◌≤◌, ◌<◌, ◌==◌, ◌||◌, ◌&&◌, ◌+◌, ◌⊎◌, ℕ, Bool, true, false, not, List, [], ◌∷◌, length, take, drop, Option, None, Some, Result, Ok, Err, if◌then◌else◌, codes}
+use Rattle.std.specs.Prelude.{◌≡◌, ◌≢◌, ◌≤◌, ◌<◌, ◌==◌, ◌||◌, ◌&&◌, ◌+◌, ◌⊎◌, ℕ, Bool, true, false, not, List, [], ◌∷◌}
+use Rattle.std.specs.Prelude.{length, take, drop, Option, None, Some, Result, Ok, Err, if◌then◌else◌, codes}
 use Rattle.std.specs.List.{prefix_len}
 use Rattle.lists.specs.Entries.{ReadsEntry}
 use Rattle.lists.specs.Lines.{trimmed_by}
@@ -82,7 +83,8 @@ SaysSomething line = (length line ≤ 1024) × (is_skipped (trimmed line) ≡ fa
 
 -- the line begins with this network or range, read as a line of a list of networks, and this value is behind it
 abbrev pub Says : List ℕ → Entry → Value → Type 0
-Says line entry value = SaysSomething line × ReadsEntry (entry_part (trimmed line)) (Ok (Some entry)) × (value.bytes.now ≡ value_of (trimmed line)) × (value.bytes.now ≢ [])
+Says line entry value = SaysSomething line × ReadsEntry (entry_part (trimmed line)) (Ok (Some entry))
+    × (value.bytes.now ≡ value_of (trimmed line)) × (value.bytes.now ≢ [])
 
 -- why a text is no network and no range; a text with nothing in it is no address
 abbrev pub EntryFails : List ℕ → EntryFault → Type 0
@@ -92,7 +94,8 @@ EntryFails text fault = ReadsEntry text (Err fault) ⊎ (ReadsEntry text (Ok Non
 abbrev pub LineFaults : List ℕ → Cause → Type 0
 LineFaults line causes.Length = 1024 < length line
 LineFaults line (causes.Entry fault) = SaysSomething line × EntryFails (entry_part (trimmed line)) fault
-LineFaults line causes.Value = SaysSomething line × ((entry : Entry) × ReadsEntry (entry_part (trimmed line)) (Ok (Some entry))) × (value_of (trimmed line) ≡ [])
+LineFaults line causes.Value = SaysSomething line
+    × ((entry : Entry) × ReadsEntry (entry_part (trimmed line)) (Ok (Some entry))) × (value_of (trimmed line) ≡ [])
 LineFaults line causes.Twice = ⊥
 
 -- what reading a line returns

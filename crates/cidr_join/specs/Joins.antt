@@ -1,5 +1,6 @@
 -- What is printed of the lines of a log.
-use Rattle.std.specs.Prelude.{◌≡◌, ℕ, ◌≤◌, Bool, List, [], ◌∷◌, ◌++◌, Option, None, Some, length, drop, codes, option_map, if◌then◌else◌}
+use Rattle.std.specs.Prelude.{◌≡◌, ℕ, ◌≤◌, Bool, List, [], ◌∷◌, ◌++◌, Option, None, Some, length, drop, codes}
+use Rattle.std.specs.Prelude.{option_map, if◌then◌else◌}
 use Rattle.ipnetwork_addr.specs.declared.ip.IpAddr.{IpAddr}
 use Rattle.ipnetwork.specs.IpNetworkText.{ip_network_text}
 use Rattle.ipnetwork.specs.declared.ip_network.IpNetwork.{IpNetwork}
@@ -23,13 +24,15 @@ asked_of mapped found = if mapped then option_map unmapped found else found
 abbrev pub address_in : Join → List ℕ → Option IpAddr
 address_in join line = asked_of join.mapped (found_in join.place line)
 
--- what is found for an address: the value of the longest network of the list that has it, or that network, or nothing; or
--- the block of one length that has it
+-- what is found for an address: the value of the longest network of the list that has it, or that network, or nothing;
+-- or the block of one length that has it
 abbrev pub FindsBy : Answers → IpAddr → Found → Type 0
 FindsBy (answers.Values routes) address (founds.Network network) = ⊥
-FindsBy (answers.Values routes) address (founds.Value value) = (network : IpNetwork) × IsLongestRoute routes address network value
+FindsBy (answers.Values routes) address (founds.Value value) = (network : IpNetwork)
+    × IsLongestRoute routes address network value
 FindsBy (answers.Values routes) address founds.Nothing = NoRouteHolds routes address
-FindsBy (answers.Networks routes) address (founds.Network network) = (value : Value) × IsLongestRoute routes address network value
+FindsBy (answers.Networks routes) address (founds.Network network) = (value : Value)
+    × IsLongestRoute routes address network value
 FindsBy (answers.Networks routes) address (founds.Value value) = ⊥
 FindsBy (answers.Networks routes) address founds.Nothing = NoRouteHolds routes address
 FindsBy (answers.Blocks lengths) address found = found ≡ founds.Network (block_in lengths address)
@@ -57,4 +60,5 @@ output_of join found line = shown_of join.last (mark_of found) (content line) (p
 abbrev pub Joins : Join → List LogLine → List ℕ → Type 0
 Joins join [] output = output ≡ []
 Joins join (line ∷ lines) output = (found : Found) × (others : List ℕ) × (length (content line) ≤ 1048576)
-    × Finds join (address_in join (content line)) found × Joins join lines others × (output ≡ output_of join found line ++ others)
+    × Finds join (address_in join (content line)) found × Joins join lines others
+    × (output ≡ output_of join found line ++ others)

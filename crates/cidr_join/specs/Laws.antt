@@ -8,7 +8,8 @@ use Rattle.cidr_join.specs.declared.join.Join.{Join}
 
 -- for the lines of a log at most one output is written
 abbrev pub LogsHaveOneOutput : Type 0
-LogsHaveOneOutput = (join : Join) (log a b : List ℕ) → Joins join (log_lines log) a → Joins join (log_lines log) b → a ≡ b
+LogsHaveOneOutput = (join : Join) (log a b : List ℕ) → Joins join (log_lines log) a → Joins join (log_lines log) b
+    → a ≡ b
 
 -- a log that is cut after a line feed gives what its two parts give, one after the other
 abbrev pub OutputsOfPartsFollow : Type 0
@@ -21,5 +22,7 @@ Tallies join lines rows = (marks : List (List ℕ)) × Marks join lines marks ×
 
 -- if a log is cut after a line feed, the tally of the whole counts for each text what those of its parts count together
 abbrev pub TalliesOfPartsAddUp : Type 0
-TalliesOfPartsAddUp = (join : Join) (first second : List ℕ) (a b whole : List Row) → Tallies join (log_lines (first ++ 10 ∷ [])) a → Tallies join (log_lines second) b
-    → Tallies join (log_lines (first ++ 10 ∷ second)) whole → (text : List ℕ) → counted_by whole text ≡ min (counted_by a text + counted_by b text) (2 ^ 64 - 1)
+TalliesOfPartsAddUp = (join : Join) (first second : List ℕ) (a b whole : List Row)
+    → Tallies join (log_lines (first ++ 10 ∷ [])) a → Tallies join (log_lines second) b
+    → Tallies join (log_lines (first ++ 10 ∷ second)) whole → (text : List ℕ)
+    → counted_by whole text ≡ min (counted_by a text + counted_by b text) (2 ^ 64 - 1)

@@ -9,12 +9,15 @@ use Rattle.cidr_join.specs.declared.join.Join.{Join}
 use Rattle.program.specs.declared.log_fault.LogFault.{LogFault}
 use Rattle.program.specs.declared.log_fault.LogFault.TheVariants as faults
 
--- the logs of these names were read to their ends: all this is given by their lines, one log after the other, and this is
--- reported of those in which no line has an address
-abbrev pub ReadsLogs : {A : Type 0} → (List LogLine → List A → Type 0) → Join → KnownLists → List (List ℕ) → List A → List ℕ → Type 0
+-- the logs of these names were read to their ends: all this is given by their lines, one log after the other, and this
+-- is reported of those in which no line has an address
+abbrev pub ReadsLogs : {A : Type 0} → (List LogLine → List A → Type 0) → Join → KnownLists → List (List ℕ) → List A
+    → List ℕ → Type 0
 ReadsLogs {A} Gives join known [] all told = (all ≡ []) × (told ≡ [])
-ReadsLogs {A} Gives join known (name ∷ names) all told = (read : List ℕ) × (first : List A) × (others : List A) × (texts : List ℕ)
-    × IsAllOf known name read × Gives (log_lines read) first × ReadsLogs Gives join known names others texts × (all ≡ first ++ others)
+ReadsLogs {A} Gives join known (name ∷ names) all told = (read : List ℕ) × (first : List A) × (others : List A)
+    × (texts : List ℕ)
+    × IsAllOf known name read × Gives (log_lines read) first × ReadsLogs Gives join known names others texts
+    × (all ≡ first ++ others)
     × (told ≡ lacking_text join name (log_lines read) ++ texts)
 
 -- this is the output of their lines

@@ -24,14 +24,16 @@ group = 13
 -- the options, in the order of their rows
 abbrev pub entries : List Entry
 entries = rows.shared
-    ++ long_flag (codes "--last") ∷ long_flag (codes "--last-wins") ∷ long_flag (codes "--network") ∷ long_flag (codes "--tally")
+    ++ long_flag (codes "--last") ∷ long_flag (codes "--last-wins") ∷ long_flag (codes "--network")
+    ∷ long_flag (codes "--tally")
     ∷ long (codes "--group") kinds.Lengths false (codes "is not N,M with N up to 32 and M up to 128") ∷ []
 
--- which of them do not go together: those that say where addresses are looked for, `--tally` with `--last`, a second `-f`,
--- and `--group` with `-f` or what says something of its list. Of several such pairs the first is told
+-- which of them do not go together: those that say where addresses are looked for, `--tally` with `--last`, a second
+-- `-f`, and `--group` with `-f` or what says something of its list. Of several such pairs the first is told
 abbrev pub pairs : List (ℕ × ℕ × List ℕ)
 pairs = rows.together
-    ++ (tally, last, codes "--last does not go with --tally") ∷ (rows.list, rows.list, codes "-f is given more than once")
+    ++ (tally, last, codes "--last does not go with --tally")
+    ∷ (rows.list, rows.list, codes "-f is given more than once")
     ∷ (group, rows.list, codes "--group goes with none of -f, --network and --last-wins")
     ∷ (group, network, codes "--group goes with none of -f, --network and --last-wins")
     ∷ (group, last_wins, codes "--group goes with none of -f, --network and --last-wins") ∷ []

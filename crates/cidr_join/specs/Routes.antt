@@ -29,7 +29,8 @@ no_networks = record { v4 = empty; v6 = empty }
 
 -- the block of a network got this value; unless later values win, it had none
 abbrev pub SetsOne : ℕ → Bool → Values → Network → Value → Values → Type 0
-SetsOne w last_wins before n value after = (after ≡ insert before (block_of w n) value) × (last_wins ≡ false → get before (block_of w n) ≡ None)
+SetsOne w last_wins before n value after = (after ≡ insert before (block_of w n) value)
+    × (last_wins ≡ false → get before (block_of w n) ≡ None)
 
 -- later values do not win, and the block has one
 abbrev pub HasOne : ℕ → Bool → Values → Network → Type 0
@@ -38,7 +39,8 @@ HasOne w last_wins before n = (last_wins ≡ false) × IsSome (get before (block
 -- the blocks of these networks did, in turn
 abbrev pub SetsAll : ℕ → Bool → Values → List Network → Value → Values → Type 0
 SetsAll w last_wins before [] value after = after ≡ before
-SetsAll w last_wins before (n ∷ networks) value after = (between : Values) × SetsOne w last_wins before n value between × SetsAll w last_wins between networks value after
+SetsAll w last_wins before (n ∷ networks) value after = (between : Values) × SetsOne w last_wins before n value between
+    × SetsAll w last_wins between networks value after
 
 -- the fewest blocks of a range did
 abbrev pub SetsRange : ℕ → Bool → Values → ℕ → ℕ → Value → Values → Type 0
@@ -48,7 +50,8 @@ SetsRange w last_wins before first last value after =
 -- one of them has a value, when those before it got theirs
 abbrev pub RangeHasOne : ℕ → Bool → Values → ℕ → ℕ → Value → Type 0
 RangeHasOne w last_wins before first last value =
-    (done : List Network) × (block : Network) × (left : List Network) × (between : Values) × IsLeastList w (FromTo first last) (done ++ block ∷ left)
+    (done : List Network) × (block : Network) × (left : List Network) × (between : Values)
+    × IsLeastList w (FromTo first last) (done ++ block ∷ left)
     × SetsAll w last_wins before done value between × HasOne w last_wins between block
 
 -- an entry whose range, if it is one, has its ends in order
@@ -58,21 +61,27 @@ IsGoodEntry (entries.Range first last) = IsRange first last
 
 -- the network of an entry got this value, or the blocks of its range did
 abbrev pub SetsEntry : Bool → Networks → Entry → Value → Networks → Type 0
-SetsEntry last_wins before (entries.Network (families.V4 n)) value after = SetsOne 32 last_wins before.v4 n value after.v4 × (after.v6 ≡ before.v6)
-SetsEntry last_wins before (entries.Network (families.V6 n)) value after = SetsOne 128 last_wins before.v6 n value after.v6 × (after.v4 ≡ before.v4)
-SetsEntry last_wins before (entries.Range (addresses.V4 first) (addresses.V4 last)) value after = SetsRange 32 last_wins before.v4 first last value after.v4 × (after.v6 ≡ before.v6)
+SetsEntry last_wins before (entries.Network (families.V4 n)) value after =
+    SetsOne 32 last_wins before.v4 n value after.v4 × (after.v6 ≡ before.v6)
+SetsEntry last_wins before (entries.Network (families.V6 n)) value after =
+    SetsOne 128 last_wins before.v6 n value after.v6 × (after.v4 ≡ before.v4)
+SetsEntry last_wins before (entries.Range (addresses.V4 first) (addresses.V4 last)) value after =
+    SetsRange 32 last_wins before.v4 first last value after.v4 × (after.v6 ≡ before.v6)
 SetsEntry last_wins before (entries.Range (addresses.V4 first) (addresses.V6 last)) value after = ⊥
 SetsEntry last_wins before (entries.Range (addresses.V6 first) (addresses.V4 last)) value after = ⊥
-SetsEntry last_wins before (entries.Range (addresses.V6 first) (addresses.V6 last)) value after = SetsRange 128 last_wins before.v6 first last value after.v6 × (after.v4 ≡ before.v4)
+SetsEntry last_wins before (entries.Range (addresses.V6 first) (addresses.V6 last)) value after =
+    SetsRange 128 last_wins before.v6 first last value after.v6 × (after.v4 ≡ before.v4)
 
 -- one of these has a value, and later values do not win
 abbrev pub EntryHasOne : Bool → Networks → Entry → Value → Type 0
 EntryHasOne last_wins before (entries.Network (families.V4 n)) value = HasOne 32 last_wins before.v4 n
 EntryHasOne last_wins before (entries.Network (families.V6 n)) value = HasOne 128 last_wins before.v6 n
-EntryHasOne last_wins before (entries.Range (addresses.V4 first) (addresses.V4 last)) value = RangeHasOne 32 last_wins before.v4 first last value
+EntryHasOne last_wins before (entries.Range (addresses.V4 first) (addresses.V4 last)) value =
+    RangeHasOne 32 last_wins before.v4 first last value
 EntryHasOne last_wins before (entries.Range (addresses.V4 first) (addresses.V6 last)) value = ⊥
 EntryHasOne last_wins before (entries.Range (addresses.V6 first) (addresses.V4 last)) value = ⊥
-EntryHasOne last_wins before (entries.Range (addresses.V6 first) (addresses.V6 last)) value = RangeHasOne 128 last_wins before.v6 first last value
+EntryHasOne last_wins before (entries.Range (addresses.V6 first) (addresses.V6 last)) value =
+    RangeHasOne 128 last_wins before.v6 first last value
 
 -- the fault is that memory ran out, or a repetition, of which this is true
 abbrev pub IsRefusal : Type 0 → RouteFault → Type 0
@@ -85,10 +94,12 @@ IsRefusal repeated (faults.Refused causes.Length) = ⊥
 -- the network is one of the list's, without host bits, it has the address and this value, and no network of the list
 -- that has the address has a greater prefix length
 abbrev pub IsLongestRoute : Routes → IpAddr → IpNetwork → Value → Type 0
-IsLongestRoute routes (addresses.V4 address) (families.V4 n) value = IsLongest 32 routes.v4 address n value × HostBitsAreZero 32 n
+IsLongestRoute routes (addresses.V4 address) (families.V4 n) value = IsLongest 32 routes.v4 address n value
+    × HostBitsAreZero 32 n
 IsLongestRoute routes (addresses.V4 address) (families.V6 n) value = ⊥
 IsLongestRoute routes (addresses.V6 address) (families.V4 n) value = ⊥
-IsLongestRoute routes (addresses.V6 address) (families.V6 n) value = IsLongest 128 routes.v6 address n value × HostBitsAreZero 128 n
+IsLongestRoute routes (addresses.V6 address) (families.V6 n) value = IsLongest 128 routes.v6 address n value
+    × HostBitsAreZero 128 n
 
 -- no network of the list has the address
 abbrev pub NoRouteHolds : Routes → IpAddr → Type 0

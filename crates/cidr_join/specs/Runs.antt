@@ -1,5 +1,6 @@
 -- How a run ends: its exit status, what was written, and what was reported.
-use Rattle.std.specs.Prelude.{◌≡◌, ℕ, Bool, List, ◌∷◌, ◌++◌, true, false, ◌⊎◌, if◌then◌else◌, Option, None, Some, length, codes, String, ◌==◌}
+use Rattle.std.specs.Prelude.{◌≡◌, ℕ, Bool, List, ◌∷◌, ◌++◌, true, false, ◌⊎◌, if◌then◌else◌, Option, None, Some}
+use Rattle.std.specs.Prelude.{length, codes, String, ◌==◌}
 use Rattle.std.specs.List.{slice_split}
 use Rattle.lists.specs.Bytes.{IsAllOf, BytesStop}
 use Rattle.lists.specs.KnownLists.{KnownLists}
@@ -34,7 +35,8 @@ use Rattle.cidr_join.specs.declared.routes.Routes.{Routes}
 
 -- a log was not joined to its end, and ended the run: those before it were joined, and its first lines; their outputs
 -- were written, the cause was reported after what there is to report of those before it, and the status is 2
-pub record StopsAtLog {W E : Type 0} (join : Join) (known : KnownLists) (names : List (List ℕ)) (end : Ending W E) : Type 0 where
+pub record StopsAtLog {W E : Type 0} (join : Join) (known : KnownLists) (names : List (List ℕ))
+    (end : Ending W E) : Type 0 where
   pub before : List (List ℕ)
   pub name : List ℕ
   pub behind : List (List ℕ)
@@ -52,12 +54,13 @@ pub record StopsAtLog {W E : Type 0} (join : Join) (known : KnownLists) (names :
   pub status : end.status ≡ 2
 
 -- all logs were joined to their ends
-pub record JoinsAll {W E : Type 0} (join : Join) (known : KnownLists) (names : List (List ℕ)) (end : Ending W E) : Type 0 where
+pub record JoinsAll {W E : Type 0} (join : Join) (known : KnownLists) (names : List (List ℕ))
+    (end : Ending W E) : Type 0 where
   pub output : List ℕ
   pub texts : List ℕ
   pub joins : JoinsLogs join known names output texts
-  -- their output was written, what there is to report of them was reported, and the status is 0; or the writer failed, and
-  -- that was reported after it
+  -- their output was written, what there is to report of them was reported, and the status is 0; or the writer failed,
+  -- and that was reported after it
   pub ends : EndsWith output texts end
 
 -- the logs were joined, in turn
@@ -94,9 +97,11 @@ EndsAsked false join known names end = EndsLogs join known names end
 -- logs are joined to its networks, or counted by them
 abbrev pub EndsJoining : {W E : Type 0} → KnownLists → List Item → List ℕ → List ℕ → Ending W E → Type 0
 EndsJoining known items name text end =
-    ((fault : TakeFault) × StopsTaking (is_given items own.last_wins) no_networks (slice_split (λ b. b == 10) text) fault × Refuses (take_fault_text name fault) end)
+    ((fault : TakeFault) × StopsTaking (is_given items own.last_wins) no_networks
+    (slice_split (λ b. b == 10) text) fault × Refuses (take_fault_text name fault) end)
     ⊎ (Refuses (codes "out of memory\n") end
-    ⊎ ((networks : Networks) × TakesLines (is_given items own.last_wins) no_networks (slice_split (λ b. b == 10) text) networks
+    ⊎ ((networks : Networks) × TakesLines (is_given items own.last_wins) no_networks
+    (slice_split (λ b. b == 10) text) networks
     × EndsAsked (is_given items own.tally) (join_of items (answers_of items networks)) known (inputs_of items) end))
 
 -- this is printed of addresses: memory runs out, or the logs are joined or counted by it
@@ -118,7 +123,8 @@ lengths_of items = both (lengths_in (value_of items own.group))
 abbrev pub EndsGrouping : {W E : Type 0} → Option Lengths → KnownLists → List Item → Ending W E → Type 0
 EndsGrouping (Some lengths) known items end = EndsFinding known items (answers.Blocks lengths) end
 EndsGrouping None known items end =
-    ((fault : BytesFault) × BytesStop known (list_name items) 1073741824 fault × Refuses (bytes_fault_text (list_name items) fault) end)
+    ((fault : BytesFault) × BytesStop known (list_name items) 1073741824 fault
+    × Refuses (bytes_fault_text (list_name items) fault) end)
     ⊎ ((text : List ℕ) × IsAllOf known (list_name items) text × EndsJoining known items (list_name items) text end)
 
 abbrev pub EndsFiles : {W E : Type 0} → KnownLists → List Item → Ending W E → Type 0
@@ -132,6 +138,7 @@ abbrev pub EndsRequest : {W E : Type 0} → KnownLists → List Item → Ending 
 EndsRequest known items end = DoesRequest known end items
 
 -- how a run ends of a program of this name, help, version and usage, by the table of its options
-abbrev pub EndsAs : {Z W E : Type 0} → List ℕ → List ℕ → List ℕ → List ℕ → KnownLists → List (String Z) → Ending W E → Type 0
+abbrev pub EndsAs : {Z W E : Type 0} → List ℕ → List ℕ → List ℕ → List ℕ → KnownLists → List (String Z) → Ending W E
+    → Type 0
 EndsAs program help version usage known words end =
     (table : Table) × IsOptions table × runs.EndsAs table program help version usage words (DoesRequest known end) end

@@ -20,4 +20,5 @@ stand output seen = record { holds = output.holds; waits = output.waits; seen = 
 -- from one stand to the next these bytes were added to the output, this many lines joined, and whether one of these has
 -- an address
 abbrev pub Goes : Stand → Stand → List ℕ → ℕ → Bool → Type 0
-Goes old new added lines addressed = Puts old.holds old.waits new.holds new.waits added × Sees old.seen new.seen lines addressed
+Goes old new added lines addressed = Puts old.holds old.waits new.holds new.waits added
+    × Sees old.seen new.seen lines addressed

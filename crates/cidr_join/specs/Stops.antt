@@ -29,4 +29,5 @@ Ends join remained remains old new = ReadsAll (JoinsLines join old new) remained
 -- what is true if a log is not joined to its end, by the fault
 abbrev pub Stops : Join → Option (List ℕ) → Option (List ℕ) → Bool → Bool → Stand → Stand → LogFault → Type 0
 Stops join remained remains read_failed write_failed old new fault =
-    StopsReading EndsRunBy (JoinsLines join old new) (WritesBeginning join old new) remained remains read_failed write_failed fault
+    StopsReading EndsRunBy (JoinsLines join old new)
+    (WritesBeginning join old new) remained remains read_failed write_failed fault

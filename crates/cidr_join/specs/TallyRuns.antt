@@ -27,8 +27,8 @@ MarksLogs join known names marks told = ReadsLogs (Marks join) join known names 
 abbrev pub IsOfReading : LogFault → Type 0
 IsOfReading fault = ended_by_write {T = Unit {0}} (Err fault) ≡ false
 
--- a log was not read to its end: those before it were, and its first lines; this is what is reported, after what there is
--- to report of those before it
+-- a log was not read to its end: those before it were, and its first lines; this is what is reported, after what there
+-- is to report of those before it
 pub record StopsAtName (join : Join) (known : KnownLists) (names : List (List ℕ)) (text : List ℕ) : Type 0 where
   pub before : List (List ℕ)
   pub name : List ℕ
@@ -65,8 +65,9 @@ abbrev pub EndsWith : {W E : Type 0} → List ℕ → List ℕ → Ending W E �
 EndsWith text told end = (HasWritten end text × HasTold end told × (end.status ≡ 0))
     ⊎ (FailsWriting end text × HasTold end (told ++ codes "write error\n") × (end.status ≡ 2))
 
--- nothing was written, and the cause reported; or the tally of what is printed before the lines of the logs was written,
--- and what there is to report of them was reported
+-- nothing was written, and the cause reported; or the tally of what is printed before the lines of the logs was
+-- written, and what there is to report of them was reported
 abbrev pub EndsTally : {W E : Type 0} → Join → KnownLists → List (List ℕ) → Ending W E → Type 0
 EndsTally join known names end = ((text : List ℕ) × StopsTally join known names text × Refuses text end)
-    ⊎ ((marks : List (List ℕ)) × (told : List ℕ) × (rows : List Row) × MarksLogs join known names marks told × IsTally marks rows × EndsWith (rows_text rows) told end)
+    ⊎ ((marks : List (List ℕ)) × (told : List ℕ) × (rows : List Row) × MarksLogs join known names marks told
+    × IsTally marks rows × EndsWith (rows_text rows) told end)

@@ -1,5 +1,6 @@
 -- What the words of a command line ask for.
-use Rattle.std.specs.Prelude.{ℕ, ◌+◌, Bool, List, [], ◌∷◌, Option, None, Some, Result, Ok, Err, length, drop, min, if◌then◌else◌, codes, String}
+use Rattle.std.specs.Prelude.{ℕ, ◌+◌, Bool, List, [], ◌∷◌, Option, None, Some, Result, Ok, Err, length, drop, min}
+use Rattle.std.specs.Prelude.{if◌then◌else◌, codes, String}
 use Rattle.std.specs.List.{position_or_len}
 use Rattle.std.specs.String.{string_bytes}
 use Rattle.program.specs.Words.{is}
@@ -28,8 +29,8 @@ use Rattle.cidr_merge.specs.declared.exports.Export.TheVariants.{Addresses}
 use Rattle.cidr_merge.specs.declared.tasks.Task.{Task}
 use Rattle.cidr_merge.specs.declared.tasks.Task.TheVariants as tasks
 
--- how lists are merged, of which the first is the word at this index: those of the first side stand before a `--`, and those
--- of the second behind it
+-- how lists are merged, of which the first is the word at this index: those of the first side stand before a `--`, and
+-- those of the second behind it
 abbrev pub request_of : {Z : Type 0} → Operation → Form → List Item → List (String Z) → ℕ → Request
 request_of operation usual items lists first = record {
   operation = operation;
@@ -48,14 +49,22 @@ inspection_of strictly = if strictly then inspections.Strict else inspections.Ch
 -- what is asked for by options and lists, of which the first is the word at this index: `list` prints each address
 abbrev pub asked_for : {Z : Type 0} → Task → List Item → List (String Z) → ℕ → Command
 asked_for (tasks.Merge operation) items lists first = commands.Merge (request_of operation Blocks items lists first)
-asked_for tasks.List items lists first = commands.Merge (request_of operations.Union (Exported Addresses) items lists first)
-asked_for tasks.Split items lists first = commands.Split (record { length = length_of items; skips_bad = is_given items own.skip_bad; shape = shape_of items; first = first })
+asked_for tasks.List items lists first = commands.Merge
+    (request_of operations.Union (Exported Addresses) items lists first)
+asked_for tasks.Split items lists first = commands.Split
+    (record {
+      length = length_of items;
+      skips_bad = is_given items own.skip_bad;
+      shape = shape_of items;
+      first = first;
+    })
 asked_for tasks.Check items lists first = commands.Inspect (inspection_of (is_given items own.strict)) first
 asked_for tasks.Overlaps items lists first = commands.Inspect inspections.Overlaps first
 asked_for tasks.Find items lists first = commands.Find
 
 -- what is wrong with the words behind the first: options and lists, or, for a `find`, addresses and lists
-abbrev pub words_fault : {Z : Type 0} → Table → Task → List ℕ → List Item → List (String Z) → List (String Z) → Option Fault
+abbrev pub words_fault : {Z : Type 0} → Table → Task → List ℕ → List Item → List (String Z) → List (String Z)
+    → Option Fault
 words_fault table tasks.Find name items others lists = find_fault table.rows.now name others
 words_fault table task name items others lists = fault_of table task name items lists
 
@@ -71,7 +80,8 @@ lists_of table others = drop (options_len table.rows.now modes.Free others) othe
 abbrev pub command_for : {Z : Type 0} → Table → List ℕ → Task → List (String Z) → Result Command Fault
 command_for table name task others =
     unless (words_fault table task name (option_items table.rows.now modes.Free others) others (lists_of table others))
-    (asked_for task (option_items table.rows.now modes.Free others) (lists_of table others) (1 + options_len table.rows.now modes.Free others))
+    (asked_for task (option_items table.rows.now modes.Free others) (lists_of table others)
+    (1 + options_len table.rows.now modes.Free others))
 
 -- what the first word says to do
 abbrev pub command_by : {Z : Type 0} → Table → List ℕ → Option Task → List (String Z) → Result Command Fault

@@ -17,20 +17,25 @@ use Rattle.cidr_merge.specs.declared.command_line.Command.{Command}
 use Rattle.cidr_merge.specs.declared.command_line.Command.TheVariants as commands
 
 -- what is asked for is done
-abbrev pub EndsCommand : {Z W E : Type 0} → List ℕ → List ℕ → List Row → KnownLists → List (String Z) → Command → Ending W E → Type 0
+abbrev pub EndsCommand : {Z W E : Type 0} → List ℕ → List ℕ → List Row → KnownLists → List (String Z) → Command
+    → Ending W E → Type 0
 EndsCommand program usage rows known words (commands.Merge request) end = EndsMerging known words request end
 EndsCommand program usage rows known words (commands.Split request) end = EndsSplitting known words request end
-EndsCommand program usage rows known words (commands.Inspect inspection first) end = EndsInspecting known words inspection first end
+EndsCommand program usage rows known words (commands.Inspect inspection first) end =
+    EndsInspecting known words inspection first end
 EndsCommand program usage rows known words commands.Find end = EndsFind program usage rows known words end
 
 -- or something is wrong with the words, and that and the usage are reported
-abbrev pub EndsAsked : {Z W E : Type 0} → List ℕ → List ℕ → List Row → KnownLists → List (String Z) → Result Command Fault → Ending W E → Type 0
+abbrev pub EndsAsked : {Z W E : Type 0} → List ℕ → List ℕ → List Row → KnownLists → List (String Z)
+    → Result Command Fault → Ending W E → Type 0
 EndsAsked program usage rows known words (Ok command) end = EndsCommand program usage rows known words command end
 EndsAsked program usage rows known words (Err fault) end = Refuses (refusal_text program usage rows fault) end
 
 -- how a run ends of a program of this name, help, version and usage: with the help or the version, if the words ask for
 -- it. Else they are read by the table of its options, unless there is no memory for that
-abbrev pub EndsAs : {Z W E : Type 0} → List ℕ → List ℕ → List ℕ → List ℕ → KnownLists → List (String Z) → Ending W E → Type 0
+abbrev pub EndsAs : {Z W E : Type 0} → List ℕ → List ℕ → List ℕ → List ℕ → KnownLists → List (String Z) → Ending W E
+    → Type 0
 EndsAs program help version usage known words end = EndsRun help version words
     (Refuses (codes "out of memory\n") end
-    ⊎ ((table : Table) × IsOptions table × EndsAsked program usage table.rows.now known words (command_of table words) end)) end
+    ⊎ ((table : Table) × IsOptions table × EndsAsked program usage table.rows.now known words
+    (command_of table words) end)) end

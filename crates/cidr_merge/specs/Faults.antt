@@ -1,5 +1,6 @@
 -- What is wrong with the words of a command line.
-use Rattle.std.specs.Prelude.{ℕ, ◌==◌, ◌&&◌, ◌||◌, Bool, true, false, not, List, [], ◌∷◌, Option, None, Some, length, nat_lt, if◌then◌else◌, codes, bytes_eq, String}
+use Rattle.std.specs.Prelude.{ℕ, ◌==◌, ◌&&◌, ◌||◌, Bool, true, false, not, List, [], ◌∷◌, Option, None, Some, length}
+use Rattle.std.specs.Prelude.{nat_lt, if◌then◌else◌, codes, bytes_eq, String}
 use Rattle.std.specs.Option.{option_or, is_some}
 use Rattle.std.specs.String.{string_bytes}
 use Rattle.program.specs.Words.{count}
@@ -65,11 +66,13 @@ no_task_fault rows word =
 
 -- ---- options
 
--- what is wrong with an option of an operation that merges: it is none of it, or its value is no form. A `--format` at the
--- end says nothing
+-- what is wrong with an option of an operation that merges: it is none of it, or its value is no form. A `--format` at
+-- the end says nothing
 abbrev pub option_fault : List Row → Task → Item → Option Fault
-option_fault rows task (says.Flag row) = if nat_lt row own.prefix then None else Some (stray rows (no_option task) (says.Flag row))
-option_fault rows task (says.Lacks row) = if row == own.format then None else Some (stray rows (no_option task) (says.Lacks row))
+option_fault rows task (says.Flag row) = if nat_lt row own.prefix then None
+    else Some (stray rows (no_option task) (says.Flag row))
+option_fault rows task (says.Lacks row) = if row == own.format then None
+    else Some (stray rows (no_option task) (says.Lacks row))
 option_fault rows task (says.Value row text) =
     if row == own.format then if is_some (form_called text) then None else Some (at text (problem_at rows own.format))
     else Some (stray rows (no_option task) (says.Value row text))
@@ -97,14 +100,17 @@ left_fault rows usual (item ∷ items) = Some (stray rows usual item)
 -- a `--` stands before all lists
 abbrev pub dashes_fault : {Z : Type 0} → Task → List (String Z) → Option Fault
 dashes_fault task [] = None
-dashes_fault task (word ∷ words) = if bytes_eq (string_bytes word) (codes "--") then Some (at (codes "--") (no_first task)) else None
+dashes_fault task (word ∷ words) = if bytes_eq (string_bytes word) (codes "--")
+    then Some (at (codes "--") (no_first task)) else None
 
 -- what is wrong with the options of a `split`, of which the first has to be `--prefix`
 abbrev pub prefix_fault : {Z : Type 0} → List Row → List Item → List (String Z) → Option Fault
-prefix_fault rows [] lists = option_or (dashes_fault tasks.Split lists) (Some (about subjects.CommandLine (codes "split: no --prefix N before the first FILE")))
+prefix_fault rows [] lists = option_or (dashes_fault tasks.Split lists)
+    (Some (about subjects.CommandLine (codes "split: no --prefix N before the first FILE")))
 prefix_fault rows (item ∷ items) lists =
     if not (names own.prefix item) then Some (stray rows (no_option tasks.Split) item)
-    else if is_some (prefix_in (value_in own.prefix [] item)) then left_fault rows (no_file tasks.Split) (behind_shape (behind own.skip_bad items))
+    else if is_some (prefix_in (value_in own.prefix [] item))
+    then left_fault rows (no_file tasks.Split) (behind_shape (behind own.skip_bad items))
     else Some (at (value_in own.prefix [] item) (problem_at rows own.prefix))
 
 -- options that do not go together, or do not go with the operation: the forms that other programs read cannot tell the
@@ -120,14 +126,17 @@ cannot_print operation form = false
 abbrev pub together_fault : Table → Operation → List Item → Option Fault
 together_fault table operation items =
     option_or (pair_fault items table.pairs.now)
-    (if is_given items own.strict && not (is_given items own.json) then Some (about (subjects.Option own.strict) (codes "only together with --json"))
-    else if cannot_print operation (form_of Blocks items) then Some (about (subjects.Option own.format) (codes "differ can be printed only as plain or range"))
+    (if is_given items own.strict && not (is_given items own.json)
+    then Some (about (subjects.Option own.strict) (codes "only together with --json"))
+    else if cannot_print operation (form_of Blocks items)
+    then Some (about (subjects.Option own.format) (codes "differ can be printed only as plain or range"))
     else None)
 
 -- what is wrong with the options of each task, and a `--` behind them
 abbrev pub merge_fault : {Z : Type 0} → Table → Task → Operation → List Item → List (String Z) → Option Fault
 merge_fault table task operation items lists =
-    option_or (options_fault table.rows.now task items) (option_or (dashes_fault task lists) (together_fault table operation items))
+    option_or (options_fault table.rows.now task items)
+    (option_or (dashes_fault task lists) (together_fault table operation items))
 
 abbrev pub few_fault : {Z : Type 0} → List Row → Task → List Item → List (String Z) → Option Fault
 few_fault rows task items lists = option_or (left_fault rows (no_option task) items) (dashes_fault task lists)
@@ -151,14 +160,17 @@ name_fault rows task word =
 -- with the first of them with which something is, and that standard input is among them twice
 abbrev pub names_fault : {Z : Type 0} → List Row → Task → List (String Z) → Option Fault
 names_fault rows task [] = None
-names_fault rows task (word ∷ words) = option_or (name_fault rows task (string_bytes word)) (names_fault rows task words)
+names_fault rows task (word ∷ words) = option_or (name_fault rows task (string_bytes word))
+    (names_fault rows task words)
 
 abbrev pub lists_fault : {Z : Type 0} → List Row → Task → List (String Z) → Option Fault
 lists_fault rows task lists =
     option_or (names_fault rows task lists)
-    (if nat_lt 1 (count (codes "-") lists) then Some (at (codes "-") (codes "standard input can be read only once")) else None)
+    (if nat_lt 1 (count (codes "-") lists) then Some (at (codes "-") (codes "standard input can be read only once"))
+    else None)
 
--- with one side: a `--`, or that there is no list; and with two: that there is no `--`, another one, or no list behind it
+-- with one side: a `--`, or that there is no list; and with two: that there is no `--`, another one, or no list behind
+-- it
 abbrev pub one_side_fault : {Z : Type 0} → List ℕ → List (String Z) → Option Fault
 one_side_fault name lists =
     if has (codes "--") lists then Some (at (codes "--") one_side)
@@ -181,12 +193,15 @@ sides_fault task name lists = if is_two_sided task then two_sides_fault name lis
 -- these, and then the sides
 abbrev pub fault_of : {Z : Type 0} → Table → Task → List ℕ → List Item → List (String Z) → Option Fault
 fault_of table task name items lists =
-    option_or (said_fault table task items lists) (option_or (lists_fault table.rows.now task lists) (sides_fault task name lists))
+    option_or (said_fault table task items lists)
+    (option_or (lists_fault table.rows.now task lists) (sides_fault task name lists))
 
 -- what is wrong with those of a `find`, whatever its addresses are, and with one of them that is none
 abbrev pub find_fault : {Z : Type 0} → List Row → List ℕ → List (String Z) → Option Fault
 find_fault rows name others =
-    option_or (dashes_fault tasks.Find others) (option_or (two_sides_fault name others) (lists_fault rows tasks.Find (behind_dashes others)))
+    option_or (dashes_fault tasks.Find others)
+    (option_or (two_sides_fault name others) (lists_fault rows tasks.Find (behind_dashes others)))
 
 abbrev pub sought_fault : List Row → List ℕ → Fault
-sought_fault rows word = if is_plain word then at word (codes "not an address") else stray_word rows (no_option tasks.Find) word
+sought_fault rows word = if is_plain word then at word (codes "not an address")
+    else stray_word rows (no_option tasks.Find) word

@@ -50,11 +50,13 @@ EndsReadingAll known words addresses end =
 -- what is reported of words that are not taken as addresses: the first that is none, and the usage,
 -- or that memory ran out
 abbrev pub sought_fault_text : {Z : Type 0} → List ℕ → List ℕ → List Row → List (String Z) → QueryFault → List ℕ
-sought_fault_text program usage rows words (NotAnAddress place) = refusal_text program usage rows (sought_fault rows (name_at words place))
+sought_fault_text program usage rows words (NotAnAddress place) =
+    refusal_text program usage rows (sought_fault rows (name_at words place))
 sought_fault_text program usage rows words OutOfMemory = fault_text words faults.OutOfMemory
 
 -- that is reported before anything is read, or the words before the `--` name addresses
 abbrev pub EndsFind : {Z W E : Type 0} → List ℕ → List ℕ → List Row → KnownLists → List (String Z) → Ending W E → Type 0
 EndsFind program usage rows known words end =
-    ((fault : QueryFault) × StopsAtWord 1 (sought_of words) fault × Refuses (sought_fault_text program usage rows words fault) end)
+    ((fault : QueryFault) × StopsAtWord 1 (sought_of words) fault
+    × Refuses (sought_fault_text program usage rows words fault) end)
     ⊎ ((addresses : List IpAddr) × AreAddresses (sought_of words) addresses × EndsReadingAll known words addresses end)

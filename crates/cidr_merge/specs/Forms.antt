@@ -34,7 +34,8 @@ form_of usual items =
 
 -- how lists are written
 abbrev pub shape_of : List Item → Shape
-shape_of items = if is_given items own.json then if is_given items own.strict then shapes.StrictJson else shapes.Json else shapes.Lines
+shape_of items = if is_given items own.json then if is_given items own.strict then shapes.StrictJson else shapes.Json
+    else shapes.Lines
 
 -- the prefix length that a text names: a number up to 128, behind a `+` (byte 43) or none
 abbrev pub without_plus : List ℕ → List ℕ

@@ -1,5 +1,6 @@
 -- How a run ends that looks lists over.
-use Rattle.std.specs.Prelude.{◌≡◌, ◌==◌, ◌⊎◌, ℕ, Bool, true, false, List, [], ◌++◌, length, drop, if◌then◌else◌, codes, String}
+use Rattle.std.specs.Prelude.{◌≡◌, ◌==◌, ◌⊎◌, ℕ, Bool, true, false, List, [], ◌++◌, length, drop, if◌then◌else◌, codes}
+use Rattle.std.specs.Prelude.{String}
 use Rattle.std.specs.List.{concat}
 use Rattle.lists.specs.KnownLists.{KnownLists}
 use Rattle.lists.specs.declared.named.ReadFault.{ReadFault}
@@ -48,4 +49,5 @@ EndsFinding Overlaps names texts end = EndsOrdered false names texts end
 abbrev pub EndsInspecting : {Z W E : Type 0} → KnownLists → List (String Z) → Inspection → ℕ → Ending W E → Type 0
 EndsInspecting known words inspection first end =
     ((fault : ReadFault) × TextsStop known first (drop first words) fault × Refuses (fault_text words fault) end)
-    ⊎ ((texts : List (List ℕ)) × AreTexts known (drop first words) texts × EndsFinding inspection (drop first words) texts end)
+    ⊎ ((texts : List (List ℕ)) × AreTexts known (drop first words) texts
+    × EndsFinding inspection (drop first words) texts end)

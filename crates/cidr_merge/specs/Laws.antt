@@ -1,5 +1,6 @@
 -- What no other text is, and what is computed of lists.
-use Rattle.std.specs.Prelude.{◌≡◌, ◌≢◌, ◌↔◌, ℕ, Bool, List, Option, None, Some, Result, Ok, false, nat_lt, drop, slice_range, codes, IsTrue, String}
+use Rattle.std.specs.Prelude.{◌≡◌, ◌≢◌, ◌↔◌, ℕ, Bool, List, Option, None, Some, Result, Ok, false, nat_lt, drop}
+use Rattle.std.specs.Prelude.{slice_range, codes, IsTrue, String}
 use Rattle.ipnetwork_addr.specs.declared.ip.IpAddr.{IpAddr}
 use Rattle.lists.specs.Entries.{ReadsEntry}
 use Rattle.lists.specs.Lists.{Names}
@@ -44,7 +45,8 @@ AreCut words request =
     × (drop request.second words ≡ behind_dashes (drop request.first words))
 
 abbrev pub SidesAreCut : {Z : Type 0} → Table → List (String Z) → Type 0
-SidesAreCut table words = (request : Request) → command_of table words ≡ Ok (commands.Merge request) → AreCut words request
+SidesAreCut table words = (request : Request) → command_of table words ≡ Ok (commands.Merge request)
+    → AreCut words request
 
 -- no text but these nine names a form
 abbrev pub NoOtherForm : Type 0

@@ -42,12 +42,14 @@ IsIpCause text Format = HasSeveralSlashes text
 -- else what stands before the `/` is an address of neither family
 IsIpCause text Addr = (slashes text ≤ 1) × ((a : IpAddr) → ¬ (NamesIp (before_slash text) a))
 -- else what stands after the `/` is not a suffix of that address's family
-IsIpCause text Prefix = (slashes text ≤ 1) × ((a : IpAddr) × NamesIp (before_slash text) a × HasNoSuffix (IsIpSuffix a) text)
+IsIpCause text Prefix = (slashes text ≤ 1) × ((a : IpAddr) × NamesIp (before_slash text) a
+    × HasNoSuffix (IsIpSuffix a) text)
 
 -- `None` exactly for a text that names a network, and else the cause
 abbrev pub TellsIpCause : List ℕ → Option CidrFault → Type 0
 TellsIpCause text result =
-    MatchOption result ((n : IpNetwork) × NamesIpNetwork text n) (λ fault. IsIpCause text fault × ((n : IpNetwork) → ¬ (NamesIpNetwork text n)))
+    MatchOption result ((n : IpNetwork) × NamesIpNetwork text n)
+    (λ fault. IsIpCause text fault × ((n : IpNetwork) → ¬ (NamesIpNetwork text n)))
 
 -- the one text that a network is printed as
 abbrev pub ip_network_text : IpNetwork → List ℕ

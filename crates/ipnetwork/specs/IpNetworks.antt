@@ -5,7 +5,8 @@ use Rattle.std.specs.declared.cmp.Ordering.{Ordering}
 use Rattle.std.specs.declared.cmp.Ordering.TheVariants.{Less, Greater}
 use Rattle.ipnetwork_addr.specs.declared.ip.IpAddr.{IpAddr}
 use Rattle.ipnetwork_addr.specs.declared.ip.IpAddr.TheVariants as addresses
-use Rattle.ipnetwork_family.specs.Network.{Network, IsNetwork, Member, low, high, mask_of, size_of, members, IsNetworkBefore, IsNetworkAtMost, network_cmp}
+use Rattle.ipnetwork_family.specs.Network.{Network, IsNetwork, Member, low, high, mask_of, size_of, members}
+use Rattle.ipnetwork_family.specs.Network.{IsNetworkBefore, IsNetworkAtMost, network_cmp}
 use Rattle.ipnetwork_family.specs.declared.error.IpNetworkError.{IpNetworkError}
 use Rattle.ipnetwork_family.specs.declared.error.IpNetworkError.TheVariants.{InvalidPrefix}
 use Rattle.ipnetwork.specs.declared.ip_network.IpNetwork.{IpNetwork}
@@ -90,7 +91,8 @@ made_of (addresses.V6 a) p = V6 (record { address = a; prefix = p })
 -- what making a network returns: it, if the prefix length is within the width, and else `InvalidPrefix`
 abbrev pub Makes : IpAddr → ℕ → Result IpNetwork IpNetworkError → Type 0
 Makes ip prefix result =
-    MatchResult result (λ n. (n ≡ made_of ip prefix) × (prefix ≤ width_of ip)) (λ fault. (fault ≡ InvalidPrefix) × (width_of ip < prefix))
+    MatchResult result (λ n. (n ≡ made_of ip prefix) × (prefix ≤ width_of ip))
+    (λ fault. (fault ≡ InvalidPrefix) × (width_of ip < prefix))
 
 -- the address is the mask of the prefix length, in its family
 abbrev pub IsIpMask : IpAddr → ℕ → Type 0

@@ -4,19 +4,23 @@ use Rattle.std.specs.List.{AllPairs}
 use Rattle.ipnetwork_addr.specs.Either.{IsAddrBefore}
 use Rattle.ipnetwork_addr.specs.declared.ip.IpAddr.{IpAddr}
 use Rattle.ipnetwork_family.specs.Masks.{GivesPrefixOfMask}
-use Rattle.ipnetwork_family.specs.Network.{Network, IsNetwork, Member, low, high, mask_of, size_of, members, Subnet, Overlap, IsNetworkBefore, IsNetworkAtMost, network_cmp}
+use Rattle.ipnetwork_family.specs.Network.{Network, IsNetwork, Member, low, high, mask_of, size_of, members, Subnet}
+use Rattle.ipnetwork_family.specs.Network.{Overlap, IsNetworkBefore, IsNetworkAtMost, network_cmp}
 use Rattle.ipnetwork_family.specs.NetworkText.{network_text}
 use Rattle.ipnetwork_family.specs.declared.error.IpNetworkError.{IpNetworkError}
 use Rattle.ipnetwork_family.specs.declared.error.IpNetworkError.TheVariants.{InvalidPrefix}
-use Rattle.ipnetwork.specs.IpNetworks.{IsIpNetwork, address_of, prefix_of, ip_mask_of, ip_low, ip_high, ip_size, ip_members, IpMember, IpSubnet, IpOverlap, width_of, made_of, Makes, IsIpMask, GivesMaskPrefix, MakesWithMask, IsIpBefore, IsIpAtMost, ip_network_cmp}
+use Rattle.ipnetwork.specs.IpNetworks.{IsIpNetwork, address_of, prefix_of, ip_mask_of, ip_low, ip_high, ip_size}
+use Rattle.ipnetwork.specs.IpNetworks.{ip_members, IpMember, IpSubnet, IpOverlap, width_of, made_of, Makes, IsIpMask}
+use Rattle.ipnetwork.specs.IpNetworks.{GivesMaskPrefix, MakesWithMask, IsIpBefore, IsIpAtMost, ip_network_cmp}
 use Rattle.ipnetwork.specs.IpNetworkText.{NamesIpNetwork, ip_network_text}
 use Rattle.ipnetwork.specs.declared.error.WrongFamily.{WrongFamily}
 use Rattle.ipnetwork.specs.declared.ip_network.IpNetwork.{IpNetwork}
 use Rattle.ipnetwork.specs.declared.size.NetworkSize.{NetworkSize}
 
--- of a family whose addresses have w bits, and whose networks, addresses and sizes stand among those of either family as
--- these functions say: each question of a network of either family is the question of its own family
-pub record AsksItsFamily (w : ℕ) (network : Network → IpNetwork) (address : ℕ → IpAddr) (size : ℕ → NetworkSize) : Type 0 where
+-- of a family whose addresses have w bits, and whose networks, addresses and sizes stand among those of either family
+-- as these functions say: each question of a network of either family is the question of its own family
+pub record AsksItsFamily (w : ℕ) (network : Network → IpNetwork) (address : ℕ → IpAddr)
+    (size : ℕ → NetworkSize) : Type 0 where
   pub network_fits : (n : Network) → IsIpNetwork (network n) ↔ IsNetwork w n
   pub its_address : (n : Network) → address_of (network n) ≡ address n.address
   pub its_prefix : (n : Network) → prefix_of (network n) ≡ n.prefix
@@ -37,12 +41,15 @@ pub record MakesInItsFamily (w : ℕ) (network : Network → IpNetwork) (address
   pub width : (a : ℕ) → width_of (address a) ≡ w
   pub made : (a p : ℕ) → made_of (address a) p ≡ network (record { address = a; prefix = p })
   pub makes : (a p : ℕ) (result : Result IpNetwork IpNetworkError) → Makes (address a) p result
-      ↔ MatchResult result (λ n. (n ≡ network (record { address = a; prefix = p })) × (p ≤ w)) (λ fault. (fault ≡ InvalidPrefix) × (w < p))
+      ↔ MatchResult result (λ n. (n ≡ network (record { address = a; prefix = p })) × (p ≤ w))
+      (λ fault. (fault ≡ InvalidPrefix) × (w < p))
   pub is_mask : (mask p : ℕ) → IsIpMask (address mask) p ↔ ((p ≤ w) × (mask ≡ mask_of w p))
-  pub converts : (mask : ℕ) (result : Result ℕ IpNetworkError) → GivesMaskPrefix (address mask) result ↔ GivesPrefixOfMask w mask result
+  pub converts : (mask : ℕ) (result : Result ℕ IpNetworkError)
+      → GivesMaskPrefix (address mask) result ↔ GivesPrefixOfMask w mask result
 
 -- and its texts are those of the family: these texts name its networks, and its addresses are printed so
-pub record ReadsInItsFamily (network : Network → IpNetwork) (Names : List ℕ → Network → Type 0) (canonical : ℕ → List ℕ) : Type 0 where
+pub record ReadsInItsFamily (network : Network → IpNetwork) (Names : List ℕ → Network → Type 0)
+    (canonical : ℕ → List ℕ) : Type 0 where
   pub names : (text : List ℕ) (n : Network) → NamesIpNetwork text (network n) ↔ Names text n
   pub printed : (n : Network) → ip_network_text (network n) ≡ network_text canonical n
 
@@ -58,7 +65,8 @@ NoMaskIsRefused = (ip mask : IpAddr) (result : Result IpNetwork IpNetworkError) 
 
 -- what converts to a network of one family is a network of that family, and converts to itself: of networks that stand
 -- among those of either family as `own` says, and those of the other family as `other` says
-pub record TakesItsFamily (own other : Network → IpNetwork) (Is : IpNetwork → Type 0) (Takes : IpNetwork → Result Network WrongFamily → Type 0) : Type 0 where
+pub record TakesItsFamily (own other : Network → IpNetwork) (Is : IpNetwork → Type 0)
+    (Takes : IpNetwork → Result Network WrongFamily → Type 0) : Type 0 where
   pub is_own : (n : Network) → Is (own n)
   pub is_no_other : (n : Network) → ¬ (Is (other n))
   pub takes_own : (n : Network) (result : Result Network WrongFamily) → Takes (own n) result ↔ (result ≡ Ok n)

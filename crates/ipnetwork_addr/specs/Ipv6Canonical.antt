@@ -1,6 +1,7 @@
--- The one text that an IPv6 address is printed as: RFC 5952, sections 4.1 to 4.3, and section 5 only for the IPv4-mapped
--- addresses.
-use Rattle.std.specs.Prelude.{◌≡◌, false, ℕ, ◌+◌, ◌/◌, ◌%◌, ◌^◌, ◌<◌, ◌≤◌, List, ◌++◌, length, slice_index, take, drop, map, codes}
+-- The one text that an IPv6 address is printed as: RFC 5952, sections 4.1 to 4.3, and section 5 only for the
+-- IPv4-mapped addresses.
+use Rattle.std.specs.Prelude.{◌≡◌, false, ℕ, ◌+◌, ◌/◌, ◌%◌, ◌^◌, ◌<◌, ◌≤◌, List, ◌++◌, length, slice_index, take, drop}
+use Rattle.std.specs.Prelude.{map, codes}
 use Rattle.std.specs.List.{join_with_byte}
 use Rattle.std.specs.Fmt.{digits}
 use Rattle.ipnetwork_addr.specs.Digits.{segments_of}
@@ -31,9 +32,12 @@ pub record IsGap (groups : List ℕ) (i n : ℕ) : Type 0 where
   pub longest : (j m : ℕ) → IsZeroRun groups j m → m ≤ n
   pub leftmost : (j : ℕ) → IsZeroRun groups j n → i ≤ j
 
--- the text is the canonical text of the address: `::ffff:` and an IPv4 text if it is mapped, else its groups in hex, with
--- a `::` for the gap if there is one
+-- the text is the canonical text of the address: `::ffff:` and an IPv4 text if it is mapped, else its groups in hex,
+-- with a `::` for the gap if there is one
 pub data IsCanonicalV6 (text : List ℕ) (address : ℕ) : Type 0 where
   Mapped : IsMapped address → text ≡ codes "::ffff:" ++ canonical_v4 (address % 2 ^ 32) → IsCanonicalV6 text address
-  Gap : ¬ (IsMapped address) → (i n : ℕ) → IsGap (segments_of address) i n → text ≡ hex_groups (take i (segments_of address)) ++ codes "::" ++ hex_groups (drop (i + n) (segments_of address)) → IsCanonicalV6 text address
-  Whole : ¬ (IsMapped address) → ((i n : ℕ) → ¬ (IsGap (segments_of address) i n)) → text ≡ hex_groups (segments_of address) → IsCanonicalV6 text address
+  Gap : ¬ (IsMapped address) → (i n : ℕ) → IsGap (segments_of address) i n
+      → text ≡ hex_groups (take i (segments_of address)) ++ codes "::"
+      ++ hex_groups (drop (i + n) (segments_of address)) → IsCanonicalV6 text address
+  Whole : ¬ (IsMapped address) → ((i n : ℕ) → ¬ (IsGap (segments_of address) i n))
+      → text ≡ hex_groups (segments_of address) → IsCanonicalV6 text address

@@ -1,5 +1,6 @@
 -- Why an IPv6 address is known by its number: eight segments are those of the number that they make up.
-use Rattle.std.specs.Prelude.{◌≡◌, ℕ, zero, suc, ◌+◌, ◌-◌, ◌*◌, ◌/◌, ◌%◌, ◌<◌, ◌≤◌, List, [], ◌∷◌, ◌++◌, length, take, reverse}
+use Rattle.std.specs.Prelude.{◌≡◌, ℕ, zero, suc, ◌+◌, ◌-◌, ◌*◌, ◌/◌, ◌%◌, ◌<◌, ◌≤◌, List, [], ◌∷◌, ◌++◌, length, take}
+use Rattle.std.specs.Prelude.{reverse}
 use Rattle.std.proofs.Common.{get_or, refl, sym, ap, subst, ◌∙◌, ⊎_elim, lit<}
 use Rattle.std.proofs.Math.Nat.{le_of_eq, le_of_lt, le_trans}
 use Rattle.std.proofs.Math.Seq.{take-suc}
@@ -11,15 +12,19 @@ use Rattle.ipnetwork_addr.specs.Digits.{digits_in, segments_of}
 use Rattle.ipnetwork_addr.specs.Segments.{number_of_segments, AreSegments}
 
 -- the first digits of a list are those of their number
-first_back : (xs : List ℕ) (count : ℕ) → count ≤ length xs → ((i : ℕ) → get_or xs i 0 < 65536) → digits_in 65536 count (number_of_segments (take count xs)) ≡ take count xs
+first_back : (xs : List ℕ) (count : ℕ) → count ≤ length xs → ((i : ℕ) → get_or xs i 0 < 65536)
+    → digits_in 65536 count (number_of_segments (take count xs)) ≡ take count xs
 first_back xs zero within fit = refl
 first_back xs (suc count) within fit =
     let front : ℕ = number_of_segments (take count xs) in
     let last : ℕ = get_or xs count 0 in
     let more : take (suc count) xs ≡ take count xs ++ last ∷ [] = take-suc xs count 0 within in
-    let number : number_of_segments (take (suc count) xs) ≡ front * 65536 + last = ap number_of_segments more ∙ number_push 65536 (take count xs) last in
-    let quotient : number_of_segments (take (suc count) xs) / 65536 ≡ front = ap (λ n. n / 65536) number ∙ div-mul-add front 65536 last (fit count) in
-    let remainder : number_of_segments (take (suc count) xs) % 65536 ≡ last = ap (λ n. n % 65536) number ∙ mod-mul-add front 65536 last (fit count) in
+    let number : number_of_segments (take (suc count) xs) ≡ front * 65536 + last =
+    ap number_of_segments more ∙ number_push 65536 (take count xs) last in
+    let quotient : number_of_segments (take (suc count) xs) / 65536 ≡ front =
+    ap (λ n. n / 65536) number ∙ div-mul-add front 65536 last (fit count) in
+    let remainder : number_of_segments (take (suc count) xs) % 65536 ≡ last =
+    ap (λ n. n % 65536) number ∙ mod-mul-add front 65536 last (fit count) in
     ap (λ n. digits_in 65536 count n ++ number_of_segments (take (suc count) xs) % 65536 ∷ []) quotient
     ∙ ap (λ d. digits_in 65536 count front ++ d ∷ []) remainder
     ∙ ap (λ digits. digits ++ last ∷ []) (first_back xs count (le_of_lt within) fit)
@@ -28,7 +33,8 @@ first_back xs (suc count) within fit =
 pub segments_back : (xs : List ℕ) → AreSegments xs → segments_of (number_of_segments xs) ≡ xs
 segments_back xs are =
     let all : take 8 xs ≡ xs = take_all 8 xs (le_of_eq are.eight) in
-    sym (ap (λ segments. segments_of (number_of_segments segments)) all) ∙ first_back xs 8 (le_of_eq (sym are.eight)) are.each ∙ all
+    sym (ap (λ segments. segments_of (number_of_segments segments)) all) ∙ first_back xs 8
+    (le_of_eq (sym are.eight)) are.each ∙ all
 
 -- ---- the lowest first
 
@@ -36,8 +42,10 @@ pub reversed_segments : (xs : List ℕ) → AreSegments xs → AreSegments (reve
 reversed_segments xs are = record {
   eight = length-reverse xs ∙ are.eight;
   each = λ i. ⊎_elim
-      (λ (within : i < length xs). subst (λ (d : ℕ). d < 65536) (sym (get_or-reverse xs i 0 within)) (are.each (length xs - 1 - i)))
-      (λ (past : length xs ≤ i). subst (λ (d : ℕ). d < 65536) (sym (get_or_past (reverse xs) i 0 (le_trans (le_of_eq (length-reverse xs)) past))) (lit< tt))
+      (λ (within : i < length xs). subst (λ (d : ℕ). d < 65536) (sym (get_or-reverse xs i 0 within))
+      (are.each (length xs - 1 - i)))
+      (λ (past : length xs ≤ i). subst (λ (d : ℕ). d < 65536)
+      (sym (get_or_past (reverse xs) i 0 (le_trans (le_of_eq (length-reverse xs)) past))) (lit< tt))
       (cases_lt i (length xs));
 }
 

@@ -25,7 +25,8 @@ IpUnionOfNone = (x : IpAddr) → ¬ (InIpUnion [] x)
 
 -- and in that of a list lie the members of its first network, and the addresses of the union of the others
 abbrev pub IpUnionOfList : Type 0
-IpUnionOfList = (n : IpNetwork) (others : List IpNetwork) (x : IpAddr) → InIpUnion (n ∷ others) x ↔ (IpMember n x ⊎ InIpUnion others x)
+IpUnionOfList = (n : IpNetwork) (others : List IpNetwork) (x : IpAddr)
+    → InIpUnion (n ∷ others) x ↔ (IpMember n x ⊎ InIpUnion others x)
 
 -- the aggregate of networks has the same addresses in its union as they have
 abbrev pub IpAggregateHasUnion : Type 0
@@ -33,33 +34,40 @@ IpAggregateHasUnion = (networks blocks : List IpNetwork) → IsIpAggregate netwo
 
 -- each of its blocks ends before the next begins
 abbrev pub IpAggregateIsApart : Type 0
-IpAggregateIsApart = (networks blocks : List IpNetwork) → IsIpAggregate networks blocks → AllPairs (λ a b. IsAddrBefore (ip_high a) (address_of b)) blocks
+IpAggregateIsApart = (networks blocks : List IpNetwork) → IsIpAggregate networks blocks
+    → AllPairs (λ a b. IsAddrBefore (ip_high a) (address_of b)) blocks
 
 -- so no address lies in two of them
 abbrev pub IpAggregateHasOneBlock : Type 0
-IpAggregateHasOneBlock = (networks blocks : List IpNetwork) (a b : IpNetwork) (x : IpAddr) → IsIpAggregate networks blocks → Contains blocks a → Contains blocks b
+IpAggregateHasOneBlock = (networks blocks : List IpNetwork) (a b : IpNetwork) (x : IpAddr)
+    → IsIpAggregate networks blocks → Contains blocks a → Contains blocks b
     → IpMember a x → IpMember b x → a ≡ b
 
 -- a network lies in the union exactly if it lies in a block of the aggregate
 abbrev pub IpAggregateHasNetworks : Type 0
-IpAggregateHasNetworks = (networks blocks : List IpNetwork) → IsIpAggregate networks blocks → (n : IpNetwork) → IsIpNetwork n
+IpAggregateHasNetworks = (networks blocks : List IpNetwork) → IsIpAggregate networks blocks → (n : IpNetwork)
+    → IsIpNetwork n
     → LiesInIpUnion n networks ↔ ((b : IpNetwork) × Contains blocks b × IpSubnet n b)
 
 -- each block of the aggregate has a network of its own in every list of networks with the same union,
 abbrev pub IpAggregateBlocksAreNeeded : Type 0
-IpAggregateBlocksAreNeeded = (networks blocks others : List IpNetwork) → IsIpAggregate networks blocks → All IsIpNetwork others → SameIpUnion others networks
+IpAggregateBlocksAreNeeded = (networks blocks others : List IpNetwork) → IsIpAggregate networks blocks
+    → All IsIpNetwork others → SameIpUnion others networks
     → (b : IpNetwork) → Contains blocks b → (n : IpNetwork) × Contains others n × IpSubnet n b
 
 -- so none of these lists is shorter
 abbrev pub IpAggregateIsLeast : Type 0
-IpAggregateIsLeast = (networks blocks others : List IpNetwork) → IsIpAggregate networks blocks → All IsIpNetwork others → SameIpUnion others networks
+IpAggregateIsLeast = (networks blocks others : List IpNetwork) → IsIpAggregate networks blocks → All IsIpNetwork others
+    → SameIpUnion others networks
     → length blocks ≤ length others
 
 -- two lists of networks have one aggregate exactly if they have the same union
 abbrev pub IpAggregateIsOfUnion : Type 0
-IpAggregateIsOfUnion = (networks others blocks other_blocks : List IpNetwork) → IsIpAggregate networks blocks → IsIpAggregate others other_blocks
+IpAggregateIsOfUnion = (networks others blocks other_blocks : List IpNetwork) → IsIpAggregate networks blocks
+    → IsIpAggregate others other_blocks
     → SameIpUnion networks others ↔ (blocks ≡ other_blocks)
 
 -- so an aggregate is its own aggregate
 abbrev pub IpAggregateIsItsOwn : Type 0
-IpAggregateIsItsOwn = (networks blocks again : List IpNetwork) → IsIpAggregate networks blocks → IsIpAggregate blocks again → blocks ≡ again
+IpAggregateIsItsOwn = (networks blocks again : List IpNetwork) → IsIpAggregate networks blocks
+    → IsIpAggregate blocks again → blocks ≡ again

@@ -12,28 +12,34 @@ use Rattle.ipnetwork_blocks.specs.Exclusion.{InDifference}
 pub record IsShortest (w : ℕ) (set : ℕ → Type 0) (blocks : List Network) : Type 0 where
   pub addresses : (x : ℕ) → InUnion w blocks x ↔ set x
   pub apart : AllPairs (λ a b. high w a < b.address) blocks
-  pub shortest : (networks : List Network) → All (IsNetwork w) networks → ((x : ℕ) → InUnion w networks x ↔ set x) → length blocks ≤ length networks
+  pub shortest : (networks : List Network) → All (IsNetwork w) networks → ((x : ℕ) → InUnion w networks x ↔ set x)
+      → length blocks ≤ length networks
   pub one : (others : List Network) → IsLeastList w set others → others ≡ blocks
 
 -- so it is with the least list of a range,
 abbrev pub RangeIsShortest : Type 0
-RangeIsShortest = (w first last : ℕ) (blocks : List Network) → last < 2 ^ w → IsLeastList w (FromTo first last) blocks → IsShortest w (FromTo first last) blocks
+RangeIsShortest = (w first last : ℕ) (blocks : List Network) → last < 2 ^ w → IsLeastList w (FromTo first last) blocks
+    → IsShortest w (FromTo first last) blocks
 
 -- and with that of an exclusion
 abbrev pub ExclusionIsShortest : Type 0
-ExclusionIsShortest = (w : ℕ) (network inner : Network) (blocks : List Network) → IsLeastList w (InDifference w network inner) blocks
+ExclusionIsShortest = (w : ℕ) (network inner : Network) (blocks : List Network)
+    → IsLeastList w (InDifference w network inner) blocks
     → IsShortest w (InDifference w network inner) blocks
 
 -- the addresses of a network, as a range, are one block
 abbrev pub NetworkIsOneBlock : Type 0
-NetworkIsOneBlock = (w : ℕ) (n : Network) (blocks : List Network) → IsNetwork w n → IsLeastList w (FromTo (low w n) (high w n)) blocks
+NetworkIsOneBlock = (w : ℕ) (n : Network) (blocks : List Network) → IsNetwork w n
+    → IsLeastList w (FromTo (low w n) (high w n)) blocks
     → blocks ≡ block_of w n ∷ []
 
 -- if addresses have two bits or more, a range has at most 2 w - 2 blocks,
 abbrev pub RangeHasAtMost : Type 0
-RangeHasAtMost = (w first last : ℕ) (blocks : List Network) → 2 ≤ w → last < 2 ^ w → IsLeastList w (FromTo first last) blocks
+RangeHasAtMost = (w first last : ℕ) (blocks : List Network) → 2 ≤ w → last < 2 ^ w
+    → IsLeastList w (FromTo first last) blocks
     → length blocks ≤ 2 * w - 2
 
 -- and that of all addresses but the first and the last has as many
 abbrev pub AllButTheEndsHasMost : Type 0
-AllButTheEndsHasMost = (w : ℕ) (blocks : List Network) → 2 ≤ w → IsLeastList w (FromTo 1 (2 ^ w - 2)) blocks → length blocks ≡ 2 * w - 2
+AllButTheEndsHasMost = (w : ℕ) (blocks : List Network) → 2 ≤ w → IsLeastList w (FromTo 1 (2 ^ w - 2)) blocks
+    → length blocks ≡ 2 * w - 2

@@ -1,6 +1,7 @@
 -- What a call of C returns, a number of `Numbers`, and what it leaves if the caller has it write: the result, or
 -- what stood there before.
-use Rattle.std.specs.Prelude.{◌≡◌, ◌↔◌, ℕ, ◌+◌, ◌<◌, ◌≤◌, List, ◌∷◌, ◌++◌, drop, length, slice_get, Some, Result, Ok, Err}
+use Rattle.std.specs.Prelude.{◌≡◌, ◌↔◌, ℕ, ◌+◌, ◌<◌, ◌≤◌, List, ◌∷◌, ◌++◌, drop, length, slice_get, Some, Result, Ok}
+use Rattle.std.specs.Prelude.{Err}
 use Rattle.ipnetwork_family.specs.Network.{Network, IsNoMask, mask_of, members}
 use Rattle.ipnetwork_family.specs.declared.error.CidrFault.{CidrFault}
 use Rattle.ipnetwork_c.specs.Numbers.{prefix, short_buffer, no_mask, no_member, fault_number}
@@ -8,9 +9,11 @@ use Rattle.ipnetwork_c.specs.Held.{PrefixFits}
 use Rattle.ipnetwork_c.specs.Outcomes.{Writes, Unless, IsFault, Needs, Finds}
 
 -- the text is read: the struct holds the network, or the fault is that of the cause
-abbrev pub ReadsInto : {N C : Type 0} → (List ℕ → Result N CidrFault → Type 0) → (C → N → Type 0) → List ℕ → C → C → ℕ → Type 0
+abbrev pub ReadsInto : {N C : Type 0} → (List ℕ → Result N CidrFault → Type 0) → (C → N → Type 0) → List ℕ → C → C → ℕ
+    → Type 0
 ReadsInto Reads Holds text =
-    Finds (λ n. Reads text (Ok n)) (λ code. (cause : CidrFault) × IsFault (fault_number cause) (Reads text (Err cause)) code) (λ n. Writes (λ held. Holds held n))
+    Finds (λ n. Reads text (Ok n)) (λ code. (cause : CidrFault)
+    × IsFault (fault_number cause) (Reads text (Err cause)) code) (λ n. Writes (λ held. Holds held n))
 
 -- a call goes on if the prefix lengths fit; if one does not, the fault is `prefix`
 abbrev pub IfFit : {M : Type 0} → Type 0 → (M → M → ℕ → Type 0) → M → M → ℕ → Type 0
@@ -24,10 +27,12 @@ IsFlag Holds byte = (byte ≤ 1) × ((byte ≡ 1) ↔ Holds)
 abbrev pub StandsIn : List ℕ → List ℕ → List ℕ → Type 0
 StandsIn text before after = after ≡ text ++ 0 ∷ drop (length text + 1) before
 
--- a text is put into a buffer that has room for it and the zero byte, and its length beside it, even if there is no room
+-- a text is put into a buffer that has room for it and the zero byte, and its length beside it, even if there is no
+-- room
 abbrev pub PutsText : List ℕ → List ℕ × ℕ → List ℕ × ℕ → ℕ → Type 0
 PutsText text before after code =
-    (after.1 ≡ length text) × Needs (length text < length before.0) short_buffer (Writes (StandsIn text before.0)) before.0 after.0 code
+    (after.1 ≡ length text) × Needs (length text < length before.0) short_buffer
+    (Writes (StandsIn text before.0)) before.0 after.0 code
 
 -- the prefix length of a mask is returned; `no_mask` of an address that is none
 abbrev pub WritesPrefix : ℕ → ℕ → ℕ → ℕ → ℕ → Type 0
@@ -44,4 +49,5 @@ IsNth w n i x = slice_get (members w n) i ≡ Some x
 -- the octets of the member number i are returned; `no_member` if the network has no more than i members
 abbrev pub WritesMember : ℕ → (ℕ → List ℕ) → Network → ℕ → List ℕ → List ℕ → ℕ → Type 0
 WritesMember w octets_of n i =
-    IfFit (PrefixFits w n) (Finds (IsNth w n i) (IsFault no_member (length (members w n) ≤ i)) (λ x. Writes (λ octets. octets ≡ octets_of x)))
+    IfFit (PrefixFits w n) (Finds (IsNth w n i) (IsFault no_member (length (members w n) ≤ i))
+    (λ x. Writes (λ octets. octets ≡ octets_of x)))

@@ -13,8 +13,9 @@ use Rattle.ipnetwork_c.specs.Lists.{PutsBlocks}
 abbrev pub RangeOperation : {C : Type 0} → ℕ → (C → Network) → ℕ → ℕ → List C × ℕ → List C × ℕ → ℕ → Type 0
 RangeOperation w held first last = Needs (first ≤ last) no_range (PutsBlocks w held (FromTo first last))
 
--- the blocks of prefix length p within a network are numbered from 0: the one of number i is written; `prefix` if p is none
--- of the prefix lengths from the network's to w, and `no_member` if there are no more than i of them
+-- the blocks of prefix length p within a network are numbered from 0: the one of number i is written; `prefix` if p is
+-- none of the prefix lengths from the network's to w, and `no_member` if there are no more than i of them
 abbrev pub WritesSubnet : {C : Type 0} → ℕ → (C → Network → Type 0) → Network → ℕ → ℕ → C → C → ℕ → Type 0
 WritesSubnet w Holds n p i =
-    IfFit (PrefixFits w n × (n.prefix ≤ p) × (p ≤ w)) (Needs (i < 2 ^ (p - n.prefix)) no_member (Writes (λ held. Holds held (subnet_number w n p i))))
+    IfFit (PrefixFits w n × (n.prefix ≤ p) × (p ≤ w))
+    (Needs (i < 2 ^ (p - n.prefix)) no_member (Writes (λ held. Holds held (subnet_number w n p i))))

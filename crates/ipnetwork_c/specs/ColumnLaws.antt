@@ -5,10 +5,12 @@ use Rattle.ipnetwork_c.specs.PrintedColumns.{PrintsRows, HasColumnRoom}
 
 -- the text that stands between two offsets is that of the row
 abbrev pub PrintedRowsAreTexts : {R : Type 0} → (R → List ℕ) → Type 0
-PrintedRowsAreTexts {R} text = (rows : List R) (before after offsets_before offsets : List ℕ) (i : ℕ) (r : R) → PrintsRows text rows before after offsets_before offsets
+PrintedRowsAreTexts {R} text = (rows : List R) (before after offsets_before offsets : List ℕ) (i : ℕ) (r : R)
+    → PrintsRows text rows before after offsets_before offsets
     → slice_get rows i ≡ Some r → row_text after offsets i ≡ text r
 
 -- the offsets that are written, one more than rows, are not refused by a call that reads columns
 abbrev pub PrintedOffsetsAreOffsets : {R : Type 0} → (R → List ℕ) → Type 0
-PrintedOffsetsAreOffsets {R} text = (rows : List R) (before after offsets_before offsets : List ℕ) → PrintsRows text rows before after offsets_before offsets
+PrintedOffsetsAreOffsets {R} text = (rows : List R) (before after offsets_before offsets : List ℕ)
+    → PrintsRows text rows before after offsets_before offsets
     → HasColumnRoom text rows before offsets_before → AreOffsets after (take (length rows + 1) offsets)

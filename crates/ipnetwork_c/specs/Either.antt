@@ -1,5 +1,6 @@
 -- Networks and addresses of either family in C.
-use Rattle.std.specs.Prelude.{◌≡◌, ◌==◌, if◌then◌else◌, ◌++◌, ℕ, List, length, replicate, take, Option, Some, None, Result, Ok, Err}
+use Rattle.std.specs.Prelude.{◌≡◌, ◌==◌, if◌then◌else◌, ◌++◌, ℕ, List, length, replicate, take, Option, Some, None}
+use Rattle.std.specs.Prelude.{Result, Ok, Err}
 use Rattle.ipnetwork_addr.specs.Digits.{octets_of, octets_of_v6}
 use Rattle.ipnetwork_addr.specs.Either.{NamesIp}
 use Rattle.ipnetwork_addr.specs.declared.ip.IpAddr.{IpAddr}
@@ -30,7 +31,8 @@ abbrev pub HoldsIp : IpInC → IpNetwork → Type 0
 HoldsIp held (V4 n) = (held.family ≡ 4) × HoldsV4 held.v4 n × BlankV6 held.v6
 HoldsIp held (V6 n) = (held.family ≡ 6) × BlankV4 held.v4 × HoldsV6 held.v6 n
 
--- what reading with the cause returns: the network that the text names, or the cause that is told of a text that names none
+-- what reading with the cause returns: the network that the text names, or the cause that is told of a text that names
+-- none
 abbrev pub ReadsWithCause : List ℕ → Result IpNetwork CidrFault → Type 0
 ReadsWithCause text (Ok n) = NamesIpNetwork text n
 ReadsWithCause text (Err cause) = TellsIpCause text (Some cause)
@@ -38,12 +40,14 @@ ReadsWithCause text (Err cause) = TellsIpCause text (Some cause)
 -- the network of the family that the struct names, if that is a family
 abbrev pub ip_in : IpInC → Option IpNetwork
 ip_in held =
-    if held.family == 4 then Some (V4 (v4_in held.v4)) else (if held.family == 6 then Some (V6 (v6_in held.v6)) else None)
+    if held.family == 4 then Some (V4 (v4_in held.v4))
+    else (if held.family == 6 then Some (V6 (v6_in held.v6)) else None)
 
 -- the address of 4 or 16 octets
 abbrev pub address_in : List ℕ → Option IpAddr
 address_in octets =
-    if length octets == 4 then Some (addresses.V4 (number_of_octets octets)) else (if length octets == 16 then Some (addresses.V6 (number_of_octets octets)) else None)
+    if length octets == 4 then Some (addresses.V4 (number_of_octets octets))
+    else (if length octets == 16 then Some (addresses.V6 (number_of_octets octets)) else None)
 
 -- the prefix length is one of the network's family
 abbrev pub IpPrefixFits : IpNetwork → Type 0
@@ -58,11 +62,13 @@ HoldsAddress held (addresses.V6 a) = (held.octets ≡ octets_of_v6 a) × (held.l
 -- the address that a struct stands for, if it has 4 or 16 octets
 abbrev pub held_address : AddressInC → Option IpAddr
 held_address held =
-    if held.length == 4 then Some (addresses.V4 (number_of_octets (take 4 held.octets))) else (if held.length == 16 then Some (addresses.V6 (number_of_octets held.octets)) else None)
+    if held.length == 4 then Some (addresses.V4 (number_of_octets (take 4 held.octets)))
+    else (if held.length == 16 then Some (addresses.V6 (number_of_octets held.octets)) else None)
 
 -- the address that a text names is read; `address` if it names none
 abbrev pub ReadsAddress : List ℕ → AddressInC → AddressInC → ℕ → Type 0
-ReadsAddress text = Finds (NamesIp text) (IsFault address ((a : IpAddr) → ¬ (NamesIp text a))) (λ a. Writes (λ held. HoldsAddress held a))
+ReadsAddress text = Finds (NamesIp text) (IsFault address ((a : IpAddr) → ¬ (NamesIp text a)))
+    (λ a. Writes (λ held. HoldsAddress held a))
 
 -- the struct stands for no address, and so has no family
 abbrev pub NoAddress : AddressInC → ℕ → Type 0
@@ -96,4 +102,5 @@ TellsOfBoth Holds one other = OfBoth one other (λ a b. Writes (IsFlag (Holds a 
 
 -- whether octets are an address of the set that a struct stands for; they are checked before the struct
 abbrev pub MemberQuery : IpInC → List ℕ → ℕ → ℕ → ℕ → Type 0
-MemberQuery held octets = Finds (λ a. address_in octets ≡ Some a) (IsFault no_family (address_in octets ≡ None)) (λ a. OfNetwork held (λ n. Writes (IsFlag (IpMember n a))))
+MemberQuery held octets = Finds (λ a. address_in octets ≡ Some a) (IsFault no_family (address_in octets ≡ None))
+    (λ a. OfNetwork held (λ n. Writes (IsFlag (IpMember n a))))

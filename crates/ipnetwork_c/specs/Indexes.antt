@@ -1,5 +1,7 @@
--- Indexes of lists of networks, in the caller's memory: numbers of 32 bits that say where the search for an address begins.
-use Rattle.std.specs.Prelude.{◌≡◌, ℕ, ◌+◌, ◌-◌, ◌*◌, ◌/◌, ◌^◌, ◌<◌, ◌≤◌, min, List, [], length, map, get_or, slice_get, Some}
+-- Indexes of lists of networks, in the caller's memory: numbers of 32 bits that say where the search for an address
+-- begins.
+use Rattle.std.specs.Prelude.{◌≡◌, ℕ, ◌+◌, ◌-◌, ◌*◌, ◌/◌, ◌^◌, ◌<◌, ◌≤◌, min, List, [], length, map, get_or, slice_get}
+use Rattle.std.specs.Prelude.{Some}
 use Rattle.ipnetwork_family.specs.Network.{Network}
 use Rattle.ipnetwork_c.specs.Held.{number_of_octets}
 use Rattle.ipnetwork_c.specs.Outcomes.{Writes}
@@ -14,8 +16,8 @@ address_at networks place = (get_or networks place (record { address = 0; prefix
 abbrev pub span : List Network → ℕ
 span networks = address_at networks (length networks - 1) - address_at networks 0
 
--- after i networks, of which the last begins before the number, comes one that does not, or none: if the addresses ascend,
--- i is how many begin before it
+-- after i networks, of which the last begins before the number, comes one that does not, or none: if the addresses
+-- ascend, i is how many begin before it
 pub record BeginBefore (networks : List Network) (number i : ℕ) : Type 0 where
   pub within : i ≤ length networks
   pub last : (n : Network) → 0 < i → slice_get networks (i - 1) ≡ Some n → n.address < number
@@ -30,12 +32,15 @@ pub record AreLeastParts (networks : List Network) (count shift : ℕ) : Type 0 
 -- each other one is how many networks begin before its part, as far as 32 bits go
 pub record IsIndexOf (networks : List Network) (index : List ℕ) : Type 0 where
   pub size : 0 < length index → AreLeastParts networks (length index) (get_or index 0 0)
-  pub starts : (part : ℕ) → 0 < part → part < length index → (i : ℕ) × BeginBefore networks (address_at networks 0 + part * 2 ^ get_or index 0 0) i × (get_or index part 0 ≡ min i (2 ^ 32 - 1))
+  pub starts : (part : ℕ) → 0 < part → part < length index → (i : ℕ)
+      × BeginBefore networks (address_at networks 0 + part * 2 ^ get_or index 0 0) i
+      × (get_or index part 0 ≡ min i (2 ^ 32 - 1))
 
 -- the index of a list is written, over all numbers that there are
 abbrev pub MakesIndex : {C : Type 0} → (C → Network) → List C → List ℕ → List ℕ → ℕ → Type 0
 MakesIndex held list before = Writes (λ index. (length index ≡ length before) × IsIndexOf (map held list) index) before
 
 -- each address is asked as the call for one asks it, with an answer and a fault of its own, if there is room for these
-abbrev pub SetRows : {C : Type 0} → ℕ → (C → Network) → List C → List (List ℕ) → List ℕ × List ℕ → List ℕ × List ℕ → ℕ → Type 0
+abbrev pub SetRows : {C : Type 0} → ℕ → (C → Network) → List C → List (List ℕ) → List ℕ × List ℕ → List ℕ × List ℕ → ℕ
+    → Type 0
 SetRows w held list = AsksEach [] (λ octets. SetQuery w held list (number_of_octets octets))

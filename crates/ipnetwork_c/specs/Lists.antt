@@ -14,7 +14,8 @@ use Rattle.ipnetwork_c.specs.Searches.{StandsAt, LastFits}
 abbrev pub Aggregates : {C : Type 0} → ℕ → (C → Network) → List C × ℕ → List C × ℕ → ℕ → Type 0
 Aggregates w held before =
     IfFit (All (λ c. PrefixFits w (held c)) before.0)
-    (Writes (λ after. (after.1 ≤ length before.0) × IsAggregate w (map held before.0) (map held (take after.1 after.0)) × All (λ c. PrefixFits w (held c)) after.0)) before
+    (Writes (λ after. (after.1 ≤ length before.0) × IsAggregate w (map held before.0) (map held (take after.1 after.0))
+    × All (λ c. PrefixFits w (held c)) after.0)) before
 
 -- the byte says whether an address lies in the union of the networks: it is 1 only if it does, and if the networks are
 -- the blocks of a set, always then
@@ -27,7 +28,8 @@ pub record FindsIn (w : ℕ) (networks : List Network) (x byte : ℕ) : Type 0 w
 -- begins at the address or before it fits
 abbrev pub SetQuery : {C : Type 0} → ℕ → (C → Network) → List C → ℕ → ℕ → ℕ → ℕ → Type 0
 SetQuery w held list x before after code =
-    (i : ℕ) × StandsAt (map held list) x i × IfFit (LastFits w (map held list) i) (Writes (FindsIn w (map held list) x)) before after code
+    (i : ℕ) × StandsAt (map held list) x i × IfFit (LastFits w (map held list) i)
+    (Writes (FindsIn w (map held list) x)) before after code
 
 -- the blocks stand in the front of the list, and nothing else of it has changed
 pub record StandInFront {C : Type 0} (held : C → Network) (blocks : List Network) (before after : List C) : Type 0 where
@@ -38,4 +40,5 @@ pub record StandInFront {C : Type 0} (held : C → Network) (blocks : List Netwo
 -- the least list of blocks of a set is put in the front of a list
 abbrev pub PutsBlocks : {C : Type 0} → ℕ → (C → Network) → (ℕ → Type 0) → List C × ℕ → List C × ℕ → ℕ → Type 0
 PutsBlocks w held set before after code =
-    (blocks : List Network) × IsLeastList w set blocks × Puts (length blocks ≤ length before.0) (length blocks) (StandInFront held blocks before.0) before after code
+    (blocks : List Network) × IsLeastList w set blocks
+    × Puts (length blocks ≤ length before.0) (length blocks) (StandInFront held blocks before.0) before after code

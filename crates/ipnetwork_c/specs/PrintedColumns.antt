@@ -1,6 +1,7 @@
--- Columns of networks and addresses printed: the bytes of all texts, one after the other, and the offsets at which each begins and the
--- last ends.
-use Rattle.std.specs.Prelude.{◌≡◌, ℕ, ◌^◌, ◌<◌, ◌≤◌, List, [], ◌++◌, drop, take, length, get_or, slice_get, flat_map, Some, option_map, unwrap_or}
+-- Columns of networks and addresses printed: the bytes of all texts, one after the other, and the offsets at which each
+-- begins and the last ends.
+use Rattle.std.specs.Prelude.{◌≡◌, ℕ, ◌^◌, ◌<◌, ◌≤◌, List, [], ◌++◌, drop, take, length, get_or, slice_get, flat_map}
+use Rattle.std.specs.Prelude.{Some, option_map, unwrap_or}
 use Rattle.std.specs.List.{All}
 use Rattle.ipnetwork_addr.specs.Ipv4Text.{canonical_v4}
 use Rattle.ipnetwork_addr.specs.Computed.Ipv6Canonical.{canonical_v6}
@@ -20,30 +21,36 @@ use Rattle.ipnetwork_c.specs.Either.{ip_in, StandsForIp, held_address}
 
 -- the texts of rows stand in the front of a buffer, one after the other, and the offset of each place is the number of
 -- the bytes before it, that after the last too; nothing else of the buffer or of the offsets has changed
-pub record PrintsRows {R : Type 0} (text : R → List ℕ) (rows : List R) (before after offsets_before offsets : List ℕ) : Type 0 where
+pub record PrintsRows {R : Type 0} (text : R → List ℕ) (rows : List R)
+    (before after offsets_before offsets : List ℕ) : Type 0 where
   pub texts : after ≡ flat_map text rows ++ drop (length (flat_map text rows)) before
   pub slots : length offsets ≡ length offsets_before
   pub offset : (i : ℕ) → i ≤ length rows → get_or offsets i 0 ≡ length (flat_map text (take i rows))
   pub rest : (i : ℕ) → length rows < i → slice_get offsets i ≡ slice_get offsets_before i
 
--- there is room for the texts and for an offset more than rows, and the texts have fewer than 2^31 bytes, as offsets of 32
--- bits with a sign ask
-pub record HasColumnRoom {R : Type 0} (text : R → List ℕ) (rows : List R) (before offsets_before : List ℕ) : Type 0 where
+-- there is room for the texts and for an offset more than rows, and the texts have fewer than 2^31 bytes, as offsets of
+-- 32 bits with a sign ask
+pub record HasColumnRoom {R : Type 0} (text : R → List ℕ) (rows : List R)
+    (before offsets_before : List ℕ) : Type 0 where
   pub texts : length (flat_map text rows) ≤ length before
   pub short : length (flat_map text rows) < 2 ^ 31
   pub offsets : length rows < length offsets_before
 
 -- the first row that does not fit has this fault
 abbrev pub FirstRefused : {R : Type 0} → (R → Type 0) → (R → ℕ → Type 0) → List R → ℕ → Type 0
-FirstRefused {R} Fits Refused rows code = (i : ℕ) × (r : R) × (slice_get rows i ≡ Some r) × All Fits (take i rows) × Refused r code
+FirstRefused {R} Fits Refused rows code = (i : ℕ) × (r : R) × (slice_get rows i ≡ Some r) × All Fits (take i rows)
+    × Refused r code
 
 -- a column is printed, row by row, and the number of its bytes is returned
-abbrev pub PrintsColumn : {R : Type 0} → (R → Type 0) → (R → ℕ → Type 0) → (R → List ℕ) → List R → (List ℕ × List ℕ) × ℕ → (List ℕ × List ℕ) × ℕ → ℕ → Type 0
+abbrev pub PrintsColumn : {R : Type 0} → (R → Type 0) → (R → ℕ → Type 0) → (R → List ℕ) → List R → (List ℕ × List ℕ) × ℕ
+    → (List ℕ × List ℕ) × ℕ → ℕ → Type 0
 PrintsColumn Fits Refused text rows =
     Unless (FirstRefused Fits Refused rows)
-    (λ before after code. All Fits rows × Puts (HasColumnRoom text rows before.0.0 before.0.1) (length (flat_map text rows)) (λ put. PrintsRows text rows before.0.0 put.0 before.0.1 put.1) before after code)
+    (λ before after code. All Fits rows × Puts (HasColumnRoom text rows before.0.0 before.0.1)
+    (length (flat_map text rows)) (λ put. PrintsRows text rows before.0.0 put.0 before.0.1 put.1) before after code)
 
--- the prefix length of a struct fits its family, and the canonical text of its network, as the calls for one network print it
+-- the prefix length of a struct fits its family, and the canonical text of its network, as the calls for one network
+-- print it
 abbrev pub v4_fits : Ipv4InC → Type 0
 v4_fits held = PrefixFits 32 (v4_in held)
 

@@ -1,5 +1,5 @@
--- The ranges that the networks of a table cut the addresses into, in the caller's memory: each as a network of its first
--- address alone, and beside it the place of the longest network that has its addresses.
+-- The ranges that the networks of a table cut the addresses into, in the caller's memory: each as a network of its
+-- first address alone, and beside it the place of the longest network that has its addresses.
 use Rattle.std.specs.Prelude.{◌≡◌, ℕ, ◌+◌, ◌-◌, ◌*◌, ◌^◌, ◌<◌, ◌≤◌, ◌⊎◌, List, [], ◌∷◌, drop, get_or, length, map, take}
 use Rattle.std.specs.List.{All, AllPairs, Contains}
 use Rattle.ipnetwork_family.specs.Network.{Network, low, high}
@@ -28,14 +28,16 @@ EndsAt w n a = (a ≡ low w n) ⊎ (a ≡ high w n + 1)
 abbrev pub IsCut : ℕ → List Network → ℕ → Type 0
 IsCut w networks a = (n : Network) × Contains networks n × EndsAt w n a
 
--- the place is that of the longest network with the address x, the last one of those that are equal; or it is that of no
--- network, and if the networks are a table, none has x
+-- the place is that of the longest network with the address x, the last one of those that are equal; or it is that of
+-- no network, and if the networks are a table, none has x
 abbrev pub IsLongestAt : ℕ → List Network → ℕ → ℕ → Type 0
 IsLongestAt w networks x place =
-    ((place < no_place) × FindsLongest w networks x place) ⊎ ((place ≡ no_place) × (IsTable w networks → ¬ (InUnion w networks x)))
+    ((place < no_place) × FindsLongest w networks x place)
+    ⊎ ((place ≡ no_place) × (IsTable w networks → ¬ (InUnion w networks x)))
 
--- the ranges begin where the networks begin, and after their ends, and nowhere else; they are in ascending order, and beside
--- each stands the place of the longest network with any of its addresses. Before the first of them no network has one
+-- the ranges begin where the networks begin, and after their ends, and nowhere else; they are in ascending order, and
+-- beside each stands the place of the longest network with any of its addresses. Before the first of them no network
+-- has one
 pub record AreRangesOf (w : ℕ) (networks ranges : List Network) (places : List ℕ) : Type 0 where
   pub few : length ranges ≤ 2 * length networks
   pub rows : length places ≡ length ranges
@@ -45,39 +47,47 @@ pub record AreRangesOf (w : ℕ) (networks ranges : List Network) (places : List
   pub only : (a : ℕ) → Contains (map (λ n. n.address) ranges) a → IsCut w networks a
   pub answers : (x i : ℕ) → x < 2 ^ w → StandsAt ranges x i → IsLongestAt w networks x (place_before places i)
 
--- the ranges of a list are put in the front of two lists, if both have room for two of each network, and their number beside
-abbrev pub MakesRanges : {C : Type 0} → ℕ → (C → Network) → List C → (List C × List ℕ) × ℕ → (List C × List ℕ) × ℕ → ℕ → Type 0
+-- the ranges of a list are put in the front of two lists, if both have room for two of each network, and their number
+-- beside
+abbrev pub MakesRanges : {C : Type 0} → ℕ → (C → Network) → List C → (List C × List ℕ) × ℕ → (List C × List ℕ) × ℕ → ℕ
+    → Type 0
 MakesRanges w held list before =
     IfFit (All (λ c. PrefixFits w (held c)) list)
     (Needs ((2 * length list ≤ length before.0.0) × (2 * length list ≤ length before.0.1)) short_buffer
-    (Writes (λ after. (length after.0.0 ≡ length before.0.0) × (length after.0.1 ≡ length before.0.1) × (after.1 ≤ length before.0.0)
+    (Writes (λ after. (length after.0.0 ≡ length before.0.0) × (length after.0.1 ≡ length before.0.1)
+    × (after.1 ≤ length before.0.0)
     × AreRangesOf w (map held list) (map held (take after.1 after.0.0)) (take after.1 after.0.1)
     × (drop after.1 after.0.0 ≡ drop after.1 before.0.0) × (drop after.1 after.0.1 ≡ drop after.1 before.0.1)))) before
 
--- the place is that beside the last range that begins at the address or before it, or that of no network if there is none
+-- the place is that beside the last range that begins at the address or before it, or that of no network if there is
+-- none
 abbrev pub PlaceQuery : {C : Type 0} → (C → Network) → List C → List ℕ → ℕ → ℕ → Type 0
 PlaceQuery held ranges places x place = (i : ℕ) × StandsAt (map held ranges) x i × (place ≡ place_before places i)
 
--- the place beside the last range that begins at the address or before it is returned, and `no_member` if it is that of no
--- network
+-- the place beside the last range that begins at the address or before it is returned, and `no_member` if it is that of
+-- no network
 abbrev pub RangeQuery : {C : Type 0} → (C → Network) → List C → List ℕ → ℕ → ℕ → ℕ → ℕ → Type 0
 RangeQuery held ranges places x before after code =
     (i : ℕ) × StandsAt (map held ranges) x i × Unless (IsFault no_member (place_before places i ≡ no_place))
     (Writes (λ place. (place < no_place) × (place ≡ place_before places i))) before after code
 
 -- each address is asked as the call for one asks it, with a place and a fault of its own, if there is room for these
-abbrev pub RangeRows : {C : Type 0} → (C → Network) → List C → List ℕ → List (List ℕ) → List ℕ × List ℕ → List ℕ × List ℕ → ℕ → Type 0
+abbrev pub RangeRows : {C : Type 0} → (C → Network) → List C → List ℕ → List (List ℕ) → List ℕ × List ℕ → List ℕ
+    × List ℕ → ℕ → Type 0
 RangeRows held ranges places = AsksEach [] (λ octets. RangeQuery held ranges places (number_of_octets octets))
 
 -- the place beside a range of a list is that of the longest network of the list
 abbrev pub PlacesAreOfTheLongest : {C : Type 0} → ℕ → (C → Network) → Type 0
 PlacesAreOfTheLongest {C} w held =
-    (list ranges : List C) (places : List ℕ) (x place : ℕ) → AreRangesOf w (map held list) (map held ranges) places → x < 2 ^ w
+    (list ranges : List C) (places : List ℕ) (x place : ℕ) → AreRangesOf w (map held list) (map held ranges) places
+    → x < 2 ^ w
     → PlaceQuery held ranges places x place → IsLongestAt w (map held list) x place
 
 -- what is found by the ranges of a list is the longest network of the list
 abbrev pub RangesFindTheLongest : {C : Type 0} → ℕ → (C → Network) → Type 0
 RangesFindTheLongest {C} w held =
-    (list ranges : List C) (places : List ℕ) (x before after code : ℕ) → AreRangesOf w (map held list) (map held ranges) places → x < 2 ^ w
+    (list ranges : List C) (places : List ℕ) (x before after code : ℕ)
+    → AreRangesOf w (map held list) (map held ranges) places → x < 2 ^ w
     → RangeQuery held ranges places x before after code
-    → Unless (IsFault no_member (IsTable w (map held list) → ¬ (InUnion w (map held list) x))) (Writes (FindsLongest w (map held list) x)) before after code
+    → Unless (IsFault no_member (IsTable w (map held list) → ¬ (InUnion w (map held list) x)))
+    (Writes (FindsLongest w (map held list) x)) before after code

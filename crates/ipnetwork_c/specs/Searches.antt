@@ -4,8 +4,8 @@ use Rattle.ipnetwork_family.specs.Bits.{SharesBits}
 use Rattle.ipnetwork_family.specs.Network.{Network, Member, block_at}
 use Rattle.ipnetwork_c.specs.Held.{PrefixFits}
 
--- after i networks, of which the last begins at x or before it, comes one that begins after x, or none: if the addresses
--- ascend, i is the number of all that begin at x or before it
+-- after i networks, of which the last begins at x or before it, comes one that begins after x, or none: if the
+-- addresses ascend, i is the number of all that begin at x or before it
 pub record StandsAt (networks : List Network) (x i : ℕ) : Type 0 where
   pub within : i ≤ length networks
   pub last : (n : Network) → 0 < i → slice_get networks (i - 1) ≡ Some n → n.address ≤ x
@@ -21,9 +21,11 @@ pub record PassesBy (w : ℕ) (networks : List Network) (x k : ℕ) (n : Network
   pub fits : PrefixFits w n
   pub has_not : ¬ (Member w n x)
 
--- a search for the longest block with x comes to the last of the first i networks: first to the last that begins at x or
--- before it; from one that fits and has not x on to the last before it that begins no later than the least block with
--- both
+-- a search for the longest block with x comes to the last of the first i networks: first to the last that begins at x
+-- or before it; from one that fits and has not x on to the last before it that begins no later than the least block
+-- with both
 pub data ComesTo (w : ℕ) (networks : List Network) (x : ℕ) : ℕ → Type 0 where
   First : (i : ℕ) → StandsAt networks x i → ComesTo w networks x i
-  On : (k shared i : ℕ) (n : Network) → ComesTo w networks x (k + 1) → PassesBy w networks x k n → SharesBits w n.address x shared → StandsAt (take k networks) (block_at w x shared).address i → ComesTo w networks x i
+  On : (k shared i : ℕ) (n : Network) → ComesTo w networks x (k + 1) → PassesBy w networks x k n
+      → SharesBits w n.address x shared → StandsAt (take k networks) (block_at w x shared).address i
+      → ComesTo w networks x i

@@ -18,6 +18,8 @@ abbrev pub BothAreSets : {C : Type 0} → ℕ → (C → Network) → List C →
 BothAreSets w held first second = IsAddressSet w (map held first) × IsAddressSet w (map held second)
 
 -- the least list of what an operation leaves of two sets is put in a list; `no_set` if one of the lists is that of none
-abbrev pub SetOperation : {C : Type 0} → ℕ → (C → Network) → (List Network → List Network → ℕ → Type 0) → List C → List C → List C × ℕ → List C × ℕ → ℕ → Type 0
+abbrev pub SetOperation : {C : Type 0} → ℕ → (C → Network) → (List Network → List Network → ℕ → Type 0) → List C
+    → List C → List C × ℕ → List C × ℕ → ℕ → Type 0
 SetOperation w held Leaves first second =
-    IfFit (BothFit w held first second) (Needs (BothAreSets w held first second) no_set (PutsBlocks w held (Leaves (map held first) (map held second))))
+    IfFit (BothFit w held first second) (Needs (BothAreSets w held first second) no_set
+    (PutsBlocks w held (Leaves (map held first) (map held second))))

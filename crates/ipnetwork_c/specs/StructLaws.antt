@@ -38,4 +38,5 @@ HeldIpStandsForItself = (held : IpInC) (n : IpNetwork) → IsIpNetwork n → Hol
 
 -- a struct that holds an address of either family stands for it
 abbrev pub HeldAddressStandsForItself : Type 0
-HeldAddressStandsForItself = (held : AddressInC) (a : IpAddr) → FitsIp a → HoldsAddress held a → held_address held ≡ Some a
+HeldAddressStandsForItself = (held : AddressInC) (a : IpAddr) → FitsIp a → HoldsAddress held a
+    → held_address held ≡ Some a

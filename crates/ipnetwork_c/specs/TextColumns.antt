@@ -1,4 +1,5 @@
--- Columns of texts: the bytes of all texts, one after the other, and the offsets at which each begins and the last ends.
+-- Columns of texts: the bytes of all texts, one after the other, and the offsets at which each begins and the last
+-- ends.
 use Rattle.std.specs.Prelude.{ℕ, ◌+◌, ◌-◌, ◌<◌, ◌≤◌, List, length, get_or, slice_range}
 use Rattle.ipnetwork_family.specs.Ipv4NetworkText.{ReadsV4Network}
 use Rattle.ipnetwork_family.specs.Ipv6NetworkText.{ReadsV6Network}
@@ -28,13 +29,16 @@ pub record AreOffsets (texts offsets : List ℕ) : Type 0 where
   pub rising : (i : ℕ) → i + 1 < length offsets → get_or offsets i 0 ≤ get_or offsets (i + 1) 0
 
 -- each of the first texts is read into the row of its place, as the call for one text reads it
-abbrev pub ReadsRows : {R : Type 0} → (List ℕ → R → R → ℕ → Type 0) → List ℕ → List ℕ → ℕ → List R → List R → List ℕ → List ℕ → Type 0
+abbrev pub ReadsRows : {R : Type 0} → (List ℕ → R → R → ℕ → Type 0) → List ℕ → List ℕ → ℕ → List R → List R → List ℕ
+    → List ℕ → Type 0
 ReadsRows Reads texts offsets = AnswersEach (λ i. Reads (row_text texts offsets i))
 
 -- a column is read, row by row, if it has offsets of the texts, and room for as many rows and faults
-abbrev pub ReadsColumn : {R : Type 0} → (List ℕ → R → R → ℕ → Type 0) → List ℕ → List ℕ → List R × List ℕ → List R × List ℕ → ℕ → Type 0
+abbrev pub ReadsColumn : {R : Type 0} → (List ℕ → R → R → ℕ → Type 0) → List ℕ → List ℕ → List R × List ℕ → List R
+    × List ℕ → ℕ → Type 0
 ReadsColumn Reads texts offsets before =
-    Needs (AreOffsets texts offsets) no_offsets (Needs ((row_count offsets ≤ length before.0) × (row_count offsets ≤ length before.1)) short_buffer
+    Needs (AreOffsets texts offsets) no_offsets
+    (Needs ((row_count offsets ≤ length before.0) × (row_count offsets ≤ length before.1)) short_buffer
     (Writes (λ after. ReadsRows Reads texts offsets (row_count offsets) before.0 after.0 before.1 after.1))) before
 
 -- what the calls for one text leave and return

@@ -1,4 +1,5 @@
--- Buffers of as many bytes as the header names are long enough: each text is shorter, so that the zero byte has room too.
+-- Buffers of as many bytes as the header names are long enough: each text is shorter, so that the zero byte has room
+-- too.
 use Rattle.std.specs.Prelude.{ℕ, ◌<◌, length}
 use Rattle.ipnetwork_addr.specs.Ipv4Text.{canonical_v4}
 use Rattle.ipnetwork_addr.specs.Computed.Ipv6Canonical.{canonical_v6}

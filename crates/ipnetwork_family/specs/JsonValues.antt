@@ -18,8 +18,10 @@ refusing (Err error) = Err (Refused error)
 
 -- what reading a value returns, of which this is the text if it is a string: what parsing may return for the text, and
 -- `NotAString` for a value that is not a string
-abbrev pub ReadsValue : {N : Type 0} → (List ℕ → Result N IpNetworkError → Type 0) → Option (List ℕ) → Result N JsonFault → Type 0
-ReadsValue {N} Parses (Some text) result = (parsed : Result N IpNetworkError) × Parses text parsed × (result ≡ refusing parsed)
+abbrev pub ReadsValue : {N : Type 0} → (List ℕ → Result N IpNetworkError → Type 0) → Option (List ℕ)
+    → Result N JsonFault → Type 0
+ReadsValue {N} Parses (Some text) result = (parsed : Result N IpNetworkError) × Parses text parsed
+    × (result ≡ refusing parsed)
 ReadsValue Parses None result = result ≡ Err NotAString
 
 -- `b'"'`

@@ -1,7 +1,9 @@
 -- The laws of networks, for addresses of any number of bits.
-use Rattle.std.specs.Prelude.{◌≡◌, ℕ, ◌+◌, ◌<◌, ◌≤◌, ◌⊎◌, ◌↔◌, ◌++◌, codes, Contains, List, slice_get, Some, Result, Ok, IsTrue}
+use Rattle.std.specs.Prelude.{◌≡◌, ℕ, ◌+◌, ◌<◌, ◌≤◌, ◌⊎◌, ◌↔◌, ◌++◌, codes, Contains, List, slice_get, Some, Result, Ok}
+use Rattle.std.specs.Prelude.{IsTrue}
 use Rattle.std.specs.List.Sorted.{IsStrictlyIncreasing}
-use Rattle.ipnetwork_family.specs.Network.{Network, IsNetwork, Member, low, high, block_size, block_of, HostBitsAreZero, Subnet, Overlap, IsNetworkAtMost, members, mask_of}
+use Rattle.ipnetwork_family.specs.Network.{Network, IsNetwork, Member, low, high, block_size, block_of, HostBitsAreZero}
+use Rattle.ipnetwork_family.specs.Network.{Subnet, Overlap, IsNetworkAtMost, members, mask_of}
 use Rattle.ipnetwork_family.specs.NetworkText.{before_slash, HasNoSuffix, NamesNetwork}
 use Rattle.ipnetwork_family.specs.Computed.Network.{is_member, is_subnet, prefix_of_mask}
 use Rattle.ipnetwork_family.specs.ErrorTexts.{RanOutOfMemory, refusal_of, refusal_text, fault_of, IsRefusal}

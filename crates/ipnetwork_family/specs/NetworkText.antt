@@ -1,6 +1,7 @@
 -- Which texts name a network, and why a text is refused: CIDR notation, an address, `/` and a
 -- suffix (RFC 4632, section 3.1; RFC 4291, section 2.3), of either family.
-use Rattle.std.specs.Prelude.{◌≡◌, ℕ, ◌≤◌, ◌⊎◌, ◌==◌, List, ◌∷◌, ◌++◌, Option, None, Some, Result, MatchResult, decimal, count_by}
+use Rattle.std.specs.Prelude.{◌≡◌, ℕ, ◌≤◌, ◌⊎◌, ◌==◌, List, ◌∷◌, ◌++◌, Option, None, Some, Result, MatchResult, decimal}
+use Rattle.std.specs.Prelude.{count_by}
 use Rattle.std.specs.List.{before_first}
 use Rattle.ipnetwork_addr.specs.Texts.{IsAddressByte}
 use Rattle.ipnetwork_family.specs.Network.{Network}

@@ -14,10 +14,12 @@ use Rattle.ipnetwork_family.specs.declared.error.IpNetworkError.{IpNetworkError}
 
 -- the network that the text names; if it names none, the refusal of the text for its cause or, if that has a text,
 -- `OutOfMemory` in its place
-abbrev pub Parses : {N : Type 0} → (List ℕ → N → Type 0) → (List ℕ → CidrFault → Type 0) → AddrParseError → List ℕ → Result N IpNetworkError → Type 0
+abbrev pub Parses : {N : Type 0} → (List ℕ → N → Type 0) → (List ℕ → CidrFault → Type 0) → AddrParseError → List ℕ
+    → Result N IpNetworkError → Type 0
 Parses {N} Names IsCauseOf kind text result =
     MatchResult result (Names text)
-    (λ error. ((n : N) → ¬ (Names text n)) × ((fault : CidrFault) × IsCauseOf text fault × IsRefusal (fault_of fault kind text) error))
+    (λ error. ((n : N) → ¬ (Names text n)) × ((fault : CidrFault) × IsCauseOf text fault
+    × IsRefusal (fault_of fault kind text) error))
 
 -- of IPv4 networks, and of IPv6 networks
 abbrev pub ParsesV4Network : List ℕ → Result Network IpNetworkError → Type 0
@@ -28,6 +30,9 @@ ParsesV6Network text result = Parses NamesV6Network (IsCause NamesV6 IsV6Suffix)
 
 -- parsing returns what reading does: the same network, or the error for the same cause when an address of this kind was
 -- asked for, or `OutOfMemory` in its place if that has a text
-abbrev pub ParsesAsItReads : {N : Type 0} → (List ℕ → Result N CidrFault → Type 0) → AddrParseError → (List ℕ → Result N IpNetworkError → Type 0) → Type 0
-ParsesAsItReads {N} Reads kind ParsesNetwork = (text : List ℕ) (result : Result N IpNetworkError) → ParsesNetwork text result
-    ↔ MatchResult result (λ n. Reads text (Ok n)) (λ error. (fault : CidrFault) × Reads text (Err fault) × IsRefusal (fault_of fault kind text) error)
+abbrev pub ParsesAsItReads : {N : Type 0} → (List ℕ → Result N CidrFault → Type 0) → AddrParseError
+    → (List ℕ → Result N IpNetworkError → Type 0) → Type 0
+ParsesAsItReads {N} Reads kind ParsesNetwork = (text : List ℕ) (result : Result N IpNetworkError)
+    → ParsesNetwork text result
+    ↔ MatchResult result (λ n. Reads text (Ok n))
+    (λ error. (fault : CidrFault) × Reads text (Err fault) × IsRefusal (fault_of fault kind text) error)

@@ -19,11 +19,13 @@ pub record IsLastValue {V : Type 0} (w : ℕ) (block : Network) (entries : List 
 
 -- the keys of a table are the blocks of the entries, and each has the value of its last entry
 abbrev pub HasLastValues : {V : Type 0} → ℕ → List (Network × V) → FinMap network_cmp V → Type 0
-HasLastValues w entries table = (block : Network) → MatchOption (get table block) (NoneHasBlock w block entries) (IsLastValue w block entries)
+HasLastValues w entries table = (block : Network)
+    → MatchOption (get table block) (NoneHasBlock w block entries) (IsLastValue w block entries)
 
 -- the keys of a table are the blocks of these networks
 abbrev pub HasBlocksOf : {V : Type 0} → ℕ → List Network → FinMap network_cmp V → Type 0
-HasBlocksOf w networks table = (block : Network) → IsSome (get table block) ↔ ((network : Network) × Contains networks network × (block_of w network ≡ block))
+HasBlocksOf w networks table = (block : Network)
+    → IsSome (get table block) ↔ ((network : Network) × Contains networks network × (block_of w network ≡ block))
 
 -- and each has this value
 abbrev pub HasValue : {V : Type 0} → V → FinMap network_cmp V → Type 0

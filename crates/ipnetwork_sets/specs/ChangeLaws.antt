@@ -7,29 +7,35 @@ use Rattle.ipnetwork_sets.specs.Sets.{IsAddressSet, MeetsUnion, InEither, InFirs
 
 -- the union of a list has what was pushed to it, and what it had,
 abbrev pub UnionOfPushed : Type 0
-UnionOfPushed = (w : ℕ) (networks : List Network) (n : Network) (x : ℕ) → InUnion w (networks ++ n ∷ []) x ↔ (InUnion w networks x ⊎ Member w n x)
+UnionOfPushed = (w : ℕ) (networks : List Network) (n : Network) (x : ℕ)
+    → InUnion w (networks ++ n ∷ []) x ↔ (InUnion w networks x ⊎ Member w n x)
 
 -- so the set of a list, with a network added, is that of the list with the network pushed
 abbrev pub AddedIsPushed : Type 0
-AddedIsPushed = (w : ℕ) (networks : List Network) (n : Network) (a blocks : List Network) → IsAggregate w networks a → IsLeastList w (InEither w a (n ∷ [])) blocks
+AddedIsPushed = (w : ℕ) (networks : List Network) (n : Network) (a blocks : List Network) → IsAggregate w networks a
+    → IsLeastList w (InEither w a (n ∷ [])) blocks
     → IsAggregate w (networks ++ n ∷ []) blocks
 
 -- a set to which a network was added has its addresses and those of the network,
 abbrev pub AddedHas : Type 0
-AddedHas = (w : ℕ) (a : List Network) (n : Network) (blocks : List Network) → IsLeastList w (InEither w a (n ∷ [])) blocks
+AddedHas = (w : ℕ) (a : List Network) (n : Network) (blocks : List Network)
+    → IsLeastList w (InEither w a (n ∷ [])) blocks
     → (x : ℕ) → InUnion w blocks x ↔ (InUnion w a x ⊎ Member w n x)
 
 -- and one from which a network was taken those of its addresses that the network has not
 abbrev pub TakenHas : Type 0
-TakenHas = (w : ℕ) (a : List Network) (n : Network) (blocks : List Network) → IsLeastList w (InFirstAlone w a (n ∷ [])) blocks
+TakenHas = (w : ℕ) (a : List Network) (n : Network) (blocks : List Network)
+    → IsLeastList w (InFirstAlone w a (n ∷ [])) blocks
     → (x : ℕ) → InUnion w blocks x ↔ (InUnion w a x × ¬ (Member w n x))
 
 -- a network that has no address of the set, added and taken again, changes nothing,
 abbrev pub AddedAndTaken : Type 0
-AddedAndTaken = (w : ℕ) (a : List Network) (n : Network) (more again : List Network) → IsAddressSet w a → ¬ (MeetsUnion w n a) → IsLeastList w (InEither w a (n ∷ [])) more
+AddedAndTaken = (w : ℕ) (a : List Network) (n : Network) (more again : List Network) → IsAddressSet w a
+    → ¬ (MeetsUnion w n a) → IsLeastList w (InEither w a (n ∷ [])) more
     → IsLeastList w (InFirstAlone w more (n ∷ [])) again → again ≡ a
 
 -- nor does one that lies in the set, taken and added again
 abbrev pub TakenAndAdded : Type 0
-TakenAndAdded = (w : ℕ) (a : List Network) (n : Network) (less again : List Network) → IsAddressSet w a → LiesInUnion w n a → IsLeastList w (InFirstAlone w a (n ∷ [])) less
+TakenAndAdded = (w : ℕ) (a : List Network) (n : Network) (less again : List Network) → IsAddressSet w a
+    → LiesInUnion w n a → IsLeastList w (InFirstAlone w a (n ∷ [])) less
     → IsLeastList w (InEither w less (n ∷ [])) again → again ≡ a

@@ -13,7 +13,8 @@ count_number AllOfIpv6 = 2 ^ 128
 
 -- the number of a count, if a u128 holds it
 abbrev pub FitsNumber : AddressCount → Result ℕ NetworkSizeError → Type 0
-FitsNumber count result = MatchResult result (λ n. (count_number count < 2 ^ 128) × (n ≡ count_number count)) (λ _. 2 ^ 128 ≤ count_number count)
+FitsNumber count result = MatchResult result (λ n. (count_number count < 2 ^ 128) × (n ≡ count_number count))
+    (λ _. 2 ^ 128 ≤ count_number count)
 
 -- a set has n addresses: the ascending list of them has this length
 pub record HasCount (set : ℕ → Type 0) (n : ℕ) : Type 0 where

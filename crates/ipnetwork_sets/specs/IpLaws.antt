@@ -11,38 +11,46 @@ use Rattle.ipnetwork_blocks.specs.Aggregate.{InUnion}
 use Rattle.ipnetwork_blocks.specs.AggregateIp.{IsIpAggregate}
 use Rattle.ipnetwork_blocks.specs.AggregateIpLaws.{InIpUnion, SameIpUnion}
 use Rattle.ipnetwork_sets.specs.IpEquality.{same_ip_blocks}
-use Rattle.ipnetwork_sets.specs.IpSets.{v4_then_v6, IsIpLeastList, IsIpAddressSet, InIpBoth, InIpFirstAlone, InIpComplement, InIpEither, AreIpDisjoint}
+use Rattle.ipnetwork_sets.specs.IpSets.{v4_then_v6, IsIpLeastList, IsIpAddressSet, InIpBoth, InIpFirstAlone}
+use Rattle.ipnetwork_sets.specs.IpSets.{InIpComplement, InIpEither, AreIpDisjoint}
 
 -- of the blocks of an IPv4 set and those of an IPv6 set together, the IPv4 addresses are those of the first, and the
 -- IPv6 addresses those of the second
 abbrev pub EachFamilyKeepsItsAddresses : Type 0
-EachFamilyKeepsItsAddresses = (v4 v6 : List Network) (x : ℕ) → (InIpUnion (v4_then_v6 v4 v6) (addresses.V4 x) ↔ InUnion 32 v4 x)
+EachFamilyKeepsItsAddresses = (v4 v6 : List Network) (x : ℕ)
+    → (InIpUnion (v4_then_v6 v4 v6) (addresses.V4 x) ↔ InUnion 32 v4 x)
     × (InIpUnion (v4_then_v6 v4 v6) (addresses.V6 x) ↔ InUnion 128 v6 x)
 
 -- the aggregate of networks is the least list of the addresses of their union
 abbrev pub IpAggregateIsLeastList : Type 0
-IpAggregateIsLeastList = (networks blocks : List IpNetwork) → IsIpAggregate networks blocks ↔ IsIpLeastList (InIpUnion networks) blocks
+IpAggregateIsLeastList = (networks blocks : List IpNetwork)
+    → IsIpAggregate networks blocks ↔ IsIpLeastList (InIpUnion networks) blocks
 
 -- the blocks have the addresses of the set and no others, each ends before the next begins, no networks that have the
 -- same addresses are fewer, and no other list is the least of the set
 pub record IsIpShortest (set : IpAddr → Type 0) (blocks : List IpNetwork) : Type 0 where
   pub addresses : (x : IpAddr) → InIpUnion blocks x ↔ set x
   pub apart : AllPairs (λ a b. IsAddrBefore (ip_high a) (address_of b)) blocks
-  pub shortest : (networks : List IpNetwork) → All IsIpNetwork networks → ((x : IpAddr) → InIpUnion networks x ↔ set x) → length blocks ≤ length networks
+  pub shortest : (networks : List IpNetwork) → All IsIpNetwork networks → ((x : IpAddr) → InIpUnion networks x ↔ set x)
+      → length blocks ≤ length networks
   pub one : (others : List IpNetwork) → IsIpLeastList set others → others ≡ blocks
 
 -- so it is with the blocks of each operation
 abbrev pub IpCommonPartIsShortest : Type 0
-IpCommonPartIsShortest = (a b blocks : List IpNetwork) → IsIpLeastList (InIpBoth a b) blocks → IsIpShortest (InIpBoth a b) blocks
+IpCommonPartIsShortest = (a b blocks : List IpNetwork) → IsIpLeastList (InIpBoth a b) blocks
+    → IsIpShortest (InIpBoth a b) blocks
 
 abbrev pub IpDifferenceIsShortest : Type 0
-IpDifferenceIsShortest = (a b blocks : List IpNetwork) → IsIpLeastList (InIpFirstAlone a b) blocks → IsIpShortest (InIpFirstAlone a b) blocks
+IpDifferenceIsShortest = (a b blocks : List IpNetwork) → IsIpLeastList (InIpFirstAlone a b) blocks
+    → IsIpShortest (InIpFirstAlone a b) blocks
 
 abbrev pub IpComplementIsShortest : Type 0
-IpComplementIsShortest = (a blocks : List IpNetwork) → IsIpLeastList (InIpComplement a) blocks → IsIpShortest (InIpComplement a) blocks
+IpComplementIsShortest = (a blocks : List IpNetwork) → IsIpLeastList (InIpComplement a) blocks
+    → IsIpShortest (InIpComplement a) blocks
 
 abbrev pub IpUnionIsShortest : Type 0
-IpUnionIsShortest = (a b blocks : List IpNetwork) → IsIpLeastList (InIpEither a b) blocks → IsIpShortest (InIpEither a b) blocks
+IpUnionIsShortest = (a b blocks : List IpNetwork) → IsIpLeastList (InIpEither a b) blocks
+    → IsIpShortest (InIpEither a b) blocks
 
 -- sets are equal exactly if they have the same addresses,
 abbrev pub SameIpAddressesAreOneSet : Type 0
@@ -50,14 +58,17 @@ SameIpAddressesAreOneSet = (a b : List IpNetwork) → IsIpAddressSet a → IsIpA
 
 -- and exactly if each has the blocks of the other, family by family
 abbrev pub SameIpBlocksAreEqual : Type 0
-SameIpBlocksAreEqual = (a b : List IpNetwork) → IsIpAddressSet a → IsIpAddressSet b → IsTrue (same_ip_blocks a b) ↔ (a ≡ b)
+SameIpBlocksAreEqual = (a b : List IpNetwork) → IsIpAddressSet a → IsIpAddressSet b
+    → IsTrue (same_ip_blocks a b) ↔ (a ≡ b)
 
 -- the order of the two changes nothing
 abbrev pub IpCommonPartCommutes : Type 0
-IpCommonPartCommutes = (a b blocks others : List IpNetwork) → IsIpLeastList (InIpBoth a b) blocks → IsIpLeastList (InIpBoth b a) others → blocks ≡ others
+IpCommonPartCommutes = (a b blocks others : List IpNetwork) → IsIpLeastList (InIpBoth a b) blocks
+    → IsIpLeastList (InIpBoth b a) others → blocks ≡ others
 
 abbrev pub IpUnionCommutes : Type 0
-IpUnionCommutes = (a b blocks others : List IpNetwork) → IsIpLeastList (InIpEither a b) blocks → IsIpLeastList (InIpEither b a) others → blocks ≡ others
+IpUnionCommutes = (a b blocks others : List IpNetwork) → IsIpLeastList (InIpEither a b) blocks
+    → IsIpLeastList (InIpEither b a) others → blocks ≡ others
 
 -- a set with itself
 abbrev pub IpCommonPartOfOne : Type 0
@@ -68,9 +79,11 @@ IpUnionOfOne = (a blocks : List IpNetwork) → IsIpAddressSet a → IsIpLeastLis
 
 -- the difference has no address of the second,
 abbrev pub IpDifferenceIsDisjoint : Type 0
-IpDifferenceIsDisjoint = (a b blocks : List IpNetwork) → IsIpLeastList (InIpFirstAlone a b) blocks → AreIpDisjoint blocks b
+IpDifferenceIsDisjoint = (a b blocks : List IpNetwork) → IsIpLeastList (InIpFirstAlone a b) blocks
+    → AreIpDisjoint blocks b
 
 -- and together with the common part it is the first
 abbrev pub IpPartsMakeTheWhole : Type 0
-IpPartsMakeTheWhole = (a b common alone blocks : List IpNetwork) → IsIpAddressSet a → IsIpLeastList (InIpBoth a b) common → IsIpLeastList (InIpFirstAlone a b) alone
+IpPartsMakeTheWhole = (a b common alone blocks : List IpNetwork) → IsIpAddressSet a
+    → IsIpLeastList (InIpBoth a b) common → IsIpLeastList (InIpFirstAlone a b) alone
     → IsIpLeastList (InIpEither common alone) blocks → blocks ≡ a

@@ -56,10 +56,12 @@ AreIpDisjoint first second = (x : IpAddr) → ¬ (InIpBoth first second x)
 
 -- of two lists with room for so many IPv4 networks and so many IPv6 networks, one has too little for these
 abbrev pub HasTooLittleRoom : ℕ → ℕ → List IpNetwork → Type 0
-HasTooLittleRoom v4_room v6_room networks = (v4_room < length (filter_map as_v4 networks)) ⊎ (v6_room < length (filter_map as_v6 networks))
+HasTooLittleRoom v4_room v6_room networks = (v4_room < length (filter_map as_v4 networks))
+    ⊎ (v6_room < length (filter_map as_v6 networks))
 
 -- a change of the set with the blocks `old` to the set of these addresses
-pub record ChangesTo {E : Type 0} (addresses : IpAddr → Type 0) (told : Type 0) (old new : List IpNetwork) (result : Result Bool E) : Type 0 where
+pub record ChangesTo {E : Type 0} (addresses : IpAddr → Type 0) (told : Type 0) (old new : List IpNetwork)
+    (result : Result Bool E) : Type 0 where
   -- it is made, and the result says whether `told` holds
   pub set : OnOk result (IsIpLeastList addresses new)
   pub tells : IfOk result (λ answer. IsTrue answer ↔ told)

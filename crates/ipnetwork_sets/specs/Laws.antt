@@ -4,23 +4,29 @@ use Rattle.ipnetwork_family.specs.Network.{Network}
 use Rattle.ipnetwork_blocks.specs.Aggregate.{SameUnion}
 use Rattle.ipnetwork_blocks.specs.LeastList.{IsLeastList}
 use Rattle.ipnetwork_blocks.specs.LeastListLaws.{IsShortest}
-use Rattle.ipnetwork_sets.specs.Sets.{IsAddressSet, InBoth, InFirstAlone, InNetworkAlone, InComplement, InEither, AreDisjoint}
+use Rattle.ipnetwork_sets.specs.Sets.{IsAddressSet, InBoth, InFirstAlone, InNetworkAlone, InComplement, InEither}
+use Rattle.ipnetwork_sets.specs.Sets.{AreDisjoint}
 
 -- the blocks of each operation have the addresses of the set, and no fewer networks have
 abbrev pub CommonPartIsShortest : Type 0
-CommonPartIsShortest = (w : ℕ) (a b blocks : List Network) → IsLeastList w (InBoth w a b) blocks → IsShortest w (InBoth w a b) blocks
+CommonPartIsShortest = (w : ℕ) (a b blocks : List Network) → IsLeastList w (InBoth w a b) blocks
+    → IsShortest w (InBoth w a b) blocks
 
 abbrev pub DifferenceIsShortest : Type 0
-DifferenceIsShortest = (w : ℕ) (a b blocks : List Network) → IsLeastList w (InFirstAlone w a b) blocks → IsShortest w (InFirstAlone w a b) blocks
+DifferenceIsShortest = (w : ℕ) (a b blocks : List Network) → IsLeastList w (InFirstAlone w a b) blocks
+    → IsShortest w (InFirstAlone w a b) blocks
 
 abbrev pub FreePartIsShortest : Type 0
-FreePartIsShortest = (w : ℕ) (n : Network) (a blocks : List Network) → IsLeastList w (InNetworkAlone w n a) blocks → IsShortest w (InNetworkAlone w n a) blocks
+FreePartIsShortest = (w : ℕ) (n : Network) (a blocks : List Network) → IsLeastList w (InNetworkAlone w n a) blocks
+    → IsShortest w (InNetworkAlone w n a) blocks
 
 abbrev pub ComplementIsShortest : Type 0
-ComplementIsShortest = (w : ℕ) (a blocks : List Network) → IsLeastList w (InComplement w a) blocks → IsShortest w (InComplement w a) blocks
+ComplementIsShortest = (w : ℕ) (a blocks : List Network) → IsLeastList w (InComplement w a) blocks
+    → IsShortest w (InComplement w a) blocks
 
 abbrev pub UnionIsShortest : Type 0
-UnionIsShortest = (w : ℕ) (a b blocks : List Network) → IsLeastList w (InEither w a b) blocks → IsShortest w (InEither w a b) blocks
+UnionIsShortest = (w : ℕ) (a b blocks : List Network) → IsLeastList w (InEither w a b) blocks
+    → IsShortest w (InEither w a b) blocks
 
 -- sets are equal exactly if they have the same addresses
 abbrev pub SameAddressesAreOneSet : Type 0
@@ -28,33 +34,42 @@ SameAddressesAreOneSet = (w : ℕ) (a b : List Network) → IsAddressSet w a →
 
 -- the order of the two changes nothing
 abbrev pub CommonPartCommutes : Type 0
-CommonPartCommutes = (w : ℕ) (a b blocks others : List Network) → IsLeastList w (InBoth w a b) blocks → IsLeastList w (InBoth w b a) others → blocks ≡ others
+CommonPartCommutes = (w : ℕ) (a b blocks others : List Network) → IsLeastList w (InBoth w a b) blocks
+    → IsLeastList w (InBoth w b a) others → blocks ≡ others
 
 abbrev pub UnionCommutes : Type 0
-UnionCommutes = (w : ℕ) (a b blocks others : List Network) → IsLeastList w (InEither w a b) blocks → IsLeastList w (InEither w b a) others → blocks ≡ others
+UnionCommutes = (w : ℕ) (a b blocks others : List Network) → IsLeastList w (InEither w a b) blocks
+    → IsLeastList w (InEither w b a) others → blocks ≡ others
 
 -- a set with itself
 abbrev pub CommonPartOfOne : Type 0
-CommonPartOfOne = (w : ℕ) (a blocks : List Network) → IsAddressSet w a → IsLeastList w (InBoth w a a) blocks → blocks ≡ a
+CommonPartOfOne = (w : ℕ) (a blocks : List Network) → IsAddressSet w a → IsLeastList w (InBoth w a a) blocks
+    → blocks ≡ a
 
 abbrev pub UnionOfOne : Type 0
 UnionOfOne = (w : ℕ) (a blocks : List Network) → IsAddressSet w a → IsLeastList w (InEither w a a) blocks → blocks ≡ a
 
 -- the difference has no address of the second,
 abbrev pub DifferenceIsDisjoint : Type 0
-DifferenceIsDisjoint = (w : ℕ) (a b blocks : List Network) → IsLeastList w (InFirstAlone w a b) blocks → AreDisjoint w blocks b
+DifferenceIsDisjoint = (w : ℕ) (a b blocks : List Network) → IsLeastList w (InFirstAlone w a b) blocks
+    → AreDisjoint w blocks b
 
 -- and together with the common part it is the first
 abbrev pub PartsMakeTheWhole : Type 0
-PartsMakeTheWhole = (w : ℕ) (a b common alone blocks : List Network) → IsAddressSet w a → IsLeastList w (InBoth w a b) common → IsLeastList w (InFirstAlone w a b) alone
+PartsMakeTheWhole = (w : ℕ) (a b common alone blocks : List Network) → IsAddressSet w a
+    → IsLeastList w (InBoth w a b) common → IsLeastList w (InFirstAlone w a b) alone
     → IsLeastList w (InEither w common alone) blocks → blocks ≡ a
 
 -- within a network: what is free of the union is free of both,
 abbrev pub FreeOfUnion : Type 0
-FreeOfUnion = (w : ℕ) (n : Network) (a b union free free_of_a free_of_b both : List Network) → IsLeastList w (InEither w a b) union → IsLeastList w (InNetworkAlone w n union) free
-    → IsLeastList w (InNetworkAlone w n a) free_of_a → IsLeastList w (InNetworkAlone w n b) free_of_b → IsLeastList w (InBoth w free_of_a free_of_b) both → free ≡ both
+FreeOfUnion = (w : ℕ) (n : Network) (a b union free free_of_a free_of_b both : List Network)
+    → IsLeastList w (InEither w a b) union → IsLeastList w (InNetworkAlone w n union) free
+    → IsLeastList w (InNetworkAlone w n a) free_of_a → IsLeastList w (InNetworkAlone w n b) free_of_b
+    → IsLeastList w (InBoth w free_of_a free_of_b) both → free ≡ both
 
 -- and what is free of the common part is free of one of the two
 abbrev pub FreeOfCommonPart : Type 0
-FreeOfCommonPart = (w : ℕ) (n : Network) (a b common free free_of_a free_of_b either : List Network) → IsLeastList w (InBoth w a b) common → IsLeastList w (InNetworkAlone w n common) free
-    → IsLeastList w (InNetworkAlone w n a) free_of_a → IsLeastList w (InNetworkAlone w n b) free_of_b → IsLeastList w (InEither w free_of_a free_of_b) either → free ≡ either
+FreeOfCommonPart = (w : ℕ) (n : Network) (a b common free free_of_a free_of_b either : List Network)
+    → IsLeastList w (InBoth w a b) common → IsLeastList w (InNetworkAlone w n common) free
+    → IsLeastList w (InNetworkAlone w n a) free_of_a → IsLeastList w (InNetworkAlone w n b) free_of_b
+    → IsLeastList w (InEither w free_of_a free_of_b) either → free ≡ either

@@ -20,4 +20,5 @@ pub record IsRangeList (set : ℕ → Type 0) (ranges : List (ℕ × ℕ)) : Typ
 -- the blocks of each range of the list, one range after the other, whether or not they overlap
 abbrev pub AreBlocksOf : ℕ → List (ℕ × ℕ) → List Network → Type 0
 AreBlocksOf w [] blocks = blocks ≡ []
-AreBlocksOf w (r ∷ rs) blocks = (first : List Network) × (others : List Network) × IsLeastList w (FromTo r.0 r.1) first × AreBlocksOf w rs others × (blocks ≡ first ++ others)
+AreBlocksOf w (r ∷ rs) blocks = (first : List Network) × (others : List Network) × IsLeastList w (FromTo r.0 r.1) first
+    × AreBlocksOf w rs others × (blocks ≡ first ++ others)

@@ -51,4 +51,5 @@ AddsLeastList w set before after = (blocks : List Network) × IsLeastList w set 
 
 -- after those that were in the list come the first blocks of the set: all of them, some or none
 abbrev pub AddsFirstOfLeastList : ℕ → (ℕ → Type 0) → List Network → List Network → Type 0
-AddsFirstOfLeastList w set before after = (some : List Network) × (others : List Network) × IsLeastList w set (some ++ others) × (after ≡ before ++ some)
+AddsFirstOfLeastList w set before after = (some : List Network) × (others : List Network)
+    × IsLeastList w set (some ++ others) × (after ≡ before ++ some)

@@ -15,4 +15,5 @@ lines_of text networks = flat_map (λ network. text network ++ line_feed ∷ [])
 
 -- sets of addresses of w bits are printed as the same lines exactly if they have the same addresses
 abbrev pub LinesTellSets : ℕ → (Network → List ℕ) → Type 0
-LinesTellSets w text = (a b : List Network) → IsAddressSet w a → IsAddressSet w b → (lines_of text a ≡ lines_of text b) ↔ SameUnion w a b
+LinesTellSets w text = (a b : List Network) → IsAddressSet w a → IsAddressSet w b
+    → (lines_of text a ≡ lines_of text b) ↔ SameUnion w a b

@@ -7,7 +7,8 @@ use Rattle.ipnetwork_family.specs.Network.{Network, HostBitsAreZero, IsCidrBlock
 
 -- a network as its two numbers, so that a finite map can have it for a key
 abbrev pub network_code : Coded Network
-network_code = code_by (ℕ × ℕ) (coded× coded_ℕ coded_ℕ) (λ n. (n.address, n.prefix)) (λ numbers. record { address = numbers.0; prefix = numbers.1 }) (λ n. refl)
+network_code = code_by (ℕ × ℕ) (coded× coded_ℕ coded_ℕ) (λ n. (n.address, n.prefix))
+    (λ numbers. record { address = numbers.0; prefix = numbers.1 }) (λ n. refl)
 
 -- entries under networks of some type, each network as what it means
 abbrev pub by_pair : {N V : Type 0} → (N → Network) → List (N × V) → List (Network × V)

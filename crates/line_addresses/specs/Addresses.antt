@@ -1,5 +1,6 @@
 -- The addresses of a line.
-use Rattle.std.specs.Prelude.{ℕ, ◌-◌, ◌==◌, ◌||◌, ◌&&◌, Bool, List, Option, None, Some, length, take, filter_map, nat_lt, nat_le, slice_index, if◌then◌else◌}
+use Rattle.std.specs.Prelude.{ℕ, ◌-◌, ◌==◌, ◌||◌, ◌&&◌, Bool, List, Option, None, Some, length, take, filter_map}
+use Rattle.std.specs.Prelude.{nat_lt, nat_le, slice_index, if◌then◌else◌}
 use Rattle.std.specs.Char.{is_ascii_digit}
 use Rattle.std.specs.List.{list_all, before_first, after_first}
 use Rattle.ipnetwork_addr.specs.Computed.Either.{ip_of}

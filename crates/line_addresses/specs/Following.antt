@@ -5,4 +5,5 @@ use Rattle.std.specs.Prelude.{ℕ, ◌==◌, List, [], ◌∷◌, Option, None, 
 abbrev pub following : List ℕ → List ℕ → Option (List ℕ)
 following text [] = if length text == 0 then Some [] else None
 following text (byte ∷ line) =
-    if bytes_eq (take (length text) (byte ∷ line)) text then Some (drop (length text) (byte ∷ line)) else following text line
+    if bytes_eq (take (length text) (byte ∷ line)) text then Some (drop (length text) (byte ∷ line))
+    else following text line

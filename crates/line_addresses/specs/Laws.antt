@@ -18,7 +18,8 @@ BeginsNoAddress = (byte : ℕ) (run : List ℕ) → ¬ (IsAddressByte byte) → 
 
 -- what is found in a run is an address text
 abbrev pub FoundTextNamesItsAddress : Type 0
-FoundTextNamesItsAddress = (run : List ℕ) (found : Spelled) → address_in run ≡ Some found → NamesIp found.text found.address
+FoundTextNamesItsAddress = (run : List ℕ) (found : Spelled) → address_in run ≡ Some found
+    → NamesIp found.text found.address
 
 -- an address text between two bytes of which no run is made is found, whatever stands before and behind
 abbrev pub AddressBetweenOthers : Type 0

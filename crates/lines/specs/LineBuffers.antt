@@ -1,5 +1,6 @@
 -- What contracts see of a `LineBuffer`: bytes that were read, and the lines that are handed out of them.
-use Rattle.std.specs.Prelude.{◌≡◌, ℕ, ◌+◌, ◌<◌, ◌≤◌, Bool, true, false, if◌then◌else◌, List, [], ◌∷◌, ◌++◌, length, take, drop, Option}
+use Rattle.std.specs.Prelude.{◌≡◌, ℕ, ◌+◌, ◌<◌, ◌≤◌, Bool, true, false, if◌then◌else◌, List, [], ◌∷◌, ◌++◌, length}
+use Rattle.std.specs.Prelude.{take, drop, Option}
 use Rattle.std.specs.Io.KnownBytes.{Consumes, IsAtEnd}
 use Rattle.std.specs.Str.Lines.{lines}
 use Rattle.byte_search.specs.Bytes.{IsAbsent}
@@ -48,7 +49,8 @@ pub record IsPending (held : Buffered) (pending : List ℕ) : Type 0 where
 -- whatever is read after them; only a line that the end of the input ends has nothing after it
 abbrev pub IsFirstLine : LineEnd → Bool → List ℕ → List ℕ → List ℕ → Type 0
 IsFirstLine LineFeed ended pending line after = (rest : List ℕ) → lines (pending ++ rest) ≡ line ∷ lines (after ++ rest)
-IsFirstLine ReturnAndLineFeed ended pending line after = (rest : List ℕ) → lines (pending ++ rest) ≡ line ∷ lines (after ++ rest)
+IsFirstLine ReturnAndLineFeed ended pending line after = (rest : List ℕ)
+    → lines (pending ++ rest) ≡ line ∷ lines (after ++ rest)
 IsFirstLine EndOfInput ended pending line after = (ended ≡ true) × (after ≡ []) × (lines pending ≡ line ∷ [])
 
 -- of the pending bytes this line was handed out, with the bytes that end it, and the others are pending still
@@ -60,14 +62,17 @@ pub record HandsOut (held : Buffered) (pending line : List ℕ) (end : LineEnd) 
 
 -- these lines, and then those of the pending bytes, are the lines of what was read, whatever is read after it
 abbrev pub AreFirst : Bool → List ℕ → List (List ℕ) → List ℕ → Type 0
-AreFirst ended read first pending = (more : List ℕ) → (ended ≡ true → more ≡ []) → lines (read ++ more) ≡ first ++ lines (pending ++ more)
+AreFirst ended read first pending = (more : List ℕ) → (ended ≡ true → more ≡ [])
+    → lines (read ++ more) ≡ first ++ lines (pending ++ more)
 
 -- what `next` hands out of the pending bytes, by what it returns
 abbrev pub Gives : Buffered → List ℕ → NextLine → Type 0
 -- a line within the limit, which the buffer lends
-Gives new pending (Line end) = HandsOut new pending new.line end × (length new.line ≤ new.limit) × (new.whole ≡ new.line ++ end_bytes end)
+Gives new pending (Line end) = HandsOut new pending new.line end × (length new.line ≤ new.limit)
+    × (new.whole ≡ new.line ++ end_bytes end)
 -- a line that is longer
-Gives new pending TooLong = (line : List ℕ) × (end : LineEnd) × HandsOut new pending line end × (new.limit < length line)
+Gives new pending TooLong = (line : List ℕ) × (end : LineEnd) × HandsOut new pending line end
+    × (new.limit < length line)
 -- nothing: no line is whole yet
 Gives new pending Ask = IsPending new pending × HasNoFeed pending × HasNoFeed (waits new) × (new.ended ≡ false)
 -- nothing: all lines were handed out
@@ -95,4 +100,5 @@ pub record Receives (unread_before unread_after : Option (List ℕ)) (old new : 
 -- the bytes that wait stand at the front of the buffer afterwards; if they stood there before, with room behind them,
 -- they are not moved. So a byte is moved at most once: those behind a line that was handed out came with the last read
 abbrev pub Settles : Buffered → Buffered → Type 0
-Settles old new = (new.start ≡ 0) × (old.start ≡ 0 → old.end < length old.bytes → take old.end new.bytes ≡ take old.end old.bytes)
+Settles old new = (new.start ≡ 0) × (old.start ≡ 0 → old.end < length old.bytes
+    → take old.end new.bytes ≡ take old.end old.bytes)

@@ -12,7 +12,8 @@ use Rattle.lists.specs.declared.entry.Entry.TheVariants as entries
 
 -- the fewest blocks of a range were added
 abbrev pub AddsBlocks : ℕ → ℕ → ℕ → List Network → List Network → Type 0
-AddsBlocks w first last before after = (blocks : List Network) × IsLeastList w (FromTo first last) blocks × (after ≡ before ++ blocks)
+AddsBlocks w first last before after = (blocks : List Network) × IsLeastList w (FromTo first last) blocks
+    × (after ≡ before ++ blocks)
 
 -- they were added to the networks of its family, and those of the other family are unchanged
 abbrev pub AddsRange : List Network → List Network → IpAddr → IpAddr → List Network → List Network → Type 0

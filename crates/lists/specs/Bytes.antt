@@ -6,11 +6,13 @@ use Rattle.lists.specs.declared.bytes.BytesFault.TheVariants.{Open, Read, Length
 
 -- the list of this name was opened, and these are all of its bytes, if they are known
 abbrev pub IsAllOf : KnownLists → List ℕ → List ℕ → Type 0
-IsAllOf known name bytes = known.may_open name true × ((input : List ℕ) → known.bytes_of name ≡ Some input → bytes ≡ input)
+IsAllOf known name bytes = known.may_open name true
+    × ((input : List ℕ) → known.bytes_of name ≡ Some input → bytes ≡ input)
 
 -- it was opened, and has more bytes than this, if they are known
 abbrev pub HasMore : KnownLists → List ℕ → ℕ → Type 0
-HasMore known name least = known.may_open name true × ((input : List ℕ) → known.bytes_of name ≡ Some input → least < length input)
+HasMore known name least = known.may_open name true
+    × ((input : List ℕ) → known.bytes_of name ≡ Some input → least < length input)
 
 -- its bytes, at most so many, were not read, for this reason
 abbrev pub BytesStop : KnownLists → List ℕ → ℕ → BytesFault → Type 0

@@ -23,7 +23,8 @@ HasMember (member key first others) value = (first ≡ value) ⊎ HasMember othe
 pub data Occurs (text : List ℕ) : Data → Type 0 where
   Itself : Occurs text (string text)
   InElement : (values : Items) (value : Data) → HasElement values value → Occurs text value → Occurs text (array values)
-  InMember : (members : Members) (value : Data) → HasMember members value → Occurs text value → Occurs text (object members)
+  InMember : (members : Members) (value : Data) → HasMember members value → Occurs text value
+      → Occurs text (object members)
 
 -- the strings of a value are those that occur in it
 abbrev pub StringsOccur : Type 0
@@ -39,5 +40,7 @@ DocumentNames document a = (text : List ℕ) × Occurs text document × TextName
 
 -- a document that is taken adds the addresses that its strings name, and no others, unless memory runs out
 abbrev pub DocumentsAddWhatTheyName : Type 0
-DocumentsAddWhatTheyName = (strict : Bool) (before after : ReadLists) (bytes : List ℕ) (document : Data) → read bytes ≡ Some document → TakesDocument strict before bytes after
-    → after.is_out_of_memory ≡ false → (a : IpAddr) → HasAddress after a ↔ (HasAddress before a ⊎ DocumentNames document a)
+DocumentsAddWhatTheyName = (strict : Bool) (before after : ReadLists) (bytes : List ℕ) (document : Data)
+    → read bytes ≡ Some document → TakesDocument strict before bytes after
+    → after.is_out_of_memory ≡ false → (a : IpAddr)
+    → HasAddress after a ↔ (HasAddress before a ⊎ DocumentNames document a)

@@ -1,6 +1,8 @@
 -- Documents of JSON that are lists: their strings, and what is taken of them.
-use Rattle.std.specs.Prelude.{◌≡◌, ◌⊎◌, ◌<◌, ◌≤◌, ℕ, Bool, true, false, IsUtf8, List, [], ◌∷◌, ◌++◌, length, None, Some, Result, Ok, Err}
-use Rattle.serde_json.specs.Data.{Data, null, boolean, number, string, array, object, Items, no_items, item, Members, no_members, member}
+use Rattle.std.specs.Prelude.{◌≡◌, ◌⊎◌, ◌<◌, ◌≤◌, ℕ, Bool, true, false, IsUtf8, List, [], ◌∷◌, ◌++◌, length, None, Some}
+use Rattle.std.specs.Prelude.{Result, Ok, Err}
+use Rattle.serde_json.specs.Data.{Data, null, boolean, number, string, array, object, Items, no_items, item, Members}
+use Rattle.serde_json.specs.Data.{no_members, member}
 use Rattle.serde_json.specs.Read.{read}
 use Rattle.lists.specs.Entries.{ReadsText}
 use Rattle.lists.specs.KnownLists.{KnownLists}
@@ -39,12 +41,14 @@ TakesText false before (Err fault) after = after ≡ before
 -- once memory has run out, no string is taken. Strings are counted as lines are
 abbrev pub TakesString : Bool → ReadLists → List ℕ → ReadLists → Type 0
 TakesString strict before text after = ((before.is_out_of_memory ≡ true) × (after ≡ before))
-    ⊎ ((before.is_out_of_memory ≡ false) × ((reading : Result Entry EntryFault) × ReadsText text reading × TakesText strict (at_next_line before) reading after))
+    ⊎ ((before.is_out_of_memory ≡ false) × ((reading : Result Entry EntryFault) × ReadsText text reading
+    × TakesText strict (at_next_line before) reading after))
 
 -- these strings are taken in turn
 abbrev pub TakesStrings : Bool → ReadLists → List (List ℕ) → ReadLists → Type 0
 TakesStrings strict before [] after = after ≡ before
-TakesStrings strict before (text ∷ texts) after = (between : ReadLists) × TakesString strict before text between × TakesStrings strict between texts after
+TakesStrings strict before (text ∷ texts) after = (between : ReadLists) × TakesString strict before text between
+    × TakesStrings strict between texts after
 
 -- the bytes are this document: at most 1,073,741,824, in UTF-8, and JSON
 abbrev pub IsDocument : List ℕ → Data → Type 0
@@ -56,31 +60,39 @@ IsNoDocument bytes = (length bytes ≤ 1073741824) × (IsUtf8 bytes → read byt
 
 -- the bytes are a document, of which the strings are taken
 abbrev pub TakesDocument : Bool → ReadLists → List ℕ → ReadLists → Type 0
-TakesDocument strict before bytes after = (document : Data) × IsDocument bytes document × TakesStrings strict before (strings_of document) after
+TakesDocument strict before bytes after = (document : Data) × IsDocument bytes document
+    × TakesStrings strict before (strings_of document) after
 
 -- the document of this name was opened, and, if its bytes are known, its strings are taken. Refused strings name it by
 -- the number
 abbrev pub ReadsDocument : KnownLists → Bool → ℕ → List ℕ → ReadLists → ReadLists → Type 0
 ReadsDocument known strict list name before after =
-    known.may_open name true × ((input : List ℕ) → known.bytes_of name ≡ Some input → TakesDocument strict (at_list before list) input after)
+    known.may_open name true × ((input : List ℕ) → known.bytes_of name ≡ Some input
+    → TakesDocument strict (at_list before list) input after)
 
 -- it was opened, and there was no memory for it: it has at least one byte
 abbrev pub LacksMemory : KnownLists → List ℕ → Type 0
-LacksMemory known name = known.may_open name true × ((input : List ℕ) → known.bytes_of name ≡ Some input → 0 < length input)
+LacksMemory known name = known.may_open name true
+    × ((input : List ℕ) → known.bytes_of name ≡ Some input → 0 < length input)
 
 -- the reading stops at the document of this name and number, and leaves the reader so: unchanged, unless memory ran out
 -- for an entry
 abbrev pub StopsAtDocument : KnownLists → Bool → ℕ → List ℕ → ReadLists → ReadFault → ReadLists → Type 0
 -- it is not opened, for this cause
-StopsAtDocument known strict list name before (Open place cause) after = (place ≡ list) × known.may_open name false × known.may_miss name cause × (after ≡ before)
+StopsAtDocument known strict list name before (Open place cause) after = (place ≡ list) × known.may_open name false
+    × known.may_miss name cause × (after ≡ before)
 -- a read of it fails
-StopsAtDocument known strict list name before (Read place) after = (place ≡ list) × known.may_open name true × known.may_fail name × (after ≡ before)
+StopsAtDocument known strict list name before (Read place) after = (place ≡ list) × known.may_open name true
+    × known.may_fail name × (after ≡ before)
 -- it has more than 1,073,741,824 bytes
 StopsAtDocument known strict list name before (Length place) after =
-    (place ≡ list) × known.may_open name true × ((input : List ℕ) → known.bytes_of name ≡ Some input → 1073741824 < length input) × (after ≡ before)
+    (place ≡ list) × known.may_open name true
+    × ((input : List ℕ) → known.bytes_of name ≡ Some input → 1073741824 < length input) × (after ≡ before)
 -- it has no more, and they are no document
 StopsAtDocument known strict list name before (NotJson place line) after =
-    (place ≡ list) × known.may_open name true × ((input : List ℕ) → known.bytes_of name ≡ Some input → IsNoDocument input) × (after ≡ before)
+    (place ≡ list) × known.may_open name true
+    × ((input : List ℕ) → known.bytes_of name ≡ Some input → IsNoDocument input) × (after ≡ before)
 -- there is no memory for it, or memory runs out for an entry of it
 StopsAtDocument known strict list name before OutOfMemory after =
-    (LacksMemory known name × (after ≡ before)) ⊎ (ReadsDocument known strict list name before after × (after.is_out_of_memory ≡ true))
+    (LacksMemory known name × (after ≡ before))
+    ⊎ (ReadsDocument known strict list name before after × (after.is_out_of_memory ≡ true))

@@ -1,5 +1,6 @@
 -- Which lines of a list name addresses, and why others are refused.
-use Rattle.std.specs.Prelude.{◌≡◌, ◌≢◌, ◌≤◌, ◌<◌, ◌==◌, ◌⊎◌, ℕ, Bool, List, [], length, Option, None, Some, Result, Ok, Err, MatchResult}
+use Rattle.std.specs.Prelude.{◌≡◌, ◌≢◌, ◌≤◌, ◌<◌, ◌==◌, ◌⊎◌, ℕ, Bool, List, [], length, Option, None, Some, Result, Ok}
+use Rattle.std.specs.Prelude.{Err, MatchResult}
 use Rattle.std.specs.List.{before_first, after_first, position_or_len}
 use Rattle.ipnetwork_addr.specs.Either.{NamesIp}
 use Rattle.ipnetwork_addr.specs.declared.ip.IpAddr.{IpAddr}
@@ -47,16 +48,19 @@ abbrev pub IsEntryCause : List ℕ → EntryFault → Type 0
 -- it contains two or more `/`
 IsEntryCause text faults.Format = ¬ (HasDash text) × IsIpCause text causes.Format
 -- else what stands before the `/` is an address of neither family; or an end of a range is not an address
-IsEntryCause text faults.Address = (¬ (HasDash text) × IsIpCause text causes.Addr) ⊎ (HasDash text × ((first last : IpAddr) → ¬ (NamesBoth text first last)))
+IsEntryCause text faults.Address = (¬ (HasDash text) × IsIpCause text causes.Addr)
+    ⊎ (HasDash text × ((first last : IpAddr) → ¬ (NamesBoth text first last)))
 -- else what stands after the `/` is not a suffix of that address's family
 IsEntryCause text faults.Prefix = ¬ (HasDash text) × IsIpCause text causes.Prefix
 -- both ends are addresses, of two families, or the last before the first
-IsEntryCause text faults.Range = HasDash text × ((first : IpAddr) × (last : IpAddr) × NamesBoth text first last × ¬ (IsRange first last))
+IsEntryCause text faults.Range = HasDash text
+    × ((first : IpAddr) × (last : IpAddr) × NamesBoth text first last × ¬ (IsRange first last))
 
 -- the entry that a text names, or the cause if it names none
 abbrev pub ReadsText : List ℕ → Result Entry EntryFault → Type 0
 ReadsText text result =
-    MatchResult result (NamesEntry text) (λ fault. IsEntryCause text fault × ((entry : Entry) → ¬ (NamesEntry text entry)))
+    MatchResult result (NamesEntry text) (λ fault. IsEntryCause text fault
+    × ((entry : Entry) → ¬ (NamesEntry text entry)))
 
 -- the text of the entry of a line: what stands before a comment, without the blanks around it
 abbrev pub entry_text : List ℕ → List ℕ
@@ -68,4 +72,5 @@ abbrev pub ReadsEntry : List ℕ → Result (Option Entry) EntryFault → Type 0
 ReadsEntry line (Ok None) = entry_text line ≡ []
 -- and else its entry, or why it has none
 ReadsEntry line (Ok (Some entry)) = (entry_text line ≢ []) × NamesEntry (entry_text line) entry
-ReadsEntry line (Err fault) = (entry_text line ≢ []) × IsEntryCause (entry_text line) fault × ((entry : Entry) → ¬ (NamesEntry (entry_text line) entry))
+ReadsEntry line (Err fault) = (entry_text line ≢ []) × IsEntryCause (entry_text line) fault
+    × ((entry : Entry) → ¬ (NamesEntry (entry_text line) entry))

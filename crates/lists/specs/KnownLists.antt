@@ -12,4 +12,9 @@ pub record KnownLists : Type 1 where
 
 -- nothing is known: opening a list may succeed or fail, and so may a read
 abbrev pub nothing_known : KnownLists
-nothing_known = record { bytes_of = λ _. None; may_open = λ _ _. Unit {0}; may_miss = λ _ _. Unit {0}; may_fail = λ _. Unit {0} }
+nothing_known = record {
+  bytes_of = λ _. None;
+  may_open = λ _ _. Unit {0};
+  may_miss = λ _ _. Unit {0};
+  may_fail = λ _. Unit {0};
+}

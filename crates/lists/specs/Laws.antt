@@ -15,9 +15,11 @@ OneReading = (line : List ℕ) (a b : Result (Option Entry) EntryFault) → Read
 
 -- a line that is the text of a network, and nothing else, names that network
 abbrev pub NetworkTextsAreEntries : Type 0
-NetworkTextsAreEntries = (text : List ℕ) (n : IpNetwork) → NamesIpNetwork text n → ReadsEntry text (Ok (Some (entries.Network n)))
+NetworkTextsAreEntries = (text : List ℕ) (n : IpNetwork) → NamesIpNetwork text n
+    → ReadsEntry text (Ok (Some (entries.Network n)))
 
 -- a line of two address texts with a `-` between them names the addresses from the first to the last
 abbrev pub AddressTextsAreRanges : Type 0
-AddressTextsAreRanges = (before after : List ℕ) (first last : IpAddr) → NamesIp before first → NamesIp after last → IsRange first last
+AddressTextsAreRanges = (before after : List ℕ) (first last : IpAddr) → NamesIp before first → NamesIp after last
+    → IsRange first last
     → ReadsEntry (before ++ 45 ∷ after) (Ok (Some (entries.Range first last)))

@@ -1,5 +1,6 @@
 -- What the lines of lists name.
-use Rattle.std.specs.Prelude.{◌≡◌, ℕ, ◌+◌, ◌-◌, ◌^◌, ◌↔◌, ◌⊎◌, ◌≤◌, Bool, true, false, List, [], ◌∷◌, Option, None, Some, Result, Ok, Err, min, length}
+use Rattle.std.specs.Prelude.{◌≡◌, ℕ, ◌+◌, ◌-◌, ◌^◌, ◌↔◌, ◌⊎◌, ◌≤◌, Bool, true, false, List, [], ◌∷◌, Option, None}
+use Rattle.std.specs.Prelude.{Some, Result, Ok, Err, min, length}
 use Rattle.std.specs.List.{Contains}
 use Rattle.ipnetwork_addr.specs.declared.ip.IpAddr.{IpAddr}
 use Rattle.ipnetwork_addr.specs.declared.ip.IpAddr.TheVariants.{V4, V6}
@@ -71,7 +72,10 @@ TakesEntry before entry after = Gains before entry after ⊎ RunsOut before afte
 
 -- the line is refused for this reason
 abbrev pub refusing : ReadLists → LineFault → ReadLists
-refusing lists fault = record lists { refused = with_refusal lists.refused (record { list = lists.list; line = lists.line; fault = fault }) }
+refusing lists fault = record lists {
+  refused = with_refusal lists.refused
+      (record { list = lists.list; line = lists.line; fault = fault });
+}
 
 -- what a line says is taken: nothing, an entry, or that it is refused
 abbrev pub TakesReading : ReadLists → Result (Option Entry) EntryFault → ReadLists → Type 0
@@ -82,16 +86,19 @@ TakesReading before (Err fault) after = after ≡ refusing before (faults.Entry 
 -- a line is taken, or it is too long
 abbrev pub TakesLine : ReadLists → Option (List ℕ) → ReadLists → Type 0
 TakesLine before None after = after ≡ refusing (at_next_line before) faults.Length
-TakesLine before (Some line) after = (reading : Result (Option Entry) EntryFault) × ReadsEntry line reading × TakesReading (at_next_line before) reading after
+TakesLine before (Some line) after = (reading : Result (Option Entry) EntryFault) × ReadsEntry line reading
+    × TakesReading (at_next_line before) reading after
 
 -- once memory has run out, nothing more is read
 abbrev pub Takes : ReadLists → Option (List ℕ) → ReadLists → Type 0
-Takes before line after = ((before.is_out_of_memory ≡ true) × (after ≡ before)) ⊎ ((before.is_out_of_memory ≡ false) × TakesLine before line after)
+Takes before line after = ((before.is_out_of_memory ≡ true) × (after ≡ before))
+    ⊎ ((before.is_out_of_memory ≡ false) × TakesLine before line after)
 
 -- these lines are taken in turn; one of more than 1,024 bytes is too long
 abbrev pub TakesLines : ReadLists → List (List ℕ) → ReadLists → Type 0
 TakesLines before [] after = after ≡ before
-TakesLines before (line ∷ lines) after = (between : ReadLists) × Takes before (asked 1024 line) between × TakesLines between lines after
+TakesLines before (line ∷ lines) after = (between : ReadLists) × Takes before (asked 1024 line) between
+    × TakesLines between lines after
 
 -- the line names the address: it has at most 1,024 bytes, and an entry that does
 abbrev pub LineNames : List ℕ → IpAddr → Type 0
@@ -103,5 +110,6 @@ LinesName lines a = (line : List ℕ) × Contains lines line × LineNames line a
 
 -- lines that are taken add the addresses that they name, and no others, unless memory runs out
 abbrev pub LinesAddWhatTheyName : Type 0
-LinesAddWhatTheyName = (before after : ReadLists) (lines : List (List ℕ)) → TakesLines before lines after → after.is_out_of_memory ≡ false
+LinesAddWhatTheyName = (before after : ReadLists) (lines : List (List ℕ)) → TakesLines before lines after
+    → after.is_out_of_memory ≡ false
     → (a : IpAddr) → HasAddress after a ↔ (HasAddress before a ⊎ LinesName lines a)

@@ -6,7 +6,8 @@ use Rattle.ipnetwork_blocks.specs.Aggregate.{IsAggregate}
 
 -- the parts together have the networks of a list, in any order, and no others
 abbrev pub AreParts : List Network → List (List Network) → Type 0
-AreParts networks parts = (n : Network) → Contains networks n ↔ ((part : List Network) × Contains parts part × Contains part n)
+AreParts networks parts = (n : Network) → Contains networks n ↔
+    ((part : List Network) × Contains parts part × Contains part n)
 
 -- there is a merge of each part, and no other
 abbrev pub AreMerges : ℕ → List (List Network) → List (List Network) → Type 0
@@ -17,5 +18,6 @@ AreMerges w (part ∷ parts) [] = ⊥
 
 -- the merge of the merges of parts, in any order, is the merge of the whole
 abbrev pub MergesOfPartsMerge : Type 0
-MergesOfPartsMerge = (w : ℕ) (networks merged whole again : List Network) (parts merges : List (List Network)) → AreParts networks parts → AreMerges w parts merges → AreParts merged merges
+MergesOfPartsMerge = (w : ℕ) (networks merged whole again : List Network) (parts merges : List (List Network))
+    → AreParts networks parts → AreMerges w parts merges → AreParts merged merges
     → IsAggregate w networks whole → IsAggregate w merged again → again ≡ whole

@@ -14,9 +14,11 @@ TakesComplete bytes before after = TakesLines before (lines (complete_part bytes
 -- what is taken before the reading stops, by what stops it. The reader had the first bytes, and has the second left
 abbrev pub TakesBefore : Option (List ℕ) → Option (List ℕ) → RunFault → ReadLists → ReadLists → Type 0
 -- a read failed: the lines that the bytes complete that were read
-TakesBefore remained remains Read before after = (read : List ℕ) × Consumes remained remains read × TakesComplete read before after
+TakesBefore remained remains Read before after = (read : List ℕ) × Consumes remained remains read
+    × TakesComplete read before after
 -- more bytes were read than 64 bits count: the lines that some first ones of them complete
 TakesBefore remained remains InputTooLong before after =
-    (read : List ℕ) × (first : List ℕ) × Consumes remained remains read × (2 ^ 64 - 1 < length read) × IsBeginning first read × TakesComplete first before after
+    (read : List ℕ) × (first : List ℕ) × Consumes remained remains read × (2 ^ 64 - 1 < length read)
+    × IsBeginning first read × TakesComplete first before after
 -- no write fails: the lines get no replies, so that none is written
 TakesBefore remained remains Write before after = ⊥

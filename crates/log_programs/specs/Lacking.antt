@@ -12,8 +12,10 @@ place_text (places.After text) = codes "after " ++ text
 
 -- what a program reports of a log of this name in which no line has an address there
 abbrev pub no_address_text : List ℕ → Place → List ℕ → List ℕ
-no_address_text program place name = program ++ codes ": " ++ name ++ codes ": no line has an address " ++ place_text place ++ codes "\n"
+no_address_text program place name = program ++ codes ": " ++ name ++ codes ": no line has an address "
+    ++ place_text place ++ codes "\n"
 
 -- that is reported if there are lines, as many as this, and none has one
 abbrev pub lacking_told : List ℕ → Place → List ℕ → ℕ → Bool → List ℕ
-lacking_told program place name lines addressed = if nat_lt 0 lines && not addressed then no_address_text program place name else []
+lacking_told program place name lines addressed =
+    if nat_lt 0 lines && not addressed then no_address_text program place name else []

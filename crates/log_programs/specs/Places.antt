@@ -15,4 +15,5 @@ place_of items =
     if is_given items rows.anywhere then places.Anywhere
     else if is_given items rows.after then places.After (value_of items rows.after)
     else if is_given items rows.words then places.Word (unwrap_or (field_in (value_of items rows.field)) 1)
-    else places.Field (unwrap_or (field_in (value_of items rows.field)) 1) (unwrap_or (byte_in (value_of items rows.separator)) 32)
+    else places.Field (unwrap_or (field_in (value_of items rows.field)) 1)
+    (unwrap_or (byte_in (value_of items rows.separator)) 32)

@@ -31,13 +31,19 @@ shared =
     flag (codes "a") ∷ flag (codes "w") ∷ valued (codes "k") kinds.Field (codes "is no field number")
     ∷ valued (codes "d") kinds.Separator (codes "is not one ASCII byte other than LF, CR and NUL")
     ∷ long (codes "--after") kinds.Text false (codes "is no text") ∷ long_flag (codes "--mapped")
-    ∷ valued (codes "f") kinds.File (codes "is no file name") ∷ alone (codes "--help") (codes "is not the only argument")
+    ∷ valued (codes "f") kinds.File (codes "is no file name")
+    ∷ alone (codes "--help") (codes "is not the only argument")
     ∷ alone (codes "--version") (codes "is not the only argument") ∷ []
 
--- which of them do not go together: `-a` with `-w`, `-k` or `-d`, `--after` with one of these or `-a`, and `-w` with `-d`
+-- which of them do not go together: `-a` with `-w`, `-k` or `-d`, `--after` with one of these or `-a`, and `-w` with
+-- `-d`
 abbrev pub together : List (ℕ × ℕ × List ℕ)
 together =
-    (anywhere, words, codes "-a goes with none of -k, -d and -w") ∷ (anywhere, field, codes "-a goes with none of -k, -d and -w")
-    ∷ (anywhere, separator, codes "-a goes with none of -k, -d and -w") ∷ (after, anywhere, codes "--after goes with none of -a, -k, -d and -w")
-    ∷ (after, words, codes "--after goes with none of -a, -k, -d and -w") ∷ (after, field, codes "--after goes with none of -a, -k, -d and -w")
-    ∷ (after, separator, codes "--after goes with none of -a, -k, -d and -w") ∷ (words, separator, codes "-w does not go with -d") ∷ []
+    (anywhere, words, codes "-a goes with none of -k, -d and -w")
+    ∷ (anywhere, field, codes "-a goes with none of -k, -d and -w")
+    ∷ (anywhere, separator, codes "-a goes with none of -k, -d and -w")
+    ∷ (after, anywhere, codes "--after goes with none of -a, -k, -d and -w")
+    ∷ (after, words, codes "--after goes with none of -a, -k, -d and -w")
+    ∷ (after, field, codes "--after goes with none of -a, -k, -d and -w")
+    ∷ (after, separator, codes "--after goes with none of -a, -k, -d and -w")
+    ∷ (words, separator, codes "-w does not go with -d") ∷ []

@@ -1,5 +1,6 @@
 -- What is wrong with a command line.
-use Rattle.std.specs.Prelude.{ℕ, ◌==◌, ◌&&◌, Bool, true, false, List, [], ◌∷◌, Option, None, Some, length, nat_lt, nat_le, if◌then◌else◌, slice_get, codes, bytes_eq}
+use Rattle.std.specs.Prelude.{ℕ, ◌==◌, ◌&&◌, Bool, true, false, List, [], ◌∷◌, Option, None, Some, length, nat_lt}
+use Rattle.std.specs.Prelude.{nat_le, if◌then◌else◌, slice_get, codes, bytes_eq}
 use Rattle.std.specs.List.{list_any, count_by, find}
 use Rattle.std.specs.Option.{option_or}
 use Rattle.options.specs.Given.{is_given, times}
@@ -33,7 +34,8 @@ problem_at rows row = problem_of (slice_get rows row)
 
 -- what is wrong with an option of this row and value, if that is wrong
 abbrev pub value_fault : List Row → ℕ → List ℕ → Subject → Option Fault
-value_fault rows row value subject = if is_right (kind_at rows row) value then None else Some (about subject (problem_at rows row))
+value_fault rows row value subject = if is_right (kind_at rows row) value then None
+    else Some (about subject (problem_at rows row))
 
 -- what is wrong with an option, and with a FILE
 abbrev pub option_fault : List Row → Item → Option Fault
@@ -45,7 +47,8 @@ option_fault rows (says.Unknown word) = Some (about (subjects.Word word) (codes 
 option_fault rows (says.Lacks row) = Some (about (subjects.Option row) (codes "has no value"))
 
 abbrev pub name_fault : Item → Option Fault
-name_fault (says.File name) = if length name == 0 then Some (about (subjects.Word name) (codes "is no file name")) else None
+name_fault (says.File name) = if length name == 0 then Some (about (subjects.Word name) (codes "is no file name"))
+    else None
 name_fault item = None
 
 abbrev pub item_fault : List Row → Bool → Item → Option Fault
@@ -58,7 +61,8 @@ first_fault rows of_files (item ∷ items) = option_or (item_fault rows of_files
 
 -- the options of a pair are both given, or one more than once
 abbrev pub are_both : List Item → Pair → Bool
-are_both items pair = if pair.first == pair.second then nat_lt 1 (times items pair.first) else is_given items pair.first && is_given items pair.second
+are_both items pair = if pair.first == pair.second then nat_lt 1 (times items pair.first)
+    else is_given items pair.first && is_given items pair.second
 
 -- the first pair that is given
 abbrev pub of_pair : Option Pair → Option Fault
@@ -92,16 +96,18 @@ has_file items = list_any is_name items
 
 -- standard input is read at most once. It is read if there is no FILE
 abbrev pub is_read_once : List Row → List Item → Bool
-is_read_once rows items = if has_file items then nat_le (count_by (is_input rows) items) 1 else count_by (is_input rows) items == 0
+is_read_once rows items = if has_file items then nat_le (count_by (is_input rows) items) 1
+    else count_by (is_input rows) items == 0
 
--- what is wrong with a command line: with an option, a FILE, options that do not go together, none of those of which one
--- has to be given, or standard input, which is read twice
+-- what is wrong with a command line: with an option, a FILE, options that do not go together, none of those of which
+-- one has to be given, or standard input, which is read twice
 abbrev pub fault_by : List Row → List Pair → List ℕ → List ℕ → List Item → Option Fault
 fault_by rows pairs needs lacking items =
     option_or (first_fault rows false items)
     (option_or (first_fault rows true items)
     (option_or (pair_fault items pairs)
-    (if is_one_given items needs then if is_read_once rows items then None else together (codes "-: standard input can be read only once") else together lacking)))
+    (if is_one_given items needs then if is_read_once rows items then None
+    else together (codes "-: standard input can be read only once") else together lacking)))
 
 abbrev pub fault_of : Table → List Item → Option Fault
 fault_of table items = fault_by table.rows.now table.pairs.now table.needs.now table.lacking.now items

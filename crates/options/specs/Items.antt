@@ -1,5 +1,6 @@
 -- What the words of a command line say, one thing after another.
-use Rattle.std.specs.Prelude.{ℕ, ◌+◌, ◌==◌, ◌||◌, ◌&&◌, Bool, true, false, not, List, [], ◌∷◌, ◌++◌, Option, None, Some, length, nat_lt, take, drop, if◌then◌else◌, codes, bytes_eq, String}
+use Rattle.std.specs.Prelude.{ℕ, ◌+◌, ◌==◌, ◌||◌, ◌&&◌, Bool, true, false, not, List, [], ◌∷◌, ◌++◌, Option, None, Some}
+use Rattle.std.specs.Prelude.{length, nat_lt, take, drop, if◌then◌else◌, codes, bytes_eq, String}
 use Rattle.std.specs.List.{position_or_len, before_first, after_first}
 use Rattle.std.specs.String.{string_bytes}
 use Rattle.options.specs.Table.{takes_value, kind_at, lettered, named, joined}
@@ -26,13 +27,15 @@ value_items row false word (byte ∷ text) = says.Value row (byte ∷ text) ∷ 
 -- the letter of this option, what follows it in its word, and the items of that
 abbrev pub letter_items : List Row → Bool → List ℕ → List ℕ → Option ℕ → List Item → List Item
 letter_items rows first word text None others = says.Unknown word ∷ []
-letter_items rows first word text (Some row) others = if takes_value (kind_at rows row) then value_items row first word text else says.Flag row ∷ others
+letter_items rows first word text (Some row) others =
+    if takes_value (kind_at rows row) then value_items row first word text else says.Flag row ∷ others
 
 -- letters of options, the first of a word or not: the last of them may take a value. Letters are characters of ASCII
 abbrev pub letters : List Row → Bool → List ℕ → List ℕ → List Item
 letters rows first word [] = []
 letters rows first word (letter ∷ text) =
-    if nat_lt letter 128 then letter_items rows first word text (lettered letter rows) (letters rows false word text) else says.Unknown word ∷ []
+    if nat_lt letter 128 then letter_items rows first word text (lettered letter rows) (letters rows false word text)
+    else says.Unknown word ∷ []
 
 -- the value of the last of them is the next word
 abbrev pub opened : ℕ → List ℕ → Mode
@@ -45,7 +48,8 @@ letter_mode rows text (Some row) next = if takes_value (kind_at rows row) then o
 
 abbrev pub letters_mode : List Row → List ℕ → Mode
 letters_mode rows [] = modes.Free
-letters_mode rows (letter ∷ text) = if nat_lt letter 128 then letter_mode rows text (lettered letter rows) (letters_mode rows text) else modes.Free
+letters_mode rows (letter ∷ text) = if nat_lt letter 128
+    then letter_mode rows text (lettered letter rows) (letters_mode rows text) else modes.Free
 
 -- a word that begins with `--`: a long name, or one and a value behind a `=` (byte 61)
 abbrev pub name_items : List Row → List ℕ → Option ℕ → Option ℕ → List Item
@@ -55,7 +59,8 @@ name_items rows word None None = says.Unknown word ∷ []
 
 abbrev pub joined_name : List Row → List ℕ → Option ℕ
 joined_name rows word =
-    if nat_lt (position_or_len (λ byte. byte == 61) word) (length word) then joined (before_first (λ byte. byte == 61) word) rows else None
+    if nat_lt (position_or_len (λ byte. byte == 61) word) (length word)
+    then joined (before_first (λ byte. byte == 61) word) rows else None
 
 abbrev pub name_mode : List Row → Option ℕ → Mode
 name_mode rows None = modes.Free
@@ -96,7 +101,8 @@ end_items modes.Files = []
 -- what these words say, the first of which stands so
 abbrev pub items_of : {Z : Type 0} → List Row → Mode → List (String Z) → List Item
 items_of rows mode [] = end_items mode
-items_of rows mode (word ∷ words) = word_items rows mode (string_bytes word) ++ items_of rows (next_mode rows mode (string_bytes word)) words
+items_of rows mode (word ∷ words) = word_items rows mode (string_bytes word)
+    ++ items_of rows (next_mode rows mode (string_bytes word)) words
 
 -- ---- options that stand before all FILEs
 
@@ -110,8 +116,10 @@ is_of_option modes.Files word = false
 abbrev pub option_items : {Z : Type 0} → List Row → Mode → List (String Z) → List Item
 option_items rows mode [] = end_items mode
 option_items rows mode (word ∷ words) =
-    if is_of_option mode (string_bytes word) then word_items rows mode (string_bytes word) ++ option_items rows (next_mode rows mode (string_bytes word)) words else []
+    if is_of_option mode (string_bytes word) then word_items rows mode (string_bytes word)
+    ++ option_items rows (next_mode rows mode (string_bytes word)) words else []
 
 abbrev pub options_len : {Z : Type 0} → List Row → Mode → List (String Z) → ℕ
 options_len rows mode [] = 0
-options_len rows mode (word ∷ words) = if is_of_option mode (string_bytes word) then 1 + options_len rows (next_mode rows mode (string_bytes word)) words else 0
+options_len rows mode (word ∷ words) = if is_of_option mode (string_bytes word)
+    then 1 + options_len rows (next_mode rows mode (string_bytes word)) words else 0

@@ -30,4 +30,5 @@ subject_text rows (subjects.Value row value) = option_text rows row ++ codes ": 
 
 -- what is reported: a line with the program's name, what the fault is about and what is wrong, and then the usage
 abbrev pub refusal_text : List ℕ → List ℕ → List Row → Fault → List ℕ
-refusal_text program usage rows fault = program ++ codes ": " ++ subject_text rows fault.subject ++ fault.problem ++ codes "\n" ++ usage
+refusal_text program usage rows fault = program ++ codes ": " ++ subject_text rows fault.subject ++ fault.problem
+    ++ codes "\n" ++ usage

@@ -9,24 +9,29 @@ use Rattle.options.specs.declared.items.Item.{Item}
 use Rattle.options.specs.declared.items.Mode.TheVariants as modes
 use Rattle.options.specs.declared.table.Table.{Table}
 
--- the words say this, and what they ask for is done; or something is wrong with them, and that and the usage are reported
+-- the words say this, and what they ask for is done; or something is wrong with them, and that and the usage are
+-- reported
 abbrev pub EndsAsked : {W E : Type 0} → Table → List ℕ → List ℕ → List Item → Type 0 → Ending W E → Type 0
 EndsAsked table program usage items IsDone end =
     MatchOption (fault_of table items) IsDone (λ fault. Refuses (refusal_text program usage table.rows.now fault) end)
 
 -- how a run ends of a program of this name, help, version and usage: with the help or the version, if the words ask for
 -- it. Else they are read by the table of its options, unless there is no memory for that
-abbrev pub EndsAs : {Z W E : Type 0} → Table → List ℕ → List ℕ → List ℕ → List ℕ → List (String Z) → (List Item → Type 0) → Ending W E → Type 0
+abbrev pub EndsAs : {Z W E : Type 0} → Table → List ℕ → List ℕ → List ℕ → List ℕ → List (String Z)
+    → (List Item → Type 0) → Ending W E → Type 0
 EndsAs table program help version usage words IsDone end = EndsRun help version words
     (Refuses (codes "out of memory\n") end
-    ⊎ EndsAsked table program usage (items_of table.rows.now modes.Free words) (IsDone (items_of table.rows.now modes.Free words)) end) end
+    ⊎ EndsAsked table program usage (items_of table.rows.now modes.Free words)
+    (IsDone (items_of table.rows.now modes.Free words)) end) end
 
 -- the run ends without a request
-abbrev pub EndsAtOnce : {Z W E : Type 0} → Table → List ℕ → List ℕ → List ℕ → List ℕ → List (String Z) → Ending W E → Type 0
+abbrev pub EndsAtOnce : {Z W E : Type 0} → Table → List ℕ → List ℕ → List ℕ → List ℕ → List (String Z) → Ending W E
+    → Type 0
 EndsAtOnce table program help version usage words end = EndsAs table program help version usage words (λ items. ⊥) end
 
 -- the words ask neither for the help nor for the version; they say this, and nothing is wrong with them
-pub record AsksFor {Z : Type 0} (table : Table) (help version : List ℕ) (words : List (String Z)) (items : List Item) : Type 0 where
+pub record AsksFor {Z : Type 0} (table : Table) (help version : List ℕ) (words : List (String Z))
+    (items : List Item) : Type 0 where
   pub no_text : text_asked help version words ≡ None
   pub are : items ≡ items_of table.rows.now modes.Free words
   pub right : fault_of table items ≡ None

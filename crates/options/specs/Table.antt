@@ -1,5 +1,6 @@
 -- A table of options.
-use Rattle.std.specs.Prelude.{◌≡◌, ℕ, ◌==◌, ◌&&◌, Bool, true, false, List, [], ◌∷◌, Option, None, Some, map, slice_get, bytes_eq}
+use Rattle.std.specs.Prelude.{◌≡◌, ℕ, ◌==◌, ◌&&◌, Bool, true, false, List, [], ◌∷◌, Option, None, Some, map, slice_get}
+use Rattle.std.specs.Prelude.{bytes_eq}
 use Rattle.std.specs.List.{position}
 use Rattle.options.specs.declared.table.Kind.{Kind}
 use Rattle.options.specs.declared.table.Kind.TheVariants as kinds
@@ -44,8 +45,8 @@ joined name rows = position (λ row. row.joins && has_name name row) rows
 
 -- ---- a table, as it is said in definitions
 
--- an option: its letter and its long name, of which one may be missing, its values, whether one may follow its long name
--- behind a `=`, and what is told of a wrong one
+-- an option: its letter and its long name, of which one may be missing, its values, whether one may follow its long
+-- name behind a `=`, and what is told of a wrong one
 pub record Entry : Type 0 where
   pub letter : List ℕ
   pub name : List ℕ
@@ -53,8 +54,8 @@ pub record Entry : Type 0 where
   pub joins : Bool
   pub problem : List ℕ
 
--- an option without a value by its letter or by its long name, one that stands alone, one with a value by its letter, and
--- by its long name
+-- an option without a value by its letter or by its long name, one that stands alone, one with a value by its letter,
+-- and by its long name
 abbrev pub flag : List ℕ → Entry
 flag letter = record { letter = letter; name = []; kind = kinds.Flag; joins = false; problem = [] }
 
@@ -75,14 +76,21 @@ letter_text None = []
 letter_text (Some letter) = letter ∷ []
 
 abbrev pub entry_of : Row → Entry
-entry_of row = record { letter = letter_text row.letter; name = row.name.now; kind = row.kind; joins = row.joins; problem = row.problem.now }
+entry_of row = record {
+  letter = letter_text row.letter;
+  name = row.name.now;
+  kind = row.kind;
+  joins = row.joins;
+  problem = row.problem.now;
+}
 
 abbrev pub told_pair : Pair → ℕ × ℕ × List ℕ
 told_pair pair = (pair.first, pair.second, pair.problem.now)
 
 -- the table has these options, these pairs of which do not go together, these of which one has to be given, and this is
 -- told if none is
-pub record IsTable (table : Table) (entries : List Entry) (pairs : List (ℕ × ℕ × List ℕ)) (needs lacking : List ℕ) : Type 0 where
+pub record IsTable (table : Table) (entries : List Entry) (pairs : List (ℕ × ℕ × List ℕ))
+    (needs lacking : List ℕ) : Type 0 where
   pub has_options : map entry_of table.rows.now ≡ entries
   pub has_pairs : map told_pair table.pairs.now ≡ pairs
   pub has_needs : table.needs.now ≡ needs

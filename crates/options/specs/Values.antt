@@ -1,5 +1,6 @@
 -- What values of options say.
-use Rattle.std.specs.Prelude.{ℕ, ◌-◌, ◌^◌, min, ◌==◌, ◌||◌, ◌&&◌, Bool, true, false, not, List, [], ◌∷◌, Option, None, Some, length, nat_lt, nat_le, if◌then◌else◌, codes, bytes_eq}
+use Rattle.std.specs.Prelude.{ℕ, ◌-◌, ◌^◌, min, ◌==◌, ◌||◌, ◌&&◌, Bool, true, false, not, List, [], ◌∷◌, Option, None}
+use Rattle.std.specs.Prelude.{Some, length, nat_lt, nat_le, if◌then◌else◌, codes, bytes_eq}
 use Rattle.std.specs.List.{position_or_len, before_first, after_first}
 use Rattle.std.specs.Option.{is_some}
 use Rattle.options.specs.Numbers.{is_number, number_of}
@@ -27,7 +28,8 @@ both (Some first) (Some second) = Some (first, second)
 abbrev pub lengths_in : List ℕ → Option (ℕ × ℕ)
 lengths_in text =
     if nat_lt (position_or_len (λ byte. byte == 44) text) (length text)
-    then both (length_in 32 (before_first (λ byte. byte == 44) text)) (length_in 128 (after_first (λ byte. byte == 44) text))
+    then both (length_in 32 (before_first (λ byte. byte == 44) text))
+    (length_in 128 (after_first (λ byte. byte == 44) text))
     else None
 
 -- the values of a kind
@@ -39,7 +41,8 @@ is_right kinds.Text value = nat_lt 0 (length value)
 is_right kinds.Number value = is_number value
 is_right kinds.Field value = is_field value
 is_right kinds.Separator value = is_separator value
-is_right kinds.Rule value = bytes_eq value (codes "drop") || bytes_eq value (codes "keep") || bytes_eq value (codes "stop")
+is_right kinds.Rule value = bytes_eq value (codes "drop") || bytes_eq value (codes "keep")
+    || bytes_eq value (codes "stop")
 is_right kinds.Lengths value = is_some (lengths_in value)
 
 -- a number, of which one above the greatest of 64 bits counts as that

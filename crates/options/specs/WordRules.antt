@@ -1,5 +1,6 @@
 -- What holds of the words of a command line, whatever options a program has.
-use Rattle.std.specs.Prelude.{◌≡◌, ℕ, ◌==◌, ◌||◌, ◌&&◌, Bool, true, false, List, [], ◌∷◌, ◌++◌, None, Some, length, take, drop, nat_lt, if◌then◌else◌, codes, bytes_eq, String}
+use Rattle.std.specs.Prelude.{◌≡◌, ℕ, ◌==◌, ◌||◌, ◌&&◌, Bool, true, false, List, [], ◌∷◌, ◌++◌, None, Some, length}
+use Rattle.std.specs.Prelude.{take, drop, nat_lt, if◌then◌else◌, codes, bytes_eq, String}
 use Rattle.std.specs.List.{list_any, position_or_len, before_first}
 use Rattle.std.specs.String.{string_bytes}
 use Rattle.options.specs.Faults.{fault_of}
@@ -30,12 +31,14 @@ are_letters flags values (letter ∷ text) = is_in values letter || is_in flags 
 -- one of these texts, a `=` (byte 61), and anything
 abbrev pub is_joined : List (List ℕ) → List ℕ → Bool
 is_joined joined word =
-    nat_lt (position_or_len (λ byte. byte == 61) word) (length word) && is_one_of joined (before_first (λ byte. byte == 61) word)
+    nat_lt (position_or_len (λ byte. byte == 61) word) (length word)
+    && is_one_of joined (before_first (λ byte. byte == 61) word)
 
--- a word of options with these letters, without a value and with one, these long names, and these that a value may follow
--- in their word
+-- a word of options with these letters, without a value and with one, these long names, and these that a value may
+-- follow in their word
 abbrev pub is_word_of : List ℕ → List ℕ → List (List ℕ) → List (List ℕ) → List ℕ → Bool
-is_word_of flags values names joined word = is_one_of names word || is_joined joined word || begins (codes "-") word && are_letters flags values (drop 1 word)
+is_word_of flags values names joined word = is_one_of names word || is_joined joined word || begins (codes "-") word
+    && are_letters flags values (drop 1 word)
 
 -- those of options
 abbrev pub flags_of : List Entry → List ℕ
@@ -55,7 +58,8 @@ joined_of [] = []
 joined_of (entry ∷ entries) = (if entry.joins then entry.name ∷ [] else []) ++ joined_of entries
 
 abbrev pub is_option_word : List Entry → List ℕ → Bool
-is_option_word entries word = is_word_of (flags_of entries) (values_of entries) (names_of entries) (joined_of entries) word
+is_option_word entries word = is_word_of (flags_of entries) (values_of entries) (names_of entries)
+    (joined_of entries) word
 
 -- ---- what holds of them
 
@@ -84,7 +88,8 @@ pub record IsOther (is_option_word : List ℕ → Bool) (word : List ℕ) : Type
 
 -- it is no option
 abbrev pub OthersAreNoOptions : List Row → (List ℕ → Bool) → List ℕ → Type 0
-OthersAreNoOptions rows is_option_word word = IsOther is_option_word word → list_any is_unknown (free_items rows word) ≡ true
+OthersAreNoOptions rows is_option_word word = IsOther is_option_word word
+    → list_any is_unknown (free_items rows word) ≡ true
 
 -- where a word behind these stands
 abbrev pub mode_after : {Z : Type 0} → List Row → Mode → List (String Z) → Mode
@@ -93,9 +98,12 @@ mode_after rows mode (word ∷ words) = mode_after rows (next_mode rows mode (st
 
 -- and where an option may stand, the words ask for nothing, whatever comes before it and behind it
 abbrev pub OthersAskForNothing : {Z : Type 0} → Table → (List ℕ → Bool) → List (String Z) → Type 0
-OthersAskForNothing {Z} table is_option_word words = (before : List (String Z)) (word : String Z) (others : List (String Z)) → words ≡ before ++ word ∷ others
-    → mode_after table.rows.now modes.Free before ≡ modes.Free → IsOther is_option_word (string_bytes word) → AsksNothing table words
+OthersAskForNothing {Z} table is_option_word words =
+    (before : List (String Z)) (word : String Z) (others : List (String Z)) → words ≡ before ++ word ∷ others
+    → mode_after table.rows.now modes.Free before ≡ modes.Free → IsOther is_option_word (string_bytes word)
+    → AsksNothing table words
 
 -- what the options before all FILEs say is what their words say alone
 abbrev pub OptionsAreRead : {Z : Type 0} → List Row → List (String Z) → Type 0
-OptionsAreRead rows words = option_items rows modes.Free words ≡ items_of rows modes.Free (take (options_len rows modes.Free words) words)
+OptionsAreRead rows words = option_items rows modes.Free words
+    ≡ items_of rows modes.Free (take (options_len rows modes.Free words) words)

@@ -25,7 +25,13 @@ pub record Ending (W E : Type 0) : Type 0 where
 
 abbrev pub ending : {W E : Type 0} → Written W → Written W → Written E → Written E → ℕ → Ending W E
 ending output output_after errors errors_after status =
-    record { output = output; output_after = output_after; errors = errors; errors_after = errors_after; status = status }
+    record {
+      output = output;
+      output_after = output_after;
+      errors = errors;
+      errors_after = errors_after;
+      status = status;
+    }
 
 -- nothing was written, and the status is 2
 abbrev pub IsSilent : {W E : Type 0} → Ending W E → Type 0
@@ -45,5 +51,6 @@ Refuses text end = IsSilent end × HasTold end text
 
 -- the text was written and nothing reported, or the writer failed, and that was reported
 abbrev pub EndsPrinting : {W E : Type 0} → List ℕ → Ending W E → Type 0
-EndsPrinting text end = (end.status ≡ (if end.output_after.failed then 2 else 0)) × (end.status ≡ 0 → HasWritten end text)
+EndsPrinting text end = (end.status ≡ (if end.output_after.failed then 2 else 0))
+    × (end.status ≡ 0 → HasWritten end text)
     × HasTold end (failure_text end.output_after.failed)

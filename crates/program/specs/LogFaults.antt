@@ -1,5 +1,6 @@
 -- Why a log is not read to its end, and what is reported then.
-use Rattle.std.specs.Prelude.{◌≡◌, ℕ, ◌+◌, ◌-◌, ◌^◌, ◌⊎◌, min, Bool, true, false, List, [], ◌++◌, codes, decimal, Result, Err}
+use Rattle.std.specs.Prelude.{◌≡◌, ℕ, ◌+◌, ◌-◌, ◌^◌, ◌⊎◌, min, Bool, true, false, List, [], ◌++◌, codes, decimal}
+use Rattle.std.specs.Prelude.{Result, Err}
 use Rattle.lines.specs.Outputs.{FailsIn}
 use Rattle.lists.specs.Opening.{open_fault_text}
 use Rattle.program.specs.Endings.{Ending, HasTold, HasWritten}
@@ -18,7 +19,8 @@ ended_by_write _ = false
 
 -- what is reported about a refused line: the file, the number of the line, which comes after this many lines, and why
 abbrev pub line_text : List ℕ → ℕ → List ℕ → List ℕ
-line_text name before cause = name ++ codes ":" ++ decimal (min (before + 1) (2 ^ 64 - 1)) ++ codes ": refused " ++ cause ++ codes "\n"
+line_text name before cause = name ++ codes ":" ++ decimal (min (before + 1) (2 ^ 64 - 1)) ++ codes ": refused "
+    ++ cause ++ codes "\n"
 
 -- what is reported if a log was not read to its end, after this many of its lines
 abbrev pub log_fault_text : List ℕ → ℕ → LogFault → List ℕ
@@ -51,4 +53,5 @@ HandsOn name lines fault end = (HasWritten end [] × HasTold end (log_fault_text
 -- so it was, unless the writer had failed
 abbrev pub StopsBy : {W E : Type 0} → List ℕ → ℕ → LogFault → Ending W E → Type 0
 StopsBy name lines fault end =
-    IfWrite fault ((end.output_after ≡ end.output) × HasTold end (log_fault_text name lines faults.Write)) (HandsOn name lines fault end)
+    IfWrite fault ((end.output_after ≡ end.output) × HasTold end (log_fault_text name lines faults.Write))
+    (HandsOn name lines fault end)

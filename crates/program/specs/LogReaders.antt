@@ -1,5 +1,6 @@
 -- What contracts see of a `LogReader`.
-use Rattle.std.specs.Prelude.{◌≡◌, ℕ, ◌+◌, ◌-◌, ◌*◌, ◌^◌, ◌<◌, ◌≤◌, Bool, true, false, IsTrue, if◌then◌else◌, List, [], ◌∷◌, ◌++◌, length, Option}
+use Rattle.std.specs.Prelude.{◌≡◌, ℕ, ◌+◌, ◌-◌, ◌*◌, ◌^◌, ◌<◌, ◌≤◌, Bool, true, false, IsTrue, if◌then◌else◌, List, []}
+use Rattle.std.specs.Prelude.{◌∷◌, ◌++◌, length, Option}
 use Rattle.std.specs.List.{list_all}
 use Rattle.std.specs.Io.KnownBytes.{Consumes, IsAtEnd}
 use Rattle.lines.specs.LineBuffers.{Buffered, IsPending, work}
@@ -53,7 +54,8 @@ pub record ComesNext (remained remains : Option (List ℕ)) (first : List LogLin
   pub is_line : IsWhole (IsAtEnd remains) line
 
 -- after these first lines one within the limit was handed out, which the buffer lends as it was read
-pub record GivesLine (new : LogReader) (remained remains : Option (List ℕ)) (first : List LogLine) (end : LineEnd) : Type 0 where
+pub record GivesLine (new : LogReader) (remained remains : Option (List ℕ)) (first : List LogLine)
+    (end : LineEnd) : Type 0 where
   pub next : ComesNext remained remains first (log_line (line_of new) end)
   pub hands : HandsFirst new remained remains (first ++ log_line (line_of new) end ∷ [])
   pub is_content : content (log_line (line_of new) end) ≡ line_of new
@@ -72,10 +74,12 @@ abbrev pub GivesNext : LogReader → Option (List ℕ) → Option (List ℕ) →
 GivesNext new remained remains first (Line end) = GivesLine new remained remains first end
 GivesNext new remained remains first TooLong = GivesLong new remained remains first
 -- nothing: these were all lines
-GivesNext new remained remains first End = (read : List ℕ) × Consumes remained remains read × IsAtEnd remains × (log_lines read ≡ first)
+GivesNext new remained remains first End = (read : List ℕ) × Consumes remained remains read × IsAtEnd remains
+    × (log_lines read ≡ first)
 
 -- what was read and written if these first lines were handed out, and the log is not read to its end, by the fault
-abbrev pub Breaks : {W : Type 0} → Option (List ℕ) → Option (List ℕ) → Bool → Written W → Written W → List LogLine → LogFault → Type 0
+abbrev pub Breaks : {W : Type 0} → Option (List ℕ) → Option (List ℕ) → Bool → Written W → Written W → List LogLine
+    → LogFault → Type 0
 Breaks remained remains read_failed old new first (faults.Open cause) = ⊥
 -- a read failed: they are the lines that are ended
 Breaks remained remains read_failed old new first faults.Read = IsTrue read_failed × Prints old new []
@@ -87,12 +91,14 @@ Breaks remained remains read_failed old new first faults.Address = ⊥
 Breaks remained remains read_failed old new first faults.Length = ⊥
 -- more bytes were read than 64 bits count: they are the lines that all but the last of them complete
 Breaks remained remains read_failed old new first faults.Endless = Prints old new []
-    × (read : List ℕ) × (last : List ℕ) × Consumes remained remains (read ++ last) × (2 ^ 64 - 1 < length (read ++ last)) × (ended_lines read ≡ first)
+    × (read : List ℕ) × (last : List ℕ) × Consumes remained remains (read ++ last)
+    × (2 ^ 64 - 1 < length (read ++ last)) × (ended_lines read ≡ first)
 
 -- a measure of what there is to read and to hand out: the bytes that may still be read, and the end of the log, each
 -- before all lines that the buffer may have
 abbrev pub left : LogReader → ℕ
-left reader = (reader.room + (if (buffered reader).ended then 0 else 1)) * (length (buffered reader).bytes + 2) + work (buffered reader)
+left reader = (reader.room + (if (buffered reader).ended then 0 else 1)) * (length (buffered reader).bytes + 2) + work
+    (buffered reader)
 
 -- there is less of it after a line, unless the reader hurries and it is too long
 abbrev pub IsLess : LogReader → LogReader → NextLogLine → Type 0

@@ -8,7 +8,8 @@ use Rattle.program.specs.declared.log_fault.LogFault.TheVariants as faults
 use Rattle.program.specs.declared.log_reader.LogReader.{LogReader}
 
 -- with the lines that were handed out it was done
-pub record ReadsSoFar (Done : List LogLine → Type 0) (reader : LogReader) (remained remains : Option (List ℕ)) : Type 0 where
+pub record ReadsSoFar (Done : List LogLine → Type 0) (reader : LogReader)
+    (remained remains : Option (List ℕ)) : Type 0 where
   pub first : List LogLine
   pub hands : HandsFirst reader remained remains first
   pub is_done : Done first
@@ -30,7 +31,8 @@ pub record ReadsFirst (Done : List LogLine → Type 0) (remained remains : Optio
   pub is_done : Done first
 
 -- with the first lines it was done, and of the next line, without its end, this is true
-pub record ReadsToLine (Done : List LogLine → Type 0) (IsSo : List ℕ → Type 0) (remained remains : Option (List ℕ)) : Type 0 where
+pub record ReadsToLine (Done : List LogLine → Type 0) (IsSo : List ℕ → Type 0)
+    (remained remains : Option (List ℕ)) : Type 0 where
   pub first : List LogLine
   pub line : LogLine
   pub next : ComesNext remained remains first line
@@ -39,18 +41,23 @@ pub record ReadsToLine (Done : List LogLine → Type 0) (IsSo : List ℕ → Typ
 
 -- what is true if a log is not read to its end, by the fault: with its first lines it was done, or a write failed, and
 -- then another thing is true of them. `Ends` is true of the lines, without their ends, that end a run
-abbrev pub StopsReading : (LogFault → List ℕ → Type 0) → (List LogLine → Type 0) → (List LogLine → Type 0) → Option (List ℕ) → Option (List ℕ) → Bool → Bool → LogFault → Type 0
+abbrev pub StopsReading : (LogFault → List ℕ → Type 0) → (List LogLine → Type 0) → (List LogLine → Type 0)
+    → Option (List ℕ) → Option (List ℕ) → Bool → Bool → LogFault → Type 0
 -- it was opened
 StopsReading Ends Done Unwritten remained remains read_failed write_failed (faults.Open cause) = ⊥
 -- a read failed, and what was read before is done
 StopsReading Ends Done Unwritten remained remains read_failed write_failed faults.Read =
     IsTrue read_failed × (read : List ℕ) × Consumes remained remains read × Done (ended_lines read)
 -- a write failed
-StopsReading Ends Done Unwritten remained remains read_failed write_failed faults.Write = IsTrue write_failed × ReadsFirst Unwritten remained remains
+StopsReading Ends Done Unwritten remained remains read_failed write_failed faults.Write = IsTrue write_failed
+    × ReadsFirst Unwritten remained remains
 -- the first line without an address ends the run
-StopsReading Ends Done Unwritten remained remains read_failed write_failed faults.Address = ReadsToLine Done (Ends faults.Address) remained remains
+StopsReading Ends Done Unwritten remained remains read_failed write_failed faults.Address =
+    ReadsToLine Done (Ends faults.Address) remained remains
 -- the first line that is too long does
-StopsReading Ends Done Unwritten remained remains read_failed write_failed faults.Length = ReadsToLine Done (Ends faults.Length) remained remains
+StopsReading Ends Done Unwritten remained remains read_failed write_failed faults.Length =
+    ReadsToLine Done (Ends faults.Length) remained remains
 -- more bytes were read than 64 bits count; it was done with all but the last of them
 StopsReading Ends Done Unwritten remained remains read_failed write_failed faults.Endless =
-    (read : List ℕ) × (last : List ℕ) × Consumes remained remains (read ++ last) × (2 ^ 64 - 1 < length (read ++ last)) × Done (ended_lines read)
+    (read : List ℕ) × (last : List ℕ) × Consumes remained remains (read ++ last) × (2 ^ 64 - 1 < length (read ++ last))
+    × Done (ended_lines read)

@@ -1,5 +1,6 @@
 -- Messages on standard error about lists.
-use Rattle.std.specs.Prelude.{ℕ, zero, suc, Bool, not, ◌==◌, List, [], ◌∷◌, ◌++◌, length, nat_lt, if◌then◌else◌, codes, decimal, String}
+use Rattle.std.specs.Prelude.{ℕ, zero, suc, Bool, not, ◌==◌, List, [], ◌∷◌, ◌++◌, length, nat_lt, if◌then◌else◌, codes}
+use Rattle.std.specs.Prelude.{decimal, String}
 use Rattle.std.specs.List.{flat_map}
 use Rattle.std.specs.String.{string_bytes}
 use Rattle.lists.specs.Faults.{line_fault_text}
@@ -43,5 +44,6 @@ abbrev pub fault_text : {Z : Type 0} → List (String Z) → ReadFault → List 
 fault_text words (Open place cause) = name_at words place ++ open_fault_text cause
 fault_text words (Read place) = name_at words place ++ codes ": cannot read\n"
 fault_text words (Length place) = name_at words place ++ codes ": more than 1,073,741,824 bytes\n"
-fault_text words (NotJson place line) = name_at words place ++ codes ":" ++ decimal line ++ codes ": not JSON, or more than 127 levels\n"
+fault_text words (NotJson place line) = name_at words place ++ codes ":" ++ decimal line
+    ++ codes ": not JSON, or more than 127 levels\n"
 fault_text words OutOfMemory = codes "out of memory\n"

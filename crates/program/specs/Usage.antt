@@ -20,12 +20,14 @@ subject_text words CommandLine = []
 -- `WORD: `
 subject_text words (Word place) = shown (name_at words place) ++ codes ": "
 -- `OPTION: VALUE `
-subject_text words (Value option value) = shown (name_at words option) ++ codes ": " ++ shown (name_at words value) ++ codes " "
+subject_text words (Value option value) = shown (name_at words option) ++ codes ": " ++ shown (name_at words value)
+    ++ codes " "
 
 -- what is reported about a command line: a line with the program's name, the words that the fault is about and what is
 -- wrong, and then the usage
 abbrev pub usage_text : {Z : Type 0} → List ℕ → List ℕ → List (String Z) → Subject → List ℕ → List ℕ
-usage_text program usage words subject problem = program ++ codes ": " ++ subject_text words subject ++ problem ++ codes "\n" ++ usage
+usage_text program usage words subject problem =
+    program ++ codes ": " ++ subject_text words subject ++ problem ++ codes "\n" ++ usage
 
 -- why the arguments cannot be read: the system's error is that memory ran out, or else an argument is no text
 abbrev pub fault_of : ErrorKind → ArgumentsFault

@@ -25,37 +25,45 @@ HasWords line these = (words line ≡ these) × (length line ≤ 1024)
 
 -- whatever the routes are, the line gets this answer and no other, and leaves them
 abbrev pub IsAnswered : List ℕ → List ℕ → Type 0
-IsAnswered line text = (before after : Routes) (answer : List ℕ) → MayGet before (request_of line) answer after ↔ ((answer ≡ text) × (after ≡ before))
+IsAnswered line text = (before after : Routes) (answer : List ℕ)
+    → MayGet before (request_of line) answer after ↔ ((answer ≡ text) × (after ≡ before))
 
 -- ---- `read4 T` and `read6 T`
 
 -- the canonical text of the network that T names in the family; if it names none, the first cause that applies
-pub record AnswersRead (w : ℕ) (NamesAddress IsSuffix : List ℕ → ℕ → Type 0) (canonical : ℕ → List ℕ) (line text : List ℕ) : Type 0 where
+pub record AnswersRead (w : ℕ) (NamesAddress IsSuffix : List ℕ → ℕ → Type 0) (canonical : ℕ → List ℕ)
+    (line text : List ℕ) : Type 0 where
   pub network : (n : Network) → NamesNetwork w NamesAddress IsSuffix text n → IsAnswered line (network_text canonical n)
   -- T contains two or more `/`
   pub format : HasSeveralSlashes text → IsAnswered line (codes "refused format")
   -- else what stands before the `/` is not an address
-  pub address : slashes text ≤ 1 → ((a : ℕ) → ¬ (NamesAddress (before_slash text) a)) → IsAnswered line (codes "refused address")
+  pub address : slashes text ≤ 1 → ((a : ℕ) → ¬ (NamesAddress (before_slash text) a))
+      → IsAnswered line (codes "refused address")
   -- else, since T names nothing, what stands after it is not a suffix
-  pub prefix : slashes text ≤ 1 → (a : ℕ) → NamesAddress (before_slash text) a → ((n : Network) → ¬ (NamesNetwork w NamesAddress IsSuffix text n))
+  pub prefix : slashes text ≤ 1 → (a : ℕ) → NamesAddress (before_slash text) a
+      → ((n : Network) → ¬ (NamesNetwork w NamesAddress IsSuffix text n))
       → IsAnswered line (codes "refused prefix")
 
 abbrev pub Read4Law : Type 0
-Read4Law = (line text : List ℕ) → HasWords line (codes "read4" ∷ text ∷ []) → AnswersRead 32 NamesV4 IsV4Suffix canonical_v4 line text
+Read4Law = (line text : List ℕ) → HasWords line (codes "read4" ∷ text ∷ [])
+    → AnswersRead 32 NamesV4 IsV4Suffix canonical_v4 line text
 
 abbrev pub Read6Law : Type 0
-Read6Law = (line text : List ℕ) → HasWords line (codes "read6" ∷ text ∷ []) → AnswersRead 128 NamesV6 IsV6Suffix canonical_v6 line text
+Read6Law = (line text : List ℕ) → HasWords line (codes "read6" ∷ text ∷ [])
+    → AnswersRead 128 NamesV6 IsV6Suffix canonical_v6 line text
 
 -- ---- `read T` and `ends T`
 
 -- the answer about the network that T names, of either family; `refused` if it names none
 pub record AnswersNetwork (IsTold : IpNetwork → List ℕ → Type 0) (line text : List ℕ) : Type 0 where
-  pub network : (n : IpNetwork) → IsIpNetwork n → NamesIpNetwork text n → (told : List ℕ) × IsTold n told × IsAnswered line told
+  pub network : (n : IpNetwork) → IsIpNetwork n → NamesIpNetwork text n → (told : List ℕ) × IsTold n told
+      × IsAnswered line told
   pub none : ((n : IpNetwork) → ¬ (NamesIpNetwork text n)) → IsAnswered line (codes "refused")
 
 -- `read`: the canonical text
 abbrev pub ReadLaw : Type 0
-ReadLaw = (line text : List ℕ) → HasWords line (codes "read" ∷ text ∷ []) → AnswersNetwork (λ n told. told ≡ ip_network_text n) line text
+ReadLaw = (line text : List ℕ) → HasWords line (codes "read" ∷ text ∷ [])
+    → AnswersNetwork (λ n told. told ≡ ip_network_text n) line text
 
 -- `ends`: the least member, the greatest, the mask, and the number of members, with blanks between
 pub record TellsEnds (n : IpNetwork) (told : List ℕ) : Type 0 where
@@ -63,7 +71,8 @@ pub record TellsEnds (n : IpNetwork) (told : List ℕ) : Type 0 where
   pub greatest : IpAddr
   pub mask : IpAddr
   pub number : ℕ
-  pub text : told ≡ canonical_ip least ++ blank ∷ canonical_ip greatest ++ blank ∷ canonical_ip mask ++ blank ∷ decimal number
+  pub text : told ≡ canonical_ip least ++ blank ∷ canonical_ip greatest ++ blank ∷ canonical_ip mask ++ blank
+      ∷ decimal number
   pub is_least : IpMember n least × ((x : IpAddr) → IpMember n x → IsAddrAtMost least x)
   pub is_greatest : IpMember n greatest × ((x : IpAddr) → IpMember n x → IsAddrAtMost x greatest)
   pub is_mask : IsIpMask mask (prefix_of n) × (width_of mask ≡ width_of (address_of n))
@@ -77,17 +86,21 @@ EndsLaw = (line text : List ℕ) → HasWords line (codes "ends" ∷ text ∷ []
 -- ---- `has4 T A` and `has T A`
 
 -- whether the set of the network that T names has the address that A names; T is checked first
-pub record AnswersMembership {N A : Type 0} (Names : List ℕ → N → Type 0) (NamesAddress : List ℕ → A → Type 0) (Holds : N → A → Type 0) (line text word : List ℕ) : Type 0 where
+pub record AnswersMembership {N A : Type 0} (Names : List ℕ → N → Type 0) (NamesAddress : List ℕ → A → Type 0)
+    (Holds : N → A → Type 0) (line text word : List ℕ) : Type 0 where
   pub yes : (n : N) (a : A) → Names text n → NamesAddress word a → Holds n a → IsAnswered line (codes "yes")
   pub no : (n : N) (a : A) → Names text n → NamesAddress word a → ¬ (Holds n a) → IsAnswered line (codes "no")
   pub no_network : ((n : N) → ¬ (Names text n)) → IsAnswered line (codes "refused network")
-  pub no_address : (n : N) → Names text n → ((a : A) → ¬ (NamesAddress word a)) → IsAnswered line (codes "refused address")
+  pub no_address : (n : N) → Names text n → ((a : A) → ¬ (NamesAddress word a))
+      → IsAnswered line (codes "refused address")
 
 abbrev pub Has4Law : Type 0
-Has4Law = (line text word : List ℕ) → HasWords line (codes "has4" ∷ text ∷ word ∷ []) → AnswersMembership NamesV4Network NamesV4 (Member 32) line text word
+Has4Law = (line text word : List ℕ) → HasWords line (codes "has4" ∷ text ∷ word ∷ [])
+    → AnswersMembership NamesV4Network NamesV4 (Member 32) line text word
 
 abbrev pub HasLaw : Type 0
-HasLaw = (line text word : List ℕ) → HasWords line (codes "has" ∷ text ∷ word ∷ []) → AnswersMembership NamesIpNetwork NamesIp IpMember line text word
+HasLaw = (line text word : List ℕ) → HasWords line (codes "has" ∷ text ∷ word ∷ [])
+    → AnswersMembership NamesIpNetwork NamesIp IpMember line text word
 
 -- ---- `rel T U`
 
@@ -104,7 +117,8 @@ RelLaw = (line text other : List ℕ) → HasWords line (codes "rel" ∷ text �
 -- ---- `add T N`, `drop T` and `find A`: what they ask of the routes; `refused` if T, N or A names nothing
 
 pub record AsksAdd (line text word : List ℕ) : Type 0 where
-  pub asks : (n : IpNetwork) (number : ℕ) → NamesIpNetwork text n → IsPrefixNumber word number → number ≤ 4294967295 → request_of line ≡ Add n number
+  pub asks : (n : IpNetwork) (number : ℕ) → NamesIpNetwork text n → IsPrefixNumber word number → number ≤ 4294967295
+      → request_of line ≡ Add n number
   pub no_network : ((n : IpNetwork) → ¬ (NamesIpNetwork text n)) → IsAnswered line (codes "refused")
   pub no_number : IsNoPrefixNumber word 4294967295 → IsAnswered line (codes "refused")
 
@@ -142,7 +156,8 @@ IsCommand _ = ⊥
 
 -- no line is a command except those of the ten names with their number of words
 abbrev pub UnknownLaw : Type 0
-UnknownLaw = (line : List ℕ) → length line ≤ 1024 → ¬ (IsCommand (words line)) → IsAnswered line (codes "unknown command")
+UnknownLaw = (line : List ℕ) → length line ≤ 1024 → ¬ (IsCommand (words line))
+    → IsAnswered line (codes "unknown command")
 
 -- nor is one of more than 1,024 bytes
 abbrev pub LongLaw : Type 0

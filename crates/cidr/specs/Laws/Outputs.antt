@@ -12,7 +12,8 @@ use Rattle.cidr.specs.Words.{words}
 
 -- what is written for an input if no `add` is out of memory
 abbrev pub IsFullOutput : List ℕ → List ℕ → Type 0
-IsFullOutput input output = (answers : List (List ℕ)) × (after : Routes) × InTurn Gets no_routes (lines input) answers after × (output ≡ replies answers)
+IsFullOutput input output = (answers : List (List ℕ)) × (after : Routes)
+    × InTurn Gets no_routes (lines input) answers after × (output ≡ replies answers)
 
 -- is the computed output, and no other;
 abbrev pub FullIsComputed : Type 0
@@ -24,7 +25,8 @@ ComputedIsAllowed = (input : List ℕ) → IsOutput input (output_of input)
 
 -- and an output that may be written, of which no answer is `out of memory`,
 abbrev pub IsUnrefusedOutput : List ℕ → List ℕ → Type 0
-IsUnrefusedOutput input output = (answers : List (List ℕ)) × (after : Routes) × MayAnswer no_routes (lines input) answers after
+IsUnrefusedOutput input output = (answers : List (List ℕ)) × (after : Routes)
+    × MayAnswer no_routes (lines input) answers after
     × (output ≡ replies answers) × AllByRecursion (λ answer. answer ≢ out_of_memory) answers
 
 -- is no other
@@ -33,7 +35,8 @@ UnrefusedIsComputed = (input output : List ℕ) → IsUnrefusedOutput input outp
 
 -- nor is one of which no line is `out of memory`
 abbrev pub UnrefusedLinesAreComputed : Type 0
-UnrefusedLinesAreComputed = (input output : List ℕ) → IsOutput input output → AllByRecursion (λ line. line ≢ out_of_memory) (lines output) → output ≡ output_of input
+UnrefusedLinesAreComputed = (input output : List ℕ) → IsOutput input output
+    → AllByRecursion (λ line. line ≢ out_of_memory) (lines output) → output ≡ output_of input
 
 -- ---- lines by what they do with the routes
 
@@ -53,7 +56,8 @@ pub record IsPlainLine (line : List ℕ) : Type 0 where
 -- each other line begins with one of the three
 abbrev pub OthersAreRouting : Type 0
 OthersAreRouting = (line : List ℕ) → ¬ (IsPlainLine line)
-    → (command : List ℕ) × (others : List (List ℕ)) × (words line ≡ command ∷ others) × Contains (codes "add" ∷ codes "drop" ∷ codes "find" ∷ []) command
+    → (command : List ℕ) × (others : List (List ℕ)) × (words line ≡ command ∷ others)
+    × Contains (codes "add" ∷ codes "drop" ∷ codes "find" ∷ []) command
 
 -- such a line has one answer, whatever the routes are, and leaves them
 abbrev pub PlainLinesAskNothing : Type 0
@@ -65,7 +69,8 @@ abbrev pub plain_output : List ℕ → List ℕ
 plain_output input = flat_map (λ line. reply (answer_of line)) (lines input)
 
 abbrev pub PlainInputsHaveOneOutput : Type 0
-PlainInputsHaveOneOutput = (input output : List ℕ) → AllByRecursion IsPlainLine (lines input) → IsOutput input output ↔ (output ≡ plain_output input)
+PlainInputsHaveOneOutput = (input output : List ℕ) → AllByRecursion IsPlainLine (lines input)
+    → IsOutput input output ↔ (output ≡ plain_output input)
 
 -- ---- an input in two parts
 
@@ -86,11 +91,14 @@ SplitsAtLineEnds = (front back output : List ℕ) (before after : Routes) → En
 -- if the first part has none of the three commands, each part may be run by itself
 abbrev pub PlainPartsRunAlone : Type 0
 PlainPartsRunAlone = (front back output : List ℕ) → EndsALine front → AllByRecursion IsPlainLine (lines front)
-    → IsOutput (front ++ back) output ↔ ((one : List ℕ) × (two : List ℕ) × IsOutput front one × IsOutput back two × (output ≡ one ++ two))
+    → IsOutput (front ++ back) output ↔ ((one : List ℕ) × (two : List ℕ) × IsOutput front one × IsOutput back two
+    × (output ≡ one ++ two))
 
 -- if the routes come first, and the parts after them are cut after lines that leave the routes, each part may be run by
--- itself after the routes: if no `add` is out of memory, the output of the whole is that of the routes and the first part,
--- and then what that of the routes and the second part has after that of the routes
+-- itself after the routes: if no `add` is out of memory, the output of the whole is that of the routes and the first
+-- part, and then what that of the routes and the second part has after that of the routes
 abbrev pub AskingPartsRunAfterRoutes : Type 0
-AskingPartsRunAfterRoutes = (routes front back : List ℕ) → EndsALine routes → EndsALine front → AllByRecursion IsAskingLine (lines front)
-    → output_of (routes ++ (front ++ back)) ≡ output_of (routes ++ front) ++ drop (length (output_of routes)) (output_of (routes ++ back))
+AskingPartsRunAfterRoutes = (routes front back : List ℕ) → EndsALine routes → EndsALine front
+    → AllByRecursion IsAskingLine (lines front)
+    → output_of (routes ++ (front ++ back)) ≡ output_of (routes ++ front)
+    ++ drop (length (output_of routes)) (output_of (routes ++ back))

@@ -17,25 +17,33 @@ use Rattle.cidr.specs.Words.{blank}
 -- from before to after, the networks with the set of n get this number, or none, and all others keep what they have
 pub record Renumbers (before : Routes) (n : IpNetwork) (number : Option ℕ) (after : Routes) : Type 0 where
   pub same : (m : IpNetwork) → IsIpNetwork m → IpSubnet m n × IpSubnet n m → number_at after m ≡ number
-  pub others : (m : IpNetwork) → IsIpNetwork m → ¬ (IpSubnet m n × IpSubnet n m) → number_at after m ≡ number_at before m
+  pub others : (m : IpNetwork) → IsIpNetwork m → ¬ (IpSubnet m n × IpSubnet n m)
+      → number_at after m ≡ number_at before m
 
 -- what an `add` gets: `new` if the block had no number, `changed` if it had one, whatever that was; it can be out of
 -- memory only if the block had none
 pub data GetsAdd (before : Routes) (n : IpNetwork) (number : ℕ) (answer : List ℕ) (after : Routes) : Type 0 where
-  New : number_at before n ≡ None → answer ≡ codes "new" → Renumbers before n (Some number) after → GetsAdd before n number answer after
-  Changed : (old : ℕ) → number_at before n ≡ Some old → answer ≡ codes "changed" → Renumbers before n (Some number) after → GetsAdd before n number answer after
-  OutOfMemory : number_at before n ≡ None → answer ≡ codes "out of memory" → after ≡ before → GetsAdd before n number answer after
+  New : number_at before n ≡ None → answer ≡ codes "new" → Renumbers before n (Some number) after
+      → GetsAdd before n number answer after
+  Changed : (old : ℕ) → number_at before n ≡ Some old → answer ≡ codes "changed"
+      → Renumbers before n (Some number) after → GetsAdd before n number answer after
+  OutOfMemory : number_at before n ≡ None → answer ≡ codes "out of memory" → after ≡ before
+      → GetsAdd before n number answer after
 
 abbrev pub AddsGet : Type 0
-AddsGet = (before after : Routes) (n : IpNetwork) (number : ℕ) (answer : List ℕ) → IsIpNetwork n → MayGet before (Add n number) answer after → GetsAdd before n number answer after
+AddsGet = (before after : Routes) (n : IpNetwork) (number : ℕ) (answer : List ℕ) → IsIpNetwork n
+    → MayGet before (Add n number) answer after → GetsAdd before n number answer after
 
 -- what a `drop` gets: it is never out of memory
 pub data GetsDrop (before : Routes) (n : IpNetwork) (answer : List ℕ) (after : Routes) : Type 0 where
-  Dropped : (old : ℕ) → number_at before n ≡ Some old → answer ≡ codes "dropped" → Renumbers before n None after → GetsDrop before n answer after
-  Absent : number_at before n ≡ None → answer ≡ codes "absent" → Renumbers before n None after → GetsDrop before n answer after
+  Dropped : (old : ℕ) → number_at before n ≡ Some old → answer ≡ codes "dropped" → Renumbers before n None after
+      → GetsDrop before n answer after
+  Absent : number_at before n ≡ None → answer ≡ codes "absent" → Renumbers before n None after
+      → GetsDrop before n answer after
 
 abbrev pub DropsGet : Type 0
-DropsGet = (before after : Routes) (n : IpNetwork) (answer : List ℕ) → IsIpNetwork n → MayGet before (Drop n) answer after → GetsDrop before n answer after
+DropsGet = (before after : Routes) (n : IpNetwork) (answer : List ℕ) → IsIpNetwork n
+    → MayGet before (Drop n) answer after → GetsDrop before n answer after
 
 -- some lines leave these routes, starting with none
 abbrev pub AreLeft : Routes → Type 0
@@ -47,23 +55,29 @@ pub data GetsFind (routes : Routes) (a : IpAddr) (answer : List ℕ) : Type 0 wh
   Longest : (n : IpNetwork) (number : ℕ) → number_at routes n ≡ Some number → address_of n ≡ ip_low n → IpMember n a
       → ((m : IpNetwork) → IsSome (number_at routes m) → IpMember m a → prefix_of m ≤ prefix_of n)
       → answer ≡ ip_network_text n ++ blank ∷ decimal number → GetsFind routes a answer
-  Nothing : ((m : IpNetwork) → IsSome (number_at routes m) → ¬ (IpMember m a)) → answer ≡ codes "none" → GetsFind routes a answer
+  Nothing : ((m : IpNetwork) → IsSome (number_at routes m) → ¬ (IpMember m a)) → answer ≡ codes "none"
+      → GetsFind routes a answer
 
 abbrev pub FindsGet : Type 0
-FindsGet = (before after : Routes) (a : IpAddr) (answer : List ℕ) → AreLeft before → MayGet before (Find a) answer after → GetsFind before a answer × (after ≡ before)
+FindsGet = (before after : Routes) (a : IpAddr) (answer : List ℕ) → AreLeft before → MayGet before (Find a) answer after
+    → GetsFind before a answer × (after ≡ before)
 
 -- a run begins with no routes: a `find` in the first line finds nothing,
 abbrev pub FirstFindsNothing : Type 0
-FirstFindsNothing = (input output line word : List ℕ) (others : List (List ℕ)) (a : IpAddr) → IsOutput input output → lines input ≡ line ∷ others
+FirstFindsNothing = (input output line word : List ℕ) (others : List (List ℕ)) (a : IpAddr) → IsOutput input output
+    → lines input ≡ line ∷ others
     → HasWords line (codes "find" ∷ word ∷ []) → NamesIp word a → IsBeginning (reply (codes "none")) output
 
 -- a `drop` there drops nothing,
 abbrev pub FirstDropsNothing : Type 0
-FirstDropsNothing = (input output line text : List ℕ) (others : List (List ℕ)) (n : IpNetwork) → IsOutput input output → lines input ≡ line ∷ others
+FirstDropsNothing = (input output line text : List ℕ) (others : List (List ℕ)) (n : IpNetwork) → IsOutput input output
+    → lines input ≡ line ∷ others
     → HasWords line (codes "drop" ∷ text ∷ []) → NamesIpNetwork text n → IsBeginning (reply (codes "absent")) output
 
 -- and an `add` there changes nothing
 abbrev pub FirstAddsNew : Type 0
-FirstAddsNew = (input output line text word : List ℕ) (others : List (List ℕ)) (n : IpNetwork) (number : ℕ) → IsOutput input output → lines input ≡ line ∷ others
-    → HasWords line (codes "add" ∷ text ∷ word ∷ []) → NamesIpNetwork text n → IsPrefixNumber word number → number ≤ 4294967295
+FirstAddsNew = (input output line text word : List ℕ) (others : List (List ℕ)) (n : IpNetwork) (number : ℕ)
+    → IsOutput input output → lines input ≡ line ∷ others
+    → HasWords line (codes "add" ∷ text ∷ word ∷ []) → NamesIpNetwork text n → IsPrefixNumber word number
+    → number ≤ 4294967295
     → IsBeginning (reply (codes "new")) output ⊎ IsBeginning (reply (codes "out of memory")) output

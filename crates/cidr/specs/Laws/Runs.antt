@@ -18,18 +18,22 @@ AfterOk = (limit : ℕ) (input written_before written_after : List ℕ) (unread_
 abbrev pub AfterReadFault : Type 0
 AfterReadFault = (limit : ℕ) (read unread_after written_before written_after : List ℕ)
     → Ran limit (Some (read ++ unread_after)) (Some unread_after) (Some written_before) (Some written_after) (Err Read)
-    → (length read ≤ limit) × (output : List ℕ) × IsOutput (complete_part read) output × (written_after ≡ written_before ++ output)
+    → (length read ≤ limit) × (output : List ℕ) × IsOutput (complete_part read) output
+    × (written_after ≡ written_before ++ output)
 
 -- after a write fault what was read is within the limit, and what was written is a beginning of an output of it
 abbrev pub AfterWriteFault : Type 0
 AfterWriteFault = (limit : ℕ) (read unread_after written_before written_after : List ℕ)
     → Ran limit (Some (read ++ unread_after)) (Some unread_after) (Some written_before) (Some written_after) (Err Write)
-    → (length read ≤ limit) × (written : List ℕ) × BeginsOutput read written × (written_after ≡ written_before ++ written)
+    → (length read ≤ limit) × (written : List ℕ) × BeginsOutput read written
+    × (written_after ≡ written_before ++ written)
 
 -- if the input is too long, more than the limit was read, and exactly the lines were answered that some first bytes of
 -- it complete, at most as many as the limit
 abbrev pub AfterTooLong : Type 0
 AfterTooLong = (limit : ℕ) (read unread_after written_before written_after : List ℕ)
-    → Ran limit (Some (read ++ unread_after)) (Some unread_after) (Some written_before) (Some written_after) (Err InputTooLong)
-    → (limit < length read) × (count : ℕ) × (count ≤ limit) × (output : List ℕ) × IsOutput (complete_part (take count read)) output
+    → Ran limit (Some (read ++ unread_after)) (Some unread_after) (Some written_before) (Some written_after)
+    (Err InputTooLong)
+    → (limit < length read) × (count : ℕ) × (count ≤ limit) × (output : List ℕ)
+    × IsOutput (complete_part (take count read)) output
     × (written_after ≡ written_before ++ output)

@@ -14,7 +14,8 @@ use Rattle.cidr.specs.Commands.{has4_answer, has_answer, rel_answer}
 -- set, and `no` exactly if it is not
 abbrev pub Has4AnswersMembership : Type 0
 Has4AnswersMembership = (text word : List ℕ) (n : Network) (a : ℕ) → NamesV4Network text n → NamesV4 word a
-    → ((has4_answer text word ≡ codes "yes") ↔ Member 32 n a) × ((has4_answer text word ≡ codes "no") ↔ ¬ (Member 32 n a))
+    → ((has4_answer text word ≡ codes "yes") ↔ Member 32 n a)
+    × ((has4_answer text word ≡ codes "no") ↔ ¬ (Member 32 n a))
 
 -- the same for `has`, over both families
 abbrev pub HasAnswersMembership : Type 0

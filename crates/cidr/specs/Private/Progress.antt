@@ -19,7 +19,11 @@ pub record Standing : Type 0 where
   pub routes : Routes
 
 abbrev pub standing : Option (List ℕ) → Answering → Standing
-standing holds answering = record { holds = holds; waits = answering.waiting.items; routes = routes_of answering.routes }
+standing holds answering = record {
+  holds = holds;
+  waits = answering.waiting.items;
+  routes = routes_of answering.routes;
+}
 
 -- as a run begins
 abbrev pub begun : Option (List ℕ) → Standing
@@ -43,7 +47,8 @@ pub record FailsWithin (from : Standing) (holds : Option (List ℕ)) (asks : Lis
 
 -- what was read, within a limit of which there is room for so many more bytes: its first lines got answers, and what
 -- follows them is pending
-pub record RunSoFar (limit room : ℕ) (held : Buffered) (unread_before unread_after : Option (List ℕ)) (start now : Standing) : Type 0 where
+pub record RunSoFar (limit room : ℕ) (held : Buffered) (unread_before unread_after : Option (List ℕ))
+    (start now : Standing) : Type 0 where
   pub read : List ℕ
   pub consumed : Consumes unread_before unread_after read
   pub counted : length read + room ≡ limit

@@ -7,11 +7,13 @@ use Rattle.cidr_filter.specs.declared.filter.Verdict.{Verdict}
 
 -- of a selected line the line is printed, and nothing else
 abbrev pub PrintsAsRead : Filter → Type 0
-PrintsAsRead filter = (number : ℕ) → (verdict : Verdict) → (line text : List ℕ) → shown_of filter (head_of filter number) verdict line text ≡ text
+PrintsAsRead filter = (number : ℕ) → (verdict : Verdict) → (line text : List ℕ)
+    → shown_of filter (head_of filter number) verdict line text ≡ text
 
 -- a line, given without its end, has an address, and is selected or not
 abbrev pub IsSelectedByAddress : Filter → List ℕ → Bool → Type 0
-IsSelectedByAddress filter line selected = (verdict : Verdict) × IsVerdict filter line verdict × (is_refused filter verdict ≡ false)
+IsSelectedByAddress filter line selected = (verdict : Verdict) × IsVerdict filter line verdict
+    × (is_refused filter verdict ≡ false)
     × (is_addressed_by verdict ≡ true) × (selected ≡ is_selected filter verdict)
 
 -- what is put of a line that is selected or not

@@ -1,5 +1,6 @@
 -- How far a log is filtered.
-use Rattle.std.specs.Prelude.{◌≡◌, ℕ, Bool, true, false, ◌||◌, IsTrue, List, [], ◌++◌, Option, Result, IfOk, IfErr, if◌then◌else◌}
+use Rattle.std.specs.Prelude.{◌≡◌, ℕ, Bool, true, false, ◌||◌, IsTrue, List, [], ◌++◌, Option, Result, IfOk, IfErr}
+use Rattle.std.specs.Prelude.{if◌then◌else◌}
 use Rattle.lines.specs.Outputs.{Written, AppendsBeginning}
 use Rattle.program.specs.Counts.{Counts}
 use Rattle.program.specs.LogFaults.{ended_by_write}

@@ -11,7 +11,8 @@ use Rattle.cidr_filter.specs.declared.listed.Listed.{Listed}
 use Rattle.cidr_filter.specs.declared.listed.Listed.TheVariants.{Addresses, Blocks}
 
 -- the lists were read, and, if there was memory for the blocks that are asked for, these are their networks
-pub record ReadsAll {E : Type 0} (known : KnownLists) (items : List Item) (longest : Bool) (listed : Result Listed E) (refused : Refused) : Type 0 where
+pub record ReadsAll {E : Type 0} (known : KnownLists) (items : List Item) (longest : Bool) (listed : Result Listed E)
+    (refused : Refused) : Type 0 where
   pub read : ReadLists
   pub is_read : IsReadOf known items read
   pub holds : IfOk listed (HoldsRead longest read)

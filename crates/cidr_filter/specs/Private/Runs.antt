@@ -10,7 +10,8 @@ use Rattle.cidr_filter.specs.declared.filter.Filter.{Filter}
 
 -- the logs of these names were filtered to their ends, in turn, but those that could not be opened; whether there was
 -- one of these
-pub record FiltersNames {E : Type 0} (filter : Filter) (known : KnownLists) (names : List (List ℕ)) (missed : Bool) (old new : Stand) (errors told : Written E) : Type 0 where
+pub record FiltersNames {E : Type 0} (filter : Filter) (known : KnownLists) (names : List (List ℕ)) (missed : Bool)
+    (old new : Stand) (errors told : Written E) : Type 0 where
   pub output : List ℕ
   pub count : ℕ
   pub text : List ℕ

@@ -16,19 +16,23 @@ use Rattle.cidr_join.specs.declared.numbered.Numbered.{Numbered}
 use Rattle.cidr_join.specs.declared.routes.Routes.{Routes}
 use Rattle.cidr_join.specs.declared.value.Value.{Value}
 
--- what is printed where this is the longest network, with this value: the network, as one of either family, or the value
+-- what is printed where this is the longest network, with this value: the network, as one of either family, or the
+-- value
 abbrev pub found_by : Bool → (Network → IpNetwork) → Network → Value → Found
 found_by true either n value = prints.Network (either n)
 found_by false either n value = prints.Value value
 
--- each network of the table has a number, and no other network has. It stands for what is printed where the network is the
--- longest
-pub record AreNumbered (by : Network → Value → Found) (table : Values) (numbers : FinMap network_cmp ℕ) (founds : List Found) : Type 0 where
-  pub stored : (n : Network) (number : ℕ) → get numbers n ≡ Some number → (value : Value) × (get table n ≡ Some value) × (slice_get founds number ≡ Some (by n value))
+-- each network of the table has a number, and no other network has. It stands for what is printed where the network is
+-- the longest
+pub record AreNumbered (by : Network → Value → Found) (table : Values) (numbers : FinMap network_cmp ℕ)
+    (founds : List Found) : Type 0 where
+  pub stored : (n : Network) (number : ℕ) → get numbers n ≡ Some number → (value : Value) × (get table n ≡ Some value)
+      × (slice_get founds number ≡ Some (by n value))
   pub all : (n : Network) → IsSome (get table n) → IsSome (get numbers n)
 
 -- those of one more table are, behind what the numbers before stand for
-pub record AddsNumbers (by : Network → Value → Found) (table : Values) (numbers : FinMap network_cmp ℕ) (before founds : List Found) : Type 0 where
+pub record AddsNumbers (by : Network → Value → Found) (table : Values) (numbers : FinMap network_cmp ℕ)
+    (before founds : List Found) : Type 0 where
   pub behind : (added : List Found) × (founds ≡ before ++ added)
   pub numbered : AreNumbered by table numbers founds
 
@@ -52,9 +56,11 @@ number_or_none (Some found) = found.1
 -- the number stands for what is found for an address
 abbrev pub StandsForRoute : Numbered → IpAddr → ℕ → Type 0
 StandsForRoute numbered address number = (network : Bool) (routes : Routes) → NumbersRoutes network routes numbered
-    → (found : Found) × (slice_get numbered.founds.items number ≡ Some found) × FindsBy (answers_by network routes) address found
+    → (found : Found) × (slice_get numbered.founds.items number ≡ Some found)
+    × FindsBy (answers_by network routes) address found
 
 -- and for that of a line, if there is one
 abbrev pub StandsFor : Answers → Option IpAddr → List Found → ℕ → Type 0
 StandsFor by None founds number = slice_get founds number ≡ Some prints.Nothing
-StandsFor by (Some address) founds number = (found : Found) × (slice_get founds number ≡ Some found) × FindsBy by address found
+StandsFor by (Some address) founds number = (found : Found) × (slice_get founds number ≡ Some found)
+    × FindsBy by address found

@@ -13,7 +13,8 @@ shown join found line text = shown_of join.last (mark_of found) line text
 
 -- a line was joined
 abbrev pub JoinsLine : Join → List ℕ → List ℕ → Stand → Stand → Type 0
-JoinsLine join line text old new = (found : Found) × Finds join (address_in join line) found × Goes old new (shown join found line text) 1 (is_addressed join line)
+JoinsLine join line text old new = (found : Found) × Finds join (address_in join line) found
+    × Goes old new (shown join found line text) 1 (is_addressed join line)
 
 -- or the writer failed, which took a beginning of what waited and of the line's output
 abbrev pub LineStops : Join → List ℕ → List ℕ → Bool → Stand → Stand → Type 0

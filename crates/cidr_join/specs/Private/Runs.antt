@@ -10,7 +10,8 @@ use Rattle.cidr_join.specs.declared.join.Join.{Join}
 
 -- the logs of these names were read to their ends, in turn: with all that is given by their lines it was done, and what
 -- there is to report of them was reported
-pub record ReadsNames {A E : Type 0} (Gives : List LogLine → List A → Type 0) (Done : List A → Type 0) (join : Join) (known : KnownLists) (names : List (List ℕ)) (errors told : Written E) : Type 0 where
+pub record ReadsNames {A E : Type 0} (Gives : List LogLine → List A → Type 0) (Done : List A → Type 0) (join : Join)
+    (known : KnownLists) (names : List (List ℕ)) (errors told : Written E) : Type 0 where
   pub all : List A
   pub text : List ℕ
   pub reads : ReadsLogs Gives join known names all text
@@ -18,5 +19,7 @@ pub record ReadsNames {A E : Type 0} (Gives : List LogLine → List A → Type 0
   pub tells : Tells errors told text
 
 -- they were joined
-abbrev pub JoinsNames : {W E : Type 0} → Join → KnownLists → List (List ℕ) → Written W → Written W → Written E → Written E → Type 0
-JoinsNames join known names old new errors told = ReadsNames (Joins join) (λ output. Prints old new output) join known names errors told
+abbrev pub JoinsNames : {W E : Type 0} → Join → KnownLists → List (List ℕ) → Written W → Written W → Written E
+    → Written E → Type 0
+JoinsNames join known names old new errors told =
+    ReadsNames (Joins join) (λ output. Prints old new output) join known names errors told

@@ -24,8 +24,8 @@ use Rattle.cidr_join.specs.declared.seen.Seen.{Seen}
 use Rattle.cidr_join.specs.declared.tally_log.TallyFault.{TallyFault}
 use Rattle.cidr_join.specs.declared.tally_log.TallyFault.TheVariants as tallies
 
--- these texts were counted: each is as often among them as among those that were counted by their bytes and those that the
--- numbers stand for together
+-- these texts were counted: each is as often among them as among those that were counted by their bytes and those that
+-- the numbers stand for together
 pub record IsCounted (founds : List Found) (texts : List (List ℕ)) (counts : Counts) : Type 0 where
   pub kept : List (List ℕ)
   pub is_kept : Counted kept counts.tally.counts
@@ -39,15 +39,19 @@ module _ (founds : List Found) where
 
   -- what the list gives a line was counted, and the line
   abbrev pub CountsLine : Join → List ℕ → Counts → Counts → Seen → Seen → Type 0
-  CountsLine join line old new was is = (found : Found) × Finds join (address_in join line) found × CountsAll (mark_of found ∷ []) old new × Sees was is 1 (is_addressed join line)
+  CountsLine join line old new was is = (found : Found) × Finds join (address_in join line) found
+      × CountsAll (mark_of found ∷ []) old new × Sees was is 1 (is_addressed join line)
 
   -- what it gives these lines was, and the lines
   abbrev pub CountsLines : Join → Counts → Counts → Seen → Seen → List LogLine → Type 0
-  CountsLines join old new was is lines = (marks : List (List ℕ)) × Marks join lines marks × CountsAll marks old new × Sees was is (length lines) (any_addressed join lines)
+  CountsLines join old new was is lines = (marks : List (List ℕ)) × Marks join lines marks × CountsAll marks old new
+      × Sees was is (length lines) (any_addressed join lines)
 
   -- what it gives the lines of the logs of these names was, and what there is to report of these was reported
-  abbrev pub CountsNames : {E : Type 0} → Join → KnownLists → List (List ℕ) → Counts → Counts → Written E → Written E → Type 0
-  CountsNames join known names old new errors told = ReadsNames (Marks join) (λ marks. CountsAll marks old new) join known names errors told
+  abbrev pub CountsNames : {E : Type 0} → Join → KnownLists → List (List ℕ) → Counts → Counts → Written E → Written E
+      → Type 0
+  CountsNames join known names old new errors told =
+      ReadsNames (Marks join) (λ marks. CountsAll marks old new) join known names errors told
 
 -- the fault of a log as one of counting: nothing waits to be written but in memory, and that can only lack
 abbrev pub tally_fault : LogFault → TallyFault
@@ -60,7 +64,8 @@ tally_fault faults.Endless = tallies.Log faults.Endless
 
 -- what is true if the lines of a log were not counted to its end, by the fault; memory may run out at each line
 abbrev pub StopsCounting : (List LogLine → Type 0) → Option (List ℕ) → Option (List ℕ) → Bool → TallyFault → Type 0
-StopsCounting Done remained remains failed (tallies.Log fault) = StopsReading EndsRunBy Done (λ lines. ⊥) remained remains failed false fault
+StopsCounting Done remained remains failed (tallies.Log fault) =
+    StopsReading EndsRunBy Done (λ lines. ⊥) remained remains failed false fault
 StopsCounting Done remained remains failed tallies.OutOfMemory = Unit {0}
 
 -- whether a read ended the counting

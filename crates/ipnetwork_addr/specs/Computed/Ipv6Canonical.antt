@@ -1,5 +1,6 @@
 -- The canonical text of an IPv6 address, computed.
-use Rattle.std.specs.Prelude.{nat_le, if◌then◌else◌, ℕ, zero, suc, ◌+◌, ◌/◌, ◌%◌, ◌^◌, ◌==◌, List, [], ◌∷◌, ◌++◌, take, drop, codes}
+use Rattle.std.specs.Prelude.{nat_le, if◌then◌else◌, ℕ, zero, suc, ◌+◌, ◌/◌, ◌%◌, ◌^◌, ◌==◌, List, [], ◌∷◌, ◌++◌, take}
+use Rattle.std.specs.Prelude.{drop, codes}
 use Rattle.ipnetwork_addr.specs.Digits.{segments_of}
 use Rattle.ipnetwork_addr.specs.Ipv4Text.{canonical_v4}
 use Rattle.ipnetwork_addr.specs.Ipv6Canonical.{hex_groups}
@@ -21,7 +22,8 @@ gap_among groups (suc start) = longer_run (gap_among groups start) (start, zeros
 -- groups in hex, with `::` in place of this run if it is one of two groups or more
 abbrev pub gapped : List ℕ → ℕ × ℕ → List ℕ
 gapped groups gap =
-    if nat_le 2 gap.1 then hex_groups (take gap.0 groups) ++ codes "::" ++ hex_groups (drop (gap.0 + gap.1) groups) else hex_groups groups
+    if nat_le 2 gap.1 then hex_groups (take gap.0 groups) ++ codes "::" ++ hex_groups (drop (gap.0 + gap.1) groups)
+    else hex_groups groups
 
 -- the canonical text of an address
 abbrev pub canonical_v6 : ℕ → List ℕ

@@ -1,5 +1,6 @@
 -- The address that an IPv6 text names, computed: each way of cutting the text is tried.
-use Rattle.std.specs.Prelude.{ℕ, zero, suc, ◌+◌, ◌-◌, ◌^◌, ◌==◌, nat_lt, nat_le, bytes_eq, if◌then◌else◌, List, [], ◌∷◌, ◌++◌, length, take, drop, replicate, codes, Option, None, Some}
+use Rattle.std.specs.Prelude.{ℕ, zero, suc, ◌+◌, ◌-◌, ◌^◌, ◌==◌, nat_lt, nat_le, bytes_eq, if◌then◌else◌, List, [], ◌∷◌}
+use Rattle.std.specs.Prelude.{◌++◌, length, take, drop, replicate, codes, Option, None, Some}
 use Rattle.std.specs.List.{slice_split, list_all}
 use Rattle.std.specs.Char.{is_digit}
 use Rattle.std.specs.Int.Digits.{number_from_digits}
@@ -16,7 +17,8 @@ or_else None other = other
 -- the value of a group: one to four hex digits
 abbrev pub group_of : List ℕ → Option ℕ
 group_of text =
-    if nat_lt 0 (length text) then (if nat_le (length text) 4 then (if list_all (λ byte. is_digit byte 16) text then Some (digits_value 16 text) else None) else None) else None
+    if nat_lt 0 (length text) then (if nat_le (length text) 4
+    then (if list_all (λ byte. is_digit byte 16) text then Some (digits_value 16 text) else None) else None) else None
 
 -- one group more in front
 abbrev pub grouped : Option ℕ → Option (List ℕ) → Option (List ℕ)
@@ -71,7 +73,8 @@ gap_number (Some left) (Some right) =
 abbrev pub gap_at : List ℕ → ℕ → Option ℕ
 gap_at text i =
     if bytes_eq (take 2 (drop i text)) (codes "::")
-    then or_else (gap_number (plain_of (take i text)) (plain_of (drop (i + 2) text))) (gap_number (plain_of (take i text)) (dotted_of (drop (i + 2) text)))
+    then or_else (gap_number (plain_of (take i text)) (plain_of (drop (i + 2) text)))
+    (gap_number (plain_of (take i text)) (dotted_of (drop (i + 2) text)))
     else None
 
 -- the number with a `::` after fewer bytes than this
@@ -81,4 +84,5 @@ gap_below text (suc i) = or_else (gap_at text i) (gap_below text i)
 
 -- the address that the text names, if it names one
 unfoldable pub v6_of : List ℕ → Option ℕ
-v6_of text = or_else (full_number (plain_of text)) (or_else (full_number (dotted_of text)) (gap_below text (length text)))
+v6_of text = or_else (full_number (plain_of text))
+    (or_else (full_number (dotted_of text)) (gap_below text (length text)))

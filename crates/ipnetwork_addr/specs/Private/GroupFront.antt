@@ -1,5 +1,6 @@
 -- The groups that a text begins with.
-use Rattle.std.specs.Prelude.{◌≡◌, ℕ, ◌^◌, ◌<◌, ◌≤◌, ◌⊎◌, List, [], ◌∷◌, ◌++◌, length, drop, slice_index, Option, None, Some}
+use Rattle.std.specs.Prelude.{◌≡◌, ℕ, ◌^◌, ◌<◌, ◌≤◌, ◌⊎◌, List, [], ◌∷◌, ◌++◌, length, drop, slice_index, Option, None}
+use Rattle.std.specs.Prelude.{Some}
 use Rattle.std.specs.Char.{digit_value}
 use Rattle.std.specs.Int.Digits.{number_from_digits}
 use Rattle.ipnetwork_addr.specs.Ipv4Text.{NamesV4}
@@ -37,10 +38,13 @@ pub record IsGroupUpTo (text : List ℕ) (at end group : ℕ) : Type 0 where
 -- A part of an IPv6 text is one group or more, joined by colons, up to the end of the text, which may come after an
 -- IPv4 text in place of the last two groups, or up to a `::`. The end is what follows the `::`, if there is one. Here:
 -- the first group of a part; More says that the text after its colon is the rest of the part.
-pub data IsPartFrom (More : List ℕ → Type 0) (text : List ℕ) (group : ℕ) (groups : List ℕ) (end : Option (List ℕ)) : Type 0 where
+pub data IsPartFrom (More : List ℕ → Type 0) (text : List ℕ) (group : ℕ) (groups : List ℕ)
+    (end : Option (List ℕ)) : Type 0 where
   Last : BeginsWithGroup text group [] → groups ≡ [] → end ≡ None → IsPartFrom More text group groups end
-  Dotted : (address : ℕ) → NamesV4 text address → group ∷ groups ≡ two_groups address → end ≡ None → IsPartFrom More text group groups end
-  Gap : (next : List ℕ) → BeginsWithGroup text group (colon ∷ colon ∷ next) → groups ≡ [] → end ≡ Some next → IsPartFrom More text group groups end
+  Dotted : (address : ℕ) → NamesV4 text address → group ∷ groups ≡ two_groups address → end ≡ None
+      → IsPartFrom More text group groups end
+  Gap : (next : List ℕ) → BeginsWithGroup text group (colon ∷ colon ∷ next) → groups ≡ [] → end ≡ Some next
+      → IsPartFrom More text group groups end
   Next : (next : List ℕ) → BeginsWithGroup text group (colon ∷ next) → More next → IsPartFrom More text group groups end
 
 -- the text begins with a part of these groups and this end

@@ -1,12 +1,14 @@
 -- The octets that a text begins with.
-use Rattle.std.specs.Prelude.{◌≡◌, ◌≢◌, ℕ, ◌*◌, ◌<◌, ◌≤◌, ◌⊎◌, List, [], ◌∷◌, ◌++◌, ◌==◌, drop, length, slice_index, Option, MatchOption, decimal, nat_lt, if◌then◌else◌}
+use Rattle.std.specs.Prelude.{◌≡◌, ◌≢◌, ℕ, ◌*◌, ◌<◌, ◌≤◌, ◌⊎◌, List, [], ◌∷◌, ◌++◌, ◌==◌, drop, length, slice_index}
+use Rattle.std.specs.Prelude.{Option, MatchOption, decimal, nat_lt, if◌then◌else◌}
 use Rattle.std.specs.Char.{digit_value}
 use Rattle.ipnetwork_addr.specs.Ipv4Text.{IsOctet}
 use Rattle.ipnetwork_addr.specs.Texts.{dot}
 
 -- ten times the value of a byte as the first of several decimal digits, or 2560 if it is `0` or no digit
 abbrev pub first_value : ℕ → ℕ
-first_value byte = if nat_lt (digit_value byte) 10 then (if nat_lt 0 (digit_value byte) then digit_value byte * 10 else 2560) else 2560
+first_value byte = if nat_lt (digit_value byte) 10
+    then (if nat_lt 0 (digit_value byte) then digit_value byte * 10 else 2560) else 2560
 
 -- the text is not an octet
 abbrev pub IsNoOctet : List ℕ → Type 0

@@ -1,9 +1,11 @@
 -- The octets of an IPv4 text in the lanes of a vector. A row says how many digits each of the four octets has.
-use Rattle.std.specs.Prelude.{◌≡◌, ℕ, ◌+◌, ◌-◌, ◌/◌, ◌%◌, ◌<◌, ◌≤◌, List, [], ◌∷◌, ◌++◌, length, map, take, drop, slice_index, nat_le, nat_lt, ◌==◌, if◌then◌else◌}
+use Rattle.std.specs.Prelude.{◌≡◌, ℕ, ◌+◌, ◌-◌, ◌/◌, ◌%◌, ◌<◌, ◌≤◌, List, [], ◌∷◌, ◌++◌, length, map, take, drop}
+use Rattle.std.specs.Prelude.{slice_index, nat_le, nat_lt, ◌==◌, if◌then◌else◌}
 use Rattle.ipnetwork_addr.specs.Ipv4Text.{IsOctet}
 use Rattle.ipnetwork_addr.specs.Texts.{dot}
 
--- where the byte of this place stands after the first eight bytes of a text of this length are followed by its last eight
+-- where the byte of this place stands after the first eight bytes of a text of this length are followed by its last
+-- eight
 abbrev pub joined_place : ℕ → ℕ → ℕ
 joined_place count place = if nat_lt place 8 then place else (if nat_lt place count then place + 16 - count else 255)
 

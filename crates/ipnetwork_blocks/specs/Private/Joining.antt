@@ -19,7 +19,8 @@ pub record AreJoined (w : ℕ) (list : List Network) : Type 0 where
 
 -- each network is at most the next one in order
 abbrev pub AreInOrder : List Network → Type 0
-AreInOrder networks = (k : ℕ) (d : Network) → k + 1 < length networks → IsNetworkAtMost (slice_index_or networks k d) (slice_index_or networks (k + 1) d)
+AreInOrder networks = (k : ℕ) (d : Network) → k + 1 < length networks
+    → IsNetworkAtMost (slice_index_or networks k d) (slice_index_or networks (k + 1) d)
 
 -- the network lies in the last of the blocks
 abbrev pub LiesInLast : ℕ → List Network → Network → Type 0

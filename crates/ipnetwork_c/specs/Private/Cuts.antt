@@ -14,7 +14,8 @@ pub record IsAlone {C : Type 0} (w : ℕ) (holds : C → Type 0) (held : C → N
   pub prefix : (held c).prefix ≡ w
 
 -- values that hold the first address of a network's set, and the one after its last, if there is one
-pub record AreEndsOf {C : Type 0} (w : ℕ) (holds : C → Type 0) (held : C → Network) (n : Network) (front : List C) : Type 0 where
+pub record AreEndsOf {C : Type 0} (w : ℕ) (holds : C → Type 0) (held : C → Network) (n : Network)
+    (front : List C) : Type 0 where
   pub network : IsNetwork w n
   pub few : length front ≤ 2
   pub alone : All (IsAlone w holds held) front
@@ -23,12 +24,14 @@ pub record AreEndsOf {C : Type 0} (w : ℕ) (holds : C → Type 0) (held : C →
   pub only : (a : ℕ) → Contains (firsts held front) a → EndsAt w n a
 
 -- values that hold so the ends of the first networks
-pub record AreCutsOf {C : Type 0} (w : ℕ) (holds : C → Type 0) (held : C → Network) (networks : List Network) (rows : ℕ) (front : List C) : Type 0 where
+pub record AreCutsOf {C : Type 0} (w : ℕ) (holds : C → Type 0) (held : C → Network) (networks : List Network) (rows : ℕ)
+    (front : List C) : Type 0 where
   pub network : (k : ℕ) (d : Network) → k < rows → IsNetwork w (get_or networks k d)
   pub few : length front ≤ 2 * rows
   pub alone : All (IsAlone w holds held) front
   pub begun : (k : ℕ) (d : Network) → k < rows → Contains (firsts held front) (low w (get_or networks k d))
-  pub ended : (k : ℕ) (d : Network) → k < rows → high w (get_or networks k d) + 1 < 2 ^ w → Contains (firsts held front) (high w (get_or networks k d) + 1)
+  pub ended : (k : ℕ) (d : Network) → k < rows → high w (get_or networks k d) + 1 < 2 ^ w
+      → Contains (firsts held front) (high w (get_or networks k d) + 1)
   pub only : (a : ℕ) → Contains (firsts held front) a → IsCut w networks a
 
 -- a list was written up to a place, and has what stood there before behind it
@@ -39,4 +42,5 @@ pub record IsWrittenUpTo {C : Type 0} (before after : List C) (count : ℕ) : Ty
 
 -- beside each of the first rows stands the place of the longest network with its first address
 abbrev pub ArePlacesUpTo : ℕ → List Network → List ℕ → List ℕ → ℕ → Type 0
-ArePlacesUpTo w networks firsts places rows = (k : ℕ) → k < rows → IsLongestAt w networks (get_or firsts k 0) (get_or places k 0)
+ArePlacesUpTo w networks firsts places rows = (k : ℕ) → k < rows
+    → IsLongestAt w networks (get_or firsts k 0) (get_or places k 0)

@@ -8,8 +8,10 @@ pub record LastBefore (networks : List Network) (number i : ℕ) : Type 0 where
   pub within : i ≤ length networks
   pub last : (n : Network) → 0 < i → slice_get networks (i - 1) ≡ Some n → n.address < number
 
--- each part before this one, but the first, has its start in the index, and those of the others are to be found from `at` on
+-- each part before this one, but the first, has its start in the index, and those of the others are to be found from
+-- `at` on
 pub record HasStarts (networks : List Network) (index : List ℕ) (shift part at : ℕ) : Type 0 where
   pub first : get_or index 0 0 ≡ shift
-  pub starts : (one : ℕ) → 0 < one → one < part → (i : ℕ) × BeginBefore networks (address_at networks 0 + one * 2 ^ shift) i × (get_or index one 0 ≡ min i (2 ^ 32 - 1))
+  pub starts : (one : ℕ) → 0 < one → one < part → (i : ℕ)
+      × BeginBefore networks (address_at networks 0 + one * 2 ^ shift) i × (get_or index one 0 ≡ min i (2 ^ 32 - 1))
   pub at_least : LastBefore networks (address_at networks 0 + part * 2 ^ shift) at

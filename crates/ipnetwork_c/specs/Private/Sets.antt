@@ -12,10 +12,11 @@ EndFits w networks x = (i : ℕ) × StandsAt networks x i × LastFits w networks
 abbrev pub EndDoesNotFit : ℕ → List Network → ℕ → Type 0
 EndDoesNotFit w networks x = (i : ℕ) × StandsAt networks x i × ¬ (LastFits w networks i)
 
--- the byte says whether x lies in the set of the networks, if the search for x ends at a prefix length that fits; there is
--- none if it does not
+-- the byte says whether x lies in the set of the networks, if the search for x ends at a prefix length that fits; there
+-- is none if it does not
 abbrev pub SetAnswer : ℕ → List Network → ℕ → Option ℕ → Type 0
-SetAnswer w networks x found = MatchOption found (EndDoesNotFit w networks x) (λ byte. EndFits w networks x × FindsIn w networks x byte)
+SetAnswer w networks x found = MatchOption found (EndDoesNotFit w networks x)
+    (λ byte. EndFits w networks x × FindsIn w networks x byte)
 
 -- the last of the first i networks, if there is one, begins at x or before it
 abbrev pub LastUpTo : List Network → ℕ → ℕ → Type 0

@@ -24,4 +24,5 @@ network_from (Some a) (Some p) = Ok (record { address = a; prefix = p })
 -- the network that a text names, or the cause if it names none
 abbrev pub network_of : ℕ → (List ℕ → Option ℕ) → (List ℕ → Option ℕ) → List ℕ → Result Network CidrFault
 network_of w address_of length_of text =
-    if nat_le 2 (slashes text) then Err Format else network_from (address_of (before_slash text)) (prefix_given w length_of (suffix_of text))
+    if nat_le 2 (slashes text) then Err Format
+    else network_from (address_of (before_slash text)) (prefix_given w length_of (suffix_of text))

@@ -1,6 +1,7 @@
 -- The least list of a set that a test tells, found by halves: how contracts see the iterators over sets. That it is
 -- the least list is a clause of the calls that make them.
-use Rattle.std.specs.Prelude.{ℕ, zero, suc, ◌+◌, ◌-◌, ◌^◌, ◌&&◌, ◌||◌, not, nat_le, cond, Bool, true, false, Option, None, Some, List, [], ◌∷◌, ◌++◌}
+use Rattle.std.specs.Prelude.{ℕ, zero, suc, ◌+◌, ◌-◌, ◌^◌, ◌&&◌, ◌||◌, not, nat_le, cond, Bool, true, false, Option}
+use Rattle.std.specs.Prelude.{None, Some, List, [], ◌∷◌, ◌++◌}
 use Rattle.std.specs.List.{list_any}
 use Rattle.ipnetwork_family.specs.Network.{Network}
 use Rattle.ipnetwork_family.specs.Computed.Network.{is_member}
@@ -36,7 +37,8 @@ is_from w (Some p) x = is_member w p.0 x && nat_le p.1.address x
 
 -- the blocks of what is at hand and of the rest, less the addresses of the cut set
 unfoldable pub left_blocks : ℕ → Option (Network × Network) → List Network → List Network → List Network
-left_blocks w at_hand rest cut = least_blocks w (λ x. (is_from w at_hand x || in_union w rest x) && not (in_union w cut x))
+left_blocks w at_hand rest cut = least_blocks w
+    (λ x. (is_from w at_hand x || in_union w rest x) && not (in_union w cut x))
 
 -- the blocks of the addresses that one of the two has, or both
 unfoldable pub either_blocks : ℕ → List Network → List Network → List Network

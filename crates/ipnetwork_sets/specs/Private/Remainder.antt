@@ -18,7 +18,8 @@ IsLeftIn w whole from cut x = Member w whole x × (from ≤ x) × ¬ (InUnion w 
 
 -- the piece is as wide as the whole, or some address of the block around it of one bit less is not left
 abbrev pub IsWidest : ℕ → Network → Network → List Network → Type 0
-IsWidest w whole piece cut = (piece.prefix ≡ whole.prefix) ⊎ ¬ (LiesIn w (IsLeftIn w whole piece.address cut) (parent w piece))
+IsWidest w whole piece cut = (piece.prefix ≡ whole.prefix)
+    ⊎ ¬ (LiesIn w (IsLeftIn w whole piece.address cut) (parent w piece))
 
 -- the piece after another: it begins right after it, and the block around it of one bit less begins before it
 pub record IsBehind (w : ℕ) (whole piece next : Network) : Type 0 where
@@ -29,7 +30,8 @@ pub record IsBehind (w : ℕ) (whole piece next : Network) : Type 0 where
 
 -- from one address and cut set to others: the addresses of the block that are passed are all cut, and after them both
 -- cut the same
-pub record Skips (w : ℕ) (whole : Network) (from : ℕ) (cut : List Network) (next : ℕ) (left : List Network) : Type 0 where
+pub record Skips (w : ℕ) (whole : Network) (from : ℕ) (cut : List Network) (next : ℕ)
+    (left : List Network) : Type 0 where
   pub forward : from ≤ next
   pub passed : (x : ℕ) → Member w whole x → from ≤ x → x < next → InUnion w cut x
   pub same : (x : ℕ) → next ≤ x → InUnion w cut x ↔ InUnion w left x
@@ -43,7 +45,8 @@ pub record IsFree (w : ℕ) (whole piece : Network) (cut : List Network) : Type 
 -- the state of a difference: the block and the piece that are at hand, if any, the others, and what is cut
 abbrev pub IsAtHand : ℕ → Option (Network × Network) → List Network → List Network → Type 0
 IsAtHand w None rest cut = IsAddressSet w rest × IsAddressSet w cut
-IsAtHand w (Some p) rest cut = IsAddressSet w (p.0 ∷ rest) × IsAddressSet w cut × IsPiece w p.0 p.1 × IsWidest w p.0 p.1 cut
+IsAtHand w (Some p) rest cut = IsAddressSet w (p.0 ∷ rest) × IsAddressSet w cut × IsPiece w p.0 p.1
+    × IsWidest w p.0 p.1 cut
 
 -- what is at hand is taken, or the first of the others, whole
 abbrev pub TakesPart : Option (Network × Network) → List Network → Network × Network → List Network → Type 0

@@ -25,8 +25,8 @@ pub record IsLater (a b last : ℕ) : Type 0 where
   pub second : b ≤ last
   pub one : (last ≡ a) ⊎ (last ≡ b)
 
--- the addresses of the union are those from the first to the last, and those of what is left of both sets, none of which
--- is before the first
+-- the addresses of the union are those from the first to the last, and those of what is left of both sets, none of
+-- which is before the first
 pub record IsGrowing (w : ℕ) (first second : List Network) (start last : ℕ) (others rest : List Network) : Type 0 where
   pub ordered : start ≤ last
   pub fits : last < 2 ^ w

@@ -9,7 +9,8 @@ NoneUpTo t n = (m : Network) → IsSome (get t m) → ¬ (IsNetworkAtMost m n)
 
 -- of the networks up to n, the last is k
 abbrev pub IsLastUpTo : {V : Type 0} → FinMap network_cmp V → Network → Network → Type 0
-IsLastUpTo t n k = IsSome (get t k) × IsNetworkAtMost k n × ((m : Network) → IsSome (get t m) → IsNetworkAtMost m n → IsNetworkAtMost m k)
+IsLastUpTo t n k = IsSome (get t k) × IsNetworkAtMost k n
+    × ((m : Network) → IsSome (get t m) → IsNetworkAtMost m n → IsNetworkAtMost m k)
 
 -- no stored block of a prefix length above p holds x
 abbrev pub NoneAbove : {V : Type 0} → ℕ → FinMap network_cmp V → ℕ → ℕ → Type 0

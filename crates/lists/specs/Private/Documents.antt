@@ -23,5 +23,7 @@ abbrev pub FailsBytes : Bool → ℕ → List ℕ → ReadLists → ReadLists �
 FailsBytes strict number bytes before after (Open place cause) = ⊥
 FailsBytes strict number bytes before after (Read place) = ⊥
 FailsBytes strict number bytes before after (Length place) = ⊥
-FailsBytes strict number bytes before after (NotJson place line) = (place ≡ number) × IsNoDocument bytes × (after ≡ before)
-FailsBytes strict number bytes before after OutOfMemory = ((0 < length bytes) × (after ≡ before)) ⊎ TakesBytes strict (at_list before number) bytes after true
+FailsBytes strict number bytes before after (NotJson place line) = (place ≡ number) × IsNoDocument bytes
+    × (after ≡ before)
+FailsBytes strict number bytes before after OutOfMemory = ((0 < length bytes) × (after ≡ before))
+    ⊎ TakesBytes strict (at_list before number) bytes after true

@@ -25,7 +25,8 @@ IsNetworkFault text faults.Range = ⊥
 -- the network that the text names, or why it names none
 abbrev pub ReadsNetworkText : List ℕ → Result Entry EntryFault → Type 0
 ReadsNetworkText text result =
-    MatchResult result (IsNamedNetwork text) (λ fault. IsNetworkFault text fault × ((n : IpNetwork) → ¬ (NamesIpNetwork text n)))
+    MatchResult result (IsNamedNetwork text) (λ fault. IsNetworkFault text fault
+    × ((n : IpNetwork) → ¬ (NamesIpNetwork text n)))
 
 -- the entry is the range of these ends
 abbrev pub IsRangeOf : List ℕ → List ℕ → Entry → Type 0
@@ -37,7 +38,8 @@ abbrev pub IsRangeFault : List ℕ → List ℕ → EntryFault → Type 0
 IsRangeFault before after faults.Format = ⊥
 IsRangeFault before after faults.Prefix = ⊥
 IsRangeFault before after faults.Address = (first last : IpAddr) → ¬ (NamesEnds before after first last)
-IsRangeFault before after faults.Range = (first : IpAddr) × (last : IpAddr) × NamesEnds before after first last × ¬ (IsRange first last)
+IsRangeFault before after faults.Range = (first : IpAddr) × (last : IpAddr) × NamesEnds before after first last
+    × ¬ (IsRange first last)
 
 -- the range of these ends, or why there is none
 abbrev pub ReadsRange : List ℕ → List ℕ → Result Entry EntryFault → Type 0

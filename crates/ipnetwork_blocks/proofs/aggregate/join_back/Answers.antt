@@ -31,6 +31,12 @@ returns-in-None-clause-joined g c =
     joining_stops w r (g.N.CidrNetwork.pair c.args.block) c.loop-left.left joined c.requires.joined c.loop-left.invariant
     (λ t some at s. c.in-None.ensures (subst (λ (n : Network). AreHalves w n joined) (at ∙ get_or_default r (c.loop-left.left - 1) t last (omega arith) ∙ sym is) s))
 
+pub overflow_sub-left : goal.overflow_sub-left
+overflow_sub-left g c = omega arith
+
+pub overflow_sub-left-in-Some : goal.overflow_sub-left-in-Some
+overflow_sub-left-in-Some g c = omega arith
+
 pub bounds-front-left : goal.bounds-front-left
 bounds-front-left g c =
     let len = length-map c.args.front.now g.H.HoldsNetwork.held in
@@ -43,6 +49,12 @@ returns-in-None-clause-left g c =
     let bound = c.loop-left.invariant.bound in
     omega arith
 
+pub returns-in-None-clause-union : goal.returns-in-None-clause-union
+returns-in-None-clause-union g c = c.loop-left.invariant.union
+
+pub returns-in-None-clause-order : goal.returns-in-None-clause-order
+returns-in-None-clause-order g c = c.loop-left.invariant.order
+
 pub returns-clause-left : goal.returns-clause-left
 returns-clause-left g c =
     let len = length-map c.args.front.now g.H.HoldsNetwork.held in
@@ -53,6 +65,12 @@ pub returns-clause-joined : goal.returns-clause-joined
 returns-clause-joined g c =
     joining_stops g.N.CidrNetwork.WIDTH (map g.H.HoldsNetwork.held c.args.front.now) (g.N.CidrNetwork.pair c.args.block) c.loop-left.left (g.N.CidrNetwork.pair c.loop-left.joined)
     c.requires.joined c.loop-left.invariant (λ t some at s. absurd (omega arith))
+
+pub returns-clause-union : goal.returns-clause-union
+returns-clause-union g c = c.loop-left.invariant.union
+
+pub returns-clause-order : goal.returns-clause-order
+returns-clause-order g c = c.loop-left.invariant.order
 
 pub loop-left-init : goal.loop-left-init
 loop-left-init g c =

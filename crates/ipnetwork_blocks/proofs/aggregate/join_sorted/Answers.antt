@@ -90,6 +90,9 @@ bounds-values-left g c =
     let kept_is = length-take-le c.loop-next.kept c.loop-next.values (omega arith) in
     omega (arith, c.join_back-left.ensures.left)
 
+pub bounds-values-next : goal.bounds-values-next
+bounds-values-next g c = omega arith
+
 pub slice_bounds-lies_in_last-end : goal.slice_bounds-lies_in_last-end
 slice_bounds-lies_in_last-end g c = let bound = c.loop-next.invariant.1.bound in omega arith
 
@@ -98,6 +101,12 @@ slice_bounds-join_back-end g c = let bound = c.loop-next.invariant.1.bound in om
 
 pub returns-clause-within : goal.returns-clause-within
 returns-clause-within g c = let bound = c.loop-next.invariant.1.bound in omega arith
+
+pub returns-clause-joined : goal.returns-clause-joined
+returns-clause-joined g c = c.loop-next.invariant.1.joined
+
+pub returns-clause-held : goal.returns-clause-held
+returns-clause-held g c = c.loop-next.invariant.0
 
 pub loop-next-init : goal.loop-next-init
 loop-next-init g c = (c.requires.held, passing_starts g.N.CidrNetwork.WIDTH (map g.H.HoldsNetwork.held c.args.values.now))

@@ -17,3 +17,6 @@ returns-clause-blocks g c = (
       c.args.last c.args.first c.lt.result c.lt.ensures c.if-lt.false,
   c.between.ensures.blocks,
 )
+
+pub returns-clause-count : goal.returns-clause-count
+returns-clause-count g c = c.between.ensures.count
