@@ -32,19 +32,19 @@ one_passes p (x ∷ xs) marked = first (p x) marked (one_passes p xs)
     first true some later = omega arith
     first false some later = let below = later (omega arith) in omega arith
 
--- none up to a place, and none from there on
+-- none up to a position, and none from there on
 pub further : (byte : ℕ) (text : List ℕ) (from middle end : ℕ) → IsAbsent byte text from middle → IsAbsent byte text middle end → IsAbsent byte text from end
-further byte text from middle end before after place low high = elim (cases_lt place middle) [
-  | inl left ↦ before place low left
-  | inr right ↦ after place right high
+further byte text from middle end before after position low high = elim (cases_lt position middle) [
+  | inl left ↦ before position low left
+  | inr right ↦ after position right high
 ]
 
--- The marks of the bytes of a text at these places, of which there are as many as a number has bits, or fewer.
+-- The marks of the bytes of a text at these positions, of which there are as many as a number has bits, or fewer.
 module _ (byte : ℕ) (text : List ℕ) (at count marks : ℕ) (within : at + count ≤ length text) (few : count ≤ 64)
     (marked : marks ≡ mask_l (map (λ x. x == byte) (take count (drop at text)))) where
   pub unmarked : marks ≡ 0 → IsAbsent byte text at (at + count)
-  unmarked none place low high =
-      eqb-false _ _ (none_from_empty_mask (λ x. x == byte) text at count 0 within (sym marked ∙ none) place low high)
+  unmarked none position low high =
+      eqb-false _ _ (none_from_empty_mask (λ x. x == byte) text at count 0 within (sym marked ∙ none) position low high)
 
   pub first_marked : marks ≢ 0 → IsNext byte text at (at + count_trailing_zeros 64 marks)
   first_marked some =
@@ -57,11 +57,11 @@ module _ (byte : ℕ) (text : List ℕ) (at count marks : ℕ) (within : at + co
       record {
         behind = omega arith;
         within = omega arith;
-        between = λ place low high. eqb-false _ _ (run_in_chunk_fails (λ x. x == byte) text at count (count_trailing_zeros 64 marks) 0 within before place low high);
+        between = λ position low high. eqb-false _ _ (run_in_chunk_fails (λ x. x == byte) text at count (count_trailing_zeros 64 marks) 0 within before position low high);
         there = eqb-true _ _ (run_in_chunk_stops (λ x. x == byte) text at count (count_trailing_zeros 64 marks) 0 within before below);
       }
 
--- the marks of a vector that begins before a place, less those of the bytes before it
+-- the marks of a vector that begins before a position, less those of the bytes before it
 pub left_of : (byte : ℕ) (text : List ℕ) (last at lanes marks : ℕ) → last ≤ at → at ≤ last + lanes
     → marks ≡ mask_l (map (λ x. x == byte) (take lanes (drop last text)))
     → marks / 2 ^ (at - last) ≡ mask_l (map (λ x. x == byte) (take (last + lanes - at) (drop at text)))

@@ -3,7 +3,7 @@ use Rattle.std.specs.Prelude.{◌≡◌, ◌≢◌, ℕ, ◌<◌, ◌≤◌, Lis
 
 -- no byte from the index `from` up to the index `end`, which is not included, has this value
 abbrev pub IsAbsent : ℕ → List ℕ → ℕ → ℕ → Type 0
-IsAbsent byte text from end = (place : ℕ) → from ≤ place → place < end → slice_index text place ≢ byte
+IsAbsent byte text from end = (position : ℕ) → from ≤ position → position < end → slice_index text position ≢ byte
 
 -- the first byte of this value at or after the index `from` is at the index `at`
 pub record IsNext (byte : ℕ) (text : List ℕ) (from at : ℕ) : Type 0 where

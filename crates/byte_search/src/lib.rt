@@ -47,13 +47,13 @@ pub fn find_far(text: &[u8], from: usize, byte: u8) -> Option<usize>
     if text.len() - from < 32 {
         return find_from(text, from, byte);
     }
-    if let Some(place) = find_within::<32>(text, from, byte) {
-        return Some(place);
+    if let Some(position) = find_within::<32>(text, from, byte) {
+        return Some(position);
     }
     let mut at = from + 32;
     'searching: while text.len() - at >= 64 {
-        if let Some(place) = find_within::<64>(text, at, byte) {
-            return Some(place);
+        if let Some(position) = find_within::<64>(text, at, byte) {
+            return Some(position);
         }
         at += 64;
     }

@@ -8,8 +8,8 @@ use Rattle.ipnetwork_blocks.specs.Aggregate.{InUnion}
 use Rattle.ipnetwork_family.specs.Computed.Network.{is_member}
 use Rattle.ipnetwork_family.specs.Laws.{MembershipComputed}
 use Rattle.ipnetwork_family.specs.Network.{Network}
-use Rattle.cidr_filter.specs.Listed.{HasAddress, is_among, has_address}
-use Rattle.cidr_filter.specs.declared.listed.Sets.{Sets}
+use Rattle.cidr_filter.specs.Matcher.{HasAddress, is_among, has_address}
+use Rattle.cidr_filter.specs.declared.matcher.Sets.{Sets}
 
 among_told : MembershipComputed → (w : ℕ) (blocks : List Network) (x : ℕ) → (is_among w blocks x ≡ true) ↔ InUnion w blocks x
 among_told computed w blocks x = (

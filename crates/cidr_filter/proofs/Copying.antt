@@ -7,40 +7,40 @@ use Rattle.ipnetwork_addr.specs.declared.ip.IpAddr.{IpAddr}
 use Rattle.line_addresses.specs.Addresses.{address_of, with_text}
 use Rattle.line_addresses.specs.Fields.{field_of}
 use Rattle.line_addresses.specs.Words.{words_of}
-use Rattle.line_addresses.specs.declared.place.Place.{Place}
-use Rattle.line_addresses.specs.declared.place.Place.TheVariants as places
+use Rattle.line_addresses.specs.declared.area.Area.{Area}
+use Rattle.line_addresses.specs.declared.area.Area.TheVariants as areas
 use Rattle.log_programs.specs.Finding as finding
 use Rattle.cidr_filter.specs.Filters.{IsVerdict, IsVerdictOfAddresses, FirstListed, TellsBlock, addresses_in, asked, asked_of, of_part, spelled_at}
-use Rattle.cidr_filter.specs.Listed.{HasAddress, IsIn}
+use Rattle.cidr_filter.specs.Matcher.{HasAddress, IsIn}
 use Rattle.cidr_filter.specs.Private.Copying.{IsSelectedByAddress}
 use Rattle.cidr_filter.specs.declared.filter.Filter.{Filter}
 use Rattle.cidr_filter.specs.declared.filter.Verdict.TheVariants as verdicts
-use Rattle.cidr_filter.specs.declared.listed.Listed.{Listed}
-use Rattle.cidr_filter.specs.declared.listed.Listed.TheVariants.{Addresses}
-use Rattle.cidr_filter.specs.declared.listed.Sets.{Sets}
+use Rattle.cidr_filter.specs.declared.matcher.Matcher.{Matcher}
+use Rattle.cidr_filter.specs.declared.matcher.Matcher.TheVariants.{Addresses}
+use Rattle.cidr_filter.specs.declared.matcher.Sets.{Sets}
 
 -- ---- the address that is looked for
 
-module _ (filter : Filter) (line part : List ℕ) (place : Place) (is : filter.place ≡ place) (same : spelled_at place line ≡ of_part (Some part)) where
+module _ (filter : Filter) (line part : List ℕ) (area : Area) (is : filter.area ≡ area) (same : spelled_at area line ≡ of_part (Some part)) where
   found_only : (found : Option IpAddr) → found ≡ address_of part → IfSome found (λ address. addresses_in filter line ≡ asked filter.mapped address ∷ [])
   found_only None e = tt
   found_only (Some address) e =
-      ap (λ (q : Place). asked_of filter (spelled_at q line)) is
+      ap (λ (q : Area). asked_of filter (spelled_at q line)) is
       ∙ ap (asked_of filter) same
       ∙ ap (λ (o : Option IpAddr). asked_of filter (option_to_list (with_text part o))) (sym e)
 
-of_one : (filter : Filter) (line : List ℕ) (place : Place) → filter.place ≡ place → (part : Option (List ℕ)) → spelled_at place line ≡ of_part part
+of_one : (filter : Filter) (line : List ℕ) (area : Area) → filter.area ≡ area → (part : Option (List ℕ)) → spelled_at area line ≡ of_part part
     → (found : Option IpAddr) → found ≡ finding.of_part part → IfSome found (λ address. addresses_in filter line ≡ asked filter.mapped address ∷ [])
-of_one filter line place is None same found e =
+of_one filter line area is None same found e =
     subst (λ (o : Option IpAddr). IfSome o (λ address. addresses_in filter line ≡ asked filter.mapped address ∷ [])) (sym e) tt
-of_one filter line place is (Some part) same found e = found_only filter line part place is same found e
+of_one filter line area is (Some part) same found e = found_only filter line part area is same found e
 
-pub only_found : (filter : Filter) (line : List ℕ) (place : Place) → filter.place ≡ place → place ≢ places.Anywhere → ((text : List ℕ) → place ≢ places.After text)
-    → (found : Option IpAddr) → found ≡ finding.found_in place line → IfSome found (λ address. addresses_in filter line ≡ asked filter.mapped address ∷ [])
-only_found filter line (places.Field number separator) is all rest found e = of_one filter line (places.Field number separator) is (field_of number separator line) refl found e
-only_found filter line (places.Word number) is all rest found e = of_one filter line (places.Word number) is (slice_get (words_of line) (number - 1)) refl found e
-only_found filter line places.Anywhere is all rest found e = absurd (all refl)
-only_found filter line (places.After text) is all rest found e = absurd (rest text refl)
+pub only_found : (filter : Filter) (line : List ℕ) (area : Area) → filter.area ≡ area → area ≢ areas.Anywhere → ((text : List ℕ) → area ≢ areas.After text)
+    → (found : Option IpAddr) → found ≡ finding.found_in area line → IfSome found (λ address. addresses_in filter line ≡ asked filter.mapped address ∷ [])
+only_found filter line (areas.Field number separator) is all rest found e = of_one filter line (areas.Field number separator) is (field_of number separator line) refl found e
+only_found filter line (areas.Word number) is all rest found e = of_one filter line (areas.Word number) is (slice_get (words_of line) (number - 1)) refl found e
+only_found filter line areas.Anywhere is all rest found e = absurd (all refl)
+only_found filter line (areas.After text) is all rest found e = absurd (rest text refl)
 
 -- ---- whether a line is selected
 
@@ -58,14 +58,14 @@ module _ (filter : Filter) (line : List ℕ) (sets : Sets) (address : IpAddr) (s
   inside has = (
     short,
     subst (λ (l : List IpAddr). FirstListed filter l None) (sym only)
-        (inl (subst (λ (l : Listed). IsIn l address) (sym is) has, subst (λ (l : Listed). TellsBlock l address None) (sym is) refl)),
+        (inl (subst (λ (l : Matcher). IsIn l address) (sym is) has, subst (λ (l : Matcher). TellsBlock l address None) (sym is) refl)),
   )
 
   outside : ¬ (HasAddress sets address) → IsVerdict filter line verdicts.Outside
   outside none = (
     short,
     subst (λ (l : List IpAddr). IsVerdictOfAddresses filter l verdicts.Outside) (sym only)
-        (omega arith, ((λ h. none (subst (λ (l : Listed). IsIn l address) is h)), tt)),
+        (omega arith, ((λ h. none (subst (λ (l : Matcher). IsIn l address) is h)), tt)),
   )
 
   pub by_address : (is_in : Bool) → IsTrue is_in ↔ HasAddress sets address → IsSelectedByAddress filter line (not (beq is_in filter.inverts))

@@ -4,7 +4,7 @@ use Rattle.std.specs.Prelude.{nat_lt}
 use Rattle.std.proofs.lemmas.Bool.Decides.{nat_tests}
 use Rattle.cidr_filter.specs.Filters.{is_silent}
 use Rattle.cidr_filter.specs.Logs.{is_enough, NoLogs, GoesOn}
-use Rattle.cidr_filter.specs.declared.filter.Shown.{Shown}
+use Rattle.cidr_filter.specs.declared.filter.OutputMode.{OutputMode}
 use Rattle.log_programs.proofs.Lacking.{same_test}
 
 pub is_none : (count : ℕ) → nat_lt 0 count ≡ false → count ≡ 0
@@ -54,7 +54,7 @@ pub enough_same : (silent : Bool) (told count : ℕ) → told ≡ min count (2 ^
 enough_same silent told count e = ap (λ (b : Bool). silent && b) (same_test told count e)
 
 -- whether they are, as it was asked
-pub enough_as : (shown : Shown) (silent result was : Bool) (count : ℕ) → silent ≡ is_silent shown → result ≡ (silent && nat_lt 0 count) → result ≡ was → is_enough shown count ≡ was
+pub enough_as : (shown : OutputMode) (silent result was : Bool) (count : ℕ) → silent ≡ is_silent shown → result ≡ (silent && nat_lt 0 count) → result ≡ was → is_enough shown count ≡ was
 enough_as shown silent result was count e f g = ap (λ (b : Bool). b && nat_lt 0 count) (sym e) ∙ sym f ∙ g
 
 -- ---- what is true behind a log

@@ -8,7 +8,7 @@ use Rattle.cidr_filter.specs.Filters.{IsVerdict, output_of}
 use Rattle.cidr_filter.specs.Logs.{is_enough, GoesOn}
 use Rattle.cidr_filter.specs.Runs.{EndsLogs, StopsAtLog, most_of, shows_of, is_named, status_by, total_text}
 use Rattle.cidr_filter.specs.declared.filter.Filter.{Filter}
-use Rattle.cidr_filter.specs.declared.filter.Shown.TheVariants as shows
+use Rattle.cidr_filter.specs.declared.filter.OutputMode.TheVariants as shows
 use Rattle.cidr_filter.specs.declared.filter.Verdict.TheVariants as verdicts
 use Rattle.cidr_filter.specs.declared.filter.WithoutAddress.TheVariants as without
 use Rattle.options.specs.declared.items.Item.{Item}

@@ -14,27 +14,27 @@ use Rattle.lists.specs.declared.fault.LineFault.TheVariants.{Entry}
 use Rattle.line_addresses.specs.Fields.{field_of}
 use Rattle.cidr_filter.specs.Filters.{IsListed, IsVerdict, addresses_in, is_selected, is_refused, mark_of, shown_of, output_of}
 use Rattle.program.specs.LogLines.{LogLine, log_lines, ended_lines, content, printed}
-use Rattle.cidr_filter.specs.Listed.{IsStored, IsLongestBlock}
+use Rattle.cidr_filter.specs.Matcher.{IsStored, IsLongestBlock}
 use Rattle.program.specs.LogFaults.{log_fault_text}
 use Rattle.cidr_filter.specs.Logs.{label_of}
 use Rattle.cidr_filter.specs.Addressed.{closed_text, lacking_by}
 use Rattle.cidr_filter.specs.Runs.{status_by}
 use Rattle.options.specs.declared.items.Item.TheVariants as says
 use Rattle.lists.specs.declared.refusals.Refusal.{Refusal}
-use Rattle.program.specs.Told.{refusals_text}
-use Rattle.cidr_filter.specs.Told.{in_option}
+use Rattle.program.specs.Reported.{refusals_text}
+use Rattle.cidr_filter.specs.Reported.{in_option}
 use Rattle.cidr_filter.specs.declared.filter.WithoutAddress.{WithoutAddress}
 use Rattle.cidr_filter.specs.declared.filter.WithoutAddress.TheVariants as without
 use Rattle.cidr_filter.specs.declared.filter.Filter.{Filter}
-use Rattle.cidr_filter.specs.declared.filter.Shown.{Shown}
-use Rattle.cidr_filter.specs.declared.filter.Shown.TheVariants as shows
-use Rattle.line_addresses.specs.declared.place.Place.{Place}
-use Rattle.line_addresses.specs.declared.place.Place.TheVariants as places
+use Rattle.cidr_filter.specs.declared.filter.OutputMode.{OutputMode}
+use Rattle.cidr_filter.specs.declared.filter.OutputMode.TheVariants as shows
+use Rattle.line_addresses.specs.declared.area.Area.{Area}
+use Rattle.line_addresses.specs.declared.area.Area.TheVariants as areas
 use Rattle.cidr_filter.specs.declared.filter.Verdict.{Verdict}
 use Rattle.cidr_filter.specs.declared.filter.Verdict.TheVariants as verdicts
-use Rattle.cidr_filter.specs.declared.listed.Listed.TheVariants.{Addresses, Blocks}
-use Rattle.cidr_filter.specs.declared.listed.Sets.{Sets}
-use Rattle.cidr_filter.specs.declared.listed.Tables.{Tables}
+use Rattle.cidr_filter.specs.declared.matcher.Matcher.TheVariants.{Addresses, Blocks}
+use Rattle.cidr_filter.specs.declared.matcher.Sets.{Sets}
+use Rattle.cidr_filter.specs.declared.matcher.Tables.{Tables}
 use Rattle.program.specs.declared.log_fault.LogFault.TheVariants as faults
 use Rattle.lists.specs.declared.opening.OpenFault.TheVariants as causes
 
@@ -87,15 +87,15 @@ printed_with_an_end = refl
 -- ---- what a line is to a list
 
 abbrev pub by : Bool → WithoutAddress → Filter
-by inverts bad = record { listed = Addresses (record { v4 = []; v6 = [] }); place = places.Field 1 32; mapped = false; inverts = inverts; bad = bad; most = None; shows = shows.Lines; named = false; numbered = false; name = [] }
+by inverts bad = record { listed = Addresses (record { v4 = []; v6 = [] }); area = areas.Field 1 32; mapped = false; inverts = inverts; bad = bad; most = None; shows = shows.Lines; named = false; numbered = false; name = [] }
 
 -- one that only counts
 abbrev pub counting : WithoutAddress → Filter
 counting bad = record (by false bad) { shows = shows.Count }
 
 -- one that looks at this place
-abbrev pub looking : Place → Bool → Filter
-looking place mapped = record (by false without.Drop) { place = place; mapped = mapped }
+abbrev pub looking : Area → Bool → Filter
+looking area mapped = record (by false without.Drop) { area = area; mapped = mapped }
 
 pub line_inside : IsListed (by false without.Drop) (addresses.V4 0x0a000001) → IsVerdict (by false without.Drop) (codes "10.0.0.1 x") (verdicts.Inside None)
 unfolding address_of digits v6_of gap_below
@@ -110,34 +110,34 @@ unfolding address_of digits v6_of gap_below
 address_in_another_field = (omega arith, refl)
 
 -- the second word, behind two blanks
-pub address_in_a_word : addresses_in (looking (places.Word 2) false) (codes "a  10.0.0.1 b") ≡ addresses.V4 0x0a000001 ∷ []
+pub address_in_a_word : addresses_in (looking (areas.Word 2) false) (codes "a  10.0.0.1 b") ≡ addresses.V4 0x0a000001 ∷ []
 unfolding address_of digits v6_of gap_below
 address_in_a_word = refl
 
-pub addresses_anywhere : addresses_in (looking places.Anywhere false) (codes "a=10.0.0.1:80 [10.0.0.2]") ≡ addresses.V4 0x0a000001 ∷ addresses.V4 0x0a000002 ∷ []
+pub addresses_anywhere : addresses_in (looking areas.Anywhere false) (codes "a=10.0.0.1:80 [10.0.0.2]") ≡ addresses.V4 0x0a000001 ∷ addresses.V4 0x0a000002 ∷ []
 unfolding address_in before_port address_of digits v6_of gap_below
 addresses_anywhere = refl
 
--- only the first that follows the first place of a text
-pub address_after : addresses_in (looking (places.After (codes "SRC=")) false) (codes "DST=10.0.0.9 SRC=10.0.0.1 SRC=10.0.0.2") ≡ addresses.V4 0x0a000001 ∷ []
+-- only the first that follows the first position of a text
+pub address_after : addresses_in (looking (areas.After (codes "SRC=")) false) (codes "DST=10.0.0.9 SRC=10.0.0.1 SRC=10.0.0.2") ≡ addresses.V4 0x0a000001 ∷ []
 unfolding address_in before_port address_of digits v6_of gap_below
 address_after = refl
 
-pub no_text : addresses_in (looking (places.After (codes "SRC=")) false) (codes "DST=10.0.0.9") ≡ []
+pub no_text : addresses_in (looking (areas.After (codes "SRC=")) false) (codes "DST=10.0.0.9") ≡ []
 no_text = refl
 
 -- an IPv4-mapped address counts as its IPv4 one only if the option says so
-pub mapped_address : addresses_in (looking (places.Field 1 32) true) (codes "::ffff:10.0.0.1 x") ≡ addresses.V4 0x0a000001 ∷ []
+pub mapped_address : addresses_in (looking (areas.Field 1 32) true) (codes "::ffff:10.0.0.1 x") ≡ addresses.V4 0x0a000001 ∷ []
 unfolding address_of digits v6_of gap_below
 mapped_address = refl
 
-pub address_as_it_is : addresses_in (looking (places.Field 1 32) false) (codes "::ffff:10.0.0.1 x") ≡ addresses.V6 0xffff0a000001 ∷ []
+pub address_as_it_is : addresses_in (looking (areas.Field 1 32) false) (codes "::ffff:10.0.0.1 x") ≡ addresses.V6 0xffff0a000001 ∷ []
 unfolding address_of digits v6_of gap_below
 address_as_it_is = refl
 
 -- of two addresses the second is in the lists
-pub second_address_inside : ¬ (IsListed (looking places.Anywhere false) (addresses.V4 0x0a000001)) → IsListed (looking places.Anywhere false) (addresses.V4 0x0a000002)
-    → IsVerdict (looking places.Anywhere false) (codes "10.0.0.1 10.0.0.2") (verdicts.Inside None)
+pub second_address_inside : ¬ (IsListed (looking areas.Anywhere false) (addresses.V4 0x0a000001)) → IsListed (looking areas.Anywhere false) (addresses.V4 0x0a000002)
+    → IsVerdict (looking areas.Anywhere false) (codes "10.0.0.1 10.0.0.2") (verdicts.Inside None)
 unfolding address_in before_port address_of digits v6_of gap_below
 second_address_inside not listed = (omega arith, inr (not, inl (listed, refl)))
 
@@ -190,7 +190,7 @@ no_mark sets verdict = refl
 
 -- the line as it was stands behind what stands first and its mark, and a name or nothing in place of them
 pub what_is_shown : (tables : Tables) → let filter = record (by false without.Keep) { listed = Blocks tables; name = codes "log" } in
-    map (λ (shown : Shown). shown_of (record filter { shows = shown }) (codes "log:7:") verdicts.NoAddress (codes "a") (codes "a\r\n")) (shows.Lines ∷ shows.Count ∷ shows.Names ∷ shows.Nothing ∷ [])
+    map (λ (shown : OutputMode). shown_of (record filter { shows = shown }) (codes "log:7:") verdicts.NoAddress (codes "a") (codes "a\r\n")) (shows.Lines ∷ shows.Count ∷ shows.Names ∷ shows.Nothing ∷ [])
     ≡ codes "log:7:-\ta\r\n" ∷ [] ∷ codes "log\n" ∷ [] ∷ []
 what_is_shown tables = refl
 
@@ -218,7 +218,7 @@ no_log_named name = refl
 
 -- with `-o` only the addresses that are in the lists, whatever they are beside: 10.0.0.0/8 has the first and the third
 abbrev pub addresses_of_ten : Filter
-addresses_of_ten = record (looking places.Anywhere false) {
+addresses_of_ten = record (looking areas.Anywhere false) {
   listed = Addresses (record { v4 = record { address = 0x0a000000; prefix = 8 } ∷ []; v6 = [] });
   shows = shows.Addresses;
 }
@@ -243,12 +243,12 @@ a_refused_line = refl
 pub the_second_text : in_option (says.Value 9 (codes "x") ∷ says.Value 6 (codes "-e") ∷ says.Value 9 (codes "y") ∷ []) (record { list = 2; line = 1; fault = Entry Prefix }) ≡ (2, 2)
 the_second_text = refl
 
-pub what_is_told_of_it : {Z : Type 0} (one two again : String Z) (place : Refusal → ℕ × ℕ) → string_bytes again ≡ codes "-e"
-    → place (record { list = 2; line = 1; fault = Entry Prefix }) ≡ (2, 2)
-    → refusals_text (one ∷ two ∷ again ∷ []) place (record { kept = record { list = 2; line = 1; fault = Entry Prefix } ∷ []; more = 2 })
+pub what_is_told_of_it : {Z : Type 0} (one two again : String Z) (area : Refusal → ℕ × ℕ) → string_bytes again ≡ codes "-e"
+    → area (record { list = 2; line = 1; fault = Entry Prefix }) ≡ (2, 2)
+    → refusals_text (one ∷ two ∷ again ∷ []) area (record { kept = record { list = 2; line = 1; fault = Entry Prefix } ∷ []; more = 2 })
     ≡ codes "-e:2: refused prefix\n2 more refused lines\n"
 unfolding digits
-what_is_told_of_it one two again place a e = rw (e, a)
+what_is_told_of_it one two again area a e = rw (e, a)
 
 pub a_line_that_ends_the_run : log_fault_text (codes "log") 3 faults.Address ≡ codes "log:4: refused address\n"
 unfolding digits
@@ -264,17 +264,17 @@ a_log_that_is_missing = refl
 pub a_directory : closed_text (codes "log") causes.Directory ≡ codes "log: cannot open: is a directory\n"
 a_directory = refl
 
-pub a_field_without_addresses : lacking_by (places.Field 8 32) (codes "log") 2 false ≡ codes "cidr_filter: log: no line has an address in field 8\n"
+pub a_field_without_addresses : lacking_by (areas.Field 8 32) (codes "log") 2 false ≡ codes "cidr_filter: log: no line has an address in field 8\n"
 unfolding digits
 a_field_without_addresses = refl
 
-pub a_text_without_addresses : lacking_by (places.After (codes "SRC=")) (codes "log") 1 false ≡ codes "cidr_filter: log: no line has an address after SRC=\n"
+pub a_text_without_addresses : lacking_by (areas.After (codes "SRC=")) (codes "log") 1 false ≡ codes "cidr_filter: log: no line has an address after SRC=\n"
 a_text_without_addresses = refl
 
-pub a_log_with_an_address : lacking_by places.Anywhere (codes "log") 2 true ≡ []
+pub a_log_with_an_address : lacking_by areas.Anywhere (codes "log") 2 true ≡ []
 a_log_with_an_address = refl
 
-pub a_log_without_lines : lacking_by places.Anywhere (codes "log") 0 false ≡ []
+pub a_log_without_lines : lacking_by areas.Anywhere (codes "log") 0 false ≡ []
 a_log_without_lines = refl
 
 pub a_missed_log : status_by false true 3 ≡ 2

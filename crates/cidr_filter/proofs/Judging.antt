@@ -6,14 +6,14 @@ use Rattle.ipnetwork.specs.declared.ip_network.IpNetwork.{IpNetwork}
 use Rattle.ipnetwork_addr.specs.declared.ip.IpAddr.{IpAddr}
 use Rattle.line_addresses.specs.Addresses.{Spelled, address_of, with_text, addresses_of}
 use Rattle.line_addresses.specs.Following.{following}
-use Rattle.line_addresses.specs.Found.{IsNextAddress, spelled_at as spelled_at_place}
+use Rattle.line_addresses.specs.Found.{IsNextAddress, spelled_at as spelled_at_area}
 use Rattle.line_addresses.specs.Words.{words_of}
 use Rattle.line_addresses.specs.declared.found.Found.{Found}
 use Rattle.line_addresses.specs.Fields.{field_of}
 use Rattle.cidr_filter.specs.Filters.{IsListed, TellsBlock, asked, asked_of, of_part, of_rest, spelled_at, addresses_in, FirstListed, NoneListed, IsVerdictOfAddresses, IsVerdict}
 use Rattle.cidr_filter.specs.declared.filter.Filter.{Filter}
-use Rattle.line_addresses.specs.declared.place.Place.{Place}
-use Rattle.line_addresses.specs.declared.place.Place.TheVariants as places
+use Rattle.line_addresses.specs.declared.area.Area.{Area}
+use Rattle.line_addresses.specs.declared.area.Area.TheVariants as areas
 use Rattle.cidr_filter.specs.declared.filter.Verdict.{Verdict}
 use Rattle.cidr_filter.specs.declared.filter.Verdict.TheVariants as verdicts
 
@@ -84,32 +84,32 @@ module _ (filter : Filter) (part : List ℕ) where
 -- ---- a line, by where its addresses are looked for
 
 module _ (filter : Filter) (line : List ℕ) (verdict : Verdict) where
-  pub by_place : (place : Place) → filter.place ≡ place → IsVerdictOfAddresses filter (asked_of filter (spelled_at place line)) verdict → IsVerdictOfAddresses filter (asked_of filter (spelled_at filter.place line)) verdict
-  by_place place is h = subst (λ (q : Place). IsVerdictOfAddresses filter (asked_of filter (spelled_at q line)) verdict) (sym is) h
+  pub by_area : (area : Area) → filter.area ≡ area → IsVerdictOfAddresses filter (asked_of filter (spelled_at area line)) verdict → IsVerdictOfAddresses filter (asked_of filter (spelled_at filter.area line)) verdict
+  by_area area is h = subst (λ (q : Area). IsVerdictOfAddresses filter (asked_of filter (spelled_at q line)) verdict) (sym is) h
 
-  pub by_field : (number separator : ℕ) (part : Option (List ℕ)) → filter.place ≡ places.Field number separator → field_of number separator line ≡ part
-      → IsVerdictOfAddresses filter (asked_of filter (of_part part)) verdict → IsVerdictOfAddresses filter (asked_of filter (spelled_at filter.place line)) verdict
+  pub by_field : (number separator : ℕ) (part : Option (List ℕ)) → filter.area ≡ areas.Field number separator → field_of number separator line ≡ part
+      → IsVerdictOfAddresses filter (asked_of filter (of_part part)) verdict → IsVerdictOfAddresses filter (asked_of filter (spelled_at filter.area line)) verdict
   by_field number separator part is e h =
-      by_place (places.Field number separator) is (subst (λ (o : Option (List ℕ)). IsVerdictOfAddresses filter (asked_of filter (of_part o)) verdict) (sym e) h)
+      by_area (areas.Field number separator) is (subst (λ (o : Option (List ℕ)). IsVerdictOfAddresses filter (asked_of filter (of_part o)) verdict) (sym e) h)
 
-  pub by_word : (number : ℕ) (part : Option (List ℕ)) → filter.place ≡ places.Word number → slice_get (words_of line) (number - 1) ≡ part
-      → IsVerdictOfAddresses filter (asked_of filter (of_part part)) verdict → IsVerdictOfAddresses filter (asked_of filter (spelled_at filter.place line)) verdict
+  pub by_word : (number : ℕ) (part : Option (List ℕ)) → filter.area ≡ areas.Word number → slice_get (words_of line) (number - 1) ≡ part
+      → IsVerdictOfAddresses filter (asked_of filter (of_part part)) verdict → IsVerdictOfAddresses filter (asked_of filter (spelled_at filter.area line)) verdict
   by_word number part is e h =
-      by_place (places.Word number) is (subst (λ (o : Option (List ℕ)). IsVerdictOfAddresses filter (asked_of filter (of_part o)) verdict) (sym e) h)
+      by_area (areas.Word number) is (subst (λ (o : Option (List ℕ)). IsVerdictOfAddresses filter (asked_of filter (of_part o)) verdict) (sym e) h)
 
-  pub anywhere : filter.place ≡ places.Anywhere → IsVerdictOfAddresses filter (asked_of filter (addresses_of line)) verdict → IsVerdictOfAddresses filter (asked_of filter (spelled_at filter.place line)) verdict
-  anywhere is h = by_place places.Anywhere is h
+  pub anywhere : filter.area ≡ areas.Anywhere → IsVerdictOfAddresses filter (asked_of filter (addresses_of line)) verdict → IsVerdictOfAddresses filter (asked_of filter (spelled_at filter.area line)) verdict
+  anywhere is h = by_area areas.Anywhere is h
 
 module _ (filter : Filter) (line : List ℕ) (verdict : Verdict) where
-  pub by_text : (text : List ℕ) (rest : Option (List ℕ)) → filter.place ≡ places.After text → following text line ≡ rest
-      → IsVerdictOfAddresses filter (asked_of filter (of_rest rest)) verdict → IsVerdictOfAddresses filter (asked_of filter (spelled_at filter.place line)) verdict
+  pub by_text : (text : List ℕ) (rest : Option (List ℕ)) → filter.area ≡ areas.After text → following text line ≡ rest
+      → IsVerdictOfAddresses filter (asked_of filter (of_rest rest)) verdict → IsVerdictOfAddresses filter (asked_of filter (spelled_at filter.area line)) verdict
   by_text text rest is e h =
-      by_place filter line verdict (places.After text) is (subst (λ (o : Option (List ℕ)). IsVerdictOfAddresses filter (asked_of filter (of_rest o)) verdict) (sym e) h)
+      by_area filter line verdict (areas.After text) is (subst (λ (o : Option (List ℕ)). IsVerdictOfAddresses filter (asked_of filter (of_rest o)) verdict) (sym e) h)
 
 -- ---- the first address of a rest
 
 module _ (filter : Filter) (rest : List ℕ) (found : Found) (next : IsNextAddress rest 0 found) where
-  first_is : of_rest (Some rest) ≡ spelled_at_place rest found ∷ []
+  first_is : of_rest (Some rest) ≡ spelled_at_area rest found ∷ []
   first_is = ap (take 1) next.first
 
   pub first_inside : (told : Option IpNetwork) → IsListed filter (asked filter.mapped found.address) → TellsBlock filter.listed (asked filter.mapped found.address) told

@@ -22,6 +22,6 @@ pub mod Spent
 pub mod Stopping
 pub mod Tables
 pub mod Texts
-pub mod Told
+pub mod Reported
 pub mod UsageExamples
 pub mod WholeLines

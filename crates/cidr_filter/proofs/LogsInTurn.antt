@@ -5,8 +5,8 @@ use Rattle.std.specs.Io.KnownBytes.{Consumes, IsAtEnd}
 use Rattle.lines.specs.Outputs.{Written}
 use Rattle.lines.proofs.Putting.{puts_nothing, puts_more}
 use Rattle.lists.specs.KnownLists.{KnownLists}
-use Rattle.program.specs.Messages.{Tells}
-use Rattle.program.proofs.Told.{tells_more, tells_nothing, tells_same}
+use Rattle.program.specs.Messages.{Reports}
+use Rattle.program.proofs.Reported.{tells_more, tells_nothing, tells_same}
 use Rattle.cidr_filter.specs.Addressed.{any_addressed, lacking_by, lacking_text, closed_text}
 use Rattle.program.proofs.Counts.{counts_more, counts_none, counts_from_none}
 use Rattle.program.proofs.LogNames.{all_of, first_of}
@@ -34,7 +34,7 @@ module _ (filter : Filter) (known : KnownLists) where
   module _ (name : List ℕ) (remained remains : Option (List ℕ)) (has : (input : List ℕ) → known.bytes_of name ≡ Some input → remained ≡ Some input) (opened : known.may_open name true) where
     -- a log that was filtered to its end
     pub name_ended : {E : Type 0} (old new : Stand) (errors told : Written E) → Ends (filter_for filter name) remained remains (record old { lines = 0; addressed = false }) new
-        → Tells errors told (lacking_by filter.place name new.lines new.addressed) → FiltersNames filter known (name ∷ []) false old new errors told
+        → Reports errors told (lacking_by filter.area name new.lines new.addressed) → FiltersNames filter known (name ∷ []) false old new errors told
     name_ended old new errors told ends tells =
         let lines = log_lines ends.read in
         let text = lacking_text filter name lines in
@@ -58,8 +58,8 @@ module _ (filter : Filter) (known : KnownLists) where
             sym (append-nil text),
             refl,
           );
-          tells = tells_same errors told (lacking_by filter.place name new.lines new.addressed) text
-              (lacking_same (codes "cidr_filter") filter.place name new.lines (length lines) new.addressed (any_addressed filter lines) (counts_from_none 0 new.lines (length lines) refl ends.is_done.goes.2) ends.is_done.addressed) tells;
+          tells = tells_same errors told (lacking_by filter.area name new.lines new.addressed) text
+              (lacking_same (codes "cidr_filter") filter.area name new.lines (length lines) new.addressed (any_addressed filter lines) (counts_from_none 0 new.lines (length lines) refl ends.is_done.goes.2) ends.is_done.addressed) tells;
           puts = ends.is_done.goes.0;
           counted = ends.is_done.goes.1;
         }
@@ -118,7 +118,7 @@ module _ (filter : Filter) (known : KnownLists) where
     }
 
   -- a log that was not opened
-  pub name_missed : {E : Type 0} (name : List ℕ) (fault : OpenFault) (old : Stand) (errors told : Written E) → known.may_open name false → known.may_miss name fault → Tells errors told (closed_text name fault)
+  pub name_missed : {E : Type 0} (name : List ℕ) (fault : OpenFault) (old : Stand) (errors told : Written E) → known.may_open name false → known.may_miss name fault → Reports errors told (closed_text name fault)
       → FiltersNames filter known (name ∷ []) true old (record old { lines = 0; addressed = false }) errors told
   name_missed name fault old errors told closed missed tells = record {
     output = [];

@@ -6,11 +6,11 @@ use Rattle.ipnetwork_addr.specs.Computed.Ipv6Text.{v6_of, gap_below}
 use Rattle.line_addresses.specs.Addresses.{address_of, before_port, address_in}
 use Rattle.cidr_filter.specs.Filters.{IsVerdict, number_head, output_of, Filters}
 use Rattle.cidr_filter.specs.declared.filter.Filter.{Filter}
-use Rattle.cidr_filter.specs.declared.filter.Shown.TheVariants as shows
+use Rattle.cidr_filter.specs.declared.filter.OutputMode.TheVariants as shows
 use Rattle.cidr_filter.specs.declared.filter.Verdict.TheVariants as verdicts
 use Rattle.cidr_filter.specs.declared.filter.WithoutAddress.TheVariants as without
-use Rattle.cidr_filter.specs.declared.listed.Listed.TheVariants.{Blocks}
-use Rattle.cidr_filter.specs.declared.listed.Tables.{Tables}
+use Rattle.cidr_filter.specs.declared.matcher.Matcher.TheVariants.{Blocks}
+use Rattle.cidr_filter.specs.declared.matcher.Tables.{Tables}
 use Rattle.cidr_filter.proofs.Examples.{ended, by, addresses_of_ten}
 
 abbrev numbering : Filter

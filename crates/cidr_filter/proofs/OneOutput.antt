@@ -9,11 +9,11 @@ use Rattle.cidr_filter.specs.Filters.{TellsBlock, addresses_in, FirstListed, Non
 use Rattle.cidr_filter.specs.Laws.{LinesHaveOneVerdict, LogsHaveOneOutput}
 use Rattle.program.specs.LogLines.{LogLine, log_lines}
 use Rattle.cidr_filter.specs.declared.filter.Filter.{Filter}
-use Rattle.cidr_filter.specs.Listed.{IsLongestBlock}
+use Rattle.cidr_filter.specs.Matcher.{IsLongestBlock}
 use Rattle.cidr_filter.specs.declared.filter.Verdict.TheVariants as verdicts
-use Rattle.cidr_filter.specs.declared.listed.Listed.{Listed}
-use Rattle.cidr_filter.specs.declared.listed.Listed.TheVariants.{Addresses, Blocks}
-use Rattle.cidr_filter.specs.declared.listed.Tables.{Tables}
+use Rattle.cidr_filter.specs.declared.matcher.Matcher.{Matcher}
+use Rattle.cidr_filter.specs.declared.matcher.Matcher.TheVariants.{Addresses, Blocks}
+use Rattle.cidr_filter.specs.declared.matcher.Tables.{Tables}
 
 -- one address has one longest block
 same_block : BlocksOfAnyWidthThatMeet → (tables : Tables) (address : IpAddr) (m n : IpNetwork) → IsLongestBlock tables address m → IsLongestBlock tables address n → m ≡ n
@@ -27,7 +27,7 @@ same_block meet tables (addresses.V6 a) (networks.V6 m) (networks.V6 n) p q =
     ap networks.V6 (meet 128 m n a p.is_block q.is_block (omega (arith, p.longest (networks.V6 n) q.stored q.holds, q.longest (networks.V6 m) p.stored p.holds)) p.holds q.holds)
 
 -- and of one address one thing is told
-same_told : BlocksOfAnyWidthThatMeet → (listed : Listed) (address : IpAddr) (a b : Option IpNetwork) → TellsBlock listed address a → TellsBlock listed address b → a ≡ b
+same_told : BlocksOfAnyWidthThatMeet → (listed : Matcher) (address : IpAddr) (a b : Option IpNetwork) → TellsBlock listed address a → TellsBlock listed address b → a ≡ b
 same_told meet (Addresses sets) address a b p q = p ∙ sym q
 same_told meet (Blocks tables) address a b p q = p.1 ∙ ap Some (same_block meet tables address p.0 q.0 p.2 q.2) ∙ sym q.1
 

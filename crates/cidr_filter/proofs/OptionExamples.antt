@@ -1,7 +1,7 @@
 -- Options and FILEs at which a misreading of the definitions would show.
 use Rattle.std.proofs.Common.{◌≡◌, ℕ, List, [], ◌∷◌, map, true, false, refl}
 use Rattle.std.specs.Prelude.{codes, Some, None, bytes_eq}
-use Rattle.log_programs.specs.Places.{place_of}
+use Rattle.log_programs.specs.Areas.{area_of}
 use Rattle.options.specs.Faults.{is_read_once}
 use Rattle.options.specs.Given.{value_of, files_of, inputs_of}
 use Rattle.options.specs.Items.{free_items, free_mode, word_items}
@@ -9,7 +9,7 @@ use Rattle.options.specs.declared.items.Item.TheVariants as says
 use Rattle.options.specs.declared.items.Mode.TheVariants as modes
 use Rattle.options.specs.declared.table.Row.{Row}
 use Rattle.options.proofs.Tables.{rows_of}
-use Rattle.line_addresses.specs.declared.place.Place.TheVariants as places
+use Rattle.line_addresses.specs.declared.area.Area.TheVariants as areas
 use Rattle.cidr_filter.specs.Options.{entries, bad_in}
 use Rattle.cidr_filter.specs.declared.filter.WithoutAddress.TheVariants as without
 
@@ -83,6 +83,6 @@ bad_words = refl
 -- ---- where addresses are looked for
 
 -- without options in the first field, at single spaces
-pub places_of : map place_of ([] ∷ (says.Flag 1 ∷ says.Value 2 (codes "3") ∷ []) ∷ (says.Flag 0 ∷ []) ∷ (says.Value 4 (codes "SRC=") ∷ []) ∷ (says.Value 2 (codes "3") ∷ says.Value 3 (codes ",") ∷ []) ∷ [])
-    ≡ places.Field 1 32 ∷ places.Word 3 ∷ places.Anywhere ∷ places.After (codes "SRC=") ∷ places.Field 3 44 ∷ []
-places_of = refl
+pub areas_of : map area_of ([] ∷ (says.Flag 1 ∷ says.Value 2 (codes "3") ∷ []) ∷ (says.Flag 0 ∷ []) ∷ (says.Value 4 (codes "SRC=") ∷ []) ∷ (says.Value 2 (codes "3") ∷ says.Value 3 (codes ",") ∷ []) ∷ [])
+    ≡ areas.Field 1 32 ∷ areas.Word 3 ∷ areas.Anywhere ∷ areas.After (codes "SRC=") ∷ areas.Field 3 44 ∷ []
+areas_of = refl

@@ -7,7 +7,7 @@ use Rattle.ipnetwork_addr.specs.Computed.Ipv6Text.{v6_of, gap_below}
 use Rattle.line_addresses.specs.Addresses.{address_of}
 use Rattle.lists.specs.Lists.{ReadLists, at_list, TakesLines}
 use Rattle.lists.specs.KnownLists.{KnownLists}
-use Rattle.program.specs.Told.{was_refused}
+use Rattle.program.specs.Reported.{was_refused}
 use Rattle.cidr_filter.specs.Filters.{IsVerdict, is_count}
 use Rattle.program.specs.LogFaults.{log_fault_text, Wrote}
 use Rattle.program.specs.Logs.{HaltsBy, IsAllOf, IsFirstOf}
@@ -21,7 +21,7 @@ use Rattle.cidr_filter.specs.Runs.{total_text, EndsLogs, EndsFiltering, filter_o
 use Rattle.cidr_filter.specs.declared.filter.Filter.{Filter}
 use Rattle.cidr_filter.specs.declared.filter.WithoutAddress.TheVariants as without
 use Rattle.cidr_filter.specs.declared.filter.Verdict.TheVariants as verdicts
-use Rattle.cidr_filter.specs.declared.listed.Listed.{Listed}
+use Rattle.cidr_filter.specs.declared.matcher.Matcher.{Matcher}
 use Rattle.program.specs.declared.log_fault.LogFault.{LogFault}
 use Rattle.program.specs.declared.log_fault.LogFault.TheVariants as faults
 use Rattle.lists.specs.declared.opening.OpenFault.TheVariants as causes
@@ -48,7 +48,7 @@ no_number = refl
 -- without a refused line a run is not silent: there is no memory, or the logs are filtered
 pub not_silent : {W E : Type 0} (known : KnownLists) (items : List Item) (read : ReadLists) (end : Ending W E) → was_refused read.refused ≡ false → EndsFiltering known items read end
     → Refuses (codes "out of memory\n") end
-    ⊎ ((listed : Listed) × HoldsRead (is_given items 11) read listed × EndsLogs (filter_of items listed) known (inputs_of items) end)
+    ⊎ ((listed : Matcher) × HoldsRead (is_given items 11) read listed × EndsLogs (filter_of items listed) known (inputs_of items) end)
 not_silent known items read end none (inl ends) = absurd (true≢false (sym ends.0 ∙ none))
 not_silent known items read end none (inr ends) = ends.1
 

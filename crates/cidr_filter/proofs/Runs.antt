@@ -8,9 +8,9 @@ use Rattle.lists.specs.Lists.{nothing_read}
 use Rattle.lists.specs.Refusals.{Refused, no_refusals}
 use Rattle.lines.specs.Outputs.{Written, Puts, AppendsBeginning, Writes, FailsIn}
 use Rattle.lines.proofs.Putting.{begins_after_puts}
-use Rattle.program.proofs.Told.{tells_same, tells_more}
+use Rattle.program.proofs.Reported.{tells_same, tells_more}
 use Rattle.program.specs.Endings.{Ending, ending, Refuses, HasTold, HasWritten, status_of, end_text}
-use Rattle.program.specs.Messages.{Tells}
+use Rattle.program.specs.Messages.{Reports}
 use Rattle.lists.specs.KnownLists.{KnownLists}
 use Rattle.cidr_filter.specs.Filters.{Filters, is_count, is_silent}
 use Rattle.program.specs.LogLines.{LogLine}
@@ -23,14 +23,14 @@ use Rattle.cidr_filter.specs.Options as own
 use Rattle.cidr_filter.specs.Runs.{StopsAtLog, total_text, status_by, EndsWith, FiltersAll, EndsLogs, filter_of, EndsReading}
 use Rattle.cidr_filter.specs.Stands.{Stand, stand}
 use Rattle.cidr_filter.specs.Stops.{FiltersLines, WritesBeginning}
-use Rattle.program.specs.Told.{was_refused, fault_text, refusals_text}
-use Rattle.cidr_filter.specs.Told.{in_option}
+use Rattle.program.specs.Reported.{was_refused, fault_text, refusals_text}
+use Rattle.cidr_filter.specs.Reported.{in_option}
 use Rattle.cidr_filter.specs.Private.Reading.{ReadsAll}
 use Rattle.cidr_filter.specs.Private.Runs.{FiltersNames}
 use Rattle.options.specs.Given.{is_given, inputs_of}
 use Rattle.options.specs.declared.items.Item.{Item}
 use Rattle.cidr_filter.specs.declared.filter.Filter.{Filter}
-use Rattle.cidr_filter.specs.declared.listed.Listed.{Listed}
+use Rattle.cidr_filter.specs.declared.matcher.Matcher.{Matcher}
 use Rattle.program.specs.declared.log_fault.LogFault.{LogFault}
 use Rattle.program.specs.declared.log_fault.LogFault.TheVariants as faults
 use Rattle.cidr_filter.specs.declared.log.Tally.{Tally}
@@ -188,11 +188,11 @@ total_same false told count e = refl
 module _ {W E T F : Type 0} (filter : Filter) (known : KnownLists) (names : List (List ℕ)) (missed : Bool) (end : Ending W E) (mid : Written W) (between : Written E) (told : ℕ) where
   -- what waits was written, or the writer failed
   ended : (written : Result T F) (status : ℕ) (output : List ℕ) (count : ℕ) (texts : List ℕ) → told ≡ min count (2 ^ 64 - 1)
-      → Puts end.output.holds end.output.waits mid.holds mid.waits output → Tells end.errors between texts
+      → Puts end.output.holds end.output.waits mid.holds mid.waits output → Reports end.errors between texts
       → OnOk written (Writes mid end.output_after (total_text (is_count filter.shows) told))
       → OnErr written (FailsIn mid end.output_after (total_text (is_count filter.shows) told))
       → end.output_after.failed ≡ (mid.failed || is_err written) → status ≡ status_by (is_enough filter.shows told) missed told → end.status ≡ status_of written status
-      → Tells between end.errors_after (end_text written) → EndsWith filter output count texts missed end
+      → Reports between end.errors_after (end_text written) → EndsWith filter output count texts missed end
   ended (Ok done) status output count texts counted puts tells ok err failed st two last = inl (
     puts_then_all _ _ _ _ _ output (total_text (is_count filter.shows) count) puts
         (subst (λ t. Writes mid end.output_after t) (total_same (is_count filter.shows) told count counted) ok),
@@ -214,7 +214,7 @@ module _ {W E T F : Type 0} (filter : Filter) (known : KnownLists) (names : List
       → OnOk written (Writes mid end.output_after (total_text (is_count filter.shows) told))
       → OnErr written (FailsIn mid end.output_after (total_text (is_count filter.shows) told))
       → end.output_after.failed ≡ (mid.failed || is_err written) → status ≡ status_by (is_enough filter.shows told) missed told → end.status ≡ status_of written status
-      → Tells between end.errors_after (end_text written) → FiltersAll filter known names end
+      → Reports between end.errors_after (end_text written) → FiltersAll filter known names end
   all_ended written status old now none same f ok err failed st two tells = record {
     output = f.output;
     selected = f.count;
@@ -264,14 +264,14 @@ nothing_told counts number e = ap (λ b. if b then decimal (min number (2 ^ 64 -
 -- ---- the run
 
 module _ {Z W E : Type 0} (known : KnownLists) (items : List Item) (names : List (String Z)) (refused : Refused) (end : Ending W E) (told : Written E)
-    (tells : Tells end.errors told (refusals_text names (in_option items) refused)) where
+    (tells : Reports end.errors told (refusals_text names (in_option items) refused)) where
   -- the reading stopped
   pub reading_stopped : {T : Type 0} (result : Result T ReadFault) (fault : ReadFault) → result ≡ Err fault → IfErr result (λ f. StopsAtItems known 0 items (nothing_read no_refusals) f refused)
       → Refuses (fault_text names fault) (record end { errors = told }) → EndsReading known items names end
   reading_stopped {T} result fault is stops h =
       (refused, told, tells, inl (fault, subst (λ (r : Result T ReadFault). IfErr r (λ f. StopsAtItems known 0 items (nothing_read no_refusals) f refused)) is stops, h))
 
-  module _ {T F X : Type 0} (result : Result T F) (done : T) (listed : Result Listed X) (is : result ≡ Ok done) (all : OnOk result (ReadsAll known items (is_given items own.longest) listed refused)) where
+  module _ {T F X : Type 0} (result : Result T F) (done : T) (listed : Result Matcher X) (is : result ≡ Ok done) (all : OnOk result (ReadsAll known items (is_given items own.longest) listed refused)) where
     was_read : ReadsAll known items (is_given items own.longest) listed refused
     was_read = subst (λ (r : Result T F). OnOk r (ReadsAll known items (is_given items own.longest) listed refused)) is all
 
@@ -286,7 +286,7 @@ module _ {Z W E : Type 0} (known : KnownLists) (items : List Item) (names : List
 
     module _ (is_empty : Bool) (e : is_empty ≡ (length refused.kept == 0)) (none : is_empty ≡ true) where
       -- none was, and the filtering ended so
-      goes_on : Refuses (codes "out of memory\n") (record end { errors = told }) ⊎ ((held : Listed) × HoldsRead (is_given items own.longest) was_read.read held
+      goes_on : Refuses (codes "out of memory\n") (record end { errors = told }) ⊎ ((held : Matcher) × HoldsRead (is_given items own.longest) was_read.read held
           × EndsLogs (filter_of items held) known (inputs_of items) (record end { errors = told })) → EndsReading known items names end
       goes_on h = (
         refused,
@@ -298,9 +298,9 @@ module _ {Z W E : Type 0} (known : KnownLists) (items : List Item) (names : List
       pub memory_ran_out : Refuses (codes "out of memory\n") (record end { errors = told }) → EndsReading known items names end
       memory_ran_out h = goes_on (inl h)
 
-      pub logs_filtered : (held : Listed) → listed ≡ Ok held → EndsLogs (filter_of items held) known (inputs_of items) (record end { errors = told })
+      pub logs_filtered : (held : Matcher) → listed ≡ Ok held → EndsLogs (filter_of items held) known (inputs_of items) (record end { errors = told })
           → EndsReading known items names end
-      logs_filtered held has h = goes_on (inr (held, subst (λ (l : Result Listed X). IfOk l (HoldsRead (is_given items own.longest) was_read.read)) has was_read.holds, h))
+      logs_filtered held has h = goes_on (inr (held, subst (λ (l : Result Matcher X). IfOk l (HoldsRead (is_given items own.longest) was_read.read)) has was_read.holds, h))
 
 -- how all logs ended
 pub all_by : {W E T F : Type 0} (filter : Filter) (known : KnownLists) (names : List (List ℕ)) (missed : Bool)
@@ -310,7 +310,7 @@ pub all_by : {W E T F : Type 0} (filter : Filter) (known : KnownLists) (names : 
     → OnOk written (Writes mid after (total_text counts told))
     → OnErr written (FailsIn mid after (total_text counts told))
     → after.failed ≡ (mid.failed || is_err written) → wanted ≡ status_by (is_enough filter.shows told) missed told → status ≡ status_of written wanted
-    → Tells between told_errors (end_text written)
+    → Reports between told_errors (end_text written)
     → FiltersAll filter known names (ending output after errors told_errors status)
 all_by filter known names missed output mid after errors between told_errors status told counts written wanted old now none is f e ok err failed st two text =
     all_ended filter known names missed (ending output after errors told_errors status) mid between told written wanted old now none is f

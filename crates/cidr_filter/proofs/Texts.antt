@@ -14,7 +14,7 @@ use Rattle.line_addresses.specs.declared.found.Found.{Found}
 use Rattle.line_addresses.specs.Fields.{field_of}
 use Rattle.cidr_filter.specs.Filters.{text_of, texts_of, of_part, of_rest, spelled_at}
 use Rattle.cidr_filter.specs.declared.filter.Filter.{Filter}
-use Rattle.line_addresses.specs.declared.place.Place.TheVariants as places
+use Rattle.line_addresses.specs.declared.area.Area.TheVariants as areas
 
 -- the text of the next address, and those after it
 pub next_text : (filter : Filter) (head line : List ℕ) (at : ℕ) (found : Found) → IsNextAddress line at found
@@ -42,19 +42,19 @@ all_put filter head line at held holds waited waits done p e none =
 -- ---- what is printed, by where addresses are looked for
 
 module _ (filter : Filter) (head line : List ℕ) where
-  pub of_field : (number separator : ℕ) (part : Option (List ℕ)) → filter.place ≡ places.Field number separator → field_of number separator line ≡ part
-      → texts_of filter head (of_part part) ≡ texts_of filter head (spelled_at filter.place line)
+  pub of_field : (number separator : ℕ) (part : Option (List ℕ)) → filter.area ≡ areas.Field number separator → field_of number separator line ≡ part
+      → texts_of filter head (of_part part) ≡ texts_of filter head (spelled_at filter.area line)
   of_field number separator part is e = sym (ap (λ p. texts_of filter head (spelled_at p line)) is ∙ ap (λ o. texts_of filter head (of_part o)) e)
 
-  pub of_word : (number : ℕ) (part : Option (List ℕ)) → filter.place ≡ places.Word number → slice_get (words_of line) (number - 1) ≡ part
-      → texts_of filter head (of_part part) ≡ texts_of filter head (spelled_at filter.place line)
+  pub of_word : (number : ℕ) (part : Option (List ℕ)) → filter.area ≡ areas.Word number → slice_get (words_of line) (number - 1) ≡ part
+      → texts_of filter head (of_part part) ≡ texts_of filter head (spelled_at filter.area line)
   of_word number part is e = sym (ap (λ p. texts_of filter head (spelled_at p line)) is ∙ ap (λ o. texts_of filter head (of_part o)) e)
 
-  pub of_text : (text : List ℕ) (rest : Option (List ℕ)) → filter.place ≡ places.After text → following text line ≡ rest
-      → texts_of filter head (of_rest rest) ≡ texts_of filter head (spelled_at filter.place line)
+  pub of_text : (text : List ℕ) (rest : Option (List ℕ)) → filter.area ≡ areas.After text → following text line ≡ rest
+      → texts_of filter head (of_rest rest) ≡ texts_of filter head (spelled_at filter.area line)
   of_text text rest is e = sym (ap (λ p. texts_of filter head (spelled_at p line)) is ∙ ap (λ o. texts_of filter head (of_rest o)) e)
 
-  pub of_all : filter.place ≡ places.Anywhere → texts_of filter head (addresses_of line) ≡ texts_of filter head (spelled_at filter.place line)
+  pub of_all : filter.area ≡ areas.Anywhere → texts_of filter head (addresses_of line) ≡ texts_of filter head (spelled_at filter.area line)
   of_all is = sym (ap (λ p. texts_of filter head (spelled_at p line)) is)
 
 -- a part, and the first address of a rest

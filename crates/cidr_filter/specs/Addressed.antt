@@ -5,7 +5,7 @@ use Rattle.cidr_filter.specs.Filters.{addresses_in}
 use Rattle.program.specs.LogLines.{LogLine, content}
 use Rattle.log_programs.specs.Lacking.{lacking_told}
 use Rattle.cidr_filter.specs.declared.filter.Filter.{Filter}
-use Rattle.line_addresses.specs.declared.place.Place.{Place}
+use Rattle.line_addresses.specs.declared.area.Area.{Area}
 use Rattle.cidr_filter.specs.declared.filter.Verdict.{Verdict}
 use Rattle.cidr_filter.specs.declared.filter.Verdict.TheVariants as verdicts
 use Rattle.lists.specs.Opening.{open_fault_text}
@@ -28,11 +28,11 @@ is_addressed_by verdicts.NoAddress = false
 is_addressed_by verdicts.TooLong = false
 
 -- what is reported of a log of this name with lines, as many as this, if none has one
-abbrev pub lacking_by : Place → List ℕ → ℕ → Bool → List ℕ
-lacking_by place name lines addressed = lacking_told (codes "cidr_filter") place name lines addressed
+abbrev pub lacking_by : Area → List ℕ → ℕ → Bool → List ℕ
+lacking_by area name lines addressed = lacking_told (codes "cidr_filter") area name lines addressed
 
 abbrev pub lacking_text : Filter → List ℕ → List LogLine → List ℕ
-lacking_text filter name lines = lacking_by filter.place name (length lines) (any_addressed filter lines)
+lacking_text filter name lines = lacking_by filter.area name (length lines) (any_addressed filter lines)
 
 -- what is reported of a log of this name that cannot be opened
 abbrev pub closed_text : List ℕ → OpenFault → List ℕ

@@ -13,25 +13,25 @@ use Rattle.line_addresses.specs.Mapped.{unmapped}
 use Rattle.line_addresses.specs.Words.{words_of}
 use Rattle.line_addresses.specs.Fields.{field_of}
 use Rattle.program.specs.LogLines.{LogLine, content, printed, IsWhole}
-use Rattle.cidr_filter.specs.Listed.{IsIn, IsLongestBlock, has_address}
+use Rattle.cidr_filter.specs.Matcher.{IsIn, IsLongestBlock, has_address}
 use Rattle.cidr_filter.specs.declared.filter.WithoutAddress.{WithoutAddress}
 use Rattle.cidr_filter.specs.declared.filter.WithoutAddress.TheVariants as without
 use Rattle.cidr_filter.specs.declared.filter.Filter.{Filter}
-use Rattle.cidr_filter.specs.declared.filter.Shown.{Shown}
-use Rattle.cidr_filter.specs.declared.filter.Shown.TheVariants as shows
-use Rattle.line_addresses.specs.declared.place.Place.{Place}
-use Rattle.line_addresses.specs.declared.place.Place.TheVariants as places
+use Rattle.cidr_filter.specs.declared.filter.OutputMode.{OutputMode}
+use Rattle.cidr_filter.specs.declared.filter.OutputMode.TheVariants as shows
+use Rattle.line_addresses.specs.declared.area.Area.{Area}
+use Rattle.line_addresses.specs.declared.area.Area.TheVariants as areas
 use Rattle.cidr_filter.specs.declared.filter.Verdict.{Verdict}
 use Rattle.cidr_filter.specs.declared.filter.Verdict.TheVariants as verdicts
-use Rattle.cidr_filter.specs.declared.listed.Listed.{Listed}
-use Rattle.cidr_filter.specs.declared.listed.Listed.TheVariants.{Addresses, Blocks}
+use Rattle.cidr_filter.specs.declared.matcher.Matcher.{Matcher}
+use Rattle.cidr_filter.specs.declared.matcher.Matcher.TheVariants.{Addresses, Blocks}
 
 -- an address of the lists
 abbrev pub IsListed : Filter → IpAddr → Type 0
 IsListed filter address = IsIn filter.listed address
 
 -- what the lists say about an address of theirs: nothing, or the longest block that holds it
-abbrev pub TellsBlock : Listed → IpAddr → Option IpNetwork → Type 0
+abbrev pub TellsBlock : Matcher → IpAddr → Option IpNetwork → Type 0
 TellsBlock (Addresses sets) address told = told ≡ None
 TellsBlock (Blocks tables) address told = (block : IpNetwork) × (told ≡ Some block)
     × IsLongestBlock tables address block
@@ -47,12 +47,12 @@ of_rest None = []
 of_rest (Some rest) = take 1 (addresses_of rest)
 
 -- the addresses of a line, in order: that of a field or of a word, or all that stand anywhere in it, or the first of
--- what follows the first place of a text
-abbrev pub spelled_at : Place → List ℕ → List Spelled
-spelled_at (places.Field number separator) line = of_part (field_of number separator line)
-spelled_at (places.Word number) line = of_part (slice_get (words_of line) (number - 1))
-spelled_at places.Anywhere line = addresses_of line
-spelled_at (places.After text) line = of_rest (following text line)
+-- what follows the first position of a text
+abbrev pub spelled_at : Area → List ℕ → List Spelled
+spelled_at (areas.Field number separator) line = of_part (field_of number separator line)
+spelled_at (areas.Word number) line = of_part (slice_get (words_of line) (number - 1))
+spelled_at areas.Anywhere line = addresses_of line
+spelled_at (areas.After text) line = of_rest (following text line)
 
 -- the address for which the lists are asked: of an IPv4-mapped one its IPv4 one, if the option says so
 abbrev pub asked : Bool → IpAddr → IpAddr
@@ -63,7 +63,7 @@ abbrev pub asked_of : Filter → List Spelled → List IpAddr
 asked_of filter found = map (λ one. asked filter.mapped one.address) found
 
 abbrev pub addresses_in : Filter → List ℕ → List IpAddr
-addresses_in filter line = asked_of filter (spelled_at filter.place line)
+addresses_in filter line = asked_of filter (spelled_at filter.area line)
 
 -- one of these addresses is in the lists, and this is what they say about the first that is
 abbrev pub FirstListed : Filter → List IpAddr → Option IpNetwork → Type 0
@@ -135,13 +135,13 @@ block_text None = codes "-"
 block_text (Some block) = ip_network_text block
 
 -- what stands before a line of this verdict: that and a tab, with `--longest`
-abbrev pub mark_of : Listed → Verdict → List ℕ
+abbrev pub mark_of : Matcher → Verdict → List ℕ
 mark_of (Addresses sets) verdict = []
 mark_of (Blocks tables) verdict = block_text (block_in verdict) ++ 9 ∷ []
 
 -- whether an address is in the lists, as a test. Of blocks none is asked, since `-o` is not given together with
 -- `--longest`
-abbrev pub is_listed : Listed → IpAddr → Bool
+abbrev pub is_listed : Matcher → IpAddr → Bool
 is_listed (Addresses sets) address = has_address sets address
 is_listed (Blocks tables) address = false
 
@@ -166,16 +166,16 @@ abbrev pub texts_of : Filter → List ℕ → List Spelled → List ℕ
 texts_of filter head found = flat_map (λ one. text_of filter head one.address one.text) found
 
 -- lines are only counted
-abbrev pub is_count : Shown → Bool
+abbrev pub is_count : OutputMode → Bool
 is_count shows.Count = true
 is_count other = false
 
 -- what is printed of a selected line, which is given without its end, and as it is written: its
 -- mark and the line, or with `-o` those of its addresses that are in the lists, what stands first
 -- before each; or with `-l` the name of its log; or nothing, with `-c` and with `-q`
-abbrev pub shown_by : Shown → Filter → List ℕ → Verdict → List ℕ → List ℕ → List ℕ
+abbrev pub shown_by : OutputMode → Filter → List ℕ → Verdict → List ℕ → List ℕ → List ℕ
 shown_by shows.Lines filter head verdict line text = head ++ (mark_of filter.listed verdict ++ text)
-shown_by shows.Addresses filter head verdict line text = texts_of filter head (spelled_at filter.place line)
+shown_by shows.Addresses filter head verdict line text = texts_of filter head (spelled_at filter.area line)
 shown_by shows.Count filter head verdict line text = []
 shown_by shows.Names filter head verdict line text = filter.name ++ 10 ∷ []
 shown_by shows.Nothing filter head verdict line text = []
@@ -189,7 +189,7 @@ output_of filter number verdict line = if is_selected filter verdict
     then shown_of filter (head_of filter number) verdict (content line) (printed line) else []
 
 -- nothing is printed, and the run ends at the first selected line
-abbrev pub is_silent : Shown → Bool
+abbrev pub is_silent : OutputMode → Bool
 is_silent shows.Nothing = true
 is_silent other = false
 

@@ -2,7 +2,7 @@
 pub mod Addressed
 pub mod Filters
 pub mod Laws
-pub mod Listed
+pub mod Matcher
 pub mod Logs
 pub mod Options
 pub mod Private
@@ -10,4 +10,4 @@ pub mod Reading
 pub mod Runs
 pub mod Stands
 pub mod Stops
-pub mod Told
+pub mod Reported

@@ -7,7 +7,7 @@ use Rattle.cidr_filter.specs.Filters.{IsVerdict, is_refused, is_silent, is_below
 use Rattle.program.specs.LogLines.{LogLine, log_lines}
 use Rattle.program.specs.Logs.{IsAllOf, IsFirstOf}
 use Rattle.cidr_filter.specs.declared.filter.Filter.{Filter}
-use Rattle.cidr_filter.specs.declared.filter.Shown.{Shown}
+use Rattle.cidr_filter.specs.declared.filter.OutputMode.{OutputMode}
 use Rattle.cidr_filter.specs.declared.filter.Verdict.TheVariants as verdicts
 use Rattle.program.specs.declared.log_fault.LogFault.{LogFault}
 use Rattle.program.specs.declared.log_fault.LogFault.TheVariants as faults
@@ -42,7 +42,7 @@ MissesLog known name output selected told = (fault : OpenFault) × known.may_ope
     × (output ≡ []) × (selected ≡ 0) × (told ≡ closed_text name fault)
 
 -- whether the run ends behind logs of which so many lines are selected: with `-q`, if there is one
-abbrev pub is_enough : Shown → ℕ → Bool
+abbrev pub is_enough : OutputMode → ℕ → Bool
 is_enough shown selected = is_silent shown && nat_lt 0 selected
 
 -- nothing came of no log

@@ -10,10 +10,10 @@ use Rattle.lists.specs.declared.named.ReadFault.{ReadFault}
 use Rattle.log_programs.specs.Rows as rows
 use Rattle.options.specs.declared.items.Item.{Item}
 use Rattle.options.specs.declared.items.Item.TheVariants as says
-use Rattle.cidr_filter.specs.Listed.{HasBlocksOf}
+use Rattle.cidr_filter.specs.Matcher.{HasBlocksOf}
 use Rattle.cidr_filter.specs.Options as own
-use Rattle.cidr_filter.specs.declared.listed.Listed.{Listed}
-use Rattle.cidr_filter.specs.declared.listed.Listed.TheVariants.{Addresses, Blocks}
+use Rattle.cidr_filter.specs.declared.matcher.Matcher.{Matcher}
+use Rattle.cidr_filter.specs.declared.matcher.Matcher.TheVariants.{Addresses, Blocks}
 use Rattle.cidr_filter.specs.declared.reading.Source.{Source}
 use Rattle.cidr_filter.specs.declared.reading.Source.TheVariants as sources
 
@@ -68,7 +68,7 @@ pub record IsReadOf (known : KnownLists) (items : List Item) (read : ReadLists) 
   pub memory : read.is_out_of_memory ≡ false
 
 -- these are the addresses of the networks that were read or, with `--longest`, their blocks
-abbrev pub HoldsRead : Bool → ReadLists → Listed → Type 0
+abbrev pub HoldsRead : Bool → ReadLists → Matcher → Type 0
 HoldsRead longest read (Addresses sets) = (longest ≡ false) × IsAggregate 32 read.v4 sets.v4
     × IsAggregate 128 read.v6 sets.v6
 HoldsRead longest read (Blocks tables) = (longest ≡ true) × HasBlocksOf 32 read.v4 tables.v4

@@ -7,11 +7,11 @@ use Rattle.lists.specs.Lists.{ReadLists, nothing_read}
 use Rattle.lists.specs.Refusals.{Refused, no_refusals}
 use Rattle.lines.specs.Outputs.{Written}
 use Rattle.program.specs.Endings.{Ending, Refuses, HasTold, HasWritten}
-use Rattle.program.specs.Messages.{Tells}
-use Rattle.program.specs.Told.{was_refused, fault_text, refusals_text}
+use Rattle.program.specs.Messages.{Reports}
+use Rattle.program.specs.Reported.{was_refused, fault_text, refusals_text}
 use Rattle.lists.specs.declared.named.ReadFault.{ReadFault}
 use Rattle.lists.specs.KnownLists.{KnownLists}
-use Rattle.log_programs.specs.Places.{place_of}
+use Rattle.log_programs.specs.Areas.{area_of}
 use Rattle.log_programs.specs.Rows as rows
 use Rattle.options.specs.Given.{is_given, value_of, inputs_of}
 use Rattle.options.specs.Runs as runs
@@ -26,11 +26,11 @@ use Rattle.cidr_filter.specs.Reading.{IsReadOf, StopsAtItems, HoldsRead}
 use Rattle.cidr_filter.specs.Options as own
 use Rattle.cidr_filter.specs.Options.{IsOptions, bad_in}
 use Rattle.program.specs.LogLines.{LogLine}
-use Rattle.cidr_filter.specs.Told.{in_option, told_name}
+use Rattle.cidr_filter.specs.Reported.{in_option, told_name}
 use Rattle.cidr_filter.specs.declared.filter.Filter.{Filter}
-use Rattle.cidr_filter.specs.declared.filter.Shown.{Shown}
-use Rattle.cidr_filter.specs.declared.filter.Shown.TheVariants as shows
-use Rattle.cidr_filter.specs.declared.listed.Listed.{Listed}
+use Rattle.cidr_filter.specs.declared.filter.OutputMode.{OutputMode}
+use Rattle.cidr_filter.specs.declared.filter.OutputMode.TheVariants as shows
+use Rattle.cidr_filter.specs.declared.matcher.Matcher.{Matcher}
 use Rattle.program.specs.declared.log_fault.LogFault.{LogFault}
 
 -- a log that was opened was not filtered to its end, and ended the run: those before it were filtered, and its first
@@ -101,7 +101,7 @@ most_of items =
     else number_in (value_of items own.most)
 
 -- what is printed: of `-q`, `-l`, `-c` and `-o` the first that is given says it
-abbrev pub shows_of : List Item → Shown
+abbrev pub shows_of : List Item → OutputMode
 shows_of items =
     if is_given items own.quiet then shows.Nothing
     else if is_given items own.names then shows.Names
@@ -114,10 +114,10 @@ abbrev pub is_named : List Item → Bool
 is_named items = is_given items own.named || is_given items own.names
 
 -- the filter that is asked for
-abbrev pub filter_of : List Item → Listed → Filter
+abbrev pub filter_of : List Item → Matcher → Filter
 filter_of items listed = record {
   listed = listed;
-  place = place_of items;
+  area = area_of items;
   mapped = is_given items rows.mapped;
   inverts = is_given items own.inverts;
   bad = bad_in (value_of items own.bad);
@@ -134,7 +134,7 @@ abbrev pub EndsFiltering : {W E : Type 0} → KnownLists → List Item → ReadL
 EndsFiltering known items read end =
     ((was_refused read.refused ≡ true) × Refuses [] end)
     ⊎ ((was_refused read.refused ≡ false) × (Refuses (codes "out of memory\n") end
-    ⊎ ((listed : Listed) × HoldsRead (is_given items own.longest) read listed
+    ⊎ ((listed : Matcher) × HoldsRead (is_given items own.longest) read listed
     × EndsLogs (filter_of items listed) known (inputs_of items) end)))
 
 -- the lists were not read to their ends, and these lines were refused before: nothing was written, and the cause was
@@ -147,7 +147,7 @@ StopsReading known items names refused end =
 -- the refused lines of the lists were reported, and then either why the reading stopped, or the logs were filtered
 abbrev pub EndsReading : {Z W E : Type 0} → KnownLists → List Item → List (String Z) → Ending W E → Type 0
 EndsReading {Z} {W} {E} known items names end = (refused : Refused) × (told : Written E)
-    × Tells end.errors told (refusals_text names (in_option items) refused)
+    × Reports end.errors told (refusals_text names (in_option items) refused)
     × (StopsReading known items names refused (record end { errors = told })
     ⊎ ((read : ReadLists) × IsReadOf known items read × (read.refused ≡ refused)
     × EndsFiltering known items read (record end { errors = told })))

@@ -5,10 +5,10 @@ ghost use Rattle.cidr_filter.specs.Addressed.{is_addressed_by};
 ghost use Rattle.cidr_filter.specs.Filters.{is_listed, IsVerdict, IsVerdictOfAddresses, IsListed, TellsBlock, addresses_in, asked, asked_of, of_part, of_rest, spelled_at, is_selected, is_refused, is_count, is_silent};
 ghost use Rattle.cidr_filter.specs.Private.Copying.{IsSelectedByAddress};
 
-use crate::listed::Listed;
+use crate::matcher::Matcher;
 use ipnetwork::{IpAddr, IpNetwork};
 use line_addresses::{
-    Place, Text, address_of, field_of, following, next_address, unmapped, word_of,
+    Area, Text, address_of, field_of, following, next_address, unmapped, word_of,
 };
 use log_programs::finding::found_in;
 use program::log_reader::LINE_MAX;
@@ -61,7 +61,7 @@ impl Verdict {
 
 /// What is printed.
 #[derive(Clone, Copy, Debug, PartialEq, Eq)]
-pub enum Shown {
+pub enum OutputMode {
     /// The selected lines.
     Lines,
     /// Their addresses that are in the list, in place of them.
@@ -77,8 +77,8 @@ pub enum Shown {
 /// What decides which lines are selected, and what is printed of them.
 #[derive(Drop)]
 pub struct Filter<'a> {
-    pub(crate) listed: Listed,
-    pub(crate) place: Place<'a>,
+    pub(crate) listed: Matcher,
+    pub(crate) area: Area<'a>,
     /// Whether an IPv4-mapped address of a line counts as its IPv4 one.
     pub(crate) mapped: bool,
     pub(crate) inverts: bool,
@@ -87,7 +87,7 @@ pub struct Filter<'a> {
     /// of them.
     pub(crate) most: Option<u64>,
     /// What is printed.
-    pub(crate) shows: Shown,
+    pub(crate) shows: OutputMode,
     /// Whether the name of its log is printed of a line.
     pub(crate) named: bool,
     /// Whether the number of a line stands before what is printed of it.
@@ -118,7 +118,7 @@ impl Filter<'_> {
         if line.len() > LINE_MAX {
             return None;
         }
-        let Listed::Addresses(sets) = &self.listed else {
+        let Matcher::Addresses(sets) = &self.listed else {
             return None;
         };
         match self.only_address(line) {
@@ -133,9 +133,9 @@ impl Filter<'_> {
         ensures { IfSome result (λ address.
             addresses_in self.now line.now ≡ asked self.now.mapped address ∷ []) }
     {
-        match &self.place {
-            Place::Anywhere | Place::After(_) => None,
-            _ => found_in(&self.place, line),
+        match &self.area {
+            Area::Anywhere | Area::After(_) => None,
+            _ => found_in(&self.area, line),
         }
     }
 
@@ -143,19 +143,19 @@ impl Filter<'_> {
     #[inline(always)]
     fn judge_within(&self, line: &[u8]) -> Verdict
         ensures { IsVerdictOfAddresses self.now
-            (asked_of self.now (spelled_at self.now.place line.now)) result }
+            (asked_of self.now (spelled_at self.now.area line.now)) result }
     {
-        match &self.place {
-            Place::Field { number, separator } => match field_of(line, *number, *separator) {
+        match &self.area {
+            Area::Field { number, separator } => match field_of(line, *number, *separator) {
                 Some(field) => self.judge_part(field),
                 None => Verdict::NoAddress,
             },
-            Place::Word(number) => match word_of(line, *number) {
+            Area::Word(number) => match word_of(line, *number) {
                 Some(word) => self.judge_part(word),
                 None => Verdict::NoAddress,
             },
-            Place::Anywhere => self.judge_anywhere(line),
-            Place::After(text) => match following(line, text.bytes()) {
+            Area::Anywhere => self.judge_anywhere(line),
+            Area::After(text) => match following(line, text.bytes()) {
                 Some(rest) => self.judge_first(rest),
                 None => Verdict::NoAddress,
             },
@@ -220,14 +220,14 @@ impl Filter<'_> {
     {
         let address = self.asked(address);
         match &self.listed {
-            Listed::Addresses(sets) => {
+            Matcher::Addresses(sets) => {
                 if sets.contains(address) {
                     Some(None)
                 } else {
                     None
                 }
             }
-            Listed::Blocks(tables) => match tables.longest(address) {
+            Matcher::Blocks(tables) => match tables.longest(address) {
                 Some(block) => Some(Some(block)),
                 None => None,
             },
@@ -240,8 +240,8 @@ impl Filter<'_> {
         ensures { result ≡ is_listed self.now.listed (asked self.now.mapped address) }
     {
         match &self.listed {
-            Listed::Addresses(sets) => sets.has(self.asked(address)),
-            Listed::Blocks(_) => false,
+            Matcher::Addresses(sets) => sets.has(self.asked(address)),
+            Matcher::Blocks(_) => false,
         }
     }
 
@@ -262,8 +262,9 @@ impl Filter<'_> {
         ensures { result ≡ is_count self.now.shows }
     {
         match self.shows {
-            Shown::Count => true,
-            Shown::Lines | Shown::Addresses | Shown::Names | Shown::Nothing => false,
+            OutputMode::Count => true,
+            OutputMode::Lines | OutputMode::Addresses | OutputMode::Names | OutputMode::Nothing =>
+                false,
         }
     }
 
@@ -272,8 +273,9 @@ impl Filter<'_> {
         ensures { result ≡ is_silent self.now.shows }
     {
         match self.shows {
-            Shown::Nothing => true,
-            Shown::Lines | Shown::Addresses | Shown::Count | Shown::Names => false,
+            OutputMode::Nothing => true,
+            OutputMode::Lines | OutputMode::Addresses | OutputMode::Count | OutputMode::Names =>
+                false,
         }
     }
 

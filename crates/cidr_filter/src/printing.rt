@@ -6,8 +6,8 @@ ghost use Rattle.cidr_filter.specs.Private.Copying.{PrintsAsRead};
 ghost use Rattle.program.specs.LogLines.{feed_behind};
 ghost use Rattle.program.specs.Putting.{PutsOrFails};
 
-use crate::filter::{Filter, Shown, Verdict};
-use crate::listed::Listed;
+use crate::filter::{Filter, OutputMode, Verdict};
+use crate::matcher::Matcher;
 use crate::naming::put_head;
 use crate::printing_addresses::print_addresses;
 use ipnetwork::IpNetwork;
@@ -34,10 +34,10 @@ pub(crate) fn print_selected<W: Write>(
         (whole.now ++ feed_behind end)) }
 {
     match filter.shows {
-        Shown::Lines => print_named(filter, number, verdict, whole, end, output),
-        Shown::Addresses => print_addresses(filter, number, line, output),
-        Shown::Names => put_both(filter.name.bytes(), b"\n", output),
-        Shown::Count | Shown::Nothing => Ok(()),
+        OutputMode::Lines => print_named(filter, number, verdict, whole, end, output),
+        OutputMode::Addresses => print_addresses(filter, number, line, output),
+        OutputMode::Names => put_both(filter.name.bytes(), b"\n", output),
+        OutputMode::Count | OutputMode::Nothing => Ok(()),
     }
 }
 
@@ -46,7 +46,8 @@ pub(crate) fn prints_as_read(filter: &Filter) -> bool
     ensures { IsTrue result → PrintsAsRead filter.now }
 {
     match (filter.shows, &filter.listed) {
-        (Shown::Lines, Listed::Addresses(_)) => !filter.numbered && filter.name.bytes().is_empty(),
+        (OutputMode::Lines, Matcher::Addresses(_)) => !filter.numbered
+            && filter.name.bytes().is_empty(),
         _ => false,
     }
 }
@@ -84,15 +85,15 @@ fn put_line<W: Write>(
 
 // Writes what stands before a line of this verdict.
 fn put_mark<W: Write>(
-    listed: &Listed,
+    listed: &Matcher,
     verdict: &Verdict,
     output: &mut Output<'_, W>,
 ) -> Result<(), RunFault>
     ensures { PutsOrFails result output.old output.new (mark_of listed.now verdict.now) }
 {
     match listed {
-        Listed::Addresses(_) => Ok(()),
-        Listed::Blocks(_) => put_block(block_in(verdict), output),
+        Matcher::Addresses(_) => Ok(()),
+        Matcher::Blocks(_) => put_block(block_in(verdict), output),
     }
 }
 

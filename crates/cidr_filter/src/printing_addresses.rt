@@ -8,7 +8,7 @@ ghost use Rattle.program.specs.Putting.{PutsOrFails};
 use crate::filter::Filter;
 use crate::naming::put_head;
 use ipnetwork::IpAddr;
-use line_addresses::{Place, address_of, field_of, following, next_address, word_of};
+use line_addresses::{Area, address_of, field_of, following, next_address, word_of};
 use lines::fault::RunFault;
 use lines::output::Output;
 use program::putting::put_both;
@@ -24,23 +24,23 @@ pub(crate) fn print_addresses<W: Write>(
 ) -> Result<(), RunFault>
     ensures { PutsOrFails result output.old output.new
         (texts_of filter.now (head_of filter.now line_number)
-        (spelled_at filter.now.place line.now)) }
+        (spelled_at filter.now.area line.now)) }
 {
     let of_line = OfLine {
         filter,
         number: line_number,
     };
-    match &filter.place {
-        Place::Field { number, separator } => match field_of(line, *number, *separator) {
+    match &filter.area {
+        Area::Field { number, separator } => match field_of(line, *number, *separator) {
             Some(field) => of_line.print_part(field, output),
             None => Ok(()),
         },
-        Place::Word(number) => match word_of(line, *number) {
+        Area::Word(number) => match word_of(line, *number) {
             Some(word) => of_line.print_part(word, output),
             None => Ok(()),
         },
-        Place::Anywhere => of_line.print_all(line, output),
-        Place::After(text) => match following(line, text.bytes()) {
+        Area::Anywhere => of_line.print_all(line, output),
+        Area::After(text) => match following(line, text.bytes()) {
             Some(rest) => of_line.print_first(rest, output),
             None => Ok(()),
         },

@@ -5,7 +5,7 @@ ghost use Rattle.lists.specs.Refusals.{no_refusals};
 ghost use Rattle.cidr_filter.specs.Reading.{source_by, source_of, ReadsItem, ReadsItems, StopsAtItem, StopsAtItems, HoldsRead};
 ghost use Rattle.cidr_filter.specs.Private.Reading.{ReadsAll, HasSets, HasBlocks};
 
-use crate::listed::{Listed, Sets, Tables};
+use crate::matcher::{Matcher, Sets, Tables};
 use crate::rows::TEXT;
 use ipnetwork::{Ipv4Network, Ipv6Network};
 use ipnetwork_sets::AddressSet;
@@ -32,7 +32,7 @@ pub(crate) fn read_listed<L: OpenLists>(
     lists: &L,
     items: &[Item<'_>],
     longest: bool,
-) -> (Result<Listed, AllocError>, Refusals, Result<(), ReadFault>)
+) -> (Result<Matcher, AllocError>, Refusals, Result<(), ReadFault>)
     ensures read { OnOk result.2
         (ReadsAll (L.known lists.now) items.now longest result.0 result.1) }
     ensures stopped { IfErr result.2
@@ -51,7 +51,7 @@ fn listed_by(
     alloc: Global,
     longest: bool,
     reader: ListReader,
-) -> (Result<Listed, AllocError>, Refusals)
+) -> (Result<Matcher, AllocError>, Refusals)
     ensures listed { IfOk result.0 (HoldsRead longest reader) }
     ensures refused { result.1 ≡ reader.refused }
 {
@@ -132,10 +132,10 @@ fn addresses_of(
     alloc: Global,
     v4: &AddressSet<Ipv4Network>,
     v6: &AddressSet<Ipv6Network>,
-) -> Result<Listed, AllocError>
+) -> Result<Matcher, AllocError>
     ensures { IfOk result (HasSets v4.now v6.now) }
 {
-    Ok(Listed::Addresses(Sets::of(alloc, v4, v6)?))
+    Ok(Matcher::Addresses(Sets::of(alloc, v4, v6)?))
 }
 
 // The blocks of networks.
@@ -143,8 +143,8 @@ fn blocks_of(
     alloc: Global,
     v4: Vec<Ipv4Network>,
     v6: Vec<Ipv6Network>,
-) -> Result<Listed, AllocError>
+) -> Result<Matcher, AllocError>
     ensures { IfOk result (HasBlocks v4.items v6.items) }
 {
-    Ok(Listed::Blocks(Tables::of(alloc, v4.as_slice(), v6.as_slice())?))
+    Ok(Matcher::Blocks(Tables::of(alloc, v4.as_slice(), v6.as_slice())?))
 }

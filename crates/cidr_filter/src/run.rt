@@ -4,12 +4,12 @@ ghost use Rattle.std.specs.String.{string_bytes};
 ghost use Rattle.options.specs.Given.{files_of};
 ghost use Rattle.program.specs.Endings.{ending};
 ghost use Rattle.cidr_filter.specs.Runs.{EndsRequest, EndsReading, EndsAs, filter_of, most_of, up_to_one, shows_of, is_named};
-ghost use Rattle.cidr_filter.specs.Told.{told_name};
+ghost use Rattle.cidr_filter.specs.Reported.{told_name};
 
-use crate::filter::{Filter, Shown};
+use crate::filter::{Filter, OutputMode};
 use crate::help::{HELP, PROGRAM, USAGE, VERSION};
-use crate::listed::Listed;
 use crate::logs::filter_logs;
+use crate::matcher::Matcher;
 use crate::reading::read_listed;
 use crate::rows::{
     BAD, COUNTS, INVERTS, LONGEST, MOST, NAMED, NAMES, NUMBERED, ONLY, QUIET, bad_in, table,
@@ -18,7 +18,7 @@ use crate::telling::{InOptions, names_of};
 use line_addresses::Text;
 use lines::output::Output;
 use lists::OpenLists;
-use log_programs::places::place_of;
+use log_programs::areas::area_of;
 use log_programs::rows::MAPPED;
 use options::asking::{About, asked};
 use options::given::{files_of, is_given, value_of};
@@ -126,12 +126,12 @@ fn filter_files<L: OpenLists, W: Write, E: Write>(
 }
 
 // The filter that is asked for.
-fn filter_of<'a>(items: &[Item<'a>], listed: Listed) -> Filter<'a>
+fn filter_of<'a>(items: &[Item<'a>], listed: Matcher) -> Filter<'a>
     ensures { result ≡ filter_of items.now listed }
 {
     Filter {
         listed,
-        place: place_of(items),
+        area: area_of(items),
         mapped: is_given(items, MAPPED),
         inverts: is_given(items, INVERTS),
         bad: bad_in(value_of(items, BAD)),
@@ -166,19 +166,19 @@ fn up_to_one(most: Option<u64>) -> Option<u64>
 }
 
 // What is printed.
-fn shows_of(items: &[Item<'_>]) -> Shown
+fn shows_of(items: &[Item<'_>]) -> OutputMode
     ensures { result ≡ shows_of items.now }
 {
     if is_given(items, QUIET) {
-        Shown::Nothing
+        OutputMode::Nothing
     } else if is_given(items, NAMES) {
-        Shown::Names
+        OutputMode::Names
     } else if is_given(items, COUNTS) {
-        Shown::Count
+        OutputMode::Count
     } else if is_given(items, ONLY) {
-        Shown::Addresses
+        OutputMode::Addresses
     } else {
-        Shown::Lines
+        OutputMode::Lines
     }
 }
 

@@ -1,9 +1,9 @@
 //! Messages on the error writer. If a write of one fails, nothing else changes.
 ghost use Rattle.std.specs.Prelude.{◌≡◌, ◌+◌, map, take, IfOk};
 ghost use Rattle.std.specs.String.{string_bytes};
-ghost use Rattle.program.specs.Messages.{Tells};
+ghost use Rattle.program.specs.Messages.{Reports};
 ghost use Rattle.cidr_filter.specs.Addressed.{closed_text};
-ghost use Rattle.cidr_filter.specs.Told.{is_text, is_text_at, texts_in, told_name};
+ghost use Rattle.cidr_filter.specs.Reported.{is_text, is_text_at, texts_in, told_name};
 
 use crate::reading::{Source, source_of};
 use lines::output::Output;
@@ -21,7 +21,7 @@ pub(crate) struct InOptions<'a, 'b> {
 }
 
 impl Places for InOptions<'_, '_> {
-    ghost use Rattle.cidr_filter.specs.Told.{in_option};
+    ghost use Rattle.cidr_filter.specs.Reported.{in_option};
 
     ghost told_at = { λ options refusal. in_option options.items.now refusal };
 
@@ -91,7 +91,7 @@ fn told_name(alloc: Global, item: &Item<'_>) -> Result<String, AllocError>
 
 /// Reports that the log of this name cannot be opened, and why.
 pub(crate) fn tell_closed<E: Write>(name: &str, fault: OpenFault, errors: &mut Output<'_, E>)
-    ensures { Tells errors.old errors.new (closed_text name.now fault) }
+    ensures { Reports errors.old errors.new (closed_text name.now fault) }
 {
     tell_of(name, fault.text(), errors);
 }

@@ -19,25 +19,25 @@ use Rattle.options.specs.declared.items.Mode.TheVariants as modes
 use Rattle.options.specs.declared.table.Row.{Row}
 use Rattle.options.proofs.Tables.{rows_of, pairs_of}
 use Rattle.lists.specs.declared.entry.EntryFault.TheVariants as faults
-use Rattle.line_addresses.specs.declared.place.Place.TheVariants as places
+use Rattle.line_addresses.specs.declared.area.Area.TheVariants as areas
 use Rattle.cidr_join.specs.declared.found.Found.TheVariants as founds
 use Rattle.cidr_join.specs.declared.line.Cause.TheVariants as causes
 use Rattle.cidr_join.specs.declared.value.Value.{Value}
 
 -- ---- logs in which no line has an address
 
-pub none_in_a_field : lacking_by (places.Field 8 44) (codes "log") 1 false ≡ codes "cidr_join: log: no line has an address in field " ++ decimal 8 ++ codes "\n"
+pub none_in_a_field : lacking_by (areas.Field 8 44) (codes "log") 1 false ≡ codes "cidr_join: log: no line has an address in field " ++ decimal 8 ++ codes "\n"
 none_in_a_field = refl
 
-pub none_in_a_word : lacking_by (places.Word 10) (codes "-") 7 false ≡ codes "cidr_join: -: no line has an address in word " ++ decimal 10 ++ codes "\n"
+pub none_in_a_word : lacking_by (areas.Word 10) (codes "-") 7 false ≡ codes "cidr_join: -: no line has an address in word " ++ decimal 10 ++ codes "\n"
 none_in_a_word = refl
 
-pub none_anywhere_or_after_a_text : map (λ place. lacking_by place (codes "log") 2 false) (places.Anywhere ∷ places.After (codes "SRC=") ∷ [])
+pub none_anywhere_or_after_a_text : map (λ area. lacking_by area (codes "log") 2 false) (areas.Anywhere ∷ areas.After (codes "SRC=") ∷ [])
     ≡ codes "cidr_join: log: no line has an address anywhere in it\n" ∷ codes "cidr_join: log: no line has an address after SRC=\n" ∷ []
 none_anywhere_or_after_a_text = refl
 
 -- a log without lines, and one of whose lines one has an address, are not told
-pub no_lines_or_one_address : map (λ (log : ℕ × Bool). lacking_by places.Anywhere (codes "log") log.0 log.1) ((0, false) ∷ (2, true) ∷ []) ≡ [] ∷ [] ∷ []
+pub no_lines_or_one_address : map (λ (log : ℕ × Bool). lacking_by areas.Anywhere (codes "log") log.0 log.1) ((0, false) ∷ (2, true) ∷ []) ≡ [] ∷ [] ∷ []
 no_lines_or_one_address = refl
 
 -- ---- the words of a command line

@@ -21,7 +21,7 @@ use Rattle.cidr_join.specs.Stops.{JoinsLines, WritesBeginning, Ends, Stops}
 use Rattle.cidr_join.specs.Private.Progress.{JoinsLine, LineStops}
 use Rattle.cidr_join.specs.declared.found.Found.{Found}
 use Rattle.cidr_join.specs.declared.join.Join.{Join}
-use Rattle.cidr_join.specs.declared.seen.Seen.{Seen}
+use Rattle.cidr_join.specs.declared.log_stats.LogStats.{LogStats}
 use Rattle.cidr_join.proofs.Addressed.{sees_nothing, sees_more, any_more}
 use Rattle.log_programs.proofs.Failing.{none_or}
 use Rattle.cidr_join.proofs.LogParts.{both}
@@ -56,7 +56,7 @@ module _ (join : Join) (old : Stand) where
   no_lines = record { added = []; joins = refl; goes = (puts_nothing old.holds old.waits, sees_nothing old.seen) }
 
   -- what waited was written
-  lines_still : {W : Type 0} (mid new : Written W) (seen : Seen) (lines : List LogLine) → Prints mid new []
+  lines_still : {W : Type 0} (mid new : Written W) (seen : LogStats) (lines : List LogLine) → Prints mid new []
       → JoinsLines join old (stand mid seen) lines → JoinsLines join old (stand new seen) lines
   lines_still mid new seen lines puts d = record {
     added = d.added;
@@ -65,7 +65,7 @@ module _ (join : Join) (old : Stand) where
   }
 
   -- or the writer failed at it
-  lines_unwritten : {W : Type 0} (mid new : Written W) (seen : Seen) (lines : List LogLine) → FailsIn mid new []
+  lines_unwritten : {W : Type 0} (mid new : Written W) (seen : LogStats) (lines : List LogLine) → FailsIn mid new []
       → JoinsLines join old (stand mid seen) lines → WritesBeginning join old (stand new seen) lines
   lines_unwritten mid new seen lines took d = record {
     added = d.added;
@@ -113,7 +113,7 @@ line_within line whole ReturnAndLineFeed e =
     omega (arith, ap length e, length-append (line ++ 13 ∷ []) (10 ∷ []), length-append line (13 ∷ []), length-append whole [])
 line_within line whole EndOfInput e = omega (arith, ap length e, length-append line (10 ∷ []), length-append whole (10 ∷ []))
 
-module _ {W : Type 0} (join : Join) (was now : LogReader) (remained before after : Option (List ℕ)) (old : Stand) (mid between : Written W) (seen : Seen)
+module _ {W : Type 0} (join : Join) (was now : LogReader) (remained before after : Option (List ℕ)) (old : Stand) (mid between : Written W) (seen : LogStats)
     (s : ReadsSoFar (JoinsLines join old (stand mid seen)) was remained before) where
   module _ (put : Prints mid between []) where
     still : JoinsLines join old (stand between seen) s.first

@@ -8,17 +8,17 @@ use Rattle.lines.specs.Outputs.{Written}
 use Rattle.lists.specs.KnownLists.{KnownLists}
 use Rattle.program.specs.LogLines.{LogLine, log_lines}
 use Rattle.program.specs.Logs.{logs_of}
-use Rattle.program.specs.Messages.{Tells}
+use Rattle.program.specs.Messages.{Reports}
 use Rattle.program.proofs.Counts.{counts_from_none}
 use Rattle.program.proofs.LogNames.{all_of, logs_some, logs_none}
-use Rattle.program.proofs.Told.{tells_more, tells_nothing, tells_same}
+use Rattle.program.proofs.Reported.{tells_more, tells_nothing, tells_same}
 use Rattle.log_programs.proofs.Lacking.{lacking_same}
 use Rattle.cidr_join.specs.Addressed.{any_addressed, lacking_by, lacking_text}
 use Rattle.cidr_join.specs.Logs.{ReadsLogs}
 use Rattle.cidr_join.specs.Stands.{Sees}
 use Rattle.cidr_join.specs.Private.Runs.{ReadsNames}
 use Rattle.cidr_join.specs.declared.join.Join.{Join}
-use Rattle.cidr_join.specs.declared.seen.Seen.{Seen}
+use Rattle.cidr_join.specs.declared.log_stats.LogStats.{LogStats}
 use Rattle.cidr_join.proofs.Addressed.{nothing_seen}
 
 module _ {A : Type 0} (Gives : List LogLine → List A → Type 0) (join : Join) (known : KnownLists) where
@@ -44,16 +44,16 @@ module _ {A S : Type 0} (Gives : List LogLine → List A → Type 0) (Done : S �
   -- ---- one log
 
   pub name_read : {E : Type 0} (name : List ℕ) (remained remains : Option (List ℕ)) (has : (input : List ℕ) → known.bytes_of name ≡ Some input → remained ≡ Some input) → known.may_open name true
-      → (old new : S) (errors told : Written E) (seen : Seen) (read : List ℕ) → Consumes remained remains read → IsAtEnd remains → (all : List A) → Gives (log_lines read) all
+      → (old new : S) (errors told : Written E) (seen : LogStats) (read : List ℕ) → Consumes remained remains read → IsAtEnd remains → (all : List A) → Gives (log_lines read) all
       → Done old new all → Sees nothing_seen seen (length (log_lines read)) (any_addressed join (log_lines read))
-      → Tells errors told (lacking_by join.place name seen.lines seen.is_addressed) → ReadsNames Gives (Done old new) join known (name ∷ []) errors told
+      → Reports errors told (lacking_by join.area name seen.lines seen.is_addressed) → ReadsNames Gives (Done old new) join known (name ∷ []) errors told
   name_read name remained remains has opened old new errors told seen read reads end all gives done sees tells = record {
     all = all;
     text = lacking_text join name (log_lines read) ++ [];
     reads = (read, all, [], [], all_of known name remained remains has opened read reads end, gives, (refl, refl), sym (append-nil all), refl);
     is_done = done;
     tells = tells_same errors told _ _
-        (lacking_same (codes "cidr_join") join.place name seen.lines (length (log_lines read)) seen.is_addressed (any_addressed join (log_lines read)) (counts_from_none 0 seen.lines _ refl sees.0) sees.1
+        (lacking_same (codes "cidr_join") join.area name seen.lines (length (log_lines read)) seen.is_addressed (any_addressed join (log_lines read)) (counts_from_none 0 seen.lines _ refl sees.0) sees.1
         ∙ sym (append-nil (lacking_text join name (log_lines read)))) tells;
   }
 

@@ -21,7 +21,7 @@ use Rattle.cidr_join.specs.declared.answers.Answers.{Answers as Answering}
 use Rattle.cidr_join.specs.declared.found.Found.{Found}
 use Rattle.cidr_join.specs.declared.found.Found.TheVariants as prints
 use Rattle.cidr_join.specs.declared.join.Join.{Join}
-use Rattle.cidr_join.specs.declared.numbered.Numbered.{Numbered}
+use Rattle.cidr_join.specs.declared.value_ids.ValueIds.{ValueIds}
 use Rattle.cidr_join.specs.declared.routes.Routes.{Routes}
 use Rattle.cidr_join.specs.declared.value.Value.{Value}
 
@@ -137,7 +137,7 @@ module _ (by : Network → Value → Found) (table : Values) where
   none_at : (w : ℕ) (numbers : FinMap network_cmp ℕ) (founds : List Found) (x : ℕ) → AreNumbered by table numbers founds → NoneHolds w numbers x → NoneHolds w table x
   none_at w numbers founds x h none m some = none m (h.all m some)
 
-pub routes_numbered : (network : Bool) (routes : Routes) (numbered : Numbered) (t4 t6 : Values) (first second : List Found) → t4 ≡ routes.v4 → t6 ≡ routes.v6 → first ≡ prints.Nothing ∷ []
+pub routes_numbered : (network : Bool) (routes : Routes) (numbered : ValueIds) (t4 t6 : Values) (first second : List Found) → t4 ≡ routes.v4 → t6 ≡ routes.v6 → first ≡ prints.Nothing ∷ []
     → AddsNumbers (found_by network (λ n. families.V4 n)) t4 numbered.v4 first second → AddsNumbers (found_by network (λ n. families.V6 n)) t6 numbered.v6 second numbered.founds.items
     → NumbersRoutes network routes numbered
 routes_numbered network routes numbered t4 t6 first second is4 is6 one h4 h6 =
@@ -165,7 +165,7 @@ stands w by table numbers founds IsSo a (Some found) h nothing is blocks nowhere
     let s = found_at by table w numbers founds a found.0 found.1 h is in
     (by found.0 s.0, s.2, longest found.0 s.0 s.1 (clear_at w numbers found.0 found.1 blocks is.stored))
 
-module _ (routes : Routes) (numbered : Numbered) where
+module _ (routes : Routes) (numbered : ValueIds) where
   pub stands_v4 : (network : Bool) (a : ℕ) (found : Option (Network × ℕ)) → NumbersRoutes network routes numbered → Answers 32 numbered.v4 a found → HasOnlyBlocks 32 numbered.v4
       → (f : Found) × (slice_get numbered.founds.items (number_or_none found) ≡ Some f) × FindsBy (answers_by network routes) (addresses.V4 a) f
   stands_v4 true a found h is blocks = stands 32 _ _ _ _ (FindsBy (answers_by true routes) (addresses.V4 a)) a found h.v4 h.nothing is blocks (λ none. none) (λ n v longest clear. (v, (longest, clear)))
@@ -176,18 +176,18 @@ module _ (routes : Routes) (numbered : Numbered) where
   stands_v6 true a found h is blocks = stands 128 _ _ _ _ (FindsBy (answers_by true routes) (addresses.V6 a)) a found h.v6 h.nothing is blocks (λ none. none) (λ n v longest clear. (v, (longest, clear)))
   stands_v6 false a found h is blocks = stands 128 _ _ _ _ (FindsBy (answers_by false routes) (addresses.V6 a)) a found h.v6 h.nothing is blocks (λ none. none) (λ n v longest clear. (families.V6 n, (longest, clear)))
 
-pub not_empty : (numbered : Numbered) (empty : Bool) → empty ≡ (vec_len numbered.founds == 0) → empty ≡ false → ¬ (numbered.founds.items ≡ [])
+pub not_empty : (numbered : ValueIds) (empty : Bool) → empty ≡ (vec_len numbered.founds == 0) → empty ≡ false → ¬ (numbered.founds.items ≡ [])
 not_empty numbered empty is not none =
     let f : true ≡ false = sym (ap (λ (xs : List Found). length xs == 0) none) ∙ sym (ap (λ n. n == 0) numbered.founds.ok.0) ∙ sym is ∙ not in
     absurd (cc)
 
 -- what stands for no network
-pub stands_for_none : (by : Answering) (numbered : Numbered) → ¬ (numbered.founds.items ≡ []) → IsNumbering by numbered → StandsFor by None numbered.founds.items 0
+pub stands_for_none : (by : Answering) (numbered : ValueIds) → ¬ (numbered.founds.items ≡ []) → IsNumbering by numbered → StandsFor by None numbered.founds.items 0
 stands_for_none (answers.Values routes) numbered some h = h.nothing
 stands_for_none (answers.Networks routes) numbered some h = h.nothing
 stands_for_none (answers.Blocks lengths) numbered some h = absurd (some h)
 
-pub stands_for_some : (by : Answering) (numbered : Numbered) (address : IpAddr) (number : ℕ) → ¬ (numbered.founds.items ≡ []) → StandsForRoute numbered address number → IsNumbering by numbered
+pub stands_for_some : (by : Answering) (numbered : ValueIds) (address : IpAddr) (number : ℕ) → ¬ (numbered.founds.items ≡ []) → StandsForRoute numbered address number → IsNumbering by numbered
     → StandsFor by (Some address) numbered.founds.items number
 stands_for_some (answers.Values routes) numbered address number some stands h = stands false routes h
 stands_for_some (answers.Networks routes) numbered address number some stands h = stands true routes h

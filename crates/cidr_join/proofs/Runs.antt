@@ -8,10 +8,10 @@ use Rattle.lines.specs.Outputs.{Written, AppendsBeginning, FailsIn}
 use Rattle.program.proofs.Counts.{counts_from_none}
 use Rattle.program.proofs.LogNames.{some_first, names_apart, names_behind}
 use Rattle.program.proofs.LogStops.{told_log, written_behind, failed_behind, wrote_behind, wrote_same}
-use Rattle.program.proofs.Told.{tells_more, tells_same}
+use Rattle.program.proofs.Reported.{tells_more, tells_same}
 use Rattle.program.specs.Endings.{Ending, ending, Refuses, HasTold, HasWritten, status_of, end_text}
 use Rattle.program.specs.LogFaults.{log_fault_text, IfWrite, Wrote, HandsOn, StopsBy}
-use Rattle.program.specs.Messages.{Tells}
+use Rattle.program.specs.Messages.{Reports}
 use Rattle.lists.specs.Bytes.{IsAllOf, BytesStop}
 use Rattle.lists.specs.KnownLists.{KnownLists}
 use Rattle.lists.specs.declared.bytes.BytesFault.{BytesFault}
@@ -25,7 +25,7 @@ use Rattle.cidr_join.specs.TallyRuns.{EndsTally}
 use Rattle.cidr_join.specs.Stands.{stand}
 use Rattle.cidr_join.specs.Stops.{JoinsLines, WritesBeginning}
 use Rattle.cidr_join.specs.Takes.{TakesLines}
-use Rattle.cidr_join.specs.Told.{bytes_fault_text}
+use Rattle.cidr_join.specs.Reported.{bytes_fault_text}
 use Rattle.cidr_join.specs.Private.Runs.{JoinsNames}
 use Rattle.cidr_join.specs.declared.answers.Answers.{Answers}
 use Rattle.options.specs.Given.{is_given, inputs_of}
@@ -37,13 +37,13 @@ use Rattle.program.specs.declared.log_fault.LogFault.{LogFault}
 use Rattle.program.specs.declared.log_fault.LogFault.TheVariants as faults
 use Rattle.cidr_join.specs.declared.routes.Networks.{Networks}
 use Rattle.cidr_join.specs.declared.routes.Routes.{Routes}
-use Rattle.cidr_join.specs.declared.seen.Seen.{Seen}
+use Rattle.cidr_join.specs.declared.log_stats.LogStats.{LogStats}
 use Rattle.cidr_join.proofs.LogsInTurn.{logs_both, of_files}
 use Rattle.cidr_join.proofs.TallyRows.{written_all, failed_all, ends_with}
 
 -- ---- a log that stops
 
-module _ {W E : Type 0} (join : Join) (known : KnownLists) (name : List ℕ) (end : Ending W E) (two : end.status ≡ 2) (mid : Written W) (old new : Seen) (zero : old.lines ≡ 0) (lines : List LogLine) where
+module _ {W E : Type 0} (join : Join) (known : KnownLists) (name : List ℕ) (end : Ending W E) (two : end.status ≡ 2) (mid : Written W) (old new : LogStats) (zero : old.lines ≡ 0) (lines : List LogLine) where
   -- the first lines of a log were joined, and then it stopped
   at_log : (fault : LogFault) (added : List ℕ) → Joins join lines added → HaltsBy EndsRunBy known name lines fault → Wrote fault end ([] ++ added)
       → HasTold end (log_fault_text name (length lines) fault) → StopsAtLog join known (name ∷ []) end
@@ -115,7 +115,7 @@ pub all_by : {W E T F : Type 0} (join : Join) (known : KnownLists) (names : List
     → OnOk written (Appends mid.holds end.output_after.holds mid.waits)
     → OnErr written (AppendsBeginning mid.holds end.output_after.holds mid.waits)
     → end.output_after.failed ≡ (mid.failed || is_err written) → end.status ≡ status_of written 0
-    → Tells between end.errors_after (end_text written) → JoinsAll join known names end
+    → Reports between end.errors_after (end_text written) → JoinsAll join known names end
 all_by {W} join known names end mid between written f ok err failed two tells = record {
   output = f.all;
   texts = f.text;

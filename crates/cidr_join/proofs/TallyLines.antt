@@ -13,7 +13,7 @@ use Rattle.cidr_join.specs.Private.TallyProgress.{IsCounted, CountsLine, CountsA
 use Rattle.cidr_join.specs.declared.counts.Counts.{Counts}
 use Rattle.cidr_join.specs.declared.found.Found.{Found}
 use Rattle.cidr_join.specs.declared.join.Join.{Join}
-use Rattle.cidr_join.specs.declared.seen.Seen.{Seen}
+use Rattle.cidr_join.specs.declared.log_stats.LogStats.{LogStats}
 use Rattle.cidr_join.proofs.Addressed.{sees_nothing, sees_more, any_more}
 use Rattle.lines.specs.Outputs.{Written}
 use Rattle.program.specs.LogFaults as logs
@@ -37,7 +37,7 @@ module _ (founds : List Found) where
       subst (λ (t : List (List ℕ)). IsCounted founds t new) (append_assoc texts first second) (q (texts ++ first) (p texts counted))
 
   -- what is found for the address of a line was counted
-  pub line_counted : (join : Join) (old new : Counts) (was is : Seen) (line : List ℕ) (address : Option IpAddr) (found : Found) → address ≡ address_in join line → Finds join address found
+  pub line_counted : (join : Join) (old new : Counts) (was is : LogStats) (line : List ℕ) (address : Option IpAddr) (found : Found) → address ≡ address_in join line → Finds join address found
       → CountsAll founds (mark_of found ∷ []) old new → Sees was is 1 (is_some address) → CountsLine founds join line old new was is
   line_counted join old new was is line address found same finds counts sees = (
     found,
@@ -46,16 +46,16 @@ module _ (founds : List Found) where
     subst (λ (a : Option IpAddr). Sees was is 1 (is_some a)) same sees,
   )
 
-  pub line_counted_if : {T E : Type 0} (result : Result T E) (join : Join) (old new : Counts) (was is : Seen) (line text : List ℕ) (address : Option IpAddr) (found : Found) → address ≡ address_in join line
+  pub line_counted_if : {T E : Type 0} (result : Result T E) (join : Join) (old new : Counts) (was is : LogStats) (line text : List ℕ) (address : Option IpAddr) (found : Found) → address ≡ address_in join line
       → Finds join address found → mark_of found ≡ text → OnOk result ((all : List Found) → CountsAll all (text ∷ []) old new) → Sees was is 1 (is_some address) → OnOk result (CountsLine founds join line old new was is)
   line_counted_if (Ok done) join old new was is line text address found same finds mark counts sees =
       line_counted join old new was is line address found same finds (subst (λ (t : List ℕ). CountsAll founds (t ∷ []) old new) (sym mark) (counts founds)) sees
   line_counted_if (Err fault) join old new was is line text address found same finds mark counts sees = tt
 
-  pub no_lines : (join : Join) (counts : Counts) (seen : Seen) → CountsLines founds join counts counts seen seen []
+  pub no_lines : (join : Join) (counts : Counts) (seen : LogStats) → CountsLines founds join counts counts seen seen []
   no_lines join counts seen = ([], refl, counts_nothing counts, sees_nothing seen)
 
-  pub line_more : (join : Join) (old mid new : Counts) (was among is : Seen) (line : List ℕ) → CountsLine founds join line mid new among is
+  pub line_more : (join : Join) (old mid new : Counts) (was among is : LogStats) (line : List ℕ) → CountsLine founds join line mid new among is
       → (first : List LogLine) (next : LogLine) → content next ≡ line → length line ≤ 1048576 → CountsLines founds join old mid was among first
       → CountsLines founds join old new was is (first ++ next ∷ [])
   line_more join old mid new was among is line f first next same short d =

@@ -6,7 +6,7 @@ use Rattle.lines.specs.Outputs.{Written}
 use Rattle.lists.specs.KnownLists.{KnownLists}
 use Rattle.lists.specs.declared.opening.OpenFault.{OpenFault}
 use Rattle.program.specs.LogFaults.{ended_by_write, log_fault_text}
-use Rattle.program.specs.Messages.{Tells}
+use Rattle.program.specs.Messages.{Reports}
 use Rattle.program.specs.LogLines.{LogLine}
 use Rattle.program.specs.Logs.{logs_of, HaltsBy}
 use Rattle.program.specs.declared.log_fault.LogFault.{LogFault}
@@ -15,14 +15,14 @@ use Rattle.program.proofs.Counts.{counts_from_none}
 use Rattle.program.proofs.LogNames.{names_apart, names_behind}
 use Rattle.program.proofs.LogReadings.{halts_by}
 use Rattle.program.proofs.LogStops.{told_log}
-use Rattle.program.proofs.Told.{tells_more}
+use Rattle.program.proofs.Reported.{tells_more}
 use Rattle.cidr_join.specs.Logs.{EndsRunBy}
 use Rattle.cidr_join.specs.TallyRuns.{Marks, MarksLogs, RunsOut, StopsTally}
 use Rattle.cidr_join.specs.Private.TallyProgress.{CountsLines, CountsNames, StopsCounting, TellsStop, tally_fault_text}
 use Rattle.cidr_join.specs.declared.counts.Counts.{Counts}
 use Rattle.cidr_join.specs.declared.found.Found.{Found}
 use Rattle.cidr_join.specs.declared.join.Join.{Join}
-use Rattle.cidr_join.specs.declared.seen.Seen.{Seen}
+use Rattle.cidr_join.specs.declared.log_stats.LogStats.{LogStats}
 use Rattle.cidr_join.specs.declared.tally_log.TallyFault.{TallyFault}
 use Rattle.cidr_join.specs.declared.tally_log.TallyFault.TheVariants as tallies
 use Rattle.cidr_join.proofs.Addressed.{nothing_seen}
@@ -57,7 +57,7 @@ module _ (join : Join) (known : KnownLists) where
   })
 
   module _ (founds : List Found) (name : List ℕ) (remained remains : Option (List ℕ)) (has : (input : List ℕ) → known.bytes_of name ≡ Some input → remained ≡ Some input) (opened : known.may_open name true)
-      (old new : Counts) (seen : Seen) (failed : Bool) (fails : IsTrue failed → known.may_fail name) where
+      (old new : Counts) (seen : LogStats) (failed : Bool) (fails : IsTrue failed → known.may_fail name) where
     halted : (fault : LogFault) → ended_by_write {T = Unit {0}} (Err fault) ≡ false
         → (halts : (lines : List LogLine) × HaltsBy EndsRunBy known name lines fault × CountsLines founds join old new nothing_seen seen lines)
         → StopsTally join known (name ∷ []) (log_fault_text name seen.lines fault)
@@ -121,7 +121,7 @@ module _ (join : Join) (known : KnownLists) where
 
     -- memory ran out when all were
     pub rows_lack : {E : Type 0} (founds : List Found) (old new : Counts) (errors between told : Written E) → CountsNames founds join known (logs_of files) old new errors between
-        → Tells between told (codes "out of memory\n") → TellsStop join known (logs_of files) errors told
+        → Reports between told (codes "out of memory\n") → TellsStop join known (logs_of files) errors told
     rows_lack founds old new errors between told f tells = (
       f.text ++ codes "out of memory\n",
       inr (record {

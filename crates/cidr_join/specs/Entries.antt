@@ -9,7 +9,7 @@ use Rattle.lists.specs.declared.entry.EntryFault.{EntryFault}
 use Rattle.lists.specs.declared.entry.EntryFault.TheVariants as faults
 use Rattle.cidr_join.specs.declared.line.Cause.{Cause}
 use Rattle.cidr_join.specs.declared.line.Cause.TheVariants as causes
-use Rattle.cidr_join.specs.declared.line.Said.{Said}
+use Rattle.cidr_join.specs.declared.line.RouteEntry.{RouteEntry}
 use Rattle.cidr_join.specs.declared.value.Value.{Value}
 
 -- a space, a tab or a carriage return
@@ -99,7 +99,7 @@ LineFaults line causes.Value = SaysSomething line
 LineFaults line causes.Twice = ⊥
 
 -- what reading a line returns
-abbrev pub ReadsRoute : List ℕ → Result (Option Said) Cause → Type 0
+abbrev pub ReadsRoute : List ℕ → Result (Option RouteEntry) Cause → Type 0
 ReadsRoute line (Ok None) = SaysNothing line
 ReadsRoute line (Ok (Some said)) = Says line said.entry said.value
 ReadsRoute line (Err cause) = LineFaults line cause

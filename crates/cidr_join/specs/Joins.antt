@@ -22,7 +22,7 @@ asked_of mapped found = if mapped then option_map unmapped found else found
 
 -- that of a line
 abbrev pub address_in : Join → List ℕ → Option IpAddr
-address_in join line = asked_of join.mapped (found_in join.place line)
+address_in join line = asked_of join.mapped (found_in join.area line)
 
 -- what is found for an address: the value of the longest network of the list that has it, or that network, or nothing;
 -- or the block of one length that has it

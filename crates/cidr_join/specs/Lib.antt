@@ -14,4 +14,4 @@ pub mod Stops
 pub mod Takes
 pub mod Tallies
 pub mod TallyRuns
-pub mod Told
+pub mod Reported

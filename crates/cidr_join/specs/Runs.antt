@@ -5,7 +5,7 @@ use Rattle.std.specs.List.{slice_split}
 use Rattle.lists.specs.Bytes.{IsAllOf, BytesStop}
 use Rattle.lists.specs.KnownLists.{KnownLists}
 use Rattle.program.specs.Endings.{Ending, Refuses, HasTold}
-use Rattle.log_programs.specs.Places.{place_of}
+use Rattle.log_programs.specs.Areas.{area_of}
 use Rattle.log_programs.specs.Rows as rows
 use Rattle.options.specs.Given.{is_given, value_of, inputs_of}
 use Rattle.options.specs.Runs as runs
@@ -22,7 +22,7 @@ use Rattle.program.specs.Logs.{HaltsBy}
 use Rattle.cidr_join.specs.Routes.{no_networks}
 use Rattle.cidr_join.specs.TallyRuns.{EndsTally, EndsWith}
 use Rattle.cidr_join.specs.Takes.{TakesLines, StopsTaking}
-use Rattle.cidr_join.specs.Told.{bytes_fault_text, take_fault_text}
+use Rattle.cidr_join.specs.Reported.{bytes_fault_text, take_fault_text}
 use Rattle.lists.specs.declared.bytes.BytesFault.{BytesFault}
 use Rattle.cidr_join.specs.declared.answers.Answers.{Answers}
 use Rattle.cidr_join.specs.declared.answers.Answers.TheVariants as answers
@@ -83,7 +83,7 @@ answers_of items networks = answers_by (is_given items own.network) (record { v4
 abbrev pub join_of : List Item → Answers → Join
 join_of items by = record {
   answers = by;
-  place = place_of items;
+  area = area_of items;
   mapped = is_given items rows.mapped;
   last = is_given items own.last;
 }

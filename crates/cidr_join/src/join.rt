@@ -5,7 +5,7 @@ ghost use Rattle.cidr_join.specs.Joins.{Finds, address_in};
 use crate::answers::Answers;
 use crate::found::Found;
 use ipnetwork::IpAddr;
-use line_addresses::{Place, unmapped};
+use line_addresses::{Area, unmapped};
 use log_programs::finding::found_in;
 
 /// What decides what is printed of a line.
@@ -13,7 +13,7 @@ use log_programs::finding::found_in;
 pub struct Join<'a> {
     /// What is printed of its address.
     pub(crate) answers: Answers<'a>,
-    pub(crate) place: Place<'a>,
+    pub(crate) area: Area<'a>,
     /// Whether an IPv4-mapped address of a line counts as its IPv4 one.
     pub(crate) mapped: bool,
     /// Whether that stands behind the line, and not before it.
@@ -35,7 +35,7 @@ impl<'a> Join<'a> {
     pub(crate) fn address_in(&self, line: &[u8]) -> Option<IpAddr>
         ensures { result ≡ address_in self.now line.now }
     {
-        let Some(address) = found_in(&self.place, line) else {
+        let Some(address) = found_in(&self.area, line) else {
             return None;
         };
         if self.mapped {

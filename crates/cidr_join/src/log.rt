@@ -9,8 +9,8 @@ ghost use Rattle.program.specs.LogFaults.{ended_by_write};
 ghost use Rattle.program.specs.LogLines.{feed_behind};
 
 use crate::join::Join;
+use crate::log_stats::LogStats;
 use crate::printing::print_line;
-use crate::seen::Seen;
 use lines::line_end::LineEnd;
 use lines::output::Output;
 use lines::watched::Watched;
@@ -27,7 +27,7 @@ pub fn join_log<R: Read, W: Write>(
     buffer: &mut [u8],
     reader: &mut Watched<R>,
     output: &mut Output<'_, W>,
-    seen: &mut Seen,
+    seen: &mut LogStats,
 ) -> Result<(), LogFault>
     requires room { 1048578 ≤ length buffer.old }
     ensures { EndsOrStops (λ _. Ends join.now) (Stops join.now) result
@@ -60,7 +60,7 @@ fn join_line<W: Write>(
     whole: &[u8],
     end: LineEnd,
     output: &mut Output<'_, W>,
-    seen: &mut Seen,
+    seen: &mut LogStats,
 ) -> Result<(), LogFault>
     requires { length line.now ≤ length whole.now }
     ensures ok { OnOk result (JoinsLine join.now line.now (whole.now ++ feed_behind end)

@@ -7,7 +7,7 @@ ghost use Rattle.cidr_join.specs.Private.Runs.{JoinsNames};
 
 use crate::join::Join;
 use crate::log::join_log;
-use crate::seen::Seen;
+use crate::log_stats::LogStats;
 use crate::telling::tell_unaddressed;
 use lines::output::Output;
 use lists::{OpenLists, open_list};
@@ -68,7 +68,7 @@ fn join_one<L: OpenLists, W: Write, E: Write>(
             return false;
         }
     };
-    let mut seen = Seen {
+    let mut seen = LogStats {
         lines: 0,
         is_addressed: false,
     };

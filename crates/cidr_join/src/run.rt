@@ -17,7 +17,7 @@ use crate::tally_logs::tally_logs;
 use crate::telling::{tell_bytes_fault, tell_take_fault};
 use lines::output::Output;
 use lists::{OpenLists, read_bytes};
-use log_programs::places::place_of;
+use log_programs::areas::area_of;
 use log_programs::rows::{LIST, MAPPED};
 use options::asking::{About, asked};
 use options::given::{files_of, is_given, value_of};
@@ -195,7 +195,7 @@ fn join_of<'a>(items: &[Item<'a>], answers: Answers<'a>) -> Join<'a>
 {
     Join {
         answers,
-        place: place_of(items),
+        area: area_of(items),
         mapped: is_given(items, MAPPED),
         last: is_given(items, LAST),
     }

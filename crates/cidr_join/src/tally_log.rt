@@ -8,8 +8,8 @@ ghost use Rattle.program.specs.LogReadings.{ReadsAll};
 use crate::counts::Counts;
 use crate::found::Found;
 use crate::join::Join;
-use crate::numbered::Numbered;
-use crate::seen::Seen;
+use crate::log_stats::LogStats;
+use crate::value_ids::ValueIds;
 use lines::output::Output;
 use lines::watched::Watched;
 use program::log_fault::LogFault;
@@ -32,11 +32,11 @@ pub enum TallyFault {
 pub(crate) fn tally_log<R: Read>(
     alloc: Global,
     join: &Join<'_>,
-    numbered: &Numbered<'_>,
+    numbered: &ValueIds<'_>,
     buffer: &mut [u8],
     reader: &mut Watched<R>,
     counts: &mut Counts,
-    seen: &mut Seen,
+    seen: &mut LogStats,
 ) -> Result<(), TallyFault>
     requires room { 1048578 ≤ length buffer.old }
     requires numbered { IsNumbering join.now.answers numbered.now }
@@ -91,10 +91,10 @@ fn tally_fault(fault: LogFault) -> TallyFault
 fn count_line(
     alloc: Global,
     join: &Join<'_>,
-    numbered: &Numbered<'_>,
+    numbered: &ValueIds<'_>,
     line: &[u8],
     counts: &mut Counts,
-    seen: &mut Seen,
+    seen: &mut LogStats,
 ) -> Result<(), AllocError>
     requires { IsNumbering join.now.answers numbered.now }
     ensures { OnOk result

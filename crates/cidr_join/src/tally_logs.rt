@@ -2,7 +2,7 @@
 ghost use Rattle.std.specs.Prelude.{◌≡◌, ◌≤◌, ◌++◌, ◌∷◌, ◌||◌, [], true, false, length, map, OnOk, OnErr, is_err};
 ghost use Rattle.lines.specs.Outputs.{FailsIn, Writes};
 ghost use Rattle.program.specs.Endings.{ending};
-ghost use Rattle.program.specs.Messages.{Tells};
+ghost use Rattle.program.specs.Messages.{Reports};
 ghost use Rattle.program.specs.Logs.{logs_of};
 ghost use Rattle.cidr_join.specs.Tallies.{row_text, rows_text};
 ghost use Rattle.cidr_join.specs.TallyRuns.{EndsTally};
@@ -13,11 +13,11 @@ ghost use Rattle.program.specs.Putting.{PutsOrFails};
 
 use crate::counts::Counts;
 use crate::join::Join;
-use crate::numbered::Numbered;
-use crate::seen::Seen;
+use crate::log_stats::LogStats;
 use crate::tally::Row;
 use crate::tally_log::{TallyFault, tally_log};
 use crate::telling::tell_unaddressed;
+use crate::value_ids::ValueIds;
 use lines::fault::RunFault;
 use lines::output::Output;
 use lists::{OpenLists, open_list};
@@ -44,7 +44,7 @@ pub(crate) fn tally_logs<L: OpenLists, W: Write, E: Write>(
     ensures { EndsTally join.now (L.known lists.now) (logs_of files.now)
         (ending output.old output.new errors.old errors.new result) }
 {
-    let Ok(numbered) = Numbered::of(alloc, &join.answers) else {
+    let Ok(numbered) = ValueIds::of(alloc, &join.answers) else {
         return refuse_memory(errors);
     };
     let founds = numbered.founds();
@@ -75,7 +75,7 @@ pub(crate) fn tally_logs<L: OpenLists, W: Write, E: Write>(
 fn tally_each<L: OpenLists, E: Write>(
     alloc: Global,
     join: &Join<'_>,
-    numbered: &Numbered<'_>,
+    numbered: &ValueIds<'_>,
     lists: &L,
     files: &[String],
     buffer: &mut [u8],
@@ -107,7 +107,7 @@ fn tally_each<L: OpenLists, E: Write>(
 fn tally_one<L: OpenLists, E: Write>(
     alloc: Global,
     join: &Join<'_>,
-    numbered: &Numbered<'_>,
+    numbered: &ValueIds<'_>,
     lists: &L,
     name: &str,
     buffer: &mut [u8],
@@ -129,7 +129,7 @@ fn tally_one<L: OpenLists, E: Write>(
             return false;
         }
     };
-    let mut seen = Seen {
+    let mut seen = LogStats {
         lines: 0,
         is_addressed: false,
     };
@@ -149,7 +149,7 @@ fn tally_one<L: OpenLists, E: Write>(
 
 // Reports why the lines of a log were not counted to its end, after this many of them.
 fn tell_stop<E: Write>(name: &str, fault: TallyFault, lines: u64, errors: &mut Output<'_, E>)
-    ensures { Tells errors.old errors.new (tally_fault_text name.now lines fault) }
+    ensures { Reports errors.old errors.new (tally_fault_text name.now lines fault) }
 {
     match fault {
         TallyFault::Log(fault) => tell_log_fault(name, fault, lines, errors),

@@ -1,13 +1,13 @@
 //! Messages on the error writer. If a write of one fails, nothing else changes.
-ghost use Rattle.program.specs.Messages.{Tells};
+ghost use Rattle.program.specs.Messages.{Reports};
 ghost use Rattle.cidr_join.specs.Addressed.{lacking_by};
-ghost use Rattle.cidr_join.specs.Told.{bytes_fault_text, take_fault_text};
+ghost use Rattle.cidr_join.specs.Reported.{bytes_fault_text, take_fault_text};
 
 use crate::help::PROGRAM;
 use crate::join::Join;
 use crate::list::TakeFault;
+use crate::log_stats::LogStats;
 use crate::routes::RouteFault;
-use crate::seen::Seen;
 use lines::output::Output;
 use lists::BytesFault;
 use log_programs::telling::tell_lacking;
@@ -17,7 +17,7 @@ use std::io::Write;
 
 /// Reports why the list of this name was not read.
 pub(crate) fn tell_bytes_fault<E: Write>(name: &str, fault: BytesFault, errors: &mut Output<'_, E>)
-    ensures { Tells errors.old errors.new (bytes_fault_text name.now fault) }
+    ensures { Reports errors.old errors.new (bytes_fault_text name.now fault) }
 {
     match fault {
         BytesFault::Open(cause) => tell_of(name, cause.text(), errors),
@@ -31,19 +31,19 @@ pub(crate) fn tell_bytes_fault<E: Write>(name: &str, fault: BytesFault, errors: 
 pub(crate) fn tell_unaddressed<E: Write>(
     join: &Join<'_>,
     name: &str,
-    seen: &Seen,
+    seen: &LogStats,
     errors: &mut Output<'_, E>,
 )
-    ensures { Tells errors.old errors.new
-        (lacking_by join.now.place name.now seen.now.lines seen.now.is_addressed) }
+    ensures { Reports errors.old errors.new
+        (lacking_by join.now.area name.now seen.now.lines seen.now.is_addressed) }
 {
     let (lines, is_addressed) = (seen.lines, seen.is_addressed);
-    tell_lacking(PROGRAM, &join.place, name, lines, is_addressed, errors);
+    tell_lacking(PROGRAM, &join.area, name, lines, is_addressed, errors);
 }
 
 /// Reports why the lines of the list of this name were not taken to its end.
 pub(crate) fn tell_take_fault<E: Write>(name: &str, fault: TakeFault, errors: &mut Output<'_, E>)
-    ensures { Tells errors.old errors.new (take_fault_text name.now fault) }
+    ensures { Reports errors.old errors.new (take_fault_text name.now fault) }
 {
     match fault.fault {
         RouteFault::OutOfMemory => tell("out of memory\n", errors),

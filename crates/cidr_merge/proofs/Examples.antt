@@ -9,7 +9,7 @@ use Rattle.ipnetwork_family.specs.Family.{v4_family}
 use Rattle.ipnetwork_blocks.specs.Aggregate.{InUnion}
 use Rattle.lists.specs.declared.entry.EntryFault.TheVariants.{Prefix}
 use Rattle.lists.specs.declared.fault.LineFault.TheVariants.{Entry}
-use Rattle.program.specs.Told.{in_list, refusals_text}
+use Rattle.program.specs.Reported.{in_list, refusals_text}
 use Rattle.options.specs.Faults.{pair_fault}
 use Rattle.options.specs.Items.{free_items, is_of_option}
 use Rattle.options.specs.declared.items.Item.TheVariants as says

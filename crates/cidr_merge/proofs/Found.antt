@@ -5,8 +5,8 @@ use Rattle.std.specs.List.{concat}
 use Rattle.std.proofs.Math.Dec.{eqb-suc-zero}
 use Rattle.std.proofs.lemmas.List.Folds.{concat-append}
 use Rattle.lines.specs.Outputs.{Written}
-use Rattle.program.specs.Messages.{Tells}
-use Rattle.program.proofs.Told.{tells_more, tells_same, tells_nothing}
+use Rattle.program.specs.Messages.{Reports}
+use Rattle.program.proofs.Reported.{tells_more, tells_same, tells_nothing}
 use Rattle.cidr_merge.specs.Findings.{IsFound}
 use Rattle.cidr_merge.specs.Private.Reported.{TellsFound}
 
@@ -24,7 +24,7 @@ found_more (one ∷ found) more is_found is_more both e f g =
 pub tells_none : {W : Type 0} (old : Written W) → TellsFound [] old old false
 tells_none old = (tells_nothing old, refl)
 
-pub tells_one : {W : Type 0} (line : List ℕ) (old new : Written W) → Tells old new line
+pub tells_one : {W : Type 0} (line : List ℕ) (old new : Written W) → Reports old new line
     → TellsFound (line ∷ []) old new true
 tells_one line old new h = (tells_same old new line _ (sym (append-nil line)) h, refl)
 

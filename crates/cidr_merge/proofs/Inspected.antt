@@ -13,8 +13,8 @@ use Rattle.lines.specs.declared.fault.RunFault.{RunFault}
 use Rattle.lists.specs.KnownLists.{KnownLists}
 use Rattle.lists.specs.declared.named.ReadFault.{ReadFault}
 use Rattle.program.specs.Endings.{Ending, Refuses, status_of, end_text}
-use Rattle.program.specs.Messages.{Tells}
-use Rattle.program.specs.Told.{fault_text}
+use Rattle.program.specs.Messages.{Reports}
+use Rattle.program.specs.Reported.{fault_text}
 use Rattle.cidr_merge.specs.Findings.{lists_findings, IsFound}
 use Rattle.cidr_merge.specs.InspectionRuns.{findings_status, EndsChecking, EndsFinding}
 use Rattle.cidr_merge.specs.InspectionRuns.{EndsInspecting, WritesFindings}
@@ -50,12 +50,12 @@ written_all held mid holds waited waits text p h =
 
 pub findings_written : {W E T : Type 0} (findings : List (List ℕ)) (end : Ending W E)
     (mid : Written W) (written : Result T RunFault) (found : Bool) (status : ℕ)
-    → Tells end.output mid (concat findings)
+    → Reports end.output mid (concat findings)
     → IsFound findings found → status ≡ (if found then 1 else 0)
     → OnOk written (Appends mid.holds end.output_after.holds mid.waits)
     → OnOk written (IsFalse end.output_after.failed)
     → end.output_after.failed ≡ (mid.failed || is_err written)
-    → end.status ≡ status_of written status → Tells end.errors end.errors_after (end_text written)
+    → end.status ≡ status_of written status → Reports end.errors end.errors_after (end_text written)
     → FailsToWrite end ⊎ WritesFindings findings end
 findings_written findings end mid (Ok done) found status tells f s wrote works failed is told =
     let prints = tells.told (works_before mid.failed end.output_after.failed failed works) in
@@ -75,7 +75,7 @@ pub checked : {Z W E T : Type 0} (names : List (String Z)) (texts : List (List �
     → OnOk written (Appends mid.holds end.output_after.holds mid.waits)
     → OnOk written (IsFalse end.output_after.failed)
     → end.output_after.failed ≡ (mid.failed || is_err written)
-    → end.status ≡ status_of written status → Tells end.errors end.errors_after (end_text written)
+    → end.status ≡ status_of written status → Reports end.errors end.errors_after (end_text written)
     → EndsChecking names texts end
 checked names texts end mid written found status h s wrote works failed is told =
     findings_written _ end mid written found status h.0 h.1 s wrote works failed is told

@@ -5,7 +5,7 @@ use Rattle.std.specs.Io.KnownBytes.{Appends}
 use Rattle.lines.specs.Outputs.{Written}
 use Rattle.lines.specs.declared.fault.RunFault.{RunFault}
 use Rattle.program.specs.Endings.{Ending, status_of, end_text}
-use Rattle.program.specs.Messages.{Tells}
+use Rattle.program.specs.Messages.{Reports}
 use Rattle.cidr_merge.specs.Findings.{lists_findings}
 use Rattle.cidr_merge.specs.InspectionRuns.{EndsOrdered}
 use Rattle.cidr_merge.specs.Overlaps.{IsInOrder, lists_entries}
@@ -27,7 +27,7 @@ module _ {Z W E T : Type 0} (strictly : Bool) (names : List (String Z)) (texts :
       → OnOk written (Appends mid.holds end.output_after.holds mid.waits)
       → OnOk written (IsFalse end.output_after.failed)
       → end.output_after.failed ≡ (mid.failed || is_err written)
-      → end.status ≡ status_of written status → Tells end.errors end.errors_after (end_text written)
+      → end.status ≡ status_of written status → Reports end.errors end.errors_after (end_text written)
       → EndsOrdered strictly names texts end
   ordered_ended s wrote works failed is told =
       let all = lists_findings strictly names texts in

@@ -8,8 +8,8 @@ use Rattle.std.specs.List.Sorted.{IsSorted}
 use Rattle.std.proofs.lemmas.List.Folds.{concat-append}
 use Rattle.std.proofs.lemmas.List.{take_more, map_push, length-map, get_or_default}
 use Rattle.lines.specs.Outputs.{Written}
-use Rattle.program.specs.Messages.{Tells}
-use Rattle.program.proofs.Told.{tells_more, tells_same}
+use Rattle.program.specs.Messages.{Reports}
+use Rattle.program.proofs.Reported.{tells_more, tells_same}
 use Rattle.cidr_merge.specs.Overlaps.{Listed, reaches, pair_text, pairs_with, pairs_after}
 use Rattle.cidr_merge.specs.Overlaps.{listed_cmp}
 use Rattle.cidr_merge.specs.Private.Entries.{listed_as, overlaps, KeepsReaching}
@@ -52,10 +52,10 @@ filter_map_is f p (x ∷ xs) = by (filter_map_is f p xs) (p (f x)) refl where
 pairs_with_more : {Z W : Type 0} (names : List (String Z)) (later : Placed) (before : List Placed)
     (index : ℕ) (one : Placed) (old mid new : Written W) → index < length before
     → one ≡ get_or before index one
-    → Tells old mid (concat (map (pair_text names (listed_as later))
-    (map listed_as (take index before)))) → Tells mid new
+    → Reports old mid (concat (map (pair_text names (listed_as later))
+    (map listed_as (take index before)))) → Reports mid new
     (pair_text names (listed_as later) (listed_as one))
-    → Tells old new (concat (map (pair_text names (listed_as later))
+    → Reports old new (concat (map (pair_text names (listed_as later))
     (map listed_as (take (index + 1) before))))
 pairs_with_more names later before index one old mid new l is h k =
     let text = pair_text names (listed_as later) in
@@ -65,7 +65,7 @@ pairs_with_more names later before index one old mid new l is h k =
     (ap concat (sym (map_push text done (listed_as one))
     ∙ ap (map text) (sym (map_push listed_as (take index before) one)
     ∙ ap (map listed_as) (sym (up_to_next before index one l is)))))
-    (subst (λ (t : List ℕ). Tells old new t) (sym (concat-append (map text done) (text (listed_as one) ∷ [])))
+    (subst (λ (t : List ℕ). Reports old new t) (sym (concat-append (map text done) (text (listed_as one) ∷ [])))
     (tells_more old mid new (concat (map text done)) (concat (text (listed_as one) ∷ [])) h
     (tells_same mid new (text (listed_as one)) (concat (text (listed_as one) ∷ []))
     (sym (append-nil (text (listed_as one)))) k)))
@@ -73,10 +73,10 @@ pairs_with_more names later before index one old mid new l is h k =
 pub pairs_with_next : {Z W : Type 0} (names : List (String Z)) (later : Placed)
     (before : List Placed) (index : ℕ) (other : Placed) (old mid new : Written W)
     → index < length before
-    → Tells old mid (concat (map (pair_text names (listed_as later))
-    (map listed_as (take index before)))) → Tells mid new
+    → Reports old mid (concat (map (pair_text names (listed_as later))
+    (map listed_as (take index before)))) → Reports mid new
     (pair_text names (listed_as later) (listed_as (get_or before index other)))
-    → Tells old new (concat (map (pair_text names (listed_as later))
+    → Reports old new (concat (map (pair_text names (listed_as later))
     (map listed_as (take (index + 1) before))))
 pairs_with_next names later before index other old mid new l h k =
     pairs_with_more names later before index (get_or before index other) old mid new l
@@ -94,7 +94,7 @@ pub pairs_told_more : {Z W : Type 0} (names : List (String Z))
     → place < length entries → Swept overlaps entries now kept place
     → later ≡ get_or entries place later → kept_ones ≡ filter (overlaps later) (take kept now)
     → PairsTold names (take place entries) old between found
-    → Tells between new (concat (map (pair_text names (listed_as later)) (map listed_as kept_ones)))
+    → Reports between new (concat (map (pair_text names (listed_as later)) (map listed_as kept_ones)))
     → more ≡ not (length kept_ones == 0) → both ≡ (found || more)
     → PairsTold names (take (place + 1) entries) old new both
 pairs_told_more names entries now mid kept_ones kept place count later old between new found more
@@ -127,7 +127,7 @@ pairs_step : {Z W : Type 0} (names : List (String Z)) (old now mid new : List Pl
     → PairsTold names (take place old) output between found → place < length old
     → KeepsReaching now mid kept place count
     → later ≡ get_or mid place later → SwappedAt mid new count place → length new ≡ length mid
-    → Tells between after (concat (map (pair_text names (listed_as later))
+    → Reports between after (concat (map (pair_text names (listed_as later))
     (map listed_as (take count mid)))) → more ≡ not (length (take count mid) == 0)
     → both ≡ (found || more)
     → Swept overlaps old new (count + 1) (place + 1) × PairsTold names
@@ -153,7 +153,7 @@ pub pairs_next : {Z W : Type 0} (names : List (String Z)) (old now mid new : Lis
     → PairsTold names (take place old) output between found → place < length old
     → KeepsReaching now mid kept place count
     → SwappedAt mid new count place → length new ≡ length mid
-    → Tells between after (concat (map (pair_text names (listed_as (get_or mid place other)))
+    → Reports between after (concat (map (pair_text names (listed_as (get_or mid place other)))
     (map listed_as (take count mid)))) → more ≡ not (length (take count mid) == 0)
     → both ≡ (found || more)
     → Swept overlaps old new (count + 1) (place + 1) × PairsTold names

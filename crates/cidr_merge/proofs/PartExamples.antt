@@ -17,10 +17,10 @@ use Rattle.options.specs.declared.table.Row.{Row}
 use Rattle.options.specs.declared.table.Table.{Table}
 use Rattle.program.specs.Endings.{Ending, Refuses, HasTold, HasWritten}
 use Rattle.lists.specs.KnownLists.{KnownLists}
-use Rattle.program.specs.Messages.{Tells}
+use Rattle.program.specs.Messages.{Reports}
 use Rattle.program.specs.Runs.{text_asked}
 use Rattle.program.proofs.Runs.{otherwise}
-use Rattle.program.specs.Told.{was_refused, fault_text, in_list, refusals_text}
+use Rattle.program.specs.Reported.{was_refused, fault_text, in_list, refusals_text}
 use Rattle.program.specs.Words.{is}
 use Rattle.ipnetwork_addr.specs.declared.ip.IpAddr.{IpAddr}
 use Rattle.lists.specs.declared.named.ReadFault.{ReadFault}
@@ -106,7 +106,7 @@ what_stops_both_sides known words request fault refused h = h
 
 pub what_a_run_tells : {Z W E : Type 0} (known : KnownLists) (words : List (String Z))
     (request : Request) (end : Ending W E) → EndsMerging known words request end
-    → (refused : Refused) × (told : Written E) × Tells end.errors told
+    → (refused : Refused) × (told : Written E) × Reports end.errors told
     (refusals_text words in_list refused)
     × (StopsReading known words request refused (record end { errors = told })
     ⊎ ((first second : Sets) × ReadsSides known words request first second refused
@@ -191,9 +191,9 @@ pub what_a_find_does : {Z W E : Type 0} (program usage : List ℕ) (rows : List 
     × HasTold end (fault_text words fault)))
     ⊎ ((texts : List (List ℕ)) × AreTexts known (searched_of words) texts
     × ((errors : Written E)
-    × Tells end.errors errors (concat (lists_refusals (searched_of words) texts))
+    × Reports end.errors errors (concat (lists_refusals (searched_of words) texts))
     × (FailsToWrite (record end { errors = errors })
-    ⊎ (HasWritten end (concat (found_in words addresses texts)) × Tells errors end.errors_after []
+    ⊎ (HasWritten end (concat (found_in words addresses texts)) × Reports errors end.errors_after []
     × (end.status ≡ (if length (lists_refusals (searched_of words) texts) == 0
     then (if length (found_in words addresses texts) == 0 then 1 else 0) else 2))))))))
 what_a_find_does program usage rows known words end h = h

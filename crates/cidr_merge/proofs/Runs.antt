@@ -6,8 +6,8 @@ use Rattle.lists.specs.Lists.{nothing_read}
 use Rattle.lists.specs.Refusals.{Refused, no_refusals}
 use Rattle.program.specs.Endings.{Ending, Refuses}
 use Rattle.lists.specs.KnownLists.{KnownLists}
-use Rattle.program.specs.Messages.{Tells}
-use Rattle.program.specs.Told.{in_list, refusals_text}
+use Rattle.program.specs.Messages.{Reports}
+use Rattle.program.specs.Reported.{in_list, refusals_text}
 use Rattle.options.specs.declared.faults.Fault.{Fault}
 use Rattle.options.specs.declared.table.Table.{Table}
 use Rattle.program.specs.Runs.{text_asked}
@@ -75,7 +75,7 @@ sides_read (Err fault) known words request first second between refused to t fir
 pub merged : {Z W E : Type 0} (known : KnownLists) (words : List (String Z)) (request : Request)
     (first second : Sets) (refused : Refused) (is_empty : Bool) (end : Ending W E)
     (told : Written E) → ReadsSides known words request first second refused
-    → Tells end.errors told (refusals_text words in_list refused)
+    → Reports end.errors told (refusals_text words in_list refused)
     → is_empty ≡ (length refused.kept == 0) → EndsAnswering request (not is_empty) first second
     (record end { errors = told })
     → EndsMerging known words request end

@@ -10,8 +10,8 @@ use Rattle.ipnetwork_addr.specs.declared.ip.IpAddr.{IpAddr}
 use Rattle.lists.specs.KnownLists.{KnownLists}
 use Rattle.lists.specs.declared.named.ReadFault.{ReadFault}
 use Rattle.program.specs.Endings.{Ending, Refuses, status_of, end_text}
-use Rattle.program.specs.Messages.{Tells}
-use Rattle.program.specs.Told.{fault_text}
+use Rattle.program.specs.Messages.{Reports}
+use Rattle.program.specs.Reported.{fault_text}
 use Rattle.cidr_merge.specs.Finds.{lists_matches, lists_refusals}
 use Rattle.options.specs.declared.table.Row.{Row}
 use Rattle.cidr_merge.specs.FindRuns.{sought_fault_text, EndsSearching, EndsReadingAll, EndsFind}
@@ -42,7 +42,7 @@ pub search_ended : {Z W E T : Type 0} (sought : List (List ℕ × IpAddr)) (name
     → OnOk written (Appends mid.holds end.output_after.holds mid.waits)
     → OnOk written (IsFalse end.output_after.failed)
     → end.output_after.failed ≡ (mid.failed || is_err written)
-    → end.status ≡ status_of written status → Tells errors end.errors_after (end_text written)
+    → end.status ≡ status_of written status → Reports errors end.errors_after (end_text written)
     → EndsSearching sought names texts end
 search_ended sought names texts end mid errors
     (Ok done) is_printed is_told status h k s wrote works failed is told =

@@ -7,8 +7,8 @@ use Rattle.lists.specs.Lists.{nothing_read}
 use Rattle.lists.specs.Refusals.{Refused, no_refusals}
 use Rattle.lists.specs.declared.named.ReadFault.{ReadFault}
 use Rattle.program.specs.Endings.{Ending, IsSilent}
-use Rattle.program.specs.Messages.{Tells}
-use Rattle.program.specs.Told.{fault_text, in_list, refusals_text}
+use Rattle.program.specs.Messages.{Reports}
+use Rattle.program.specs.Reported.{fault_text, in_list, refusals_text}
 use Rattle.cidr_merge.specs.Reading.{ReadsSide}
 use Rattle.cidr_merge.specs.Shapes.{source}
 use Rattle.cidr_merge.specs.Splits.{EndsCutting, EndsSplitting}
@@ -23,7 +23,7 @@ pub lists_split : {Z W E : Type 0} (known : KnownLists) (words : List (String Z)
     (end : Ending W E) (told : Written E)
     → ReadsSide (source known request.shape) request.first
     (slice_range words request.first (length words)) no_refusals sets refused
-    → Tells end.errors told (refusals_text words in_list refused)
+    → Reports end.errors told (refusals_text words in_list refused)
     → is_empty ≡ (length refused.kept == 0) → EndsCutting request (not is_empty) sets
     (record end { errors = told })
     → EndsSplitting known words request end
@@ -45,8 +45,8 @@ pub split_stopped : {Z W E : Type 0} (fault : ReadFault) (known : KnownLists)
     (told : Written E)
     → Stops (source known request.shape) request.first
     (slice_range words request.first (length words)) (nothing_read no_refusals) fault refused
-    → Tells end.errors told (refusals_text words in_list refused) → IsSilent end
-    → Tells told end.errors_after (fault_text words fault) → EndsSplitting known words request end
+    → Reports end.errors told (refusals_text words in_list refused) → IsSilent end
+    → Reports told end.errors_after (fault_text words fault) → EndsSplitting known words request end
 split_stopped fault known words request refused end told stops tells silent why = (
   refused,
   told,

@@ -7,8 +7,8 @@ use Rattle.lists.specs.declared.named.ReadFault.{ReadFault}
 use Rattle.lists.specs.declared.named.ReadFault.TheVariants as faults
 use Rattle.ipnetwork_addr.specs.declared.ip.IpAddr.{IpAddr}
 use Rattle.program.specs.Endings.{Ending, Refuses, HasTold, HasWritten}
-use Rattle.program.specs.Messages.{Tells}
-use Rattle.program.specs.Told.{name_at, fault_text}
+use Rattle.program.specs.Messages.{Reports}
+use Rattle.program.specs.Reported.{name_at, fault_text}
 use Rattle.cidr_merge.specs.Finds.{lists_matches, lists_refusals}
 use Rattle.options.specs.Refusing.{refusal_text}
 use Rattle.options.specs.declared.table.Row.{Row}
@@ -33,7 +33,7 @@ WritesReport printed told end =
 abbrev pub EndsSearching : {Z W E : Type 0} → List (List ℕ × IpAddr) → List (String Z)
     → List (List ℕ) → Ending W E → Type 0
 EndsSearching {Z} {W} {E} sought names texts end =
-    (errors : Written E) × Tells end.errors errors (concat (lists_refusals names texts))
+    (errors : Written E) × Reports end.errors errors (concat (lists_refusals names texts))
     × (FailsToWrite (record end { errors = errors })
     ⊎ WritesReport (lists_matches sought names texts) (lists_refusals names texts)
     (record end { errors = errors }))

@@ -7,7 +7,7 @@ use Rattle.ipnetwork.specs.Computed.IpNetworks.{is_ip_member}
 use Rattle.lists.specs.declared.entry.Entry.{Entry}
 use Rattle.lists.specs.declared.entry.Entry.TheVariants as entries
 use Rattle.lists.specs.declared.fault.LineFault.{LineFault}
-use Rattle.program.specs.Told.{name_at}
+use Rattle.program.specs.Reported.{name_at}
 use Rattle.cidr_merge.specs.Findings.{place_text, refusal_text}
 use Rattle.cidr_merge.specs.NumberedLines.{NumberedLine, is_range, numbered_lines, said_by}
 

@@ -5,7 +5,7 @@ use Rattle.std.specs.List.{concat}
 use Rattle.lists.specs.KnownLists.{KnownLists}
 use Rattle.lists.specs.declared.named.ReadFault.{ReadFault}
 use Rattle.program.specs.Endings.{Ending, Refuses, HasTold, HasWritten}
-use Rattle.program.specs.Told.{fault_text}
+use Rattle.program.specs.Reported.{fault_text}
 use Rattle.cidr_merge.specs.Findings.{lists_findings}
 use Rattle.cidr_merge.specs.Overlaps.{OrderedFindings}
 use Rattle.cidr_merge.specs.Repetitions.{found_among}

@@ -11,7 +11,7 @@ use Rattle.ipnetwork_addr.specs.declared.ip.IpAddr.{IpAddr}
 use Rattle.lists.specs.declared.entry.Entry.{Entry}
 use Rattle.lists.specs.declared.entry.Entry.TheVariants as entries
 use Rattle.lists.specs.declared.fault.LineFault.{LineFault}
-use Rattle.program.specs.Told.{name_at}
+use Rattle.program.specs.Reported.{name_at}
 use Rattle.cidr_merge.specs.Findings.{place_text}
 use Rattle.cidr_merge.specs.NumberedLines.{NumberedLine, numbered_lines, said_by}
 

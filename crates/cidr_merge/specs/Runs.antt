@@ -5,8 +5,8 @@ use Rattle.ipnetwork_sets.specs.Equality.{same_blocks}
 use Rattle.lines.specs.Outputs.{Written}
 use Rattle.program.specs.Endings.{Ending, IsSilent, HasTold, HasWritten}
 use Rattle.lists.specs.KnownLists.{KnownLists}
-use Rattle.program.specs.Messages.{Tells}
-use Rattle.program.specs.Told.{was_refused, fault_text, in_list, refusals_text}
+use Rattle.program.specs.Messages.{Reports}
+use Rattle.program.specs.Reported.{was_refused, fault_text, in_list, refusals_text}
 use Rattle.lists.specs.declared.named.ReadFault.{ReadFault}
 use Rattle.cidr_merge.specs.Answers.{IsAnswer}
 use Rattle.cidr_merge.specs.Reading.{ReadsSides}
@@ -59,7 +59,7 @@ StopsReading known words request refused end =
 abbrev pub EndsMerging : {Z W E : Type 0} → KnownLists → List (String Z) → Request → Ending W E
     → Type 0
 EndsMerging {Z} {W} {E} known words request end = (refused : Refused) × (told : Written E)
-    × Tells end.errors told (refusals_text words in_list refused)
+    × Reports end.errors told (refusals_text words in_list refused)
     × (StopsReading known words request refused (record end { errors = told })
     ⊎ ((first second : Sets) × ReadsSides known words request first second refused
     × EndsAnswering request (was_refused refused) first second (record end { errors = told })))

@@ -7,8 +7,8 @@ use Rattle.lists.specs.Lists.{nothing_read}
 use Rattle.lists.specs.Refusals.{Refused, no_refusals}
 use Rattle.lists.specs.declared.named.ReadFault.{ReadFault}
 use Rattle.program.specs.Endings.{Ending, IsSilent, Refuses, HasTold, HasWritten}
-use Rattle.program.specs.Messages.{Tells}
-use Rattle.program.specs.Told.{was_refused, fault_text, in_list, refusals_text}
+use Rattle.program.specs.Messages.{Reports}
+use Rattle.program.specs.Reported.{was_refused, fault_text, in_list, refusals_text}
 use Rattle.cidr_merge.specs.Pieces.{split_text, split_count, split_refusal}
 use Rattle.cidr_merge.specs.Reading.{ReadsSide}
 use Rattle.cidr_merge.specs.Shapes.{source}
@@ -49,7 +49,7 @@ StopsSplitting known words request refused end = (fault : ReadFault)
 abbrev pub EndsSplitting : {Z W E : Type 0} → KnownLists → List (String Z) → SplitRequest
     → Ending W E → Type 0
 EndsSplitting {Z} {W} {E} known words request end = (refused : Refused) × (told : Written E)
-    × Tells end.errors told (refusals_text words in_list refused)
+    × Reports end.errors told (refusals_text words in_list refused)
     × (StopsSplitting known words request refused (record end { errors = told })
     ⊎ ((sets : Sets) × ReadsSide (source known request.shape) request.first
     (drop request.first words) no_refusals sets refused

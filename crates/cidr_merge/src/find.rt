@@ -1,7 +1,7 @@
 //! The run of a `find`.
 ghost use Rattle.std.specs.Prelude.{◌≡◌, ◌<◌, drop, length, if◌then◌else◌};
 ghost use Rattle.program.specs.Endings.{ending};
-ghost use Rattle.program.specs.Messages.{Tells};
+ghost use Rattle.program.specs.Messages.{Reports};
 ghost use Rattle.cidr_merge.specs.Sides.{before_dashes};
 ghost use Rattle.cidr_merge.specs.FindRuns.{EndsFind, EndsReadingAll};
 ghost use Rattle.cidr_merge.specs.FindRuns.{sought_fault_text};
@@ -57,7 +57,7 @@ fn refuse_sought<E: Write>(
     errors: &mut Output<'_, E>,
 ) -> u8
     ensures status { result ≡ 2 }
-    ensures told { Tells errors.old errors.new
+    ensures told { Reports errors.old errors.new
         (sought_fault_text PROGRAM.now USAGE.now rows.now words.now fault) }
 {
     match fault {

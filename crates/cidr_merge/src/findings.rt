@@ -1,6 +1,6 @@
 //! The lines that tell what was found in lists.
 ghost use Rattle.std.specs.Prelude.{◌≡◌, ◌++◌, ◌||◌, codes};
-ghost use Rattle.program.specs.Messages.{Tells};
+ghost use Rattle.program.specs.Messages.{Reports};
 ghost use Rattle.cidr_merge.specs.Findings.{place_text, refusal_text, host_bits_text};
 ghost use Rattle.cidr_merge.specs.Findings.{shown, separator};
 
@@ -12,7 +12,7 @@ use std::io::Write;
 
 /// Tells why a line is refused, and the line.
 pub(crate) fn tell_wrong<W: Write>(line: &Line<'_>, fault: LineFault, output: &mut Output<'_, W>)
-    ensures { Tells output.old output.new
+    ensures { Reports output.old output.new
         (refusal_text line.now.name.now line.now.number fault line.now.text.now) }
 {
     let text = shown(fault, line.text);
@@ -22,7 +22,7 @@ pub(crate) fn tell_wrong<W: Write>(line: &Line<'_>, fault: LineFault, output: &m
 
 /// Tells that the entry of a line has host bits, and the line.
 pub(crate) fn tell_host_bits<W: Write>(line: &Line<'_>, output: &mut Output<'_, W>)
-    ensures { Tells output.old output.new
+    ensures { Reports output.old output.new
         (host_bits_text line.now.name.now line.now.number line.now.text.now) }
 {
     tell_line(line, ": host bits", "", ": ", output);
@@ -37,7 +37,7 @@ pub(crate) fn tell_line<W: Write>(
     separator: &str,
     output: &mut Output<'_, W>,
 )
-    ensures { Tells output.old output.new (place_text line.now.name.now line.now.number ++ what.now
+    ensures { Reports output.old output.new (place_text line.now.name.now line.now.number ++ what.now
         ++ about.now ++ separator.now ++ line.now.text.now ++ codes "\n") }
 {
     tell_place(line.name, line.number, output);
@@ -50,7 +50,7 @@ pub(crate) fn tell_line<W: Write>(
 
 /// Tells where a line stands.
 pub(crate) fn tell_place<W: Write>(name: &str, number: usize, output: &mut Output<'_, W>)
-    ensures { Tells output.old output.new (place_text name.now number) }
+    ensures { Reports output.old output.new (place_text name.now number) }
 {
     tell(name, output);
     tell(":", output);
@@ -59,7 +59,7 @@ pub(crate) fn tell_place<W: Write>(name: &str, number: usize, output: &mut Outpu
 
 // Tells these bytes. If that fails, now or earlier, they are lost, and nothing else happens.
 fn tell_bytes<W: Write>(bytes: &[u8], output: &mut Output<'_, W>)
-    ensures { Tells output.old output.new bytes.now }
+    ensures { Reports output.old output.new bytes.now }
 {
     let _ = output.put(bytes);
 }

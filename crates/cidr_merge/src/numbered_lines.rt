@@ -37,7 +37,7 @@ pub(crate) struct NumberedLines<'a> {
 
 impl<'a> NumberedLines<'a> {
     ghost use Rattle.std.specs.Prelude.{◌≡◌, ◌∷◌, [], map, IfSome, MatchOption};
-    ghost use Rattle.program.specs.Told.{name_at};
+    ghost use Rattle.program.specs.Reported.{name_at};
     ghost use Rattle.cidr_merge.specs.NumberedLines.{numbered_lines};
     ghost use Rattle.cidr_merge.specs.Private.LinesLeft.{as_numbered, lines_left};
 

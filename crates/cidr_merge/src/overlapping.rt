@@ -3,7 +3,7 @@ ghost use Rattle.std.specs.Prelude.{◌≡◌, ◌≤◌, ◌<◌, ◌==◌, []}
 ghost use Rattle.std.specs.Prelude.{not, length, map};
 ghost use Rattle.std.specs.List.{concat};
 ghost use Rattle.std.specs.List.Sorted.{IsSorted};
-ghost use Rattle.program.specs.Messages.{Tells};
+ghost use Rattle.program.specs.Messages.{Reports};
 ghost use Rattle.cidr_merge.specs.Overlaps.{is_up_to, relation, pair_text, pairs_after, listed_cmp};
 ghost use Rattle.cidr_merge.specs.Private.Entries.{address_of, listed_as, KeepsReaching, Overlaps};
 ghost use Rattle.cidr_merge.specs.Private.Reported.{TellsFound};
@@ -73,7 +73,7 @@ fn tell_with<W: Write>(
     later: &Placed,
     output: &mut Output<'_, W>,
 ) -> bool
-    ensures told { Tells output.old output.new
+    ensures told { Reports output.old output.new
         (concat (map (pair_text names.now (listed_as later.now)) (map listed_as before.now))) }
     ensures found { result ≡ not (length before.now == 0) }
 {
@@ -90,7 +90,7 @@ pub(crate) fn tell_pair<W: Write>(
     earlier: &Placed,
     output: &mut Output<'_, W>,
 )
-    ensures { Tells output.old output.new
+    ensures { Reports output.old output.new
         (pair_text names.now (listed_as later.now) (listed_as earlier.now)) }
 {
     tell_place(text_at(names, later.list), later.number, output);

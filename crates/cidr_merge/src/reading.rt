@@ -1,8 +1,8 @@
 //! Reads the lists of a side.
 ghost use Rattle.std.specs.Prelude.{◌≡◌, ◌≤◌, false, length, slice_range, OnOk, IfErr};
 ghost use Rattle.lists.specs.Lists.{nothing_read};
-ghost use Rattle.program.specs.Messages.{Tells};
-ghost use Rattle.program.specs.Told.{fault_text};
+ghost use Rattle.program.specs.Messages.{Reports};
+ghost use Rattle.program.specs.Reported.{fault_text};
 ghost use Rattle.cidr_merge.specs.Reading.{ReadsLists, ReadsSide};
 ghost use Rattle.cidr_merge.specs.Shapes.{source};
 ghost use Rattle.cidr_merge.specs.Stopping.{Stops};
@@ -77,7 +77,7 @@ pub(crate) fn refuse_lists<E: Write>(
     errors: &mut Output<'_, E>,
 ) -> u8
     ensures status { result ≡ 2 }
-    ensures told { Tells errors.old errors.new (fault_text words.now fault) }
+    ensures told { Reports errors.old errors.new (fault_text words.now fault) }
 {
     tell_fault(words, fault, errors);
     FAILED

@@ -1,7 +1,7 @@
 //! Searches lists for addresses.
 ghost use Rattle.std.specs.Prelude.{map};
 ghost use Rattle.std.specs.List.{flat_map};
-ghost use Rattle.program.specs.Messages.{Tells};
+ghost use Rattle.program.specs.Messages.{Reports};
 ghost use Rattle.cidr_merge.specs.Finds.{has_text, lists_matches, lists_refusals, match_lines};
 ghost use Rattle.cidr_merge.specs.Finds.{matches_by, refusals_by};
 ghost use Rattle.cidr_merge.specs.NumberedLines.{said_by};
@@ -122,7 +122,7 @@ fn print_match<W: Write>(
 
 // Prints that the entry of a line has the address that a word names.
 fn print_line<W: Write>(word: &str, line: &Line<'_>, output: &mut Output<'_, W>)
-    ensures { Tells output.old output.new
+    ensures { Reports output.old output.new
         (has_text line.now.name.now line.now.number word.now line.now.text.now) }
 {
     tell_line(line, ": has ", word, ": ", output);

@@ -1,4 +1,4 @@
--- Bytes by their place are the digits in base 256. `ipnetwork_witness` cites it too.
+-- Bytes by their position are the digits in base 256. `ipnetwork_witness` cites it too.
 use Rattle.std.proofs.Common.{◌≡◌, ℕ, zero, suc, ◌/◌, ◌%◌, ◌^◌, [], ◌∷◌, ◌++◌, refl, sym, ap, ap₂, ◌∙◌}
 use Rattle.std.proofs.Math.Nat.{div-div-eq-div-mul, pow-succ'}
 use Rattle.std.specs.Int.{byte_at, bytes_high_first}

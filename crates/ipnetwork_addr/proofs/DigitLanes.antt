@@ -59,10 +59,10 @@ shows_more text old lanes at size room so_far here k low small = elim (cases_lt 
       so_far k left (subst (λ (v : ℕ). v < 16) same small) ∙ sym same
   | inr right ↦
       let j : ℕ = k - at in
-      let place : at + 4 + j ≡ k + 4 = omega arith in
+      let position : at + 4 + j ≡ k + 4 = omega arith in
       let there : at + j ≡ k = omega arith in
       let same : get_or (put_chunk (at + 4) old lanes) (k + 4) 0 ≡ get_or lanes j 0
-      = ap (λ p. get_or (put_chunk (at + 4) old lanes) p 0) (sym place) ∙ get_or-put_chunk_at (at + 4) old lanes j 0 (omega arith) (omega arith) in
+      = ap (λ p. get_or (put_chunk (at + 4) old lanes) p 0) (sym position) ∙ get_or-put_chunk_at (at + 4) old lanes j 0 (omega arith) (omega arith) in
       let byte : get_or (take 16 (drop at text)) j 0 ≡ get_or text k 0
       = get_or-chunk at 16 text j 0 (omega arith) ∙ ap (λ p. get_or text p 0) there in
       ap digit_value (sym byte) ∙ here j (omega arith) (subst (λ (v : ℕ). v < 16) same small) ∙ sym same

@@ -25,8 +25,8 @@ use Rattle.ipnetwork_addr.specs.Computed.Ipv6Text.{v6_of, gap_below}
 
 -- ---- digits of numbers
 
-pub octets_by_place : octets_of 0xc0000201 ≡ 192 ∷ 0 ∷ 2 ∷ 1 ∷ []
-octets_by_place = refl
+pub octets_by_position : octets_of 0xc0000201 ≡ 192 ∷ 0 ∷ 2 ∷ 1 ∷ []
+octets_by_position = refl
 
 pub greatest_v4 : octets_of (2 ^ 32 - 1) ≡ 255 ∷ 255 ∷ 255 ∷ 255 ∷ []
 greatest_v4 = refl

@@ -232,7 +232,7 @@ front_of (x ∷ y ∷ z ∷ text) long more is = elim (more_cases z more is) [
   | inr three ↦ rw (three.1, ne_eqb z dot three.0) refl
 ]
 
--- ---- the same from a place of the text on
+-- ---- the same from a position of the text on
 
 byte_at : (text : List ℕ) (at i j : ℕ) → at + i ≡ j → get_or (drop at text) i 0 ≡ get_or text j 0
 byte_at text at i j e = get_or-drop at text i 0 ∙ ap (λ k. get_or text k 0) e
@@ -292,6 +292,6 @@ octet_before_at text at more n long first is here octet =
     let k = dotted_at text at more long first is here in
     behind_end text at (2 + more) n (at + 2 + more + 1) k.0 (omega arith) (subst (λ (s : List ℕ). IsOctet s n) k.1 octet)
 
--- that place is within the text
+-- that position is within the text
 pub behind_within : (text : List ℕ) (at end : ℕ) → at ≤ length text → IsOctetEnd (drop at text) end → at + end + 1 ≤ length text
 behind_within text at end within found = omega (arith, found.within, length-drop at text)

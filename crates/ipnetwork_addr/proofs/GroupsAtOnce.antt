@@ -1,4 +1,4 @@
--- A group of an IPv6 text by the place where it ends, of which the values of the digits are known.
+-- A group of an IPv6 text by the position where it ends, of which the values of the digits are known.
 use Rattle.std.proofs.Common.{◌≡◌, ◌≢◌, ℕ, zero, suc, ◌+◌, ◌-◌, ◌*◌, ◌/◌, ◌%◌, ◌^◌, ◌<◌, ◌≤◌, List, ◌∷◌, length, drop, get_or, refl, sym, ap, ◌∙◌, subst, arith, lit≤, bit_and, min, inl, inr}
 use Rattle.std.proofs.lemmas.Bool.{cases_lt}
 use Rattle.std.proofs.lemmas.List.{drop_more, drop_all}
@@ -39,8 +39,8 @@ last_are_digits word marks fits none =
 
 hex_at : (text values : List ℕ) → ShowsValues text values → (p q r : ℕ) → p + 1 ≡ q → p + 4 ≡ r → p < length text → get_or values r 0 < 16
     → BeginsWithHex (drop p text) (get_or values r 0) (drop q text)
-hex_at text values shown p q r next place within small =
-    let at : get_or values (p + 4) 0 ≡ get_or values r 0 = ap (λ i. get_or values i 0) place in
+hex_at text values shown p q r next position within small =
+    let at : get_or values (p + 4) 0 ≡ get_or values r 0 = ap (λ i. get_or values i 0) position in
     record {
       byte = get_or text p 0;
       value = shown p within (subst (λ (v : ℕ). v < 16) (sym at) small) ∙ at;

@@ -7,7 +7,7 @@ use Rattle.std.specs.Char.{digit_value}
 use Rattle.ipnetwork_addr.specs.Texts.{dot}
 use Rattle.ipnetwork_addr.specs.Ipv4Text.{IsOctet, NamesV4}
 use Rattle.ipnetwork_addr.specs.Private.OctetFront.{BeginsWithOctet}
-use Rattle.ipnetwork_addr.specs.Private.OctetLanes.{sixteen, joined_places, first_count, second_count, third_count, fourth_count, second_at, third_at, fourth_at, end_of, lane_at, digit_in, row_places, row_least, AreAtLeast, AreOctetsOf}
+use Rattle.ipnetwork_addr.specs.Private.OctetLanes.{sixteen, joined_positions, first_count, second_count, third_count, fourth_count, second_at, third_at, fourth_at, end_of, lane_at, digit_in, row_positions, row_least, AreAtLeast, AreOctetsOf}
 use Rattle.ipnetwork_addr.proofs.OctetFronts.{Value, one_digit, two_digits, three_digits, four_octets}
 use Rattle.std.specs.Int.Digits.{number_from_digits}
 use Rattle.std.proofs.lemmas.Simd.{swz_l, SwzOk, SwzOk-from_Each1, zip2_splat, tops_compared, length-zip2, mask_l-mod, bit_mask_l, get_or-zip2, Each1-get_or, below_from_Fits}
@@ -121,7 +121,7 @@ abbrev pub most_lanes : List ℕ
 most_lanes = 9 ∷ 9 ∷ 9 ∷ 254 ∷ 9 ∷ 9 ∷ 9 ∷ 254 ∷ 9 ∷ 9 ∷ 9 ∷ 254 ∷ 9 ∷ 9 ∷ 9 ∷ 0 ∷ []
 
 abbrev lanes : List ℕ → ℕ → List ℕ
-lanes xs row = map (digit_in xs) (row_places row)
+lanes xs row = map (digit_in xs) (row_positions row)
 
 -- what an octet's lanes count for
 abbrev worth : List ℕ → ℕ → ℕ
@@ -181,53 +181,53 @@ octet_and_dot text at count n next within here is h = record {
 
 -- ---- what the reader of a row does with vectors
 
--- each place is one of sixteen, or none
-abbrev is_place : ℕ → Bool
-is_place j = zeroes 16 w8 j || ltb j 16
+-- each position is one of sixteen, or none
+abbrev is_position : ℕ → Bool
+is_position j = zeroes 16 w8 j || ltb j 16
 
-abbrev all_places : List ℕ → Bool
-all_places [] = true
-all_places (j ∷ js) = is_place j && all_places js
+abbrev all_positions : List ℕ → Bool
+all_positions [] = true
+all_positions (j ∷ js) = is_position j && all_positions js
 
 halves : (a b : Bool) → (a && b) ≡ true → T a × (b ≡ true)
 halves true b h = (tt, h)
 halves false b h = absurd (cc)
 
-each_place : (js : List ℕ) → all_places js ≡ true → Each1 (λ j. T (zeroes 16 w8 j || ltb j 16)) js
-each_place [] h = tt
-each_place (j ∷ js) h = let k : T (is_place j) × (all_places js ≡ true) = halves (is_place j) (all_places js) h in (k.0, each_place js k.1)
+each_position : (js : List ℕ) → all_positions js ≡ true → Each1 (λ j. T (zeroes 16 w8 j || ltb j 16)) js
+each_position [] h = tt
+each_position (j ∷ js) h = let k : T (is_position j) × (all_positions js ≡ true) = halves (is_position j) (all_positions js) h in (k.0, each_position js k.1)
 
-pub places_ok : (row : ℕ) (js : List ℕ) → row < 81 → js ≡ row_places row → SwzOk w8 16 16 0 js
-places_ok row js below is =
-    subst (SwzOk w8 16 16 0) (sym is) (SwzOk-from_Each1 w8 16 1 16 0 (row_places row) refl (lit≤ tt)
-    (each_place (row_places row) (agree_below_at (λ r. all_places (row_places r)) (λ _. true) 81 row refl below)))
+pub positions_ok : (row : ℕ) (js : List ℕ) → row < 81 → js ≡ row_positions row → SwzOk w8 16 16 0 js
+positions_ok row js below is =
+    subst (SwzOk w8 16 16 0) (sym is) (SwzOk-from_Each1 w8 16 1 16 0 (row_positions row) refl (lit≤ tt)
+    (each_position (row_positions row) (agree_below_at (λ r. all_positions (row_positions r)) (λ _. true) 81 row refl below)))
 
-pub joined_ok : (count : ℕ) (js : List ℕ) → 8 ≤ count → count ≤ 15 → js ≡ joined_places count → SwzOk w8 16 16 0 js
+pub joined_ok : (count : ℕ) (js : List ℕ) → 8 ≤ count → count ≤ 15 → js ≡ joined_positions count → SwzOk w8 16 16 0 js
 joined_ok count js long short is =
     let at : count - 8 + 8 ≡ count = omega arith in
-    let places : all_places (joined_places count) ≡ true
-    = ap (λ n. all_places (joined_places n)) (sym at) ∙ agree_below_at (λ r. all_places (joined_places (r + 8))) (λ _. true) 8 (count - 8) refl (omega arith) in
-    subst (SwzOk w8 16 16 0) (sym is) (SwzOk-from_Each1 w8 16 1 16 0 (joined_places count) refl (lit≤ tt) (each_place (joined_places count) places))
+    let positions : all_positions (joined_positions count) ≡ true
+    = ap (λ n. all_positions (joined_positions n)) (sym at) ∙ agree_below_at (λ r. all_positions (joined_positions (r + 8))) (λ _. true) 8 (count - 8) refl (omega arith) in
+    subst (SwzOk w8 16 16 0) (sym is) (SwzOk-from_Each1 w8 16 1 16 0 (joined_positions count) refl (lit≤ tt) (each_position (joined_positions count) positions))
 
--- the lanes at these places
+-- the lanes at these positions
 swz_is : (vs : List ℕ) (i : ℕ) (js : List ℕ) → i + length js ≤ 16 → swz_l w8 16 vs i js ≡ map (lane_at vs) js
 swz_is vs i [] h = refl
 swz_is vs i (j ∷ js) h =
     let same : 16 * (i / 16) + j ≡ j = omega arith in
     ap₂ (λ x xs. x ∷ xs) (ap (λ k. cond (leb 128 j) 0 (get_or vs k 0)) same) (swz_is vs (suc i) js (omega arith))
 
-pub lanes_at : (xs : List ℕ) (row : ℕ) (js : List ℕ) → length xs ≡ 16 → js ≡ row_places row
+pub lanes_at : (xs : List ℕ) (row : ℕ) (js : List ℕ) → length xs ≡ 16 → js ≡ row_positions row
     → swz_l w8 16 (zip2 (λ a b. (a + (2 ^ 8 - b)) % 2 ^ 8) xs (replicate 16 48)) 0 js ≡ lanes xs row
 lanes_at xs row js size is =
     ap (λ v. swz_l w8 16 v 0 js) (zip2_splat (λ a b. (a + (2 ^ 8 - b)) % 2 ^ 8) xs 16 48 size)
     ∙ ap (swz_l w8 16 (map (λ x. (x + 208) % 256) xs) 0) is
-    ∙ swz_is (map (λ x. (x + 208) % 256) xs) 0 (row_places row) (lit≤ tt)
+    ∙ swz_is (map (λ x. (x + 208) % 256) xs) 0 (row_positions row) (lit≤ tt)
 
 -- the first eight bytes of a text, then the last eight, and of these those that were not among the first
 abbrev pub joined_lanes : List ℕ → List ℕ → List ℕ
 joined_lanes text js = swz_l w8 16 (pick_l 0 (take 8 text ++ take 8 (drop (length text - 8) text)) sixteen) 0 js
 
-joined_is : (text : List ℕ) → 8 ≤ length text → length text ≤ 15 → take (length text) (joined_lanes text (joined_places (length text))) ≡ text
+joined_is : (text : List ℕ) → 8 ≤ length text → length text ≤ 15 → take (length text) (joined_lanes text (joined_positions (length text))) ≡ text
 joined_is [] long short = absurd (omega arith)
 joined_is (a ∷ []) long short = absurd (omega arith)
 joined_is (a ∷ b ∷ []) long short = absurd (omega arith)
@@ -246,7 +246,7 @@ joined_is (a ∷ b ∷ c ∷ d ∷ e ∷ f ∷ g ∷ h ∷ i ∷ j ∷ k ∷ l �
 joined_is (a ∷ b ∷ c ∷ d ∷ e ∷ f ∷ g ∷ h ∷ i ∷ j ∷ k ∷ l ∷ m ∷ n ∷ o ∷ []) long short = refl
 joined_is (a ∷ b ∷ c ∷ d ∷ e ∷ f ∷ g ∷ h ∷ i ∷ j ∷ k ∷ l ∷ m ∷ n ∷ o ∷ p ∷ more) long short = absurd (omega arith)
 
-pub joined_text : (text js : List ℕ) → 8 ≤ length text → length text ≤ 15 → js ≡ joined_places (length text) → take (length text) (joined_lanes text js) ≡ text
+pub joined_text : (text js : List ℕ) → 8 ≤ length text → length text ≤ 15 → js ≡ joined_positions (length text) → take (length text) (joined_lanes text js) ≡ text
 joined_text text js long short is = ap (λ k. take (length text) (joined_lanes text k)) is ∙ joined_is text long short
 
 -- where no lane of the comparison is set, no lane is less than the other

@@ -13,24 +13,24 @@ zeros_fit (g ∷ groups) =
     let more = zeros_fit groups in
     cond_both (g == 0) (suc (zeros_in_front groups)) 0 (λ n. n ≤ length (g ∷ groups)) (λ _. omega (arith, more)) (λ _. omega arith)
 
-zero_first : (g : ℕ) (groups : List ℕ) → g ≡ 0 → ((place : ℕ) → place < zeros_in_front groups → get_or groups place 0 ≡ 0) → (place : ℕ) → place < suc (zeros_in_front groups) → get_or (g ∷ groups) place 0 ≡ 0
+zero_first : (g : ℕ) (groups : List ℕ) → g ≡ 0 → ((position : ℕ) → position < zeros_in_front groups → get_or groups position 0 ≡ 0) → (position : ℕ) → position < suc (zeros_in_front groups) → get_or (g ∷ groups) position 0 ≡ 0
 zero_first g groups e later zero h = e
-zero_first g groups e later (suc place) h = later place (omega (arith, h))
+zero_first g groups e later (suc position) h = later position (omega (arith, h))
 
-zeros_are : (groups : List ℕ) (place : ℕ) → place < zeros_in_front groups → get_or groups place 0 ≡ 0
-zeros_are [] place h = refl
-zeros_are (g ∷ groups) place h =
+zeros_are : (groups : List ℕ) (position : ℕ) → position < zeros_in_front groups → get_or groups position 0 ≡ 0
+zeros_are [] position h = refl
+zeros_are (g ∷ groups) position h =
     let later : (p : ℕ) → p < zeros_in_front groups → get_or groups p 0 ≡ 0 = zeros_are groups in
-    cond_both (g == 0) (suc (zeros_in_front groups)) 0 (λ n. place < n → get_or (g ∷ groups) place 0 ≡ 0)
-    (λ is_zero k. zero_first g groups (eqb-true g 0 is_zero) later place k)
+    cond_both (g == 0) (suc (zeros_in_front groups)) 0 (λ n. position < n → get_or (g ∷ groups) position 0 ≡ 0)
+    (λ is_zero k. zero_first g groups (eqb-true g 0 is_zero) later position k)
     (λ other k. absurd (omega (arith, k))) h
 
-zeros_most : (groups : List ℕ) (n : ℕ) → n ≤ length groups → ((place : ℕ) → place < n → get_or groups place 0 ≡ 0) → n ≤ zeros_in_front groups
+zeros_most : (groups : List ℕ) (n : ℕ) → n ≤ length groups → ((position : ℕ) → position < n → get_or groups position 0 ≡ 0) → n ≤ zeros_in_front groups
 zeros_most groups zero within zeros = omega arith
 zeros_most [] (suc n) within zeros = absurd (omega (arith, within))
 zeros_most (g ∷ groups) (suc n) within zeros =
     let is_zero : g ≡ 0 = zeros 0 (omega arith) in
-    let more = zeros_most groups n (omega (arith, within)) (λ place below. zeros (suc place) (omega (arith, below))) in
+    let more = zeros_most groups n (omega (arith, within)) (λ position below. zeros (suc position) (omega (arith, below))) in
     rw is_zero (omega (arith, more))
 
 -- ---- the run that begins at a group
@@ -41,19 +41,19 @@ run_at groups start = zeros_in_front (drop start groups)
 run_there : (groups : List ℕ) (start : ℕ) → start ≤ length groups → IsZeroRun groups start (run_at groups start)
 run_there groups start within = record {
   there = omega (arith, zeros_fit (drop start groups), length-drop start groups, within);
-  zero_groups = λ place from below. zero_at place from below;
+  zero_groups = λ position from below. zero_at position from below;
 }
   where
-    zero_at : (place : ℕ) → start ≤ place → place < start + run_at groups start → get_or groups place 0 ≡ 0
-    zero_at place from below =
-        let k : ℕ = place - start in
-        let e : start + k ≡ place = omega (arith, from) in
+    zero_at : (position : ℕ) → start ≤ position → position < start + run_at groups start → get_or groups position 0 ≡ 0
+    zero_at position from below =
+        let k : ℕ = position - start in
+        let e : start + k ≡ position = omega (arith, from) in
         ap (λ p. get_or groups p 0) (sym e) ∙ sym (get_or-drop start groups k 0) ∙ zeros_are (drop start groups) k (omega (arith, below, from))
 
 run_most : (groups : List ℕ) (start n : ℕ) → IsZeroRun groups start n → n ≤ run_at groups start
 run_most groups start n run =
     zeros_most (drop start groups) n (omega (arith, run.there, length-drop start groups))
-    (λ place below. get_or-drop start groups place 0 ∙ run.zero_groups (start + place) (omega arith) (omega (arith, below)))
+    (λ position below. get_or-drop start groups position 0 ∙ run.zero_groups (start + position) (omega arith) (omega (arith, below)))
 
 -- ---- the longest of the runs that begin at the first groups
 
@@ -64,7 +64,7 @@ record IsLongest (groups : List ℕ) (count : ℕ) (found : ℕ × ℕ) : Type 0
   none_before : (start : ℕ) → start < count → run_at groups start ≡ found.1 → found.0 ≤ start
 
 nothing : (groups : List ℕ) → IsZeroRun groups 0 0
-nothing groups = record { there = omega arith; zero_groups = λ place from below. absurd (omega (arith, below)) }
+nothing groups = record { there = omega arith; zero_groups = λ position from below. absurd (omega (arith, below)) }
 
 longest_among : (groups : List ℕ) (count : ℕ) → count ≤ length groups → IsLongest groups count (gap_among groups count)
 longest_among groups zero within = record {
@@ -137,13 +137,13 @@ module _ (groups : List ℕ) (eight : length groups ≡ 8) where
 
 -- ---- the groups of a run
 
-all_zeros : (n : ℕ) (groups : List ℕ) → n ≤ length groups → ((place : ℕ) → place < n → get_or groups place 0 ≡ 0) → take n groups ≡ replicate n 0
+all_zeros : (n : ℕ) (groups : List ℕ) → n ≤ length groups → ((position : ℕ) → position < n → get_or groups position 0 ≡ 0) → take n groups ≡ replicate n 0
 all_zeros zero groups within zeros = refl
 all_zeros (suc n) [] within zeros = absurd (omega (arith, within))
 all_zeros (suc n) (g ∷ groups) within zeros =
-    ap₂ (λ x xs. x ∷ xs) (zeros 0 (omega arith)) (all_zeros n groups (omega (arith, within)) (λ place below. zeros (suc place) (omega (arith, below))))
+    ap₂ (λ x xs. x ∷ xs) (zeros 0 (omega arith)) (all_zeros n groups (omega (arith, within)) (λ position below. zeros (suc position) (omega (arith, below))))
 
 pub run_is_zeros : (groups : List ℕ) (i n : ℕ) → IsZeroRun groups i n → take n (drop i groups) ≡ replicate n 0
 run_is_zeros groups i n run =
     all_zeros n (drop i groups) (omega (arith, run.there, length-drop i groups))
-    (λ place below. get_or-drop i groups place 0 ∙ run.zero_groups (i + place) (omega arith) (omega (arith, below)))
+    (λ position below. get_or-drop i groups position 0 ∙ run.zero_groups (i + position) (omega arith) (omega (arith, below)))

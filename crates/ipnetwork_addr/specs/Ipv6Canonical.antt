@@ -23,7 +23,7 @@ IsMapped address = address / 2 ^ 32 ≡ 0xffff
 -- each of n groups in a row, from the group i on, is there and is 0
 pub record IsZeroRun (groups : List ℕ) (i n : ℕ) : Type 0 where
   pub there : i + n ≤ length groups
-  pub zero_groups : (place : ℕ) → i ≤ place → place < i + n → slice_index groups place ≡ 0
+  pub zero_groups : (position : ℕ) → i ≤ position → position < i + n → slice_index groups position ≡ 0
 
 -- the run of zero groups that is printed as `::`: no run is longer, and none as long begins earlier
 pub record IsGap (groups : List ℕ) (i n : ℕ) : Type 0 where

@@ -65,11 +65,11 @@ fn longest_run(groups: &[u16; 8]) -> (usize, usize)
 {
     let mut longest = (0, 0);
     let mut start = 0;
-    for place in 0..8 {
-        if groups[place] != 0 {
-            start = place + 1;
-        } else if longest.1 < place + 1 - start {
-            longest = (start, place + 1 - start);
+    for position in 0..8 {
+        if groups[position] != 0 {
+            start = position + 1;
+        } else if longest.1 < position + 1 - start {
+            longest = (start, position + 1 - start);
         }
     }
     longest

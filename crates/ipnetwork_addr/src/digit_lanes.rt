@@ -5,7 +5,7 @@ ghost use Rattle.ipnetwork_addr.specs.Private.DigitLanes.{AreValuesOf, ShowsValu
 
 use std::simd::prelude::*;
 
-/// The place of the value of a text's first byte. Those of a group are read four at a time, also
+/// The position of the value of a text's first byte. Those of a group are read four at a time, also
 /// where fewer bytes come before its end.
 const FIRST: usize = 4;
 
@@ -15,7 +15,7 @@ pub(crate) const MOST: usize = 44;
 /// What stands for a byte that is not a hex digit, or another number above 15.
 const NO_DIGIT: u8 = 255;
 
-/// Puts the value of each byte of a text as a hex digit at its place. The colons are returned, as bits.
+/// Puts the value of each byte of a text as a hex digit at its position. The colons are returned, as bits.
 ///
 /// The last vector overlaps the one before, unless the text has 32 bytes.
 #[inline(always)]
@@ -32,7 +32,7 @@ pub(crate) fn put_values(text: &[u8], values: &mut [u8; 48]) -> u64
     colons | put_lanes(text, last, values) << last
 }
 
-/// Puts the values of the sixteen bytes from the place `at` on, of which the colons are returned, as bits.
+/// Puts the values of the sixteen bytes from the position `at` on, of which the colons are returned, as bits.
 #[inline(always)]
 fn put_lanes(text: &[u8], at: usize, values: &mut [u8; 48]) -> u64
     requires within { at + 16 ≤ length text.now }
@@ -45,7 +45,7 @@ fn put_lanes(text: &[u8], at: usize, values: &mut [u8; 48]) -> u64
     colons_of(bytes)
 }
 
-/// Stores sixteen lanes from the place `at` on.
+/// Stores sixteen lanes from the position `at` on.
 #[inline(always)]
 fn store(values: &mut [u8; 48], at: usize, lanes: u8x16)
     requires { at ≤ 32 }
@@ -67,7 +67,7 @@ fn values_of(bytes: u8x16) -> u8x16
     decimals.simd_lt(u8x16::splat(10)).select(decimals, others)
 }
 
-/// The places of the colons, as bits.
+/// The positions of the colons, as bits.
 #[inline(always)]
 fn colons_of(bytes: u8x16) -> u64 {
     bytes.simd_eq(u8x16::splat(b':')).to_bitmask()

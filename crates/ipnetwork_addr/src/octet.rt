@@ -38,14 +38,14 @@ fn read_from_left(text: &[u8]) -> Option<[u8; 4]>
     Some([first, second, third, fourth])
 }
 
-/// The octet before the first dot from the place `at` on, and the place after that dot.
+/// The octet before the first dot from the position `at` on, and the position after that dot.
 #[inline(always)]
 fn read_octet_and_dot(text: &[u8], at: usize) -> Option<(u8, usize)>
     requires { at ≤ length text.now }
     ensures { FindsOctet text.now at result }
 {
     if text.len() - at < 4 || text[at + 1] == b'.' {
-        return read_by_places(text, at);
+        return read_by_positions(text, at);
     }
     // No branch asks whether there are two digits or three: that would be guessed wrongly too often.
     let last = text[at + 2];
@@ -57,9 +57,9 @@ fn read_octet_and_dot(text: &[u8], at: usize) -> Option<(u8, usize)>
     Some((octet, end + 1))
 }
 
-/// The same, with one place tried after the other.
+/// The same, with one position tried after the other.
 #[inline(always)]
-fn read_by_places(text: &[u8], at: usize) -> Option<(u8, usize)>
+fn read_by_positions(text: &[u8], at: usize) -> Option<(u8, usize)>
     requires { at ≤ length text.now }
     ensures { FindsOctet text.now at result }
 {
@@ -69,7 +69,7 @@ fn read_by_places(text: &[u8], at: usize) -> Option<(u8, usize)>
     Some((octet, at + end + 1))
 }
 
-/// The place of the first dot that stands after one, two or three bytes.
+/// The position of the first dot that stands after one, two or three bytes.
 #[inline(always)]
 fn octet_end(text: &[u8]) -> Option<usize>
     ensures { MatchOption result (HasNoOctetEnd text.now) (IsOctetEnd text.now) }
@@ -86,7 +86,7 @@ fn octet_end(text: &[u8]) -> Option<usize>
     None
 }
 
-/// Whether a dot stands at this place.
+/// Whether a dot stands at this position.
 #[inline(always)]
 fn has_dot(text: &[u8], at: usize) -> bool
     ensures { IsTrue result ↔ ((at < length text.now) × (slice_index text.now at ≡ dot)) }

@@ -1,20 +1,20 @@
 //! What is known of the IPv4 texts that have the same number of digits in each octet. There are 81
 //! such rows: first comes that of one digit in each, last that of three in each.
 ghost use Rattle.std.specs.Prelude.{◌≡◌, ◌<◌, ◌≤◌};
-ghost use Rattle.ipnetwork_addr.specs.Private.OctetLanes.{end_of, joined_places, row_least, row_places};
+ghost use Rattle.ipnetwork_addr.specs.Private.OctetLanes.{end_of, joined_positions, row_least, row_positions};
 
 /// Where the bytes of a text of eight bytes up to fifteen stand after its first eight bytes are
 /// followed by its last eight.
 #[inline(always)]
-pub(crate) fn joined_places(count: usize) -> &'static [u8; 16]
+pub(crate) fn joined_positions(count: usize) -> &'static [u8; 16]
     requires long { 8 ≤ count }
     requires short { count ≤ 15 }
-    ensures { result.now ≡ joined_places count }
+    ensures { result.now ≡ joined_positions count }
 {
     &JOINED[count - 8]
 }
 
-/// The row of a text, if it is an IPv4 address, by the places of its dots and its end as bits.
+/// The row of a text, if it is an IPv4 address, by the positions of its dots and its end as bits.
 #[inline(always)]
 pub(crate) fn likely_row(ends: u64) -> usize
     ensures { result < 81 }
@@ -40,12 +40,12 @@ pub(crate) fn length_of_row(row: usize) -> usize
     usize::from(LENGTHS[row])
 }
 
-/// The places of the bytes of each octet in the texts of a row: of its hundreds, its tens, its ones
+/// The positions of the bytes of each octet in the texts of a row: of its hundreds, its tens, its ones
 /// and what stands after it, or 128 where there is none.
 #[inline(always)]
-pub(crate) fn places_of_row(row: usize) -> &'static [u8; 16]
+pub(crate) fn positions_of_row(row: usize) -> &'static [u8; 16]
     requires { row < 81 }
-    ensures { result.now ≡ row_places row }
+    ensures { result.now ≡ row_positions row }
 {
     &PLACES[row]
 }
@@ -76,7 +76,7 @@ static ROWS: [u8; 256] = [
     0, 0, 0, 61, 0, 29, 75, 0, 0, 0, 0, 0, 0, 34, 2, 0, 0, 72, 7, 69, 0, 42, 15, 0,
 ];
 
-/// The `joined_places` of each length, from eight on.
+/// The `joined_positions` of each length, from eight on.
 static JOINED: [[u8; 16]; 8] = [
     [
         0, 1, 2, 3, 4, 5, 6, 7, 255, 255, 255, 255, 255, 255, 255, 255,
@@ -113,7 +113,7 @@ macro_rules! length {
     };
 }
 
-/// The place of the hundreds of an octet that begins here, if it has three digits.
+/// The position of the hundreds of an octet that begins here, if it has three digits.
 macro_rules! hundreds {
     (3, $at:expr) => {
         $at
@@ -123,7 +123,7 @@ macro_rules! hundreds {
     };
 }
 
-/// The place of its tens, if it has two or three.
+/// The position of its tens, if it has two or three.
 macro_rules! tens {
     (1, $at:expr) => {
         128
@@ -133,7 +133,7 @@ macro_rules! tens {
     };
 }
 
-macro_rules! places {
+macro_rules! positions {
     ($a:tt $b:tt $c:tt $d:tt) => {
         [
             hundreds!($a, 0), tens!($a, 0), $a - 1, $a,
@@ -169,8 +169,8 @@ macro_rules! least {
 /// The `length_of_row` of each row.
 static LENGTHS: [u8; 81] = rows!(length);
 
-/// The `places_of_row` of each row.
-static PLACES: [[u8; 16]; 81] = rows!(places);
+/// The `positions_of_row` of each row.
+static PLACES: [[u8; 16]; 81] = rows!(positions);
 
 /// The `least_of_row` of each row.
 static LEAST: [[u8; 16]; 81] = rows!(least);

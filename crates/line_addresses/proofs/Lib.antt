@@ -3,7 +3,7 @@ pub mod BetweenOthers
 pub mod ByteKinds
 pub mod Examples
 pub mod FirstBytes
-pub mod FirstPlaces
+pub mod FirstPositions
 pub mod LawExamples
 pub mod LineParts
 pub mod NamedTexts

@@ -53,9 +53,9 @@ not_behind [] rest h = true≢false h.0
 not_behind (byte ∷ text) rest h = not_behind text rest h.1
 
 -- where the first colon stands
-colon_place : (text rest : List ℕ) → HasNoColon text → position_or_len is_colon (text ++ 58 ∷ rest) ≡ length text
-colon_place [] rest h = refl
-colon_place (byte ∷ text) rest h = let rest_is = colon_place text rest h.1 in let same = h.0 in by (is_colon byte) same rest_is where
+colon_position : (text rest : List ℕ) → HasNoColon text → position_or_len is_colon (text ++ 58 ∷ rest) ≡ length text
+colon_position [] rest h = refl
+colon_position (byte ∷ text) rest h = let rest_is = colon_position text rest h.1 in let same = h.0 in by (is_colon byte) same rest_is where
   by : (b : Bool) → b ≡ false → position_or_len is_colon (text ++ 58 ∷ rest) ≡ length text → cond (not b) (1 + position_or_len is_colon (text ++ 58 ∷ rest)) 0 ≡ length (byte ∷ text)
   by true e f = absurd (true≢false e)
   by false e f = omega (arith, f)
@@ -78,9 +78,9 @@ some_of false c d e = absurd (true≢false (sym e))
 
 last_is : (text port : List ℕ) → 0 < length port → slice_index (text ++ 58 ∷ port) (length (text ++ 58 ∷ port) - 1) ≡ get_or port (length port - 1) 0
 last_is text port some =
-    let place : length (text ++ 58 ∷ port) - 1 ≡ length text + length port = omega (arith, length-append text (58 ∷ port)) in
+    let position : length (text ++ 58 ∷ port) - 1 ≡ length text + length port = omega (arith, length-append text (58 ∷ port)) in
     let next : length port ≡ length port - 1 + 1 = omega (arith, some) in
-    ap (λ n. get_or (text ++ 58 ∷ port) n 0) place ∙ get_or-append-add text (58 ∷ port) (length port) 0 ∙ by port some where
+    ap (λ n. get_or (text ++ 58 ∷ port) n 0) position ∙ get_or-append-add text (58 ∷ port) (length port) 0 ∙ by port some where
       by : (port : List ℕ) → 0 < length port → get_or (58 ∷ port) (length port) 0 ≡ get_or port (length port - 1) 0
       by [] none = absurd (omega (arith, none))
       by (byte ∷ port) some = let e : length (byte ∷ port) - 1 ≡ length port = omega arith in ap (λ n. get_or (byte ∷ port) n 0) (sym e)
@@ -98,7 +98,7 @@ module _ (named : (text : List ℕ) (address : IpAddr) → NamesIp text address 
   port_shown text port address names port_is =
       let run = text ++ 58 ∷ port in
       let rest_is : drop (length text + 1) run ≡ port = drop-append-add text (58 ∷ port) 1 in
-      ap (λ n. cond (is_port (drop (n + 1) run)) (spelled (take n run)) None) (colon_place text port (in_v4_text text address names))
+      ap (λ n. cond (is_port (drop (n + 1) run)) (spelled (take n run)) None) (colon_position text port (in_v4_text text address names))
       ∙ ap (λ (p : List ℕ). cond (is_port p) (spelled (take (length text) run)) None) rest_is
       ∙ ap (λ b. cond b (spelled (take (length text) run)) None) port_is
       ∙ ap spelled (take-append_seam text (58 ∷ port)) ∙ ap (with_text text) ((named text (V4 address)).0 names)

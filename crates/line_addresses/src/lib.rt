@@ -9,21 +9,21 @@
 //! Nothing here allocates. A line is a slice of bytes, of any length and any bytes.
 #![tactic(auto)]
 
+mod area;
 mod byte_kind;
 mod field;
-mod first_place;
+mod first_position;
 mod found;
 pub mod laws;
 mod mapped;
-mod place;
 mod port;
 mod run;
 mod words;
 
+pub use area::{Area, Text};
 pub use field::field_of;
-pub use first_place::following;
+pub use first_position::following;
 pub use found::{Found, next_address};
 pub use mapped::unmapped;
-pub use place::{Place, Text};
 pub use run::address_of;
 pub use words::word_of;

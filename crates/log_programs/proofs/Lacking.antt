@@ -2,7 +2,7 @@
 use Rattle.std.proofs.Common.{◌≡◌, ℕ, zero, suc, ◌-◌, ◌^◌, ◌<◌, ◌&&◌, Bool, true, not, List, [], min, sym, refl, ap, ◌∙◌, arith}
 use Rattle.std.specs.Prelude.{nat_lt, if◌then◌else◌}
 use Rattle.std.proofs.lemmas.Bool.Decides.{nat_tests}
-use Rattle.line_addresses.specs.declared.place.Place.{Place}
+use Rattle.line_addresses.specs.declared.area.Area.{Area}
 use Rattle.log_programs.specs.Lacking.{no_address_text, lacking_told}
 
 pub positive : (number : ℕ) → 0 < number → nat_lt 0 number ≡ true
@@ -14,8 +14,8 @@ same_test zero (suc count) e = absurd (omega (arith, e))
 same_test (suc told) zero e = absurd (omega (arith, e))
 same_test (suc told) (suc count) e = positive (suc told) (omega arith) ∙ sym (positive (suc count) (omega arith))
 
-pub lacking_same : (program : List ℕ) (place : Place) (name : List ℕ) (lines count : ℕ) (one other : Bool) → lines ≡ min count (2 ^ 64 - 1) → one ≡ other
-    → lacking_told program place name lines one ≡ lacking_told program place name count other
-lacking_same program place name lines count one other e f =
-    ap (λ (b : Bool). if b && not one then no_address_text program place name else []) (same_test lines count e)
-    ∙ ap (λ (b : Bool). if nat_lt 0 count && not b then no_address_text program place name else []) f
+pub lacking_same : (program : List ℕ) (area : Area) (name : List ℕ) (lines count : ℕ) (one other : Bool) → lines ≡ min count (2 ^ 64 - 1) → one ≡ other
+    → lacking_told program area name lines one ≡ lacking_told program area name count other
+lacking_same program area name lines count one other e f =
+    ap (λ (b : Bool). if b && not one then no_address_text program area name else []) (same_test lines count e)
+    ∙ ap (λ (b : Bool). if nat_lt 0 count && not b then no_address_text program area name else []) f

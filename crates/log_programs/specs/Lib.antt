@@ -2,5 +2,5 @@
 pub mod Finding
 pub mod Lacking
 pub mod LogEnds
-pub mod Places
+pub mod Areas
 pub mod Rows

@@ -3,34 +3,34 @@ ghost use Rattle.std.specs.Prelude.{◌≡◌, None, Some};
 ghost use Rattle.log_programs.specs.Finding.{first_in, found_in};
 
 use ipnetwork::IpAddr;
-use line_addresses::{Place, address_of, field_of, following, next_address, word_of};
+use line_addresses::{Area, address_of, field_of, following, next_address, word_of};
 
 /// The address of a line, which is given without its end: of its field or word, or the first that stands anywhere in it
 /// or follows a text. Does not allocate.
 ///
 /// ```
-/// use line_addresses::Place;
+/// use line_addresses::Area;
 /// use log_programs::finding::found_in;
 ///
 /// let line = b"GET 192.0.2.7";
-/// assert_eq!(rt; found_in(&Place::Word(2), line), Some("192.0.2.7".parse()?));
-/// assert_eq!(rt; found_in(&Place::Word(1), line), None);
+/// assert_eq!(rt; found_in(&Area::Word(2), line), Some("192.0.2.7".parse()?));
+/// assert_eq!(rt; found_in(&Area::Word(1), line), None);
 /// ```
 #[inline(always)]
-pub fn found_in(place: &Place<'_>, line: &[u8]) -> Option<IpAddr>
-    ensures { result ≡ found_in place.now line.now }
+pub fn found_in(area: &Area<'_>, line: &[u8]) -> Option<IpAddr>
+    ensures { result ≡ found_in area.now line.now }
 {
-    match place {
-        Place::Field { number, separator } => match field_of(line, *number, *separator) {
+    match area {
+        Area::Field { number, separator } => match field_of(line, *number, *separator) {
             Some(field) => address_of(field),
             None => None,
         },
-        Place::Word(number) => match word_of(line, *number) {
+        Area::Word(number) => match word_of(line, *number) {
             Some(word) => address_of(word),
             None => None,
         },
-        Place::Anywhere => first_in(line),
-        Place::After(text) => match following(line, text.bytes()) {
+        Area::Anywhere => first_in(line),
+        Area::After(text) => match following(line, text.bytes()) {
             Some(rest) => first_in(rest),
             None => None,
         },

@@ -2,7 +2,7 @@
 //! what is reported of logs without addresses.
 #![tactic(auto)]
 
+pub mod areas;
 pub mod finding;
-pub mod places;
 pub mod rows;
 pub mod telling;

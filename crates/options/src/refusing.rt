@@ -1,6 +1,6 @@
 //! What is reported of a command line with which something is wrong.
 ghost use Rattle.std.specs.Prelude.{◌≡◌};
-ghost use Rattle.program.specs.Messages.{Tells};
+ghost use Rattle.program.specs.Messages.{Reports};
 ghost use Rattle.program.specs.Usage.{shown};
 ghost use Rattle.options.specs.Refusing.{option_text, subject_text, refusal_text};
 
@@ -34,7 +34,7 @@ pub fn refuse<E: Write>(
     errors: &mut Output<'_, E>,
 ) -> u8
     ensures status { result ≡ 2 }
-    ensures told { Tells errors.old errors.new
+    ensures told { Reports errors.old errors.new
         (refusal_text program.now usage.now rows.now fault.now) }
 {
     tell(program, errors);
@@ -48,7 +48,7 @@ pub fn refuse<E: Write>(
 
 // Writes what a fault is about, before what is wrong with it.
 fn tell_subject<E: Write>(rows: &[Row], subject: &Subject<'_>, errors: &mut Output<'_, E>)
-    ensures { Tells errors.old errors.new (subject_text rows.now subject.now) }
+    ensures { Reports errors.old errors.new (subject_text rows.now subject.now) }
 {
     match subject {
         Subject::CommandLine => tell("", errors),
@@ -71,7 +71,7 @@ fn tell_subject<E: Write>(rows: &[Row], subject: &Subject<'_>, errors: &mut Outp
 
 // Writes the option of a row: its letter behind a `-`, or else its long name.
 fn tell_option<E: Write>(rows: &[Row], row: usize, errors: &mut Output<'_, E>)
-    ensures { Tells errors.old errors.new (option_text rows.now row) }
+    ensures { Reports errors.old errors.new (option_text rows.now row) }
 {
     let Some(row) = rows.get(row) else {
         return tell("", errors);
@@ -84,21 +84,21 @@ fn tell_option<E: Write>(rows: &[Row], row: usize, errors: &mut Output<'_, E>)
 
 // Writes bytes to the error writer, as `tell` writes a text.
 fn tell_bytes<E: Write>(bytes: &[u8], errors: &mut Output<'_, E>)
-    ensures { Tells errors.old errors.new bytes.now }
+    ensures { Reports errors.old errors.new bytes.now }
 {
     let _ = errors.put(bytes);
 }
 
 // Writes a text to the error writer.
 fn tell_text<E: Write>(text: &Text<'_>, errors: &mut Output<'_, E>)
-    ensures { Tells errors.old errors.new text.now }
+    ensures { Reports errors.old errors.new text.now }
 {
     tell(text.as_str(), errors);
 }
 
 // Writes a word as it is shown: an empty one as two quotes.
 fn tell_word<E: Write>(word: &Text<'_>, errors: &mut Output<'_, E>)
-    ensures { Tells errors.old errors.new (shown word.now) }
+    ensures { Reports errors.old errors.new (shown word.now) }
 {
     if word.as_str().is_empty() {
         tell("''", errors);

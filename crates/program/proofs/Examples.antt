@@ -12,7 +12,7 @@ use Rattle.lists.specs.KnownLists.{KnownLists}
 use Rattle.lists.specs.Private.Readings.{end_of}
 use Rattle.lists.specs.Reading.{ReadsList, StopsAt, StopsAtText}
 use Rattle.program.specs.Runs.{text_asked}
-use Rattle.program.specs.Told.{fault_text, more_text}
+use Rattle.program.specs.Reported.{fault_text, more_text}
 use Rattle.program.specs.Usage.{subject_text, usage_text, fault_of, arguments_text}
 use Rattle.program.specs.Words.{is, is_only, begins_with, without_first}
 use Rattle.program.specs.declared.arguments.ArgumentsFault.TheVariants as arguments

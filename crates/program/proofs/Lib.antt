@@ -9,4 +9,4 @@ pub mod LogStops
 pub mod PartExamples
 pub mod Puts
 pub mod Runs
-pub mod Told
+pub mod Reported

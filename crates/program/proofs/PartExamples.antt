@@ -3,16 +3,16 @@ use Rattle.std.proofs.Common.{◌≡◌, ℕ, List, refl, subst}
 use Rattle.std.specs.Prelude.{IsTrue, IsFalse, Option, Some, MatchOption, Ok, Err, codes, if◌then◌else◌, String}
 use Rattle.lines.specs.Outputs.{Written, Prints, Writes}
 use Rattle.program.specs.Endings.{status_of, failure_text, end_text, Ending, IsSilent, HasTold, HasWritten, EndsPrinting}
-use Rattle.program.specs.Messages.{Tells}
+use Rattle.program.specs.Messages.{Reports}
 use Rattle.program.specs.Runs.{text_asked, EndsRun}
 
 -- ---- messages
 
-pub what_is_told : {W : Type 0} (old new : Written W) (text : List ℕ) → Tells old new text → IsFalse new.failed
+pub what_is_told : {W : Type 0} (old new : Written W) (text : List ℕ) → Reports old new text → IsFalse new.failed
     → Prints old new text
 what_is_told old new text h works = h.told works
 
-pub a_failed_writer_stays_failed : {W : Type 0} (old new : Written W) (text : List ℕ) → Tells old new text → IsTrue old.failed → IsTrue new.failed
+pub a_failed_writer_stays_failed : {W : Type 0} (old new : Written W) (text : List ℕ) → Reports old new text → IsTrue old.failed → IsTrue new.failed
 a_failed_writer_stays_failed old new text h failed = h.failed failed
 
 -- ---- endings
@@ -32,7 +32,7 @@ nothing_is_told_of_a_write T E done = refl
 pub what_is_silent : {W E : Type 0} (end : Ending W E) → IsSilent end → (end.output_after ≡ end.output) × (end.status ≡ 2)
 what_is_silent end h = h
 
-pub what_was_told : {W E : Type 0} (end : Ending W E) (text : List ℕ) → HasTold end text → Tells end.errors end.errors_after text
+pub what_was_told : {W E : Type 0} (end : Ending W E) (text : List ℕ) → HasTold end text → Reports end.errors end.errors_after text
 what_was_told end text h = h
 
 pub what_was_written : {W E : Type 0} (end : Ending W E) (text : List ℕ) → HasWritten end text → Writes end.output end.output_after text

@@ -1,7 +1,7 @@
 -- How a program ends.
 use Rattle.std.specs.Prelude.{◌≡◌, ℕ, List, [], codes, Bool, if◌then◌else◌, Result, is_err}
 use Rattle.lines.specs.Outputs.{Written, Writes}
-use Rattle.program.specs.Messages.{Tells}
+use Rattle.program.specs.Messages.{Reports}
 
 -- the exit status of a program: this one if its output was written, and 2 if not
 abbrev pub status_of : {T E : Type 0} → Result T E → ℕ → ℕ
@@ -39,7 +39,7 @@ IsSilent end = (end.output_after ≡ end.output) × (end.status ≡ 2)
 
 -- the text was reported on the error writer
 abbrev pub HasTold : {W E : Type 0} → Ending W E → List ℕ → Type 0
-HasTold end text = Tells end.errors end.errors_after text
+HasTold end text = Reports end.errors end.errors_after text
 
 -- the text was written after what waited
 abbrev pub HasWritten : {W E : Type 0} → Ending W E → List ℕ → Type 0

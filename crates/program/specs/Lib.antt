@@ -9,6 +9,6 @@ pub mod Logs
 pub mod Messages
 pub mod Putting
 pub mod Runs
-pub mod Told
+pub mod Reported
 pub mod Usage
 pub mod Words

@@ -2,7 +2,7 @@
 use Rattle.std.specs.Prelude.{ℕ, List, [], ◌∷◌, ◌++◌, codes, String}
 use Rattle.std.specs.declared.io.ErrorKind.{ErrorKind}
 use Rattle.std.specs.declared.io.ErrorKind.TheVariants as kinds
-use Rattle.program.specs.Told.{name_at}
+use Rattle.program.specs.Reported.{name_at}
 use Rattle.program.specs.declared.arguments.ArgumentsFault.{ArgumentsFault}
 use Rattle.program.specs.declared.arguments.ArgumentsFault.TheVariants as arguments
 use Rattle.program.specs.declared.usage.Subject.{Subject}

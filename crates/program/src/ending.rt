@@ -2,7 +2,7 @@
 ghost use Rattle.std.specs.Prelude.{◌≡◌, OnOk, is_err};
 ghost use Rattle.lines.specs.Outputs.{Writes};
 ghost use Rattle.program.specs.Endings.{ending, status_of, end_text, EndsPrinting};
-ghost use Rattle.program.specs.Messages.{Tells};
+ghost use Rattle.program.specs.Messages.{Reports};
 
 use crate::messages::tell;
 use lines::fault::RunFault;
@@ -26,7 +26,7 @@ pub const FAILED: u8 = 2;
 /// ```
 pub fn end<E: Write>(written: Result<(), RunFault>, status: u8, errors: &mut Output<'_, E>) -> u8
     ensures status { result ≡ status_of written status }
-    ensures told { Tells errors.old errors.new (end_text written) }
+    ensures told { Reports errors.old errors.new (end_text written) }
 {
     if written.is_err() {
         tell("write error\n", errors);

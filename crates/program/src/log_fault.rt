@@ -2,7 +2,7 @@
 ghost use Rattle.std.specs.Prelude.{◌++◌};
 ghost use Rattle.program.specs.Endings.{ending};
 ghost use Rattle.program.specs.LogFaults.{line_text, log_fault_text, StopsBy};
-ghost use Rattle.program.specs.Messages.{Tells};
+ghost use Rattle.program.specs.Messages.{Reports};
 
 use crate::messages::{tell, tell_number};
 use lines::output::Output;
@@ -73,7 +73,7 @@ pub fn stop<W: Write, E: Write>(
 /// assert_eq!(rt; room.as_slice(), b"log:7: refused length\n\0".as_slice());
 /// ```
 pub fn tell_log_fault<E: Write>(name: &str, fault: LogFault, lines: u64, errors: &mut Output<'_, E>)
-    ensures { Tells errors.old errors.new (log_fault_text name.now lines fault) }
+    ensures { Reports errors.old errors.new (log_fault_text name.now lines fault) }
 {
     match fault {
         LogFault::Open(cause) => tell_of(name, cause.text(), errors),
@@ -94,7 +94,7 @@ pub fn tell_log_fault<E: Write>(name: &str, fault: LogFault, lines: u64, errors:
 /// assert_eq!(rt; errors.finish(), Ok(()));
 /// ```
 pub fn tell_of<E: Write>(name: &str, text: &str, errors: &mut Output<'_, E>)
-    ensures { Tells errors.old errors.new (name.now ++ text.now) }
+    ensures { Reports errors.old errors.new (name.now ++ text.now) }
 {
     tell(name, errors);
     tell(text, errors);
@@ -109,7 +109,7 @@ pub fn tell_of<E: Write>(name: &str, text: &str, errors: &mut Output<'_, E>)
 /// assert_eq!(rt; errors.finish(), Ok(()));
 /// ```
 pub fn tell_line<E: Write>(name: &str, lines: u64, cause: &str, errors: &mut Output<'_, E>)
-    ensures { Tells errors.old errors.new (line_text name.now lines cause.now) }
+    ensures { Reports errors.old errors.new (line_text name.now lines cause.now) }
 {
     tell(name, errors);
     tell(":", errors);

@@ -1,6 +1,6 @@
 //! What is reported if memory runs out.
 ghost use Rattle.std.specs.Prelude.{◌≡◌, codes};
-ghost use Rattle.program.specs.Messages.{Tells};
+ghost use Rattle.program.specs.Messages.{Reports};
 
 use crate::ending::FAILED;
 use crate::messages::tell;
@@ -16,7 +16,7 @@ use std::io::Write;
 /// ```
 pub fn refuse_memory<E: Write>(errors: &mut Output<'_, E>) -> u8
     ensures status { result ≡ 2 }
-    ensures told { Tells errors.old errors.new (codes "out of memory\n") }
+    ensures told { Reports errors.old errors.new (codes "out of memory\n") }
 {
     tell("out of memory\n", errors);
     FAILED

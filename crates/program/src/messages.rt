@@ -1,6 +1,6 @@
 //! Messages on the error writer. If a write of one fails, nothing else changes.
 ghost use Rattle.std.specs.Prelude.{◌≡◌, decimal};
-ghost use Rattle.program.specs.Messages.{Tells};
+ghost use Rattle.program.specs.Messages.{Reports};
 
 use arrayvec::ArrayString;
 use ipnetwork_addr::decimal::push_number;
@@ -16,7 +16,7 @@ use std::io::Write;
 /// assert_eq!(rt; errors.finish(), Ok(()));
 /// ```
 pub fn tell<E: Write>(text: &str, errors: &mut Output<'_, E>)
-    ensures { Tells errors.old errors.new text.now }
+    ensures { Reports errors.old errors.new text.now }
 {
     let _ = errors.put(text.as_bytes());
 }
@@ -30,7 +30,7 @@ pub fn tell<E: Write>(text: &str, errors: &mut Output<'_, E>)
 /// assert_eq!(rt; errors.finish(), Ok(()));
 /// ```
 pub fn tell_number<E: Write>(number: u64, errors: &mut Output<'_, E>)
-    ensures { Tells errors.old errors.new (decimal number) }
+    ensures { Reports errors.old errors.new (decimal number) }
 {
     tell(number_text(number).as_str(), errors);
 }

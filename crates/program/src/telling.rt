@@ -1,7 +1,7 @@
 //! Messages about lists on the error writer. If a write of one fails, nothing else changes.
 ghost use Rattle.std.specs.Prelude.{◌≡◌, ℕ};
-ghost use Rattle.program.specs.Messages.{Tells};
-ghost use Rattle.program.specs.Told.{name_at, refusal_line, refusals_text, more_text, fault_text};
+ghost use Rattle.program.specs.Messages.{Reports};
+ghost use Rattle.program.specs.Reported.{name_at, refusal_line, refusals_text, more_text, fault_text};
 
 use crate::messages::{tell, tell_number};
 use crate::words::text_at;
@@ -41,7 +41,7 @@ pub trait Places {
 pub struct InLists;
 
 impl Places for InLists {
-    ghost use Rattle.program.specs.Told.{in_list};
+    ghost use Rattle.program.specs.Reported.{in_list};
 
     ghost told_at = { λ _ refusal. in_list refusal };
 
@@ -67,7 +67,7 @@ pub fn tell_refusals<P: Places, E: Write>(
     refusals: &Refusals,
     errors: &mut Output<'_, E>,
 )
-    ensures { Tells errors.old errors.new
+    ensures { Reports errors.old errors.new
         (refusals_text words.now (P.told_at places.now) refusals.now) }
 {
     let kept = refusals.kept();
@@ -84,7 +84,7 @@ fn tell_refusal<P: Places, E: Write>(
     refusal: Refusal,
     errors: &mut Output<'_, E>,
 )
-    ensures { Tells errors.old errors.new
+    ensures { Reports errors.old errors.new
         (refusal_line words.now (P.told_at places.now) refusal) }
 {
     let (word, number) = places.place(refusal);
@@ -105,7 +105,7 @@ fn tell_refusal<P: Places, E: Write>(
 /// assert_eq!(rt; errors.finish(), Ok(()));
 /// ```
 pub fn tell_name<E: Write>(words: &[String], place: usize, errors: &mut Output<'_, E>)
-    ensures { Tells errors.old errors.new (name_at words.now place) }
+    ensures { Reports errors.old errors.new (name_at words.now place) }
 {
     tell(text_at(words, place), errors);
 }
@@ -119,7 +119,7 @@ pub fn tell_name<E: Write>(words: &[String], place: usize, errors: &mut Output<'
 /// assert_eq!(rt; errors.finish(), Ok(()));
 /// ```
 pub fn tell_more<E: Write>(more: u64, errors: &mut Output<'_, E>)
-    ensures { Tells errors.old errors.new (more_text more) }
+    ensures { Reports errors.old errors.new (more_text more) }
 {
     if more > 0 {
         tell_number(more, errors);
@@ -136,7 +136,7 @@ pub fn tell_more<E: Write>(more: u64, errors: &mut Output<'_, E>)
 /// assert_eq!(rt; errors.finish(), Ok(()));
 /// ```
 pub fn tell_fault<E: Write>(words: &[String], fault: ReadFault, errors: &mut Output<'_, E>)
-    ensures { Tells errors.old errors.new (fault_text words.now fault) }
+    ensures { Reports errors.old errors.new (fault_text words.now fault) }
 {
     match fault {
         ReadFault::Open(place, cause) => {

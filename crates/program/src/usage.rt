@@ -1,7 +1,7 @@
 //! What a program reports about a command line that it does not take.
 ghost use Rattle.std.specs.Prelude.{◌≡◌};
-ghost use Rattle.program.specs.Messages.{Tells};
-ghost use Rattle.program.specs.Told.{name_at};
+ghost use Rattle.program.specs.Messages.{Reports};
+ghost use Rattle.program.specs.Reported.{name_at};
 ghost use Rattle.program.specs.Usage.{shown, subject_text, usage_text, arguments_text};
 
 use crate::arguments::ArgumentsFault;
@@ -55,7 +55,7 @@ pub fn refuse_usage<E: Write>(
     errors: &mut Output<'_, E>,
 ) -> u8
     ensures status { result ≡ 2 }
-    ensures told { Tells errors.old errors.new
+    ensures told { Reports errors.old errors.new
         (usage_text program.now usage.now words.now subject problem.now) }
 {
     tell(program, errors);
@@ -69,7 +69,7 @@ pub fn refuse_usage<E: Write>(
 
 // Writes the words that a fault is about, before what is wrong with them.
 fn tell_subject<E: Write>(words: &[String], subject: Subject, errors: &mut Output<'_, E>)
-    ensures { Tells errors.old errors.new (subject_text words.now subject) }
+    ensures { Reports errors.old errors.new (subject_text words.now subject) }
 {
     match subject {
         Subject::CommandLine => tell("", errors),
@@ -88,7 +88,7 @@ fn tell_subject<E: Write>(words: &[String], subject: Subject, errors: &mut Outpu
 
 // Writes the word at an index as it is shown.
 fn tell_word<E: Write>(words: &[String], place: usize, errors: &mut Output<'_, E>)
-    ensures { Tells errors.old errors.new (shown (name_at words.now place)) }
+    ensures { Reports errors.old errors.new (shown (name_at words.now place)) }
 {
     tell(shown(text_at(words, place)), errors);
 }
@@ -118,7 +118,7 @@ pub fn refuse_arguments<E: Write>(
     errors: &mut Output<'_, E>,
 ) -> u8
     ensures status { result ≡ 2 }
-    ensures told { Tells errors.old errors.new
+    ensures told { Reports errors.old errors.new
         (arguments_text fault program.now usage.now) }
 {
     match fault {

@@ -1,6 +1,6 @@
 //! Words of a command line.
 ghost use Rattle.std.specs.Prelude.{◌≡◌};
-ghost use Rattle.program.specs.Told.{name_at};
+ghost use Rattle.program.specs.Reported.{name_at};
 ghost use Rattle.program.specs.Words.{is, is_only, count};
 
 /// Whether a word is this text.

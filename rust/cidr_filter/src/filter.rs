@@ -2,10 +2,10 @@
 
 //! What a line is to the lists, and whether it is selected.
 
-use crate::listed::Listed;
+use crate::matcher::Matcher;
 use fosibegan::ipnetwork::{IpAddr, IpNetwork};
 use cidr_programs::line_addresses::{
-    Place, Text, address_of, field_of, following, next_address, unmapped, word_of,
+    Area, Text, address_of, field_of, following, next_address, unmapped, word_of,
 };
 use cidr_programs::log_programs::finding::found_in;
 use cidr_programs::program::log_reader::LINE_MAX;
@@ -55,7 +55,7 @@ impl Verdict {
 
 /// What is printed.
 #[derive(Clone, Copy, Debug, PartialEq, Eq)]
-pub enum Shown {
+pub enum OutputMode {
     /// The selected lines.
     Lines,
     /// Their addresses that are in the list, in place of them.
@@ -70,8 +70,8 @@ pub enum Shown {
 
 /// What decides which lines are selected, and what is printed of them.
 pub struct Filter<'a> {
-    pub(crate) listed: Listed,
-    pub(crate) place: Place<'a>,
+    pub(crate) listed: Matcher,
+    pub(crate) area: Area<'a>,
     /// Whether an IPv4-mapped address of a line counts as its IPv4 one.
     pub(crate) mapped: bool,
     pub(crate) inverts: bool,
@@ -80,7 +80,7 @@ pub struct Filter<'a> {
     /// of them.
     pub(crate) most: Option<u64>,
     /// What is printed.
-    pub(crate) shows: Shown,
+    pub(crate) shows: OutputMode,
     /// Whether the name of its log is printed of a line.
     pub(crate) named: bool,
     /// Whether the number of a line stands before what is printed of it.
@@ -107,7 +107,7 @@ impl Filter<'_> {
         if line.len() > LINE_MAX {
             return None;
         }
-        let Listed::Addresses(sets) = &self.listed else {
+        let Matcher::Addresses(sets) = &self.listed else {
             return None;
         };
         match self.only_address(line) {
@@ -119,26 +119,26 @@ impl Filter<'_> {
     // The address of a line, if only one is looked for and the line has it.
     #[inline(always)]
     fn only_address(&self, line: &[u8]) -> Option<IpAddr> {
-        match &self.place {
-            Place::Anywhere | Place::After(_) => None,
-            _ => found_in(&self.place, line),
+        match &self.area {
+            Area::Anywhere | Area::After(_) => None,
+            _ => found_in(&self.area, line),
         }
     }
 
     // What a line that is not too long is to the list.
     #[inline(always)]
     fn judge_within(&self, line: &[u8]) -> Verdict {
-        match &self.place {
-            Place::Field { number, separator } => match field_of(line, *number, *separator) {
+        match &self.area {
+            Area::Field { number, separator } => match field_of(line, *number, *separator) {
                 Some(field) => self.judge_part(field),
                 None => Verdict::NoAddress,
             },
-            Place::Word(number) => match word_of(line, *number) {
+            Area::Word(number) => match word_of(line, *number) {
                 Some(word) => self.judge_part(word),
                 None => Verdict::NoAddress,
             },
-            Place::Anywhere => self.judge_anywhere(line),
-            Place::After(text) => match following(line, text.bytes()) {
+            Area::Anywhere => self.judge_anywhere(line),
+            Area::After(text) => match following(line, text.bytes()) {
                 Some(rest) => self.judge_first(rest),
                 None => Verdict::NoAddress,
             },
@@ -191,14 +191,14 @@ impl Filter<'_> {
     fn told_of(&self, address: IpAddr) -> Option<Option<IpNetwork>> {
         let address = self.asked(address);
         match &self.listed {
-            Listed::Addresses(sets) => {
+            Matcher::Addresses(sets) => {
                 if sets.contains(address) {
                     Some(None)
                 } else {
                     None
                 }
             }
-            Listed::Blocks(tables) => match tables.longest(address) {
+            Matcher::Blocks(tables) => match tables.longest(address) {
                 Some(block) => Some(Some(block)),
                 None => None,
             },
@@ -209,8 +209,8 @@ impl Filter<'_> {
     /// none is, since `-o` is not given together with `--longest`.
     pub(crate) fn prints(&self, address: IpAddr) -> bool {
         match &self.listed {
-            Listed::Addresses(sets) => sets.has(self.asked(address)),
-            Listed::Blocks(_) => false,
+            Matcher::Addresses(sets) => sets.has(self.asked(address)),
+            Matcher::Blocks(_) => false,
         }
     }
 
@@ -227,16 +227,18 @@ impl Filter<'_> {
     /// Whether the selected lines are only counted.
     pub(crate) fn counts(&self) -> bool {
         match self.shows {
-            Shown::Count => true,
-            Shown::Lines | Shown::Addresses | Shown::Names | Shown::Nothing => false,
+            OutputMode::Count => true,
+            OutputMode::Lines | OutputMode::Addresses | OutputMode::Names | OutputMode::Nothing =>
+                false,
         }
     }
 
     /// Whether nothing is printed, and the run ends at the first selected line.
     pub(crate) fn is_silent(&self) -> bool {
         match self.shows {
-            Shown::Nothing => true,
-            Shown::Lines | Shown::Addresses | Shown::Count | Shown::Names => false,
+            OutputMode::Nothing => true,
+            OutputMode::Lines | OutputMode::Addresses | OutputMode::Count | OutputMode::Names =>
+                false,
         }
     }
 

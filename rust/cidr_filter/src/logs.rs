@@ -125,7 +125,7 @@ fn filter_one<'a, L: OpenLists, W: Write, E: Write>(
         Ok(Reached::End) => {
             tell_lacking(
                 PROGRAM,
-                &filter.place,
+                &filter.area,
                 name,
                 tally.lines,
                 tally.is_addressed,

@@ -2,8 +2,8 @@
 
 //! Prints a line.
 
-use crate::filter::{Filter, Shown, Verdict};
-use crate::listed::Listed;
+use crate::filter::{Filter, OutputMode, Verdict};
+use crate::matcher::Matcher;
 use crate::naming::put_head;
 use crate::printing_addresses::print_addresses;
 use fosibegan::ipnetwork::IpNetwork;
@@ -26,17 +26,18 @@ pub(crate) fn print_selected<W: Write>(
     output: &mut Output<'_, W>,
 ) -> Result<(), RunFault> {
     match filter.shows {
-        Shown::Lines => print_named(filter, number, verdict, whole, end, output),
-        Shown::Addresses => print_addresses(filter, number, line, output),
-        Shown::Names => put_both(filter.name.bytes(), b"\n", output),
-        Shown::Count | Shown::Nothing => Ok(()),
+        OutputMode::Lines => print_named(filter, number, verdict, whole, end, output),
+        OutputMode::Addresses => print_addresses(filter, number, line, output),
+        OutputMode::Names => put_both(filter.name.bytes(), b"\n", output),
+        OutputMode::Count | OutputMode::Nothing => Ok(()),
     }
 }
 
 /// Whether of a selected line the line is printed, and nothing else.
 pub(crate) fn prints_as_read(filter: &Filter) -> bool {
     match (filter.shows, &filter.listed) {
-        (Shown::Lines, Listed::Addresses(_)) => !filter.numbered && filter.name.bytes().is_empty(),
+        (OutputMode::Lines, Matcher::Addresses(_)) => !filter.numbered
+            && filter.name.bytes().is_empty(),
         _ => false,
     }
 }
@@ -68,13 +69,13 @@ fn put_line<W: Write>(
 
 // Writes what stands before a line of this verdict.
 fn put_mark<W: Write>(
-    listed: &Listed,
+    listed: &Matcher,
     verdict: &Verdict,
     output: &mut Output<'_, W>,
 ) -> Result<(), RunFault> {
     match listed {
-        Listed::Addresses(_) => Ok(()),
-        Listed::Blocks(_) => put_block(block_in(verdict), output),
+        Matcher::Addresses(_) => Ok(()),
+        Matcher::Blocks(_) => put_block(block_in(verdict), output),
     }
 }
 

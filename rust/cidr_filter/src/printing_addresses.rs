@@ -5,7 +5,7 @@
 use crate::filter::Filter;
 use crate::naming::put_head;
 use fosibegan::ipnetwork::IpAddr;
-use cidr_programs::line_addresses::{Place, address_of, field_of, following, next_address, word_of};
+use cidr_programs::line_addresses::{Area, address_of, field_of, following, next_address, word_of};
 use cidr_programs::lines::fault::RunFault;
 use cidr_programs::lines::output::Output;
 use cidr_programs::program::putting::put_both;
@@ -23,17 +23,17 @@ pub(crate) fn print_addresses<W: Write>(
         filter,
         number: line_number,
     };
-    match &filter.place {
-        Place::Field { number, separator } => match field_of(line, *number, *separator) {
+    match &filter.area {
+        Area::Field { number, separator } => match field_of(line, *number, *separator) {
             Some(field) => of_line.print_part(field, output),
             None => Ok(()),
         },
-        Place::Word(number) => match word_of(line, *number) {
+        Area::Word(number) => match word_of(line, *number) {
             Some(word) => of_line.print_part(word, output),
             None => Ok(()),
         },
-        Place::Anywhere => of_line.print_all(line, output),
-        Place::After(text) => match following(line, text.bytes()) {
+        Area::Anywhere => of_line.print_all(line, output),
+        Area::After(text) => match following(line, text.bytes()) {
             Some(rest) => of_line.print_first(rest, output),
             None => Ok(()),
         },

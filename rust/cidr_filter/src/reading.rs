@@ -3,7 +3,7 @@
 //! Reads the lists of a run.
 
 use fosibegan::plain_std::vec::Vec;
-use crate::listed::{Listed, Sets, Tables};
+use crate::matcher::{Matcher, Sets, Tables};
 use crate::rows::TEXT;
 use fosibegan::ipnetwork::{Ipv4Network, Ipv6Network};
 use fosibegan::ipnetwork_sets::AddressSet;
@@ -30,7 +30,7 @@ pub(crate) fn read_listed<L: OpenLists>(
     lists: &L,
     items: &[Item<'_>],
     longest: bool,
-) -> (Result<Listed, AllocError>, Refusals, Result<(), ReadFault>) {
+) -> (Result<Matcher, AllocError>, Refusals, Result<(), ReadFault>) {
     let mut reader = ListReader::new(alloc, Refusals::new());
     let end = read_lists(lists, items, &mut reader);
     let (listed, refusals) = listed_by(alloc, longest, reader);
@@ -43,7 +43,7 @@ fn listed_by(
     alloc: Global,
     longest: bool,
     reader: ListReader,
-) -> (Result<Listed, AllocError>, Refusals) {
+) -> (Result<Matcher, AllocError>, Refusals) {
     if longest {
         let (v4, v6, refusals) = reader.into_networks();
         return (blocks_of(alloc, v4, v6), refusals);
@@ -104,8 +104,8 @@ fn addresses_of(
     alloc: Global,
     v4: &AddressSet<Ipv4Network>,
     v6: &AddressSet<Ipv6Network>,
-) -> Result<Listed, AllocError> {
-    Ok(Listed::Addresses(Sets::of(alloc, v4, v6)?))
+) -> Result<Matcher, AllocError> {
+    Ok(Matcher::Addresses(Sets::of(alloc, v4, v6)?))
 }
 
 // The blocks of networks.
@@ -113,6 +113,6 @@ fn blocks_of(
     alloc: Global,
     v4: Vec<Ipv4Network>,
     v6: Vec<Ipv6Network>,
-) -> Result<Listed, AllocError> {
-    Ok(Listed::Blocks(Tables::of(alloc, v4.as_slice(), v6.as_slice())?))
+) -> Result<Matcher, AllocError> {
+    Ok(Matcher::Blocks(Tables::of(alloc, v4.as_slice(), v6.as_slice())?))
 }

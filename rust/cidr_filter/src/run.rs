@@ -4,10 +4,10 @@
 
 use fosibegan::plain_std::string::String;
 use fosibegan::plain_std::vec;
-use crate::filter::{Filter, Shown};
+use crate::filter::{Filter, OutputMode};
 use crate::help::{HELP, PROGRAM, USAGE, VERSION};
-use crate::listed::Listed;
 use crate::logs::filter_logs;
+use crate::matcher::Matcher;
 use crate::reading::read_listed;
 use crate::rows::{
     BAD, COUNTS, INVERTS, LONGEST, MOST, NAMED, NAMES, NUMBERED, ONLY, QUIET, bad_in, table,
@@ -16,7 +16,7 @@ use crate::telling::{InOptions, names_of};
 use cidr_programs::line_addresses::Text;
 use cidr_programs::lines::output::Output;
 use cidr_programs::lists::OpenLists;
-use cidr_programs::log_programs::places::place_of;
+use cidr_programs::log_programs::areas::area_of;
 use cidr_programs::log_programs::rows::MAPPED;
 use cidr_programs::options::asking::{About, asked};
 use cidr_programs::options::given::{files_of, is_given, value_of};
@@ -113,10 +113,10 @@ fn filter_files<L: OpenLists, W: Write, E: Write>(
 }
 
 // The filter that is asked for.
-fn filter_of<'a>(items: &[Item<'a>], listed: Listed) -> Filter<'a> {
+fn filter_of<'a>(items: &[Item<'a>], listed: Matcher) -> Filter<'a> {
     Filter {
         listed,
-        place: place_of(items),
+        area: area_of(items),
         mapped: is_given(items, MAPPED),
         inverts: is_given(items, INVERTS),
         bad: bad_in(value_of(items, BAD)),
@@ -147,17 +147,17 @@ fn up_to_one(most: Option<u64>) -> Option<u64> {
 }
 
 // What is printed.
-fn shows_of(items: &[Item<'_>]) -> Shown {
+fn shows_of(items: &[Item<'_>]) -> OutputMode {
     if is_given(items, QUIET) {
-        Shown::Nothing
+        OutputMode::Nothing
     } else if is_given(items, NAMES) {
-        Shown::Names
+        OutputMode::Names
     } else if is_given(items, COUNTS) {
-        Shown::Count
+        OutputMode::Count
     } else if is_given(items, ONLY) {
-        Shown::Addresses
+        OutputMode::Addresses
     } else {
-        Shown::Lines
+        OutputMode::Lines
     }
 }
 

@@ -5,14 +5,14 @@
 use crate::answers::Answers;
 use crate::found::Found;
 use fosibegan::ipnetwork::IpAddr;
-use cidr_programs::line_addresses::{Place, unmapped};
+use cidr_programs::line_addresses::{Area, unmapped};
 use cidr_programs::log_programs::finding::found_in;
 
 /// What decides what is printed of a line.
 pub struct Join<'a> {
     /// What is printed of its address.
     pub(crate) answers: Answers<'a>,
-    pub(crate) place: Place<'a>,
+    pub(crate) area: Area<'a>,
     /// Whether an IPv4-mapped address of a line counts as its IPv4 one.
     pub(crate) mapped: bool,
     /// Whether that stands behind the line, and not before it.
@@ -30,7 +30,7 @@ impl<'a> Join<'a> {
 
     /// The address of a line of which this is printed. The line is given without its end.
     pub(crate) fn address_in(&self, line: &[u8]) -> Option<IpAddr> {
-        let Some(address) = found_in(&self.place, line) else {
+        let Some(address) = found_in(&self.area, line) else {
             return None;
         };
         if self.mapped {

@@ -35,7 +35,7 @@ impl Cause {
 
 /// A network or a range, and what stands behind it.
 #[derive(Clone, Copy, Debug)]
-pub struct Said<'a> {
+pub struct RouteEntry<'a> {
     /// The network or the range.
     pub entry: Entry,
     /// What stands behind it. Not empty.
@@ -43,7 +43,7 @@ pub struct Said<'a> {
 }
 
 /// What a line says: nothing if it is blank or begins with `#` or `;`.
-pub(crate) fn read_route(line: &[u8]) -> Result<Option<Said<'_>>, Cause> {
+pub(crate) fn read_route(line: &[u8]) -> Result<Option<RouteEntry<'_>>, Cause> {
     if line.len() > LINE_MAX {
         return Err(Cause::Length);
     }
@@ -61,7 +61,7 @@ pub(crate) fn read_route(line: &[u8]) -> Result<Option<Said<'_>>, Cause> {
         return Err(Cause::Value);
     }
     let value = Value::new(value);
-    Ok(Some(Said { entry, value }))
+    Ok(Some(RouteEntry { entry, value }))
 }
 
 // The network or range that a text is, read as a line of a list of networks. One with nothing in it is no address.

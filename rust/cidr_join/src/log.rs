@@ -3,8 +3,8 @@
 //! Joins the lines of a log to a list.
 
 use crate::join::Join;
+use crate::log_stats::LogStats;
 use crate::printing::print_line;
-use crate::seen::Seen;
 use cidr_programs::lines::line_end::LineEnd;
 use cidr_programs::lines::output::Output;
 use cidr_programs::lines::watched::Watched;
@@ -21,7 +21,7 @@ pub(crate) fn join_log<R: Read, W: Write>(
     buffer: &mut [u8],
     reader: &mut Watched<R>,
     output: &mut Output<'_, W>,
-    seen: &mut Seen,
+    seen: &mut LogStats,
 ) -> Result<(), LogFault> {
     let mut log = LogReader::new(buffer, true);
     'lines: loop {
@@ -48,7 +48,7 @@ fn join_line<W: Write>(
     whole: &[u8],
     end: LineEnd,
     output: &mut Output<'_, W>,
-    seen: &mut Seen,
+    seen: &mut LogStats,
 ) -> Result<(), LogFault> {
     let address = join.address_in(line);
     seen.add(address.is_some());

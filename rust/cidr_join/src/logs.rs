@@ -5,7 +5,7 @@
 use fosibegan::plain_std::string::String;
 use crate::join::Join;
 use crate::log::join_log;
-use crate::seen::Seen;
+use crate::log_stats::LogStats;
 use crate::telling::tell_unaddressed;
 use cidr_programs::lines::output::Output;
 use cidr_programs::lists::{OpenLists, open_list};
@@ -52,7 +52,7 @@ fn join_one<L: OpenLists, W: Write, E: Write>(
             return false;
         }
     };
-    let mut seen = Seen {
+    let mut seen = LogStats {
         lines: 0,
         is_addressed: false,
     };

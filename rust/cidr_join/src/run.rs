@@ -16,7 +16,7 @@ use crate::tally_logs::tally_logs;
 use crate::telling::{tell_bytes_fault, tell_take_fault};
 use cidr_programs::lines::output::Output;
 use cidr_programs::lists::{OpenLists, read_bytes};
-use cidr_programs::log_programs::places::place_of;
+use cidr_programs::log_programs::areas::area_of;
 use cidr_programs::log_programs::rows::{LIST, MAPPED};
 use cidr_programs::options::asking::{About, asked};
 use cidr_programs::options::given::{files_of, is_given, value_of};
@@ -172,7 +172,7 @@ fn join_of<'a>(items: &[Item<'a>], answers: Answers<'a>) -> Join<'a>
 {
     Join {
         answers,
-        place: place_of(items),
+        area: area_of(items),
         mapped: is_given(items, MAPPED),
         last: is_given(items, LAST),
     }

@@ -6,8 +6,8 @@ use fosibegan::plain_std::vec::Vec;
 use crate::counts::Counts;
 use crate::found::Found;
 use crate::join::Join;
-use crate::numbered::Numbered;
-use crate::seen::Seen;
+use crate::log_stats::LogStats;
+use crate::value_ids::ValueIds;
 use cidr_programs::lines::output::Output;
 use cidr_programs::lines::watched::Watched;
 use cidr_programs::program::log_fault::LogFault;
@@ -30,11 +30,11 @@ pub enum TallyFault {
 pub(crate) fn tally_log<R: Read>(
     alloc: Global,
     join: &Join<'_>,
-    numbered: &Numbered<'_>,
+    numbered: &ValueIds<'_>,
     buffer: &mut [u8],
     reader: &mut Watched<R>,
     counts: &mut Counts,
-    seen: &mut Seen,
+    seen: &mut LogStats,
 ) -> Result<(), TallyFault> {
     // Nothing is put into it, so that nothing is written before a read.
     let mut slice = [0; 1];
@@ -71,10 +71,10 @@ fn tally_fault(fault: LogFault) -> TallyFault {
 fn count_line(
     alloc: Global,
     join: &Join<'_>,
-    numbered: &Numbered<'_>,
+    numbered: &ValueIds<'_>,
     line: &[u8],
     counts: &mut Counts,
-    seen: &mut Seen,
+    seen: &mut LogStats,
 ) -> Result<(), AllocError> {
     let address = join.address_in(line);
     seen.add(address.is_some());

@@ -5,11 +5,11 @@
 use fosibegan::plain_std::string::String;
 use crate::counts::Counts;
 use crate::join::Join;
-use crate::numbered::Numbered;
-use crate::seen::Seen;
+use crate::log_stats::LogStats;
 use crate::tally::Row;
 use crate::tally_log::{TallyFault, tally_log};
 use crate::telling::tell_unaddressed;
+use crate::value_ids::ValueIds;
 use cidr_programs::lines::fault::RunFault;
 use cidr_programs::lines::output::Output;
 use cidr_programs::lists::{OpenLists, open_list};
@@ -32,7 +32,7 @@ pub(crate) fn tally_logs<L: OpenLists, W: Write, E: Write>(
     output: &mut Output<'_, W>,
     errors: &mut Output<'_, E>,
 ) -> u8 {
-    let Ok(numbered) = Numbered::of(alloc, &join.answers) else {
+    let Ok(numbered) = ValueIds::of(alloc, &join.answers) else {
         return refuse_memory(errors);
     };
     let founds = numbered.founds();
@@ -63,7 +63,7 @@ pub(crate) fn tally_logs<L: OpenLists, W: Write, E: Write>(
 fn tally_each<L: OpenLists, E: Write>(
     alloc: Global,
     join: &Join<'_>,
-    numbered: &Numbered<'_>,
+    numbered: &ValueIds<'_>,
     lists: &L,
     files: &[String],
     buffer: &mut [u8],
@@ -88,7 +88,7 @@ fn tally_each<L: OpenLists, E: Write>(
 fn tally_one<L: OpenLists, E: Write>(
     alloc: Global,
     join: &Join<'_>,
-    numbered: &Numbered<'_>,
+    numbered: &ValueIds<'_>,
     lists: &L,
     name: &str,
     buffer: &mut [u8],
@@ -103,7 +103,7 @@ fn tally_one<L: OpenLists, E: Write>(
             return false;
         }
     };
-    let mut seen = Seen {
+    let mut seen = LogStats {
         lines: 0,
         is_addressed: false,
     };

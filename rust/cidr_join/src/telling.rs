@@ -5,8 +5,8 @@
 use crate::help::PROGRAM;
 use crate::join::Join;
 use crate::list::TakeFault;
+use crate::log_stats::LogStats;
 use crate::routes::RouteFault;
-use crate::seen::Seen;
 use cidr_programs::lines::output::Output;
 use cidr_programs::lists::BytesFault;
 use cidr_programs::log_programs::telling::tell_lacking;
@@ -28,12 +28,12 @@ pub(crate) fn tell_bytes_fault<E: Write>(name: &str, fault: BytesFault, errors: 
 pub(crate) fn tell_unaddressed<E: Write>(
     join: &Join<'_>,
     name: &str,
-    seen: &Seen,
+    seen: &LogStats,
     errors: &mut Output<'_, E>,
 )
 {
     let (lines, is_addressed) = (seen.lines, seen.is_addressed);
-    tell_lacking(PROGRAM, &join.place, name, lines, is_addressed, errors);
+    tell_lacking(PROGRAM, &join.area, name, lines, is_addressed, errors);
 }
 
 /// Reports why the lines of the list of this name were not taken to its end.

@@ -3,7 +3,7 @@ use Rattle.std.specs.Prelude.{ℕ, Bool, List}
 use Rattle.lines.specs.Outputs.{Written, Puts}
 use Rattle.lists.specs.KnownLists.{KnownLists}
 use Rattle.cidr_filter.specs.Logs.{FiltersLogs}
-use Rattle.program.specs.Messages.{Tells}
+use Rattle.program.specs.Messages.{Reports}
 use Rattle.program.specs.Counts.{Counts}
 use Rattle.cidr_filter.specs.Stands.{Stand}
 use Rattle.cidr_filter.specs.declared.filter.Filter.{Filter}
@@ -16,6 +16,6 @@ pub record FiltersNames {E : Type 0} (filter : Filter) (known : KnownLists) (nam
   pub count : ℕ
   pub text : List ℕ
   pub filters : FiltersLogs filter known names output count text missed
-  pub tells : Tells errors told text
+  pub tells : Reports errors told text
   pub puts : Puts old.holds old.waits new.holds new.waits output
   pub counted : Counts old.selected new.selected count

@@ -12,7 +12,7 @@ use Rattle.cidr_join.specs.declared.answers.Answers.{Answers}
 use Rattle.cidr_join.specs.declared.answers.Answers.TheVariants as answers
 use Rattle.cidr_join.specs.declared.found.Found.{Found}
 use Rattle.cidr_join.specs.declared.found.Found.TheVariants as prints
-use Rattle.cidr_join.specs.declared.numbered.Numbered.{Numbered}
+use Rattle.cidr_join.specs.declared.value_ids.ValueIds.{ValueIds}
 use Rattle.cidr_join.specs.declared.routes.Routes.{Routes}
 use Rattle.cidr_join.specs.declared.value.Value.{Value}
 
@@ -37,13 +37,13 @@ pub record AddsNumbers (by : Network → Value → Found) (table : Values) (numb
   pub numbered : AreNumbered by table numbers founds
 
 -- so are those of a list, and 0 stands for no network
-pub record NumbersRoutes (network : Bool) (routes : Routes) (numbered : Numbered) : Type 0 where
+pub record NumbersRoutes (network : Bool) (routes : Routes) (numbered : ValueIds) : Type 0 where
   pub v4 : AreNumbered (found_by network (λ n. families.V4 n)) routes.v4 numbered.v4 numbered.founds.items
   pub v6 : AreNumbered (found_by network (λ n. families.V6 n)) routes.v6 numbered.v6 numbered.founds.items
   pub nothing : slice_get numbered.founds.items 0 ≡ Some prints.Nothing
 
 -- the networks by which this is printed of addresses are numbered, if it is not their blocks
-abbrev pub IsNumbering : Answers → Numbered → Type 0
+abbrev pub IsNumbering : Answers → ValueIds → Type 0
 IsNumbering (answers.Values routes) numbered = NumbersRoutes false routes numbered
 IsNumbering (answers.Networks routes) numbered = NumbersRoutes true routes numbered
 IsNumbering (answers.Blocks lengths) numbered = numbered.founds.items ≡ []
@@ -54,7 +54,7 @@ number_or_none None = 0
 number_or_none (Some found) = found.1
 
 -- the number stands for what is found for an address
-abbrev pub StandsForRoute : Numbered → IpAddr → ℕ → Type 0
+abbrev pub StandsForRoute : ValueIds → IpAddr → ℕ → Type 0
 StandsForRoute numbered address number = (network : Bool) (routes : Routes) → NumbersRoutes network routes numbered
     → (found : Found) × (slice_get numbered.founds.items number ≡ Some found)
     × FindsBy (answers_by network routes) address found

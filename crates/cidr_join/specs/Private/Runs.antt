@@ -3,7 +3,7 @@ use Rattle.std.specs.Prelude.{ℕ, List}
 use Rattle.lines.specs.Outputs.{Written, Prints}
 use Rattle.lists.specs.KnownLists.{KnownLists}
 use Rattle.program.specs.LogLines.{LogLine}
-use Rattle.program.specs.Messages.{Tells}
+use Rattle.program.specs.Messages.{Reports}
 use Rattle.cidr_join.specs.Joins.{Joins}
 use Rattle.cidr_join.specs.Logs.{ReadsLogs}
 use Rattle.cidr_join.specs.declared.join.Join.{Join}
@@ -16,7 +16,7 @@ pub record ReadsNames {A E : Type 0} (Gives : List LogLine → List A → Type 0
   pub text : List ℕ
   pub reads : ReadsLogs Gives join known names all text
   pub is_done : Done all
-  pub tells : Tells errors told text
+  pub tells : Reports errors told text
 
 -- they were joined
 abbrev pub JoinsNames : {W E : Type 0} → Join → KnownLists → List (List ℕ) → Written W → Written W → Written E

@@ -2,7 +2,7 @@
 use Rattle.std.specs.Prelude.{◌≡◌, ℕ, Bool, false, List, [], ◌∷◌, ◌++◌, length, codes, Option, Result, Ok, Err}
 use Rattle.lines.specs.Outputs.{Written}
 use Rattle.lists.specs.KnownLists.{KnownLists}
-use Rattle.program.specs.Messages.{Tells}
+use Rattle.program.specs.Messages.{Reports}
 use Rattle.cidr_join.specs.Addressed.{is_addressed, any_addressed}
 use Rattle.cidr_join.specs.Joins.{address_in, Finds, mark_of}
 use Rattle.cidr_join.specs.Logs.{EndsRunBy}
@@ -20,7 +20,7 @@ use Rattle.cidr_join.specs.declared.found.Found.{Found}
 use Rattle.cidr_join.specs.declared.join.Join.{Join}
 use Rattle.program.specs.declared.log_fault.LogFault.{LogFault}
 use Rattle.program.specs.declared.log_fault.LogFault.TheVariants as faults
-use Rattle.cidr_join.specs.declared.seen.Seen.{Seen}
+use Rattle.cidr_join.specs.declared.log_stats.LogStats.{LogStats}
 use Rattle.cidr_join.specs.declared.tally_log.TallyFault.{TallyFault}
 use Rattle.cidr_join.specs.declared.tally_log.TallyFault.TheVariants as tallies
 
@@ -38,12 +38,12 @@ module _ (founds : List Found) where
   CountsAll marks old new = (texts : List (List ℕ)) → IsCounted founds texts old → IsCounted founds (texts ++ marks) new
 
   -- what the list gives a line was counted, and the line
-  abbrev pub CountsLine : Join → List ℕ → Counts → Counts → Seen → Seen → Type 0
+  abbrev pub CountsLine : Join → List ℕ → Counts → Counts → LogStats → LogStats → Type 0
   CountsLine join line old new was is = (found : Found) × Finds join (address_in join line) found
       × CountsAll (mark_of found ∷ []) old new × Sees was is 1 (is_addressed join line)
 
   -- what it gives these lines was, and the lines
-  abbrev pub CountsLines : Join → Counts → Counts → Seen → Seen → List LogLine → Type 0
+  abbrev pub CountsLines : Join → Counts → Counts → LogStats → LogStats → List LogLine → Type 0
   CountsLines join old new was is lines = (marks : List (List ℕ)) × Marks join lines marks × CountsAll marks old new
       × Sees was is (length lines) (any_addressed join lines)
 
@@ -81,4 +81,4 @@ tally_fault_text name lines tallies.OutOfMemory = codes "out of memory\n"
 
 -- it was reported why nothing is counted
 abbrev pub TellsStop : {E : Type 0} → Join → KnownLists → List (List ℕ) → Written E → Written E → Type 0
-TellsStop join known names old new = (text : List ℕ) × StopsTally join known names text × Tells old new text
+TellsStop join known names old new = (text : List ℕ) × StopsTally join known names text × Reports old new text

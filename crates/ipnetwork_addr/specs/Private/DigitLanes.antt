@@ -1,4 +1,4 @@
--- The values of the hex digits of a text, each at the place of its byte.
+-- The values of the hex digits of a text, each at the position of its byte.
 use Rattle.std.specs.Prelude.{◌≡◌, ℕ, ◌+◌, ◌*◌, ◌/◌, ◌%◌, ◌^◌, ◌<◌, List, length, slice_index}
 use Rattle.std.specs.Char.{digit_value}
 

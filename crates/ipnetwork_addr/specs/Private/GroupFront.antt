@@ -29,7 +29,7 @@ pub record BeginsWithGroup (text : List ℕ) (group : ℕ) (rest : List ℕ) : T
 abbrev pub NoGroup : List ℕ → Type 0
 NoGroup text = (group : ℕ) (rest : List ℕ) → ¬ (BeginsWithGroup text group rest)
 
--- the text from one place up to another is a group, and then comes a colon or the end of the text
+-- the text from one position up to another is a group, and then comes a colon or the end of the text
 pub record IsGroupUpTo (text : List ℕ) (at end group : ℕ) : Type 0 where
   pub begins : BeginsWithGroup (drop at text) group (drop end text)
   pub within : end ≤ length text

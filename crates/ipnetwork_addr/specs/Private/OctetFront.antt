@@ -40,7 +40,7 @@ pub record BeginsWithOctet (text : List ℕ) (octet : ℕ) (rest : List ℕ) : T
 abbrev pub NoOctetAndDot : List ℕ → Type 0
 NoOctetAndDot text = (octet : ℕ) (rest : List ℕ) → ¬ (BeginsWithOctet text octet (dot ∷ rest))
 
--- the octet before the first dot from this place on, and the place after that dot; none if no octet stands there
+-- the octet before the first dot from this position on, and the position after that dot; none if no octet stands there
 abbrev pub FindsOctet : List ℕ → ℕ → Option (ℕ × ℕ) → Type 0
 FindsOctet text at result =
     MatchOption result (NoOctetAndDot (drop at text))

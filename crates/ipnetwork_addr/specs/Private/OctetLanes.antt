@@ -4,16 +4,16 @@ use Rattle.std.specs.Prelude.{slice_index, nat_le, nat_lt, ◌==◌, if◌then�
 use Rattle.ipnetwork_addr.specs.Ipv4Text.{IsOctet}
 use Rattle.ipnetwork_addr.specs.Texts.{dot}
 
--- where the byte of this place stands after the first eight bytes of a text of this length are followed by its last
+-- where the byte of this position stands after the first eight bytes of a text of this length are followed by its last
 -- eight
-abbrev pub joined_place : ℕ → ℕ → ℕ
-joined_place count place = if nat_lt place 8 then place else (if nat_lt place count then place + 16 - count else 255)
+abbrev pub joined_position : ℕ → ℕ → ℕ
+joined_position count position = if nat_lt position 8 then position else (if nat_lt position count then position + 16 - count else 255)
 
 abbrev pub sixteen : List ℕ
 sixteen = 0 ∷ 1 ∷ 2 ∷ 3 ∷ 4 ∷ 5 ∷ 6 ∷ 7 ∷ 8 ∷ 9 ∷ 10 ∷ 11 ∷ 12 ∷ 13 ∷ 14 ∷ 15 ∷ []
 
-abbrev pub joined_places : ℕ → List ℕ
-joined_places count = map (joined_place count) sixteen
+abbrev pub joined_positions : ℕ → List ℕ
+joined_positions count = map (joined_position count) sixteen
 
 -- how many digits each octet has
 abbrev pub first_count : ℕ → ℕ
@@ -41,29 +41,29 @@ fourth_at row = third_at row + third_count row + 1
 abbrev pub end_of : ℕ → ℕ
 end_of row = fourth_at row + fourth_count row
 
--- the places of the digits of an octet of this many digits from here on: hundreds, tens, ones; 128 for none
-abbrev pub digit_places : ℕ → ℕ → List ℕ
-digit_places at count =
+-- the positions of the digits of an octet of this many digits from here on: hundreds, tens, ones; 128 for none
+abbrev pub digit_positions : ℕ → ℕ → List ℕ
+digit_positions at count =
     (if nat_lt count 3 then 128 else at) ∷ (if nat_lt count 2 then 128 else at + count - 2) ∷ (at + count - 1) ∷ []
 
 -- those of a row, with those of the dots
-abbrev pub row_places : ℕ → List ℕ
-row_places row =
-    digit_places 0 (first_count row) ++ (first_count row)
-    ∷ (digit_places (second_at row) (second_count row) ++ (second_at row + second_count row)
-    ∷ (digit_places (third_at row) (third_count row) ++ (third_at row + third_count row)
-    ∷ (digit_places (fourth_at row) (fourth_count row) ++ 128 ∷ [])))
+abbrev pub row_positions : ℕ → List ℕ
+row_positions row =
+    digit_positions 0 (first_count row) ++ (first_count row)
+    ∷ (digit_positions (second_at row) (second_count row) ++ (second_at row + second_count row)
+    ∷ (digit_positions (third_at row) (third_count row) ++ (third_at row + third_count row)
+    ∷ (digit_positions (fourth_at row) (fourth_count row) ++ 128 ∷ [])))
 
 -- a lane, or 0 for none
 abbrev pub lane_at : List ℕ → ℕ → ℕ
-lane_at lanes place = if nat_le 128 place then 0 else slice_index lanes place
+lane_at lanes position = if nat_le 128 position then 0 else slice_index lanes position
 
--- how far the byte at a place is above `0`, as a byte that wraps
+-- how far the byte at a position is above `0`, as a byte that wraps
 abbrev pub digit_in : List ℕ → ℕ → ℕ
-digit_in bytes place = lane_at (map (λ byte. (byte + 208) % 256) bytes) place
+digit_in bytes position = lane_at (map (λ byte. (byte + 208) % 256) bytes) position
 
 abbrev pub AreDigitsOf : List ℕ → ℕ → List ℕ → Type 0
-AreDigitsOf bytes row digits = digits ≡ map (digit_in bytes) (row_places row)
+AreDigitsOf bytes row digits = digits ≡ map (digit_in bytes) (row_positions row)
 
 -- the least digits of an octet of this many: the first of several is not a zero
 abbrev pub least_digits : ℕ → List ℕ

@@ -9,7 +9,7 @@ use Rattle.line_addresses.specs.Words.{is_blank}
 pub record IsPartEnd (cuts : ℕ → Bool) (line : List ℕ) (start end : ℕ) : Type 0 where
   pub behind : start ≤ end
   pub within : end ≤ length line
-  pub before : (place : ℕ) → start ≤ place → place < end → cuts (slice_index line place) ≡ false
+  pub before : (position : ℕ) → start ≤ position → position < end → cuts (slice_index line position) ≡ false
   pub stops : end < length line → cuts (slice_index line end) ≡ true
 
 abbrev pub IsRunEnd : List ℕ → ℕ → ℕ → Type 0

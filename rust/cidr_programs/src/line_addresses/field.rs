@@ -26,7 +26,7 @@ pub fn field_of(line: &[u8], number: u32, separator: u8) -> Option<&[u8]> {
     Some(field_at(line, start, separator))
 }
 
-// The field that begins at a place.
+// The field that begins at a position.
 #[inline(always)]
 fn field_at(line: &[u8], start: usize, separator: u8) -> &[u8] {
     match find_from(line, start, separator) {

@@ -2,7 +2,7 @@
 
 //! What is reported of logs without addresses. If a write fails, nothing else changes.
 
-use crate::line_addresses::{Place, Text};
+use crate::line_addresses::{Area, Text};
 use crate::lines::output::Output;
 use crate::program::messages::{tell, tell_number};
 use fosibegan::plain_std::io::Write;
@@ -16,21 +16,21 @@ use fosibegan::plain_std::io::Write;
 ///
 /// let (mut slice, mut room) = ([0; 64], [b'.'; 64]);
 /// let mut errors = cidr_programs::lines::output::Output::new(room.as_mut_slice(), &mut slice);
-/// tell_lacking("cidr_filter", &Place::Word(3), "log", 7, false, &mut errors);
+/// tell_lacking("cidr_filter", &Area::Word(3), "log", 7, false, &mut errors);
 /// assert_eq!(errors.finish(), Ok(()));
 /// drop(errors);
 /// assert!(room.starts_with(b"cidr_filter: log: no line has an address in word 3\n."));
 /// ```
 pub fn tell_lacking<E: Write>(
     program: &str,
-    place: &Place<'_>,
+    area: &Area<'_>,
     name: &str,
     lines: u64,
     is_addressed: bool,
     errors: &mut Output<'_, E>,
 ) {
     if lacks(lines, is_addressed) {
-        tell_place(program, place, name, errors);
+        tell_area(program, area, name, errors);
     } else {
         tell("", errors);
     }
@@ -41,24 +41,24 @@ fn lacks(lines: u64, is_addressed: bool) -> bool {
     lines > 0 && !is_addressed
 }
 
-// Reports that no line of the log of this name has an address at this place.
-fn tell_place<E: Write>(program: &str, place: &Place<'_>, name: &str, errors: &mut Output<'_, E>) {
+// Reports that no line of the log of this name has an address in this area.
+fn tell_area<E: Write>(program: &str, area: &Area<'_>, name: &str, errors: &mut Output<'_, E>) {
     tell(program, errors);
     tell(": ", errors);
     tell(name, errors);
     tell(": no line has an address ", errors);
-    tell_where(place, errors);
+    tell_where(area, errors);
     tell("\n", errors);
 }
 
 // Reports where the addresses of a line are looked for.
-fn tell_where<E: Write>(place: &Place<'_>, errors: &mut Output<'_, E>)
+fn tell_where<E: Write>(area: &Area<'_>, errors: &mut Output<'_, E>)
 {
-    match place {
-        Place::Field { number, .. } => tell_nth("in field ", *number, errors),
-        Place::Word(number) => tell_nth("in word ", *number, errors),
-        Place::Anywhere => tell("anywhere in it", errors),
-        Place::After(text) => tell_after(text, errors),
+    match area {
+        Area::Field { number, .. } => tell_nth("in field ", *number, errors),
+        Area::Word(number) => tell_nth("in word ", *number, errors),
+        Area::Anywhere => tell("anywhere in it", errors),
+        Area::After(text) => tell_after(text, errors),
     }
 }
 

@@ -29,7 +29,7 @@ pub(crate) fn read_at_once(text: &[u8]) -> Option<u128> {
 }
 
 /// The groups before the end of the text or before a `::`: how many, the number whose digits in base
-/// 2^16 they are, and the place behind the `::`.
+/// 2^16 they are, and the position behind the `::`.
 #[inline(always)]
 fn read_left(text: &[u8], values: &[u8; 48], ends: u64) -> Option<(usize, u128, Option<usize>)> {
     match text {
@@ -38,7 +38,7 @@ fn read_left(text: &[u8], values: &[u8; 48], ends: u64) -> Option<(usize, u128, 
     }
 }
 
-/// The number of the groups that a text is from the place `from` on, of which there are no more than
+/// The number of the groups that a text is from the position `from` on, of which there are no more than
 /// there is room for.
 #[inline(always)]
 fn read_right(text: &[u8], values: &[u8; 48], ends: u64, from: usize, room: usize) -> Option<u128> {
@@ -53,9 +53,9 @@ fn read_right(text: &[u8], values: &[u8; 48], ends: u64, from: usize, room: usiz
     }
 }
 
-/// Groups joined by colons from the place `from` on, up to the end of the text or to a `::`, and no
+/// Groups joined by colons from the position `from` on, up to the end of the text or to a `::`, and no
 /// more of them than there is room for: how many, the number whose digits in base 2^16 they are, and
-/// the place behind the `::`. The lowest of the ends is where the first group probably ends.
+/// the position behind the `::`. The lowest of the ends is where the first group probably ends.
 #[inline(always)]
 fn read_part(
     text: &[u8],
@@ -83,7 +83,7 @@ fn read_part(
     None
 }
 
-/// The group that stands from the place `at` up to the place `end`, where the text ends or a colon stands.
+/// The group that stands from the position `at` up to the position `end`, where the text ends or a colon stands.
 #[inline(always)]
 fn read_group(text: &[u8], values: &[u8; 48], at: usize, end: usize) -> Option<u16> {
     if text.len() < end || end <= at || end - at > 4 {

@@ -28,11 +28,11 @@ fn read_from_left(text: &[u8]) -> Option<[u8; 4]> {
     Some([first, second, third, fourth])
 }
 
-/// The octet before the first dot from the place `at` on, and the place after that dot.
+/// The octet before the first dot from the position `at` on, and the position after that dot.
 #[inline(always)]
 fn read_octet_and_dot(text: &[u8], at: usize) -> Option<(u8, usize)> {
     if text.len() - at < 4 || text[at + 1] == b'.' {
-        return read_by_places(text, at);
+        return read_by_positions(text, at);
     }
     // No branch asks whether there are two digits or three: that would be guessed wrongly too often.
     let last = text[at + 2];
@@ -44,16 +44,16 @@ fn read_octet_and_dot(text: &[u8], at: usize) -> Option<(u8, usize)> {
     Some((octet, end + 1))
 }
 
-/// The same, with one place tried after the other.
+/// The same, with one position tried after the other.
 #[inline(always)]
-fn read_by_places(text: &[u8], at: usize) -> Option<(u8, usize)> {
+fn read_by_positions(text: &[u8], at: usize) -> Option<(u8, usize)> {
     let rest = &text[at..];
     let end = octet_end(rest)?;
     let octet = read_octet(&rest[..end])?;
     Some((octet, at + end + 1))
 }
 
-/// The place of the first dot that stands after one, two or three bytes.
+/// The position of the first dot that stands after one, two or three bytes.
 #[inline(always)]
 fn octet_end(text: &[u8]) -> Option<usize> {
     if has_dot(text, 1) {
@@ -68,7 +68,7 @@ fn octet_end(text: &[u8]) -> Option<usize> {
     None
 }
 
-/// Whether a dot stands at this place.
+/// Whether a dot stands at this position.
 #[inline(always)]
 fn has_dot(text: &[u8], at: usize) -> bool {
     at < text.len() && text[at] == b'.'

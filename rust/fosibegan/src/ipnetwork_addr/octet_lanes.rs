@@ -3,7 +3,7 @@
 //! Reads the four octets of an IPv4 text at once, as the lanes of a vector.
 
 use crate::ipnetwork_addr::octet_tables::{
-    joined_places, least_of_row, length_of_row, likely_row, places_of_row,
+    joined_positions, least_of_row, length_of_row, likely_row, positions_of_row,
 };
 use crate::plain_std::simd::prelude::*;
 
@@ -32,10 +32,10 @@ fn joined(text: &[u8]) -> u8x16 {
     let front = u8x8::from_slice(text);
     let back = u8x8::from_slice(&text[count - 8..]);
     let both = front.shuffle::<16>(back, [0, 1, 2, 3, 4, 5, 6, 7, 8, 9, 10, 11, 12, 13, 14, 15]);
-    both.swizzle_dyn(u8x16::from_array(*joined_places(count)))
+    both.swizzle_dyn(u8x16::from_array(*joined_positions(count)))
 }
 
-/// The places of the dots, as bits.
+/// The positions of the dots, as bits.
 #[inline(always)]
 fn dots(bytes: u8x16) -> u64 {
     bytes.simd_eq(u8x16::splat(b'.')).to_bitmask()
@@ -63,7 +63,7 @@ fn octets_of_row(bytes: u8x16, row: usize) -> Option<[u8; 4]> {
 #[inline(always)]
 fn digits_of_row(bytes: u8x16, row: usize) -> u8x16 {
     let values = bytes - u8x16::splat(b'0');
-    values.swizzle_dyn(u8x16::from_array(*places_of_row(row)))
+    values.swizzle_dyn(u8x16::from_array(*positions_of_row(row)))
 }
 
 /// Whether each lane is at least this.

@@ -6,11 +6,11 @@
 /// Where the bytes of a text of eight bytes up to fifteen stand after its first eight bytes are
 /// followed by its last eight.
 #[inline(always)]
-pub(crate) fn joined_places(count: usize) -> &'static [u8; 16] {
+pub(crate) fn joined_positions(count: usize) -> &'static [u8; 16] {
     &JOINED[count - 8]
 }
 
-/// The row of a text, if it is an IPv4 address, by the places of its dots and its end as bits.
+/// The row of a text, if it is an IPv4 address, by the positions of its dots and its end as bits.
 #[inline(always)]
 pub(crate) fn likely_row(ends: u64) -> usize {
     row_at((ends.wrapping_mul(MULTIPLIER) >> 56) as usize)
@@ -28,10 +28,10 @@ pub(crate) fn length_of_row(row: usize) -> usize {
     usize::from(LENGTHS[row])
 }
 
-/// The places of the bytes of each octet in the texts of a row: of its hundreds, its tens, its ones
+/// The positions of the bytes of each octet in the texts of a row: of its hundreds, its tens, its ones
 /// and what stands after it, or 128 where there is none.
 #[inline(always)]
-pub(crate) fn places_of_row(row: usize) -> &'static [u8; 16] {
+pub(crate) fn positions_of_row(row: usize) -> &'static [u8; 16] {
     &PLACES[row]
 }
 
@@ -58,7 +58,7 @@ static ROWS: [u8; 256] = [
     0, 0, 0, 61, 0, 29, 75, 0, 0, 0, 0, 0, 0, 34, 2, 0, 0, 72, 7, 69, 0, 42, 15, 0,
 ];
 
-/// The `joined_places` of each length, from eight on.
+/// The `joined_positions` of each length, from eight on.
 static JOINED: [[u8; 16]; 8] = [
     [
         0, 1, 2, 3, 4, 5, 6, 7, 255, 255, 255, 255, 255, 255, 255, 255,
@@ -95,7 +95,7 @@ macro_rules! length {
     };
 }
 
-/// The place of the hundreds of an octet that begins here, if it has three digits.
+/// The position of the hundreds of an octet that begins here, if it has three digits.
 macro_rules! hundreds {
     (3, $at:expr) => {
         $at
@@ -105,7 +105,7 @@ macro_rules! hundreds {
     };
 }
 
-/// The place of its tens, if it has two or three.
+/// The position of its tens, if it has two or three.
 macro_rules! tens {
     (1, $at:expr) => {
         128
@@ -115,7 +115,7 @@ macro_rules! tens {
     };
 }
 
-macro_rules! places {
+macro_rules! positions {
     ($a:tt $b:tt $c:tt $d:tt) => {
         [
             hundreds!($a, 0), tens!($a, 0), $a - 1, $a,
@@ -151,8 +151,8 @@ macro_rules! least {
 /// The `length_of_row` of each row.
 static LENGTHS: [u8; 81] = rows!(length);
 
-/// The `places_of_row` of each row.
-static PLACES: [[u8; 16]; 81] = rows!(places);
+/// The `positions_of_row` of each row.
+static PLACES: [[u8; 16]; 81] = rows!(positions);
 
 /// The `least_of_row` of each row.
 static LEAST: [[u8; 16]; 81] = rows!(least);

@@ -1,5 +1,5 @@
 use Rattle.std.proofs.Common.{refl}
-use Rattle.program.proofs.Told.{tells_nothing}
+use Rattle.program.proofs.Reported.{tells_nothing}
 use Rattle.cidr_filter.proofs.Runs.{reading_stopped, line_refused, memory_ran_out, logs_filtered}
 use Rattle.options.proofs.Runs.{logs_are}
 use Rattle.cidr_filter.proofs.run.filter_files.Goals as goal

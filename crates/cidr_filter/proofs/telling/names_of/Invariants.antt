@@ -1,6 +1,6 @@
 use Rattle.std.proofs.Common.{◌≡◌, ◌≤◌, ◌-◌, ◌++◌, length, drop, map}
 use Rattle.std.specs.String.{string_bytes}
-use Rattle.cidr_filter.specs.Told.{told_name}
+use Rattle.cidr_filter.specs.Reported.{told_name}
 use Rattle.cidr_filter.proofs.telling.names_of.Given as goal
 
 abbrev pub invariant-loop-at : goal.invariant-loop-at

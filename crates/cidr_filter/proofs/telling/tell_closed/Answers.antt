@@ -1,5 +1,5 @@
 use Rattle.std.proofs.Common.{◌++◌, List, ℕ, ap}
-use Rattle.program.proofs.Told.{tells_same}
+use Rattle.program.proofs.Reported.{tells_same}
 use Rattle.cidr_filter.proofs.telling.tell_closed.Goals as goal
 
 pub returns : goal.returns

@@ -1,6 +1,6 @@
 use Rattle.std.proofs.Common.{◌∙◌, ℕ, List, ap, subst}
 use Rattle.std.specs.List.{flat_map}
-use Rattle.program.specs.Told.{name_at}
+use Rattle.program.specs.Reported.{name_at}
 use Rattle.cidr_merge.specs.Findings.{findings_by, line_findings}
 use Rattle.cidr_merge.specs.NumberedLines.{said_by}
 use Rattle.cidr_merge.specs.Private.Reported.{TellsFound}

@@ -1,5 +1,5 @@
 use Rattle.std.proofs.Common.{ℕ, List, ap}
-use Rattle.program.proofs.Told.{tells_on, tells_same}
+use Rattle.program.proofs.Reported.{tells_on, tells_same}
 use Rattle.cidr_merge.specs.Findings.{place_text}
 use Rattle.cidr_merge.proofs.overlapping.tell_pair.Goals as goal
 

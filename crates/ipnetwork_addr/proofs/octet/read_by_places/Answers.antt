@@ -2,7 +2,7 @@ use Rattle.std.proofs.Common.{arith}
 use Rattle.std.proofs.lemmas.List.{take_rest}
 use Rattle.ipnetwork_addr.proofs.OctetFronts.{no_end, no_octet_before}
 use Rattle.ipnetwork_addr.proofs.FirstDigits.{behind_end, behind_within}
-use Rattle.ipnetwork_addr.proofs.octet.read_by_places.Goals as goal
+use Rattle.ipnetwork_addr.proofs.octet.read_by_positions.Goals as goal
 
 pub returns-in_err-end : goal.returns-in_err-end
 returns-in_err-end c = rw c.from_residual.ensures (no_end _ (rw take_rest at c.in_err-end.ensures))

@@ -4,4 +4,4 @@ use Rattle.line_addresses.specs.LineRuns.{is_run_byte}
 use Rattle.line_addresses.proofs.run.run_end.Given as goal
 
 abbrev pub invariant-loop-at : goal.invariant-loop-at
-invariant-loop-at l = (place : ℕ) → l.start ≤ place → place < l.at → not (is_run_byte (slice_index l.line place)) ≡ false
+invariant-loop-at l = (position : ℕ) → l.start ≤ position → position < l.at → not (is_run_byte (slice_index l.line position)) ≡ false

@@ -1,4 +1,4 @@
-use Rattle.program.proofs.Told.{tells_more, tells_same}
+use Rattle.program.proofs.Reported.{tells_more, tells_same}
 use Rattle.log_programs.proofs.telling.tell_after.Goals as goal
 
 pub returns : goal.returns

@@ -1,4 +1,4 @@
-use Rattle.program.proofs.Told.{tells_more}
+use Rattle.program.proofs.Reported.{tells_more}
 use Rattle.options.proofs.refusing.refuse.Goals as goal
 
 pub returns-clause-told : goal.returns-clause-told

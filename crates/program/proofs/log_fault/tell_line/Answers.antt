@@ -1,5 +1,5 @@
 use Rattle.std.proofs.Common.{ap, decimal}
-use Rattle.program.proofs.Told.{tells_more, tells_same}
+use Rattle.program.proofs.Reported.{tells_more, tells_same}
 use Rattle.program.proofs.log_fault.tell_line.Goals as goal
 
 pub returns : goal.returns

@@ -1,4 +1,4 @@
-use Rattle.program.proofs.Told.{tells_more}
+use Rattle.program.proofs.Reported.{tells_more}
 use Rattle.program.proofs.log_fault.tell_of.Goals as goal
 
 pub returns : goal.returns

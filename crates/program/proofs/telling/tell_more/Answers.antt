@@ -1,5 +1,5 @@
-use Rattle.program.proofs.Told.{tells_more}
-use Rattle.program.proofs.Told.{tells_same, more_told}
+use Rattle.program.proofs.Reported.{tells_more}
+use Rattle.program.proofs.Reported.{tells_same, more_told}
 use Rattle.program.proofs.telling.tell_more.Goals as goal
 
 pub returns-then-more-gt0 : goal.returns-then-more-gt0

@@ -1,4 +1,4 @@
-use Rattle.program.proofs.Told.{tells_same}
+use Rattle.program.proofs.Reported.{tells_same}
 use Rattle.program.proofs.telling.tell_name.Goals as goal
 
 pub returns : goal.returns

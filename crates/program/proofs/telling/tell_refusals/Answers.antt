@@ -1,8 +1,8 @@
 use Rattle.std.proofs.Common.{◌+◌, ◌∙◌, ap, take, arith}
 use Rattle.std.specs.List.{flat_map}
 use Rattle.std.proofs.lemmas.List.{take_more, take_all}
-use Rattle.program.proofs.Told.{tells_more, tells_same, tells_nothing, tells_line}
-use Rattle.program.specs.Told.{refusal_line, more_text}
+use Rattle.program.proofs.Reported.{tells_more, tells_same, tells_nothing, tells_line}
+use Rattle.program.specs.Reported.{refusal_line, more_text}
 use Rattle.program.proofs.telling.tell_refusals.Goals as goal
 
 pub loop-refusal-init : goal.loop-refusal-init

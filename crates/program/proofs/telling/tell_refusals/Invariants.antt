@@ -1,8 +1,8 @@
 use Rattle.std.proofs.Common.{take}
 use Rattle.std.specs.List.{flat_map}
-use Rattle.program.specs.Messages.{Tells}
-use Rattle.program.specs.Told.{refusal_line}
+use Rattle.program.specs.Messages.{Reports}
+use Rattle.program.specs.Reported.{refusal_line}
 use Rattle.program.proofs.telling.tell_refusals.Given as goal
 
 abbrev pub invariant-loop-refusal : goal.invariant-loop-refusal
-invariant-loop-refusal g l = Tells l.initial.errors l.errors (flat_map (refusal_line l.words (g.P.Places.told_at l.places)) (take l.refusal-index l.kept))
+invariant-loop-refusal g l = Reports l.initial.errors l.errors (flat_map (refusal_line l.words (g.P.Places.told_at l.places)) (take l.refusal-index l.kept))

@@ -1,4 +1,4 @@
-use Rattle.program.proofs.Told.{tells_more}
+use Rattle.program.proofs.Reported.{tells_more}
 use Rattle.program.proofs.usage.refuse_usage.Goals as goal
 
 pub returns-clause-told : goal.returns-clause-told

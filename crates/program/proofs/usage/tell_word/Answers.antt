@@ -1,5 +1,5 @@
 use Rattle.std.proofs.Common.{◌∙◌, ap}
-use Rattle.program.proofs.Told.{tells_same}
+use Rattle.program.proofs.Reported.{tells_same}
 use Rattle.program.specs.Usage.{shown}
 use Rattle.program.proofs.usage.tell_word.Goals as goal
 

@@ -1,6 +1,6 @@
 use Rattle.std.proofs.Common.{◌∙◌, sym, ap}
 use Rattle.std.specs.String.{string_bytes}
-use Rattle.program.proofs.Told.{name_within, name_past}
+use Rattle.program.proofs.Reported.{name_within, name_past}
 use Rattle.program.proofs.words.text_at.Goals as goal
 
 pub returns-in-Some : goal.returns-in-Some

@@ -1,0 +1,104 @@
+//! The networks of the lists, and what they say about an address.
+ghost use Rattle.std.specs.Prelude.{◌≡◌, ◌↔◌, IsTrue, IfOk, MatchOption};
+ghost use Rattle.cidr_filter.specs.Matcher.{HasAddress, has_address, HasBlocksOf, IsLongestBlock, NoBlockHolds};
+
+use ipnetwork::{IpAddr, IpNetwork, Ipv4Network, Ipv6Network};
+use ipnetwork_family::laws;
+use ipnetwork_index::{AddressIndex, BlockIndex};
+use ipnetwork_sets::AddressSet;
+use std::alloc::{AllocError, Global};
+
+/// The networks of lists.
+#[derive(Drop)]
+pub enum Matcher {
+    /// Their addresses.
+    Addresses(Sets),
+    /// Their blocks.
+    Blocks(Tables),
+}
+
+/// The addresses of networks, by family.
+#[derive(Drop)]
+pub struct Sets {
+    v4: AddressIndex<Ipv4Network>,
+    v6: AddressIndex<Ipv6Network>,
+}
+
+/// The blocks of networks, by family.
+#[derive(Drop)]
+pub struct Tables {
+    pub(crate) v4: BlockIndex<Ipv4Network, ()>,
+    pub(crate) v6: BlockIndex<Ipv6Network, ()>,
+}
+
+impl Sets {
+    /// The addresses of these sets.
+    pub fn of(
+        alloc: Global,
+        v4: &AddressSet<Ipv4Network>,
+        v6: &AddressSet<Ipv6Network>,
+    ) -> Result<Sets, AllocError>
+        ensures v4 { IfOk result (λ sets. sets.v4 ≡ v4.now) }
+        ensures v6 { IfOk result (λ sets. sets.v6 ≡ v6.now) }
+    {
+        Ok(Sets {
+            v4: AddressIndex::from_set(alloc, v4)?,
+            v6: AddressIndex::from_set(alloc, v6)?,
+        })
+    }
+
+    /// Whether the address is one of them.
+    #[inline(always)]
+    pub(crate) fn contains(&self, address: IpAddr) -> bool
+        ensures { IsTrue result ↔ HasAddress self.now address }
+    {
+        match address {
+            IpAddr::V4(address) => self.v4.contains(address),
+            IpAddr::V6(address) => self.v6.contains(address),
+        }
+    }
+}
+
+impl Sets {
+    /// The same, as a test.
+    pub(crate) fn has(&self, address: IpAddr) -> bool
+        ensures { result ≡ has_address self.now address }
+    {
+        laws::membership_is_computed();
+        self.contains(address)
+    }
+}
+
+impl Tables {
+    /// The blocks of these networks.
+    pub(crate) fn of(
+        alloc: Global,
+        v4: &[Ipv4Network],
+        v6: &[Ipv6Network],
+    ) -> Result<Tables, AllocError>
+        ensures v4 { IfOk result (λ tables. HasBlocksOf 32 v4.now tables.v4) }
+        ensures v6 { IfOk result (λ tables. HasBlocksOf 128 v6.now tables.v6) }
+    {
+        Ok(Tables {
+            v4: BlockIndex::from_networks(alloc, v4, ())?,
+            v6: BlockIndex::from_networks(alloc, v6, ())?,
+        })
+    }
+
+    /// The block of greatest prefix length that holds the address.
+    pub(crate) fn longest(&self, address: IpAddr) -> Option<IpNetwork>
+        ensures { MatchOption result (NoBlockHolds self.now address)
+            (IsLongestBlock self.now address) }
+    {
+        match address {
+            IpAddr::V4(address) => match self.v4.lookup(address) {
+                Some((block, _)) => Some(IpNetwork::V4(block)),
+                None => None,
+            },
+            IpAddr::V6(address) => match self.v6.lookup(address) {
+                Some((block, _)) => Some(IpNetwork::V6(block)),
+                None => None,
+            },
+        }
+    }
+}

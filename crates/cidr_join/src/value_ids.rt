@@ -1,0 +1,177 @@
+//! What is printed of addresses by the networks of a list, by number.
+ghost use Rattle.std.specs.Prelude.{◌≡◌, ℕ, [], ◌∷◌, ◌++◌, Option, IfOk, IfSome, OnOk};
+ghost use Rattle.ipnetwork.specs.declared.ip_network.IpNetwork.{IpNetwork as AnyNetwork};
+ghost use Rattle.ipnetwork_family.specs.Network.{Network as Pair};
+ghost use Rattle.ipnetwork_table.specs.Table.{HasOnlyBlocks, Answers as AnswersTo};
+ghost use Rattle.cidr_join.specs.Private.Numbering.{AddsNumbers, NumbersRoutes, IsNumbering, StandsFor, StandsForRoute, found_by, number_or_none};
+ghost use Rattle.cidr_join.specs.declared.answers.Answers.{Answers as AnswersOf};
+
+use crate::answers::Answers;
+use crate::found::Found;
+use crate::routes::Routes;
+use crate::value::Value;
+use ipnetwork::{IpAddr, IpNetwork, Ipv4Network, Ipv6Network};
+use ipnetwork_index::{IndexedNetwork, RouteIndex};
+use ipnetwork_table::PrefixTable;
+use std::alloc::{AllocError, Global};
+
+/// What is printed of addresses by the networks of a list: each network has a number, and 0 is that
+/// of addresses that no network has. If addresses are printed as blocks, there are no numbers.
+#[derive(Drop)]
+pub struct ValueIds<'a> {
+    pub(crate) v4: RouteIndex<Ipv4Network, usize>,
+    pub(crate) v6: RouteIndex<Ipv6Network, usize>,
+    // What each number stands for.
+    pub(crate) founds: Vec<Found<'a>>,
+}
+
+// The networks of one family, as networks of either.
+trait OfEither: IndexedNetwork {
+    // A network, as contracts see it.
+    ghost either_of: { Pair → AnyNetwork };
+
+    // A network.
+    fn either(self) -> IpNetwork
+        ensures { result ≡ either_of (Self.pair self) };
+}
+
+impl OfEither for Ipv4Network {
+    ghost use Rattle.ipnetwork.specs.declared.ip_network.IpNetwork.TheVariants as families;
+
+    ghost either_of = { λ network. families.V4 network };
+
+    fn either(self) -> IpNetwork {
+        IpNetwork::V4(self)
+    }
+}
+
+impl OfEither for Ipv6Network {
+    ghost use Rattle.ipnetwork.specs.declared.ip_network.IpNetwork.TheVariants as families;
+
+    ghost either_of = { λ network. families.V6 network };
+
+    fn either(self) -> IpNetwork {
+        IpNetwork::V6(self)
+    }
+}
+
+impl<'a> ValueIds<'a> {
+    /// The networks by which this is printed of addresses, numbered.
+    pub(crate) fn of(alloc: Global, answers: &Answers<'a>) -> Result<ValueIds<'a>, AllocError>
+        ensures { IfOk result (λ numbered. IsNumbering answers.now numbered) }
+    {
+        match answers {
+            Answers::Values(routes) => number_routes(alloc, routes, false),
+            Answers::Networks(routes) => number_routes(alloc, routes, true),
+            Answers::Blocks(_) => no_numbers(alloc),
+        }
+    }
+
+    /// What each number stands for.
+    pub(crate) fn founds(&self) -> &[Found<'a>]
+        ensures { result.now ≡ self.now.founds.items }
+    {
+        self.founds.as_slice()
+    }
+
+    /// The number that stands for what is printed of the address of a line; `None` if there are no
+    /// numbers. Does not allocate.
+    pub(crate) fn number_of(&self, address: Option<IpAddr>) -> Option<usize>
+        ensures { IfSome result (λ number. (by : AnswersOf) → IsNumbering by self.now
+            → StandsFor by address self.now.founds.items number) }
+    {
+        if self.founds.is_empty() {
+            return None;
+        }
+        match address {
+            Some(address) => Some(self.number_at(address)),
+            None => Some(0),
+        }
+    }
+
+    // The number that stands for what is printed of an address.
+    fn number_at(&self, address: IpAddr) -> usize
+        ensures { StandsForRoute self.now address result }
+    {
+        match address {
+            IpAddr::V4(address) => number_in(&self.v4, address),
+            IpAddr::V6(address) => number_in(&self.v6, address),
+        }
+    }
+}
+
+// The number of the longest network that has the address, or 0.
+fn number_in<N: IndexedNetwork>(index: &RouteIndex<N, usize>, addr: N::Addr) -> usize
+    ensures { (found : Option (Pair × ℕ)) × AnswersTo N.WIDTH index.now (N.number addr) found
+        × HasOnlyBlocks N.WIDTH index.now × (result ≡ number_or_none found) }
+{
+    match index.lookup(addr) {
+        Some(found) => found.1,
+        None => 0,
+    }
+}
+
+// No numbers.
+fn no_numbers<'a>(alloc: Global) -> Result<ValueIds<'a>, AllocError>
+    ensures { IfOk result (λ numbered. numbered.founds.items ≡ []) }
+{
+    Ok(ValueIds {
+        v4: RouteIndex::from_table(alloc, PrefixTable::new(alloc))?,
+        v6: RouteIndex::from_table(alloc, PrefixTable::new(alloc))?,
+        founds: Vec::new(alloc),
+    })
+}
+
+// The networks of a list, numbered: they are printed, or their values.
+fn number_routes<'a>(
+    alloc: Global,
+    routes: &Routes<'a>,
+    network: bool,
+) -> Result<ValueIds<'a>, AllocError>
+    ensures { IfOk result (λ numbered. NumbersRoutes network routes.now numbered) }
+{
+    let mut founds = Vec::new(alloc);
+    put(&mut founds, Found::Nothing)?;
+    let v4 = number_each(alloc, routes.v4.table(), network, &mut founds)?;
+    let v6 = number_each(alloc, routes.v6.table(), network, &mut founds)?;
+    Ok(ValueIds { v4, v6, founds })
+}
+
+// Numbers the networks of one family from the number of those that stand for something on.
+fn number_each<'a, N: OfEither>(
+    alloc: Global,
+    table: &PrefixTable<N, Value<'a>>,
+    network: bool,
+    founds: &mut Vec<Found<'a>>,
+) -> Result<RouteIndex<N, usize>, AllocError>
+    ensures { IfOk result (λ numbers. AddsNumbers (found_by network N.either_of) table.now numbers
+        founds.old.items founds.new.items) }
+{
+    let mut numbers = PrefixTable::new(alloc);
+    let mut left = table.iter();
+    'listing: while let Some(entry) = left.next() {
+        let at = entry.0;
+        numbers.insert(at, founds.len())?;
+        put(founds, found_of(at, entry.1, network))?;
+    }
+    RouteIndex::from_table(alloc, numbers)
+}
+
+// Puts an item behind others.
+fn put<T: Drop>(items: &mut Vec<T>, item: T) -> Result<(), AllocError>
+    ensures { OnOk result (items.new.items ≡ items.old.items ++ item ∷ []) }
+{
+    items.push(item)?;
+    Ok(())
+}
+
+// What is printed where this is the longest network, with this value.
+fn found_of<N: OfEither>(at: N, value: Value<'_>, network: bool) -> Found<'_>
+    ensures { result ≡ found_by network N.either_of (N.pair at) value.entry }
+{
+    if network {
+        Found::Network(at.either())
+    } else {
+        Found::Value(value)
+    }
+}

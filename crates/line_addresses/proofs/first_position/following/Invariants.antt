@@ -1,0 +1,12 @@
+use Rattle.std.proofs.Common.{◌≡◌, ◌-◌, ◌≤◌, length, drop}
+use Rattle.line_addresses.specs.Following.{following}
+use Rattle.line_addresses.proofs.first_position.following.Given as goal
+
+abbrev pub invariant-positions : goal.invariant-positions
+invariant-positions l = record {
+  within : l.at ≤ length l.line;
+  same : following l.text l.line ≡ following l.text (drop l.at l.line);
+}
+
+abbrev pub decreases-positions : goal.decreases-positions
+decreases-positions l = length l.line - l.at

@@ -1,0 +1,31 @@
+//! What follows a text in a line.
+ghost use Rattle.std.specs.Prelude.{◌≡◌, None, Some, MatchOption};
+ghost use Rattle.line_addresses.specs.Following.{following};
+
+use byte_search::find_from;
+
+/// What follows the first position at which a text stands in a line, if it stands in it. Each position of the text's first
+/// byte is tried, so the time grows at most with the product of both lengths.
+///
+/// ```
+/// let line = b"DST=10.1.1.1 SRC=10.1.1.2 SRC=x";
+/// assert_eq!(rt; following(line, b"SRC="), Some(b"10.1.1.2 SRC=x".as_slice()));
+/// assert_eq!(rt; following(line, b"IN="), None);
+/// ```
+pub fn following<'a>(line: &'a [u8], text: &[u8]) -> Option<&'a [u8]>
+    ensures { MatchOption result (following text.now line.now ≡ None)
+        (λ rest. following text.now line.now ≡ Some rest.now) }
+{
+    if text.is_empty() {
+        return Some(line);
+    }
+    let first = text[0];
+    let mut at = 0;
+    'positions: while let Some(position) = find_from(line, at, first) {
+        if let Some(rest) = line[position..].strip_prefix(text) {
+            return Some(rest);
+        }
+        at = position + 1;
+    }
+    None
+}

@@ -1,0 +1,139 @@
+// Written by scripts/plain out of crates/cidr_join/src/value_ids.rt
+
+//! What is printed of addresses by the networks of a list, by number.
+
+use fosibegan::plain_std::vec::Vec;
+use crate::answers::Answers;
+use crate::found::Found;
+use crate::routes::Routes;
+use crate::value::Value;
+use fosibegan::ipnetwork::{IpAddr, IpNetwork, Ipv4Network, Ipv6Network};
+use fosibegan::ipnetwork_index::{IndexedNetwork, RouteIndex};
+use fosibegan::ipnetwork_table::PrefixTable;
+use fosibegan::plain_std::alloc::{AllocError, Global};
+
+/// What is printed of addresses by the networks of a list: each network has a number, and 0 is that
+/// of addresses that no network has. If addresses are printed as blocks, there are no numbers.
+pub struct ValueIds<'a> {
+    pub(crate) v4: RouteIndex<Ipv4Network, usize>,
+    pub(crate) v6: RouteIndex<Ipv6Network, usize>,
+    // What each number stands for.
+    pub(crate) founds: Vec<Found<'a>>,
+}
+
+// The networks of one family, as networks of either.
+trait OfEither: IndexedNetwork {
+    // A network.
+    fn either(self) -> IpNetwork;
+}
+
+impl OfEither for Ipv4Network {
+    fn either(self) -> IpNetwork {
+        IpNetwork::V4(self)
+    }
+}
+
+impl OfEither for Ipv6Network {
+    fn either(self) -> IpNetwork {
+        IpNetwork::V6(self)
+    }
+}
+
+impl<'a> ValueIds<'a> {
+    /// The networks by which this is printed of addresses, numbered.
+    pub(crate) fn of(alloc: Global, answers: &Answers<'a>) -> Result<ValueIds<'a>, AllocError> {
+        match answers {
+            Answers::Values(routes) => number_routes(alloc, routes, false),
+            Answers::Networks(routes) => number_routes(alloc, routes, true),
+            Answers::Blocks(_) => no_numbers(alloc),
+        }
+    }
+
+    /// What each number stands for.
+    pub(crate) fn founds(&self) -> &[Found<'a>] {
+        self.founds.as_slice()
+    }
+
+    /// The number that stands for what is printed of the address of a line; `None` if there are no
+    /// numbers. Does not allocate.
+    pub(crate) fn number_of(&self, address: Option<IpAddr>) -> Option<usize> {
+        if self.founds.is_empty() {
+            return None;
+        }
+        match address {
+            Some(address) => Some(self.number_at(address)),
+            None => Some(0),
+        }
+    }
+
+    // The number that stands for what is printed of an address.
+    fn number_at(&self, address: IpAddr) -> usize {
+        match address {
+            IpAddr::V4(address) => number_in(&self.v4, address),
+            IpAddr::V6(address) => number_in(&self.v6, address),
+        }
+    }
+}
+
+// The number of the longest network that has the address, or 0.
+fn number_in<N: IndexedNetwork>(index: &RouteIndex<N, usize>, addr: N::Addr) -> usize {
+    match index.lookup(addr) {
+        Some(found) => found.1,
+        None => 0,
+    }
+}
+
+// No numbers.
+fn no_numbers<'a>(alloc: Global) -> Result<ValueIds<'a>, AllocError> {
+    Ok(ValueIds {
+        v4: RouteIndex::from_table(alloc, PrefixTable::new(alloc))?,
+        v6: RouteIndex::from_table(alloc, PrefixTable::new(alloc))?,
+        founds: Vec::new(alloc),
+    })
+}
+
+// The networks of a list, numbered: they are printed, or their values.
+fn number_routes<'a>(
+    alloc: Global,
+    routes: &Routes<'a>,
+    network: bool,
+) -> Result<ValueIds<'a>, AllocError> {
+    let mut founds = Vec::new(alloc);
+    put(&mut founds, Found::Nothing)?;
+    let v4 = number_each(alloc, routes.v4.table(), network, &mut founds)?;
+    let v6 = number_each(alloc, routes.v6.table(), network, &mut founds)?;
+    Ok(ValueIds { v4, v6, founds })
+}
+
+// Numbers the networks of one family from the number of those that stand for something on.
+fn number_each<'a, N: OfEither>(
+    alloc: Global,
+    table: &PrefixTable<N, Value<'a>>,
+    network: bool,
+    founds: &mut Vec<Found<'a>>,
+) -> Result<RouteIndex<N, usize>, AllocError> {
+    let mut numbers = PrefixTable::new(alloc);
+    let mut left = table.iter();
+    'listing: while let Some(entry) = left.next() {
+        let at = entry.0;
+        numbers.insert(at, founds.len())?;
+        put(founds, found_of(at, entry.1, network))?;
+    }
+    RouteIndex::from_table(alloc, numbers)
+}
+
+// Puts an item behind others.
+fn put<T>(items: &mut Vec<T>, item: T) -> Result<(), AllocError> {
+    items.push(item)?;
+    Ok(())
+}
+
+// What is printed where this is the longest network, with this value.
+fn found_of<N: OfEither>(at: N, value: Value<'_>, network: bool) -> Found<'_>
+{
+    if network {
+        Found::Network(at.either())
+    } else {
+        Found::Value(value)
+    }
+}
