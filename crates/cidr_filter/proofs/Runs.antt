@@ -17,7 +17,7 @@ use Rattle.program.specs.LogLines.{LogLine}
 use Rattle.cidr_filter.specs.Logs.{is_enough, EndsRunBy, is_short, filter_for}
 use Rattle.program.specs.Counts.{Counts}
 use Rattle.program.specs.LogFaults.{log_fault_text, IfWrite, Wrote, HandsOn, StopsBy}
-use Rattle.program.specs.Logs.{logs_of, HaltsBy}
+use Rattle.program.specs.Logs.{HaltsBy}
 use Rattle.cidr_filter.specs.Reading.{StopsAtItems, HoldsRead}
 use Rattle.cidr_filter.specs.Options as own
 use Rattle.cidr_filter.specs.Runs.{StopsAtLog, total_text, status_by, EndsWith, FiltersAll, EndsLogs, filter_of, EndsReading}
@@ -36,7 +36,7 @@ use Rattle.program.specs.declared.log_fault.LogFault.TheVariants as faults
 use Rattle.cidr_filter.specs.declared.log.Tally.{Tally}
 use Rattle.lists.specs.declared.named.ReadFault.{ReadFault}
 use Rattle.program.proofs.Counts.{counts_from_none}
-use Rattle.program.proofs.LogNames.{some_first, names_behind, names_apart, logs_some, logs_none}
+use Rattle.program.proofs.LogNames.{some_first, names_behind, names_apart}
 use Rattle.program.proofs.LogReading.{failed_now}
 use Rattle.program.proofs.LogStops.{told_log, puts_then_all, written_behind, failed_behind, wrote_behind, wrote_same}
 use Rattle.cidr_filter.proofs.Enough.{none_few, few_both}
@@ -133,13 +133,6 @@ stops_behind_names filter known done more rest names missed end mid between old 
 -- ---- one file more
 
 module _ {Z : Type 0} (filter : Filter) (known : KnownLists) (files : List (String Z)) where
-  -- there is none
-  pub input_filtered : {W E : Type 0} (result : Option Bool) (end : Ending W E) (old new : Stand) → (length files == 0) ≡ true
-      → MatchOption result (StopsAtLog filter known (codes "-" ∷ []) end) (λ missed. FiltersNames filter known (codes "-" ∷ []) missed old new end.errors end.errors_after)
-      → MatchOption result (StopsAtLog filter known (logs_of files) end) (λ missed. FiltersNames filter known (logs_of files) missed old new end.errors end.errors_after)
-  input_filtered result end old new none h =
-      subst (λ (n : List (List ℕ)). MatchOption result (StopsAtLog filter known n end) (λ missed. FiltersNames filter known n missed old new end.errors end.errors_after)) (sym (logs_none files none)) h
-
   -- the one at a place was filtered too
   pub one_more : {E : Type 0} (i : ℕ) (name : List ℕ) (x y : Bool) (old mid new : Stand) (errors between told : Written E) → map string_bytes (take (i + 1) files) ≡ map string_bytes (take i files) ++ name ∷ []
       → old.selected ≡ 0 → is_enough filter.shows mid.selected ≡ false
@@ -150,32 +143,31 @@ module _ {Z : Type 0} (filter : Filter) (known : KnownLists) (files : List (Stri
       (names_both filter known (map string_bytes (take i files)) (name ∷ []) x y old mid new errors between told none few f g)
 
   -- those up to a place are enough
-  pub enough_named : {E : Type 0} (i : ℕ) (missed : Bool) (old new : Stand) (errors told : Written E) → (length files == 0) ≡ false → old.selected ≡ 0
+  pub enough_named : {E : Type 0} (i : ℕ) (missed : Bool) (old new : Stand) (errors told : Written E) → old.selected ≡ 0
       → is_enough filter.shows new.selected ≡ true → FiltersNames filter known (map string_bytes (take i files)) missed old new errors told
-      → FiltersNames filter known (logs_of files) missed old new errors told
-  enough_named i missed old new errors told some none enough h =
+      → FiltersNames filter known (map string_bytes files) missed old new errors told
+  enough_named i missed old new errors told none enough h =
       subst (λ (n : List (List ℕ)). FiltersNames filter known n missed old new errors told)
-      (sym (map-append string_bytes (take i files) (drop i files)) ∙ ap (map string_bytes) (take-append-drop i files) ∙ sym (logs_some files some))
+      (sym (map-append string_bytes (take i files) (drop i files)) ∙ ap (map string_bytes) (take-append-drop i files))
       (names_enough filter known (map string_bytes (take i files)) (map string_bytes (drop i files)) missed old new errors told none enough h)
 
   -- all were
-  pub all_named : {E : Type 0} (i : ℕ) (missed : Bool) (old new : Stand) (errors told : Written E) → (length files == 0) ≡ false → length files ≤ i
-      → FiltersNames filter known (map string_bytes (take i files)) missed old new errors told → FiltersNames filter known (logs_of files) missed old new errors told
-  all_named i missed old new errors told some past h =
-      subst (λ (n : List (List ℕ)). FiltersNames filter known n missed old new errors told) (ap (map string_bytes) (take_all i files past) ∙ sym (logs_some files some)) h
+  pub all_named : {E : Type 0} (i : ℕ) (missed : Bool) (old new : Stand) (errors told : Written E) → length files ≤ i
+      → FiltersNames filter known (map string_bytes (take i files)) missed old new errors told → FiltersNames filter known (map string_bytes files) missed old new errors told
+  all_named i missed old new errors told past h =
+      subst (λ (n : List (List ℕ)). FiltersNames filter known n missed old new errors told) (ap (map string_bytes) (take_all i files past)) h
 
   -- the one at a place stopped
   pub one_stops : {W E : Type 0} (i : ℕ) (name : List ℕ) (missed : Bool) (output mid after : Written W) (errors between told : Written E) (old now : Tally)
-      → (length files == 0) ≡ false → map string_bytes (take (i + 1) files) ≡ map string_bytes (take i files) ++ name ∷ []
+      → map string_bytes (take (i + 1) files) ≡ map string_bytes (take i files) ++ name ∷ []
       → old.selected ≡ 0 → is_enough filter.shows now.selected ≡ false
       → FiltersNames filter known (map string_bytes (take i files)) missed (stand output old) (stand mid now) errors between
       → StopsAtLog filter known (name ∷ []) (ending mid after between told 2)
-      → StopsAtLog filter known (logs_of files) (ending output after errors told 2)
-  one_stops {W} {E} i name missed output mid after errors between told old now some more none few f s =
+      → StopsAtLog filter known (map string_bytes files) (ending output after errors told 2)
+  one_stops {W} {E} i name missed output mid after errors between told old now more none few f s =
       let end : Ending W E = ending output after errors told 2 in
-      subst (λ (n : List (List ℕ)). StopsAtLog filter known n end) (sym (logs_some files some))
-      (stops_behind_names filter known (map string_bytes (take i files)) (name ∷ []) (map string_bytes (drop (i + 1) files)) (map string_bytes files) missed end mid between old now
-      (names_apart files i name more) none few f s)
+      stops_behind_names filter known (map string_bytes (take i files)) (name ∷ []) (map string_bytes (drop (i + 1) files)) (map string_bytes files) missed end mid between old now
+      (names_apart files i name more) none few f s
 
 -- ---- all logs
 

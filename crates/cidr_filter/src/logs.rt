@@ -1,9 +1,9 @@
 //! Filters the logs of a run in turn.
-ghost use Rattle.std.specs.Prelude.{◌≡◌, ◌≤◌, ◌++◌, ◌||◌, ◌&&◌, ◌∷◌, [], decimal, length, nat_lt, is_err, OnOk, OnErr, MatchOption};
+ghost use Rattle.std.specs.Prelude.{◌≡◌, ◌≤◌, ◌++◌, ◌||◌, ◌&&◌, ◌∷◌, [], decimal, length, map, nat_lt, is_err, OnOk, OnErr, MatchOption};
 ghost use Rattle.std.specs.Io.KnownBytes.{Appends};
 ghost use Rattle.lines.specs.Outputs.{Writes, FailsIn};
 ghost use Rattle.program.specs.Endings.{ending};
-ghost use Rattle.program.specs.Logs.{logs_of};
+ghost use Rattle.std.specs.String.{string_bytes};
 ghost use Rattle.cidr_filter.specs.Runs.{EndsLogs, StopsAtLog, total_text, status_by};
 ghost use Rattle.cidr_filter.specs.Stands.{stand};
 ghost use Rattle.cidr_filter.specs.Private.Runs.{FiltersNames};
@@ -33,8 +33,7 @@ const SELECTED: u8 = 0;
 /// The exit status if none was.
 const NONE_SELECTED: u8 = 1;
 
-/// Filters the logs of these names in their order, or standard input if there is no name, and
-/// returns the exit status.
+/// Filters the logs of these names in their order, and returns the exit status.
 pub(crate) fn filter_logs<'a, L: OpenLists, W: Write, E: Write>(
     filter: &mut Filter<'a>,
     lists: &L,
@@ -44,7 +43,7 @@ pub(crate) fn filter_logs<'a, L: OpenLists, W: Write, E: Write>(
     errors: &mut Output<'_, E>,
 ) -> u8
     requires room { 1048578 ≤ length buffer.old }
-    ensures { EndsLogs filter.old (L.known lists.now) (logs_of files.now)
+    ensures { EndsLogs filter.old (L.known lists.now) (map string_bytes files.now)
         (ending output.old output.new errors.old errors.new result) }
 {
     let mut tally = Tally {
@@ -64,8 +63,7 @@ pub(crate) fn filter_logs<'a, L: OpenLists, W: Write, E: Write>(
     }
 }
 
-// Filters the logs of these names, or standard input, up to the first that is enough, and returns
-// whether one of them could not be opened, which is reported. If a fault ends the filtering of one
+// Filters the logs of these names up to the first that is enough, and returns whether one of them could not be opened, which is reported. If a fault ends the filtering of one
 // that was opened, it is reported, and there is no answer.
 fn filter_each<'a, L: OpenLists, W: Write, E: Write>(
     filter: &mut Filter<'a>,
@@ -79,16 +77,12 @@ fn filter_each<'a, L: OpenLists, W: Write, E: Write>(
     requires room { 1048578 ≤ length buffer.old }
     requires none { tally.old.selected ≡ 0 }
     ensures logs { MatchOption result
-        (StopsAtLog filter.old (L.known lists.now) (logs_of files.now)
+        (StopsAtLog filter.old (L.known lists.now) (map string_bytes files.now)
         (ending output.old output.new errors.old errors.new 2))
-        (λ missed. FiltersNames filter.old (L.known lists.now) (logs_of files.now) missed
+        (λ missed. FiltersNames filter.old (L.known lists.now) (map string_bytes files.now) missed
         (stand output.old tally.old) (stand output.new tally.new) errors.old errors.new) }
     ensures filter { filter.new ≡ filter.old }
 {
-    if files.is_empty() {
-        let input = "-";
-        return filter_one(filter, tally, lists, input, buffer, output, errors);
-    }
     let is_silent = filter.is_silent();
     let mut missed = false;
     for file in files {

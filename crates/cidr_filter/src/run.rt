@@ -1,7 +1,7 @@
 //! The run that the program makes.
 ghost use Rattle.std.specs.Prelude.{◌≡◌, [], map};
 ghost use Rattle.std.specs.String.{string_bytes};
-ghost use Rattle.options.specs.Given.{files_of};
+ghost use Rattle.options.specs.Given.{inputs_of};
 ghost use Rattle.program.specs.Endings.{ending};
 ghost use Rattle.cidr_filter.specs.Runs.{EndsRequest, EndsReading, EndsAs, filter_of, most_of, up_to_one, shows_of, is_named};
 ghost use Rattle.cidr_filter.specs.Reported.{told_name};
@@ -21,7 +21,7 @@ use lists::OpenLists;
 use log_programs::areas::area_of;
 use log_programs::rows::MAPPED;
 use options::asking::{About, asked};
-use options::given::{files_of, is_given, value_of};
+use options::given::{inputs_of, is_given, value_of};
 use options::items::Item;
 use options::values::number_in;
 use program::ending::FAILED;
@@ -68,7 +68,7 @@ fn filter<L: OpenLists, W: Write, E: Write>(
     let Ok(names) = names_of(alloc, items) else {
         return refuse_memory(errors);
     };
-    let Ok(files) = files_of(alloc, items) else {
+    let Ok(files) = inputs_of(alloc, items) else {
         return refuse_memory(errors);
     };
     filter_files(
@@ -94,7 +94,7 @@ fn filter_files<L: OpenLists, W: Write, E: Write>(
     errors: &mut Output<'_, E>,
 ) -> u8
     requires names { map string_bytes names.now ≡ map told_name items.now }
-    requires files { map string_bytes files.now ≡ files_of items.now }
+    requires files { map string_bytes files.now ≡ inputs_of items.now }
     ensures { EndsReading (L.known lists.now) items.now names.now
         (ending output.old output.new errors.old errors.new result) }
 {

@@ -3,14 +3,12 @@ use Rattle.std.proofs.Common.{◌≡◌, ◌==◌, ◌+◌, ◌≤◌, ◌++◌,
 use Rattle.std.specs.Prelude.{Option, Some, String}
 use Rattle.std.specs.String.{string_bytes}
 use Rattle.std.specs.Io.KnownBytes.{Consumes, IsAtEnd}
-use Rattle.std.proofs.lemmas.List.{take_all}
 use Rattle.lines.specs.Outputs.{Written}
 use Rattle.lists.specs.KnownLists.{KnownLists}
 use Rattle.program.specs.LogLines.{LogLine, log_lines}
-use Rattle.program.specs.Logs.{logs_of}
 use Rattle.program.specs.Messages.{Reports}
 use Rattle.program.proofs.Counts.{counts_from_none}
-use Rattle.program.proofs.LogNames.{all_of, logs_some, logs_none}
+use Rattle.program.proofs.LogNames.{all_of}
 use Rattle.program.proofs.Reported.{tells_more, tells_nothing, tells_same}
 use Rattle.log_programs.proofs.Lacking.{lacking_same}
 use Rattle.cidr_join.specs.Addressed.{any_addressed, lacking_by, lacking_text}
@@ -75,17 +73,3 @@ module _ {A S : Type 0} (Gives : List LogLine → List A → Type 0) (Done : S �
           is_done = more_done old mid new f.all g.all f.is_done g.is_done;
           tells = tells_more errors between told f.text g.text f.tells g.tells;
         })
-
--- ---- what is true of names
-
-module _ {Z : Type 0} (files : List (String Z)) (IsSo : List (List ℕ) → Type 0) where
-  -- there is none
-  pub of_input : (length files == 0) ≡ true → IsSo (codes "-" ∷ []) → IsSo (logs_of files)
-  of_input none h = subst IsSo (sym (logs_none files none)) h
-
-  pub of_files : (length files == 0) ≡ false → IsSo (map string_bytes files) → IsSo (logs_of files)
-  of_files some h = subst IsSo (sym (logs_some files some)) h
-
-  -- of those up to a place, which are all
-  pub of_all : (i : ℕ) → (length files == 0) ≡ false → length files ≤ i → IsSo (map string_bytes (take i files)) → IsSo (logs_of files)
-  of_all i some past h = subst IsSo (ap (map string_bytes) (take_all i files past) ∙ sym (logs_some files some)) h

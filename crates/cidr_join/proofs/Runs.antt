@@ -18,7 +18,7 @@ use Rattle.lists.specs.declared.bytes.BytesFault.{BytesFault}
 use Rattle.cidr_join.specs.Joins.{Joins}
 use Rattle.program.specs.LogLines.{LogLine}
 use Rattle.cidr_join.specs.Logs.{EndsRunBy}
-use Rattle.program.specs.Logs.{logs_of, HaltsBy}
+use Rattle.program.specs.Logs.{HaltsBy}
 use Rattle.cidr_join.specs.Routes.{Values, no_networks}
 use Rattle.cidr_join.specs.Runs.{StopsAtLog, JoinsAll, EndsLogs, EndsAsked, EndsFinding, EndsGrouping, EndsJoining, EndsFiles, answers_of, join_of, list_name, lengths_of}
 use Rattle.cidr_join.specs.TallyRuns.{EndsTally}
@@ -38,7 +38,7 @@ use Rattle.program.specs.declared.log_fault.LogFault.TheVariants as faults
 use Rattle.cidr_join.specs.declared.routes.Networks.{Networks}
 use Rattle.cidr_join.specs.declared.routes.Routes.{Routes}
 use Rattle.cidr_join.specs.declared.log_stats.LogStats.{LogStats}
-use Rattle.cidr_join.proofs.LogsInTurn.{logs_both, of_files}
+use Rattle.cidr_join.proofs.LogsInTurn.{logs_both}
 use Rattle.cidr_join.proofs.TallyRows.{written_all, failed_all, ends_with}
 
 -- ---- a log that stops
@@ -81,15 +81,15 @@ module _ {W E : Type 0} (join : Join) (known : KnownLists) (name : List ℕ) (en
 module _ {Z W E : Type 0} (join : Join) (known : KnownLists) (files : List (String Z)) where
   -- the one at a place stopped, behind others that were joined
   pub one_stops : (i : ℕ) (name : List ℕ) (output mid after : Written W) (errors between told : Written E)
-      → (length files == 0) ≡ false → map string_bytes (take (i + 1) files) ≡ map string_bytes (take i files) ++ name ∷ []
+      → map string_bytes (take (i + 1) files) ≡ map string_bytes (take i files) ++ name ∷ []
       → JoinsNames join known (map string_bytes (take i files)) output mid errors between
       → StopsAtLog join known (name ∷ []) (ending mid after between told 2)
-      → StopsAtLog join known (logs_of files) (ending output after errors told 2)
-  one_stops i name output mid after errors between told some more f s =
+      → StopsAtLog join known (map string_bytes files) (ending output after errors told 2)
+  one_stops i name output mid after errors between told more f s =
       let end : Ending W E = ending output after errors told 2 in
       let done = map string_bytes (take i files) in
       let rest = map string_bytes (drop (i + 1) files) in
-      of_files files (λ names. StopsAtLog join known names end) some (record {
+      record {
         before = done ++ s.before;
         name = s.name;
         behind = s.behind ++ rest;
@@ -106,7 +106,7 @@ module _ {Z W E : Type 0} (join : Join) (known : KnownLists) (files : List (Stri
         told = tells_same errors told _ _ (sym (append_assoc f.text s.texts (log_fault_text s.name (length s.lines) s.fault)))
             (tells_more errors between told f.text (s.texts ++ log_fault_text s.name (length s.lines) s.fault) f.tells s.told);
         status = s.status;
-      })
+      }
 
 -- all were joined
 pub all_by : {W E T F : Type 0} (join : Join) (known : KnownLists) (names : List (List ℕ))

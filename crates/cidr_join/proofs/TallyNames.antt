@@ -8,7 +8,7 @@ use Rattle.lists.specs.declared.opening.OpenFault.{OpenFault}
 use Rattle.program.specs.LogFaults.{ended_by_write, log_fault_text}
 use Rattle.program.specs.Messages.{Reports}
 use Rattle.program.specs.LogLines.{LogLine}
-use Rattle.program.specs.Logs.{logs_of, HaltsBy}
+use Rattle.program.specs.Logs.{HaltsBy}
 use Rattle.program.specs.declared.log_fault.LogFault.{LogFault}
 use Rattle.program.specs.declared.log_fault.LogFault.TheVariants as faults
 use Rattle.program.proofs.Counts.{counts_from_none}
@@ -26,7 +26,7 @@ use Rattle.cidr_join.specs.declared.log_stats.LogStats.{LogStats}
 use Rattle.cidr_join.specs.declared.tally_log.TallyFault.{TallyFault}
 use Rattle.cidr_join.specs.declared.tally_log.TallyFault.TheVariants as tallies
 use Rattle.cidr_join.proofs.Addressed.{nothing_seen}
-use Rattle.cidr_join.proofs.LogsInTurn.{logs_both, of_files}
+use Rattle.cidr_join.proofs.LogsInTurn.{logs_both}
 
 module _ (join : Join) (known : KnownLists) where
   -- memory ran out behind some logs
@@ -109,27 +109,26 @@ module _ (join : Join) (known : KnownLists) where
   })
 
   module _ {Y : Type 0} (files : List (String Y)) where
-    pub one_stops : {E : Type 0} (founds : List Found) (i : ℕ) (name : List ℕ) (old mid : Counts) (errors between told : Written E) → (length files == 0) ≡ false
+    pub one_stops : {E : Type 0} (founds : List Found) (i : ℕ) (name : List ℕ) (old mid : Counts) (errors between told : Written E) 
         → map string_bytes (take (i + 1) files) ≡ map string_bytes (take i files) ++ name ∷ [] → CountsNames founds join known (map string_bytes (take i files)) old mid errors between
-        → TellsStop join known (name ∷ []) between told → TellsStop join known (logs_of files) errors told
-    one_stops founds i name old mid errors between told some more f s = (
+        → TellsStop join known (name ∷ []) between told → TellsStop join known (map string_bytes files) errors told
+    one_stops founds i name old mid errors between told more f s = (
       f.text ++ s.0,
-      of_files files (λ names. StopsTally join known names (f.text ++ s.0)) some
-          (stops_behind (map string_bytes (take i files)) (map string_bytes (drop (i + 1) files)) (map string_bytes files) name f.all f.text s.0 (names_apart files i name more) f.reads s.1),
+      stops_behind (map string_bytes (take i files)) (map string_bytes (drop (i + 1) files)) (map string_bytes files) name f.all f.text s.0 (names_apart files i name more) f.reads s.1,
       tells_more errors between told f.text s.0 f.tells s.2,
     )
 
     -- memory ran out when all were
-    pub rows_lack : {E : Type 0} (founds : List Found) (old new : Counts) (errors between told : Written E) → CountsNames founds join known (logs_of files) old new errors between
-        → Reports between told (codes "out of memory\n") → TellsStop join known (logs_of files) errors told
+    pub rows_lack : {E : Type 0} (founds : List Found) (old new : Counts) (errors between told : Written E) → CountsNames founds join known (map string_bytes files) old new errors between
+        → Reports between told (codes "out of memory\n") → TellsStop join known (map string_bytes files) errors told
     rows_lack founds old new errors between told f tells = (
       f.text ++ codes "out of memory\n",
       inr (record {
-        before = logs_of files;
+        before = map string_bytes files;
         behind = [];
         earlier = f.all;
         texts = f.text;
-        logs = sym (append-nil (logs_of files));
+        logs = sym (append-nil (map string_bytes files));
         are = f.reads;
         is = refl;
       }),

@@ -1,6 +1,6 @@
 //! Joins the logs of a run in turn.
-ghost use Rattle.std.specs.Prelude.{◌≡◌, ◌≤◌, ◌∷◌, [], true, false, length};
-ghost use Rattle.program.specs.Logs.{logs_of};
+ghost use Rattle.std.specs.Prelude.{◌≡◌, ◌≤◌, ◌∷◌, [], true, false, length, map};
+ghost use Rattle.std.specs.String.{string_bytes};
 ghost use Rattle.program.specs.Endings.{ending};
 ghost use Rattle.cidr_join.specs.Runs.{StopsAtLog};
 ghost use Rattle.cidr_join.specs.Private.Runs.{JoinsNames};
@@ -14,8 +14,8 @@ use lists::{OpenLists, open_list};
 use program::log_fault::{LogFault, stop};
 use std::io::Write;
 
-/// Joins the logs of these names in their order, or standard input if there is no name, and returns whether all came to
-/// their ends. If not, the cause is reported. So is each log in which no line has an address.
+/// Joins the logs of these names in their order, and returns whether all came to their ends. If not, the cause is
+/// reported. So is each log in which no line has an address.
 pub(crate) fn join_logs<L: OpenLists, W: Write, E: Write>(
     join: &Join<'_>,
     lists: &L,
@@ -25,16 +25,12 @@ pub(crate) fn join_logs<L: OpenLists, W: Write, E: Write>(
     errors: &mut Output<'_, E>,
 ) -> bool
     requires { 1048578 ≤ length buffer.old }
-    ensures all { result ≡ true → JoinsNames join.now (L.known lists.now) (logs_of files.now)
+    ensures all { result ≡ true → JoinsNames join.now (L.known lists.now) (map string_bytes files.now)
         output.old output.new errors.old errors.new }
     ensures stopped { result ≡ false
-        → StopsAtLog join.now (L.known lists.now) (logs_of files.now)
+        → StopsAtLog join.now (L.known lists.now) (map string_bytes files.now)
         (ending output.old output.new errors.old errors.new 2) }
 {
-    if files.is_empty() {
-        let input = "-";
-        return join_one(join, lists, input, buffer, output, errors);
-    }
     for file in files {
         let name = file.as_str();
         if !join_one(join, lists, name, buffer, output, errors) {

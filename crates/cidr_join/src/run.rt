@@ -1,7 +1,7 @@
 //! The run that the program makes.
 ghost use Rattle.std.specs.Prelude.{◌≡◌, map};
 ghost use Rattle.std.specs.String.{string_bytes};
-ghost use Rattle.options.specs.Given.{files_of};
+ghost use Rattle.options.specs.Given.{inputs_of};
 ghost use Rattle.program.specs.Endings.{ending};
 ghost use Rattle.cidr_join.specs.Runs.{EndsRequest, EndsFiles, EndsAs, EndsFinding, EndsJoining, answers_by, join_of, lengths_of};
 
@@ -20,7 +20,7 @@ use lists::{OpenLists, read_bytes};
 use log_programs::areas::area_of;
 use log_programs::rows::{LIST, MAPPED};
 use options::asking::{About, asked};
-use options::given::{files_of, is_given, value_of};
+use options::given::{inputs_of, is_given, value_of};
 use options::items::Item;
 use options::values::lengths_in;
 use program::ending::{FAILED, end};
@@ -66,7 +66,7 @@ fn join<L: OpenLists, W: Write, E: Write>(
     ensures { EndsRequest (L.known lists.now) items.now
         (ending output.old output.new errors.old errors.new result) }
 {
-    match files_of(alloc, items) {
+    match inputs_of(alloc, items) {
         Ok(files) => join_files(alloc, items, files.as_slice(), lists, output, errors),
         Err(_) => refuse_memory(errors),
     }
@@ -81,7 +81,7 @@ fn join_files<L: OpenLists, W: Write, E: Write>(
     output: &mut Output<'_, W>,
     errors: &mut Output<'_, E>,
 ) -> u8
-    requires { map string_bytes files.now ≡ files_of items.now }
+    requires { map string_bytes files.now ≡ inputs_of items.now }
     ensures { EndsFiles (L.known lists.now) items.now
         (ending output.old output.new errors.old errors.new result) }
 {
@@ -129,7 +129,7 @@ fn join_to<L: OpenLists, W: Write, E: Write>(
     output: &mut Output<'_, W>,
     errors: &mut Output<'_, E>,
 ) -> u8
-    requires { map string_bytes files.now ≡ files_of items.now }
+    requires { map string_bytes files.now ≡ inputs_of items.now }
     ensures { EndsJoining (L.known lists.now) items.now name.now text.now
         (ending output.old output.new errors.old errors.new result) }
 {
@@ -170,7 +170,7 @@ fn join_by<'a, L: OpenLists, W: Write, E: Write>(
     output: &mut Output<'_, W>,
     errors: &mut Output<'_, E>,
 ) -> u8
-    requires { map string_bytes files.now ≡ files_of items.now }
+    requires { map string_bytes files.now ≡ inputs_of items.now }
     ensures { EndsFinding (L.known lists.now) items.now answers.entry
         (ending output.old output.new errors.old errors.new result) }
 {

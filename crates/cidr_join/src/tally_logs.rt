@@ -3,7 +3,7 @@ ghost use Rattle.std.specs.Prelude.{◌≡◌, ◌≤◌, ◌++◌, ◌∷◌, �
 ghost use Rattle.lines.specs.Outputs.{FailsIn, Writes};
 ghost use Rattle.program.specs.Endings.{ending};
 ghost use Rattle.program.specs.Messages.{Reports};
-ghost use Rattle.program.specs.Logs.{logs_of};
+ghost use Rattle.std.specs.String.{string_bytes};
 ghost use Rattle.cidr_join.specs.Tallies.{row_text, rows_text};
 ghost use Rattle.cidr_join.specs.TallyRuns.{EndsTally};
 ghost use Rattle.cidr_join.specs.Private.Counting.{row_of};
@@ -29,8 +29,7 @@ use program::putting::put_both;
 use std::alloc::Global;
 use std::io::Write;
 
-/// Counts what the list gives the lines of the logs of these names, or of standard input if there is no name, prints
-/// the counts, and returns the exit status.
+/// Counts what the list gives the lines of the logs of these names, prints the counts, and returns the exit status.
 pub(crate) fn tally_logs<L: OpenLists, W: Write, E: Write>(
     alloc: Global,
     join: &Join<'_>,
@@ -41,7 +40,7 @@ pub(crate) fn tally_logs<L: OpenLists, W: Write, E: Write>(
     errors: &mut Output<'_, E>,
 ) -> u8
     requires { 1048578 ≤ length buffer.old }
-    ensures { EndsTally join.now (L.known lists.now) (logs_of files.now)
+    ensures { EndsTally join.now (L.known lists.now) (map string_bytes files.now)
         (ending output.old output.new errors.old errors.new result) }
 {
     let Ok(numbered) = ValueIds::of(alloc, &join.answers) else {
@@ -70,8 +69,8 @@ pub(crate) fn tally_logs<L: OpenLists, W: Write, E: Write>(
     end(written, 0, errors)
 }
 
-// Counts the lines of the logs of these names, or of standard input, and returns whether all came to their ends. If
-// not, the cause is reported. So is each log in which no line has an address.
+// Counts the lines of the logs of these names, and returns whether all came to their ends. If not, the cause is
+// reported. So is each log in which no line has an address.
 fn tally_each<L: OpenLists, E: Write>(
     alloc: Global,
     join: &Join<'_>,
@@ -85,14 +84,10 @@ fn tally_each<L: OpenLists, E: Write>(
     requires room { 1048578 ≤ length buffer.old }
     requires numbered { IsNumbering join.now.answers numbered.now }
     ensures all { result ≡ true → CountsNames numbered.now.founds.items join.now
-        (L.known lists.now) (logs_of files.now) counts.old counts.new errors.old errors.new }
+        (L.known lists.now) (map string_bytes files.now) counts.old counts.new errors.old errors.new }
     ensures stopped { result ≡ false
-        → TellsStop join.now (L.known lists.now) (logs_of files.now) errors.old errors.new }
+        → TellsStop join.now (L.known lists.now) (map string_bytes files.now) errors.old errors.new }
 {
-    if files.is_empty() {
-        let input = "-";
-        return tally_one(alloc, join, numbered, lists, input, buffer, counts, errors);
-    }
     for file in files {
         let name = file.as_str();
         if !tally_one(alloc, join, numbered, lists, name, buffer, counts, errors) {

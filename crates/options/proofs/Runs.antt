@@ -1,13 +1,10 @@
 -- How a run ends, by what its words ask for.
-use Rattle.std.proofs.Common.{◌≡◌, ℕ, List, ◌⊎◌, inl, inr, map, sym, ap, subst, codes, [], ◌∷◌}
+use Rattle.std.proofs.Common.{◌≡◌, ℕ, List, ◌⊎◌, inl, inr, sym, subst, codes, [], ◌∷◌}
 use Rattle.std.specs.Prelude.{Option, None, Some, MatchOption, String}
 use Rattle.program.specs.Endings.{Ending, EndsPrinting, Refuses}
-use Rattle.program.specs.Logs.{logs_of}
 use Rattle.program.specs.Runs.{text_asked}
 use Rattle.program.proofs.Runs.{not_asked}
 use Rattle.options.specs.Faults.{fault_of}
-use Rattle.std.specs.String.{string_bytes}
-use Rattle.options.specs.Given.{or_input}
 use Rattle.options.specs.Items.{items_of}
 use Rattle.options.specs.Refusing.{refusal_text}
 use Rattle.options.specs.Runs.{AsksFor, EndsAsked, EndsAs, EndsAtOnce}
@@ -40,9 +37,3 @@ module _ {Z W E : Type 0} (table : Table) (program help version usage : List ℕ
   -- they asked for nothing
   pub not_done : (IsDone : List Item → Type 0) → EndsAtOnce table program help version usage words end → EndsAs table program help version usage words IsDone end
   not_done IsDone h = by_text IsDone (text_asked help version words) h
-
--- ---- the names of the logs
-
-pub logs_are : {Z : Type 0} (files : List (String Z)) (names : List (List ℕ)) → map string_bytes files ≡ names → logs_of files ≡ or_input names
-logs_are [] names e = ap or_input e
-logs_are (file ∷ files) names e = ap or_input e

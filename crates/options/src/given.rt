@@ -2,7 +2,7 @@
 ghost use Rattle.std.specs.Prelude.{◌≡◌, map, IfOk};
 ghost use Rattle.std.specs.List.{list_any, count_by};
 ghost use Rattle.std.specs.String.{string_bytes};
-ghost use Rattle.options.specs.Given.{names, is_given, times, value_in, value_of, file_in, files_of};
+ghost use Rattle.options.specs.Given.{names, is_given, times, value_in, value_of, file_in, files_of, inputs_of};
 
 use crate::items::Item;
 use std::alloc::{AllocError, Global};
@@ -111,6 +111,25 @@ pub fn files_of(alloc: Global, items: &[Item<'_>]) -> Result<Vec<String>, AllocE
             files.push(String::from_str(alloc, name.as_str())?)?;
         }
         at += 1;
+    }
+    Ok(files)
+}
+
+/// The FILEs, or `-`, which is standard input, if there is none.
+///
+/// ```
+/// use options::given::inputs_of;
+/// use options::items::{Item, Text};
+///
+/// assert_eq!(rt; inputs_of(rt.alloc(), &[Item::Flag(0)])?[0].as_str(), "-");
+/// assert_eq!(rt; inputs_of(rt.alloc(), &[Item::File(Text::new("a"))])?[0].as_str(), "a");
+/// ```
+pub fn inputs_of(alloc: Global, items: &[Item<'_>]) -> Result<Vec<String>, AllocError>
+    ensures { IfOk result (λ files. map string_bytes files.items ≡ inputs_of items.now) }
+{
+    let mut files = files_of(alloc, items)?;
+    if files.is_empty() {
+        files.push(String::from_str(alloc, "-")?)?;
     }
     Ok(files)
 }

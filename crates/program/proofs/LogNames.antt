@@ -1,16 +1,15 @@
 -- Logs by their names, one after the other, and what was read of one.
-use Rattle.std.proofs.Common.{◌≡◌, ◌==◌, ◌+◌, ◌<◌, ◌++◌, ◌∷◌, ◌∙◌, [], ℕ, List, Bool, true, false, true≢false, cond, refl, sym, ap, arith, length, map, take, drop, take-append-drop, get_or, append_assoc, append-nil, codes}
+use Rattle.std.proofs.Common.{◌≡◌, ◌==◌, ◌+◌, ◌<◌, ◌++◌, ◌∷◌, ◌∙◌, [], ℕ, List, Bool, true, false, cond, refl, sym, ap, arith, length, map, take, drop, take-append-drop, get_or, append_assoc, append-nil}
 use Rattle.std.specs.Prelude.{Option, None, Some, String, filter}
 use Rattle.std.specs.String.{string_bytes}
 use Rattle.std.specs.List.{slice_split}
 use Rattle.std.specs.Io.KnownBytes.{Consumes, IsAtEnd}
-use Rattle.std.proofs.lemmas.Bool.{ne_eqb}
 use Rattle.std.proofs.lemmas.List.{take_more, map_push}
 use Rattle.std.proofs.lemmas.Option.{none-some}
 use Rattle.lines.specs.Parts.{IsBeginning}
 use Rattle.lists.specs.KnownLists.{KnownLists}
 use Rattle.program.specs.LogLines.{LogLine, lines_in, log_lines, ended_lines, ended, unended}
-use Rattle.program.specs.Logs.{logs_of, IsAllOf, IsFirstOf, HaltsBy}
+use Rattle.program.specs.Logs.{IsAllOf, IsFirstOf, HaltsBy}
 use Rattle.program.specs.declared.log_fault.LogFault.{LogFault}
 use Rattle.program.specs.declared.log_fault.LogFault.TheVariants as faults
 
@@ -77,14 +76,6 @@ pub names_more : {Z : Type 0} (files : List (String Z)) (i : ℕ) (file : String
 names_more files i file name within is same =
     ap (map string_bytes) (take_more files i file within ∙ ap (λ f. take i files ++ f ∷ []) (sym is)) ∙ map_push string_bytes (take i files) file
     ∙ ap (λ n. map string_bytes (take i files) ++ n ∷ []) (sym same)
-
-pub logs_some : {Z : Type 0} (files : List (String Z)) → (length files == 0) ≡ false → logs_of files ≡ map string_bytes files
-logs_some [] some = absurd (true≢false some)
-logs_some (file ∷ files) some = refl
-
-pub logs_none : {Z : Type 0} (files : List (String Z)) → (length files == 0) ≡ true → logs_of files ≡ codes "-" ∷ []
-logs_none [] none = refl
-logs_none (file ∷ files) none = absurd (true≢false (sym none ∙ ne_eqb (length (file ∷ files)) 0 (λ e. omega (arith, e))))
 
 map_both : {X : Type 0} (f : X → List ℕ) (xs ys : List X) → map f (xs ++ ys) ≡ map f xs ++ map f ys
 map_both f [] ys = refl

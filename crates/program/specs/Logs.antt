@@ -1,16 +1,10 @@
 -- Logs that are read in turn.
-use Rattle.std.specs.Prelude.{◌≡◌, ℕ, ◌-◌, ◌^◌, ◌<◌, true, false, List, [], ◌∷◌, ◌++◌, length, map, codes, Some, String}
-use Rattle.std.specs.String.{string_bytes}
+use Rattle.std.specs.Prelude.{◌≡◌, ℕ, ◌-◌, ◌^◌, ◌<◌, true, false, List, [], ◌∷◌, ◌++◌, length, Some}
 use Rattle.lines.specs.Parts.{IsBeginning}
 use Rattle.lists.specs.KnownLists.{KnownLists}
 use Rattle.program.specs.LogLines.{LogLine, log_lines, ended_lines, content, IsWhole}
 use Rattle.program.specs.declared.log_fault.LogFault.{LogFault}
 use Rattle.program.specs.declared.log_fault.LogFault.TheVariants as faults
-
--- the names of the logs: the FILEs, or `-`, which is standard input, if there is none
-abbrev pub logs_of : {Z : Type 0} → List (String Z) → List (List ℕ)
-logs_of [] = codes "-" ∷ []
-logs_of (file ∷ files) = map string_bytes (file ∷ files)
 
 -- the file of this name was opened, and these bytes are all of it, if its bytes are known
 abbrev pub IsAllOf : KnownLists → List ℕ → List ℕ → Type 0

@@ -10,18 +10,8 @@ use Rattle.cidr_filter.specs.declared.filter.Filter.{Filter}
 use Rattle.cidr_filter.proofs.LogsInTurn.{names_none}
 use Rattle.program.proofs.LogNames.{names_more}
 use Rattle.cidr_filter.proofs.Enough.{none_few, enough_as}
-use Rattle.cidr_filter.proofs.Runs.{input_filtered, one_more, enough_named, all_named, one_stops}
+use Rattle.cidr_filter.proofs.Runs.{one_more, enough_named, all_named, one_stops}
 use Rattle.cidr_filter.proofs.logs.filter_each.Goals as goal
-
-pub returns-then-is_empty-clause-logs : goal.returns-then-is_empty-clause-logs
-returns-then-is_empty-clause-logs g c =
-    input_filtered c.args.filter.now (g.L.OpenLists.known c.args.lists.now) c.args.files.now c.filter_one.result
-    (ending c.args.output.now c.filter_one.new.output c.args.errors.now c.filter_one.new.errors 2)
-    (stand c.args.output.now c.args.tally.now) (stand c.filter_one.new.output c.filter_one.new.tally)
-    (sym c.is_empty.ensures ∙ c.if-is_empty.true) c.filter_one.ensures.logs
-
-pub returns-then-is_empty-clause-filter : goal.returns-then-is_empty-clause-filter
-returns-then-is_empty-clause-filter g c = c.filter_one.ensures.filter
 
 pub loop-file-init : goal.loop-file-init
 loop-file-init g c = record {
@@ -57,7 +47,7 @@ returns-then-is_enough-clause-logs g c =
     let i = c.loop-file.file-index in
     let name = c.as_str-name.result.now in
     enough_named c.args.filter.now (g.L.OpenLists.known c.args.lists.now) files (i + 1) c.either-missed.result _ _ _ _
-    (sym c.is_empty.ensures ∙ c.if-is_empty.false) c.requires.none
+    c.requires.none
     (enough_as c.args.filter.now.shows c.is_silent-is_silent.result c.is_enough.result true c.filter_one-in-loop-file.new.tally.selected c.is_silent-is_silent.ensures
     c.is_enough.ensures c.if-is_enough.true)
     (subst (λ (b : Bool). FiltersNames c.args.filter.now (g.L.OpenLists.known c.args.lists.now) (map string_bytes (take (i + 1) files)) b
@@ -79,7 +69,7 @@ returns-in_default-clause-logs g c =
     let name = c.as_str-name.result.now in
     one_stops c.args.filter.now (g.L.OpenLists.known c.args.lists.now) files i name c.loop-file.missed c.args.output.now c.loop-file.output
     c.filter_one-in-loop-file.new.output c.args.errors.now c.loop-file.errors c.filter_one-in-loop-file.new.errors c.args.tally.now c.loop-file.tally
-    (sym c.is_empty.ensures ∙ c.if-is_empty.false) (names_more files i c.file-item.result name (omega arith) c.file-item.is c.as_str-name.ensures.value) c.requires.none c.loop-file.invariant.few c.loop-file.invariant.names
+    (names_more files i c.file-item.result name (omega arith) c.file-item.is c.as_str-name.ensures.value) c.requires.none c.loop-file.invariant.few c.loop-file.invariant.names
     (subst (λ (f : Filter). StopsAtLog f (g.L.OpenLists.known c.args.lists.now) (name ∷ []) (ending c.loop-file.output c.filter_one-in-loop-file.new.output c.loop-file.errors c.filter_one-in-loop-file.new.errors 2)) c.loop-file.invariant.filter c.in_default.ensures.logs)
 
 pub returns-in_default-clause-filter : goal.returns-in_default-clause-filter
@@ -88,7 +78,7 @@ returns-in_default-clause-filter g c = c.filter_one-in-loop-file.ensures.filter 
 pub returns-clause-logs : goal.returns-clause-logs
 returns-clause-logs g c =
     all_named c.args.filter.now (g.L.OpenLists.known c.args.lists.now) c.args.files.now c.loop-file.file-index c.loop-file.missed _ _ _ _
-    (sym c.is_empty.ensures ∙ c.if-is_empty.false) (omega arith) c.loop-file.invariant.names
+    (omega arith) c.loop-file.invariant.names
 
 pub returns-clause-filter : goal.returns-clause-filter
 returns-clause-filter g c = c.loop-file.invariant.filter

@@ -1,7 +1,6 @@
 use Rattle.std.proofs.Common.{refl}
 use Rattle.program.proofs.Reported.{tells_nothing}
 use Rattle.cidr_filter.proofs.Runs.{reading_stopped, line_refused, memory_ran_out, logs_filtered}
-use Rattle.options.proofs.Runs.{logs_are}
 use Rattle.cidr_filter.proofs.run.filter_files.Goals as goal
 
 pub returns-in-Err : goal.returns-in-Err
@@ -25,4 +24,4 @@ pub returns : goal.returns
 returns g c =
     logs_filtered (g.L.OpenLists.known c.args.lists.now) c.args.items.now c.args.names.now c.read_listed-listed.result.1 _ c.tell_refusals.new.errors c.tell_refusals.ensures c.read_listed-listed.result.2
     c.in_default.field-0 c.read_listed-listed.result.0 c.in_default.is (rw c.is_given-longest.ensures at c.read_listed-listed.ensures.read) c.is_empty.result c.is_empty.ensures c.if-not-is_empty.false
-    c.in-Ok.listed c.in-Ok.is (rw (logs_are c.args.files.now _ c.requires.files, c.filter_of-filter.ensures) at c.filter_logs.ensures)
+    c.in-Ok.listed c.in-Ok.is (rw (c.requires.files, c.filter_of-filter.ensures) at c.filter_logs.ensures)

@@ -1,24 +1,16 @@
-use Rattle.std.proofs.Common.{◌∙◌, sym, arith}
+use Rattle.std.proofs.Common.{List, ℕ, map, subst, ap, arith}
 use Rattle.lines.proofs.Putting.{puts_nothing, puts_more}
 use Rattle.lines.specs.Outputs.{Prints}
+use Rattle.std.specs.String.{string_bytes}
+use Rattle.std.proofs.lemmas.List.{take_all}
 use Rattle.program.proofs.LogNames.{names_more}
 use Rattle.program.specs.Endings.{ending}
 use Rattle.cidr_join.specs.Joins.{Joins}
 use Rattle.cidr_join.specs.Private.Runs.{JoinsNames}
 use Rattle.cidr_join.specs.Runs.{StopsAtLog}
-use Rattle.cidr_join.proofs.LogsInTurn.{names_none, one_more, of_input, of_all}
+use Rattle.cidr_join.proofs.LogsInTurn.{names_none, one_more}
 use Rattle.cidr_join.proofs.Runs.{one_stops}
 use Rattle.cidr_join.proofs.logs.join_logs.Goals as goal
-
-pub returns-then-is_empty-clause-all : goal.returns-then-is_empty-clause-all
-returns-then-is_empty-clause-all g c = λ yes.
-    of_input c.args.files.now (λ names. JoinsNames c.args.join.now (g.L.OpenLists.known c.args.lists.now) names c.args.output.now c.join_one.new.output c.args.errors.now c.join_one.new.errors)
-    (sym c.is_empty.ensures ∙ c.if-is_empty.true) (c.join_one.ensures.all yes)
-
-pub returns-then-is_empty-clause-stopped : goal.returns-then-is_empty-clause-stopped
-returns-then-is_empty-clause-stopped g c = λ no.
-    of_input c.args.files.now (λ names. StopsAtLog c.args.join.now (g.L.OpenLists.known c.args.lists.now) names (ending c.args.output.now c.join_one.new.output c.args.errors.now c.join_one.new.errors 2))
-    (sym c.is_empty.ensures ∙ c.if-is_empty.true) (c.join_one.ensures.stopped no)
 
 pub loop-file-init : goal.loop-file-init
 loop-file-init g c = record {
@@ -39,10 +31,10 @@ pub returns-then-not-join_one-clause-stopped : goal.returns-then-not-join_one-cl
 returns-then-not-join_one-clause-stopped g c = λ no.
     one_stops c.args.join.now (g.L.OpenLists.known c.args.lists.now) c.args.files.now c.loop-file.file-index c.as_str-name.result.now c.args.output.now c.loop-file.output
     c.join_one-in-loop-file.new.output c.args.errors.now c.loop-file.errors c.join_one-in-loop-file.new.errors
-    (sym c.is_empty.ensures ∙ c.if-is_empty.false) (names_more c.args.files.now c.loop-file.file-index c.file-item.result c.as_str-name.result.now (omega arith) c.file-item.is c.as_str-name.ensures.value)
+    (names_more c.args.files.now c.loop-file.file-index c.file-item.result c.as_str-name.result.now (omega arith) c.file-item.is c.as_str-name.ensures.value)
     c.loop-file.invariant.names (c.join_one-in-loop-file.ensures.stopped c.if-not-join_one.true)
 
 pub returns-clause-all : goal.returns-clause-all
 returns-clause-all g c = λ yes.
-    of_all c.args.files.now (λ names. JoinsNames c.args.join.now (g.L.OpenLists.known c.args.lists.now) names c.args.output.now c.loop-file.output c.args.errors.now c.loop-file.errors)
-    c.loop-file.file-index (sym c.is_empty.ensures ∙ c.if-is_empty.false) (omega arith) c.loop-file.invariant.names
+    subst (λ (n : List (List ℕ)). JoinsNames c.args.join.now (g.L.OpenLists.known c.args.lists.now) n c.args.output.now c.loop-file.output c.args.errors.now c.loop-file.errors)
+    (ap (map string_bytes) (take_all c.loop-file.file-index c.args.files.now (omega arith))) c.loop-file.invariant.names

@@ -1,6 +1,6 @@
 use Rattle.std.proofs.Common.{[], List, map, length, inl, inr, refl, sym, ap, subst, codes}
 use Rattle.program.specs.Endings.{ending}
-use Rattle.program.specs.Logs.{logs_of}
+use Rattle.std.specs.String.{string_bytes}
 use Rattle.cidr_join.specs.Tallies.{rows_text}
 use Rattle.cidr_join.specs.Private.Counting.{row_of}
 use Rattle.cidr_join.specs.Private.TallyProgress.{IsCounted}
@@ -11,11 +11,11 @@ use Rattle.cidr_join.proofs.tally_logs.tally_logs.Goals as goal
 
 pub returns-in_default : goal.returns-in_default
 returns-in_default g c =
-    inl (codes "out of memory\n", inr (ran_out c.args.join.now (g.L.OpenLists.known c.args.lists.now) [] (logs_of c.args.files.now) [] [] (refl, refl)), ((refl, c.refuse_memory.ensures.status), c.refuse_memory.ensures.told))
+    inl (codes "out of memory\n", inr (ran_out c.args.join.now (g.L.OpenLists.known c.args.lists.now) [] (map string_bytes c.args.files.now) [] [] (refl, refl)), ((refl, c.refuse_memory.ensures.status), c.refuse_memory.ensures.told))
 
 pub returns-in_default-new : goal.returns-in_default-new
 returns-in_default-new g c =
-    inl (codes "out of memory\n", inr (ran_out c.args.join.now (g.L.OpenLists.known c.args.lists.now) [] (logs_of c.args.files.now) [] [] (refl, refl)), ((refl, c.refuse_memory-in_default-new.ensures.status), c.refuse_memory-in_default-new.ensures.told))
+    inl (codes "out of memory\n", inr (ran_out c.args.join.now (g.L.OpenLists.known c.args.lists.now) [] (map string_bytes c.args.files.now) [] [] (refl, refl)), ((refl, c.refuse_memory-in_default-new.ensures.status), c.refuse_memory-in_default-new.ensures.told))
 
 pub returns-then-not-tally_each : goal.returns-then-not-tally_each
 returns-then-not-tally_each g c =
