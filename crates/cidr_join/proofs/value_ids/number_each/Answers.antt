@@ -3,7 +3,7 @@ use Rattle.ipnetwork_table.specs.Table.{by_pair}
 use Rattle.cidr_join.specs.Private.Numbering.{found_by}
 use Rattle.cidr_join.specs.declared.found.Found.{Found}
 use Rattle.cidr_join.proofs.Numbering.{NumbersSoFar, none_numbered, one_numbered, all_numbered, numbers_added}
-use Rattle.cidr_join.proofs.numbered.number_each.Goals as goal
+use Rattle.cidr_join.proofs.value_ids.number_each.Goals as goal
 
 pub listing-init : goal.listing-init
 listing-init g c = record {

@@ -3,7 +3,7 @@ use Rattle.ipnetwork_table.specs.Table.{by_pair}
 use Rattle.cidr_join.specs.Private.Numbering.{found_by}
 use Rattle.cidr_join.specs.declared.found.Found.{Found}
 use Rattle.cidr_join.proofs.Numbering.{NumbersSoFar}
-use Rattle.cidr_join.proofs.numbered.number_each.Given as goal
+use Rattle.cidr_join.proofs.value_ids.number_each.Given as goal
 
 abbrev pub invariant-listing : goal.invariant-listing
 invariant-listing g l = record {

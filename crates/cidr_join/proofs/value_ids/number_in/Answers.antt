@@ -4,7 +4,7 @@ use Rattle.ipnetwork_family.specs.Network.{Network, network_cmp}
 use Rattle.ipnetwork_table.specs.Table.{Answers, Finds, HasOnlyBlocks, found_by_pair}
 use Rattle.ipnetwork_table.proofs.OneAnswer.{answers_by_pair}
 use Rattle.cidr_join.specs.Private.Numbering.{number_or_none}
-use Rattle.cidr_join.proofs.numbered.number_in.Goals as goal
+use Rattle.cidr_join.proofs.value_ids.number_in.Goals as goal
 
 -- the number of what a look-up found, its network told by what it means
 number_is : {N : Type 0} (pair : N → Network) (w : ℕ) (index : FinMap network_cmp ℕ) (a : ℕ) (found : Option (N × ℕ)) (number : ℕ) → Finds pair w index a found → HasOnlyBlocks w index

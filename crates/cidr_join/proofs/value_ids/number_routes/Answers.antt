@@ -2,7 +2,7 @@ use Rattle.std.proofs.Common.{◌∙◌, ◌++◌, ◌∷◌, [], List, ap}
 use Rattle.cidr_join.specs.declared.found.Found.{Found}
 use Rattle.cidr_join.specs.declared.found.Found.TheVariants.{Nothing}
 use Rattle.cidr_join.proofs.Numbering.{routes_numbered}
-use Rattle.cidr_join.proofs.numbered.number_routes.Goals as goal
+use Rattle.cidr_join.proofs.value_ids.number_routes.Goals as goal
 
 pub returns : goal.returns
 returns c =

@@ -1,5 +1,5 @@
 use Rattle.cidr_join.proofs.Numbering.{stands_v4, stands_v6}
-use Rattle.cidr_join.proofs.numbered.ValueIds.number_at.Goals as goal
+use Rattle.cidr_join.proofs.value_ids.ValueIds.number_at.Goals as goal
 
 pub returns-in-V4 : goal.returns-in-V4
 returns-in-V4 c network routes h =

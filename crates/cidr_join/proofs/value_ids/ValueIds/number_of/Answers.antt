@@ -1,5 +1,5 @@
 use Rattle.cidr_join.proofs.Numbering.{not_empty, stands_for_none, stands_for_some}
-use Rattle.cidr_join.proofs.numbered.ValueIds.number_of.Goals as goal
+use Rattle.cidr_join.proofs.value_ids.ValueIds.number_of.Goals as goal
 
 pub returns-in-Some : goal.returns-in-Some
 returns-in-Some c by numbering =
