@@ -17,6 +17,10 @@ pub works_still : (new old : Bool) → new ≡ old → new ≡ (old || false)
 works_still new true e = e
 works_still new false e = e
 
+pub works_on : (new mid old : Bool) → new ≡ (mid || false) → mid ≡ old → new ≡ old
+works_on new true old e f = e ∙ f
+works_on new false old e f = e ∙ f
+
 -- ---- two texts
 
 module _ {W T E : Type 0} where

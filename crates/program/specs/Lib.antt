@@ -1,6 +1,7 @@
 -- What the contracts of this crate cite.
 pub mod Counts
 pub mod Endings
+pub mod Escapes
 pub mod LogFaults
 pub mod LogLines
 pub mod LogReaders

@@ -18,7 +18,21 @@ use std::io::Write;
 pub fn tell<E: Write>(text: &str, errors: &mut Output<'_, E>)
     ensures { Reports errors.old errors.new text.now }
 {
-    let _ = errors.put(text.as_bytes());
+    tell_bytes(text.as_bytes(), errors);
+}
+
+/// Writes bytes to the error writer, as `tell` a text.
+///
+/// ```
+/// let mut slice = [0; 64];
+/// let mut errors = lines::output::Output::new(Vec::new(rt.alloc()), &mut slice);
+/// program::messages::tell_bytes(b"10.0.0.0/8", &mut errors);
+/// assert_eq!(rt; errors.finish(), Ok(()));
+/// ```
+pub fn tell_bytes<E: Write>(bytes: &[u8], errors: &mut Output<'_, E>)
+    ensures { Reports errors.old errors.new bytes.now }
+{
+    let _ = errors.put(bytes);
 }
 
 /// Writes a number in decimal to the error writer.

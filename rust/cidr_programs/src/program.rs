@@ -5,6 +5,7 @@
 
 pub mod arguments;
 pub mod ending;
+pub mod escapes;
 pub mod log_fault;
 pub mod log_reader;
 pub mod memory;

@@ -17,7 +17,20 @@ use fosibegan::plain_std::io::Write;
 /// assert_eq!(errors.finish(), Ok(()));
 /// ```
 pub fn tell<E: Write>(text: &str, errors: &mut Output<'_, E>) {
-    let _ = errors.put(text.as_bytes());
+    tell_bytes(text.as_bytes(), errors);
+}
+
+/// Writes bytes to the error writer, as `tell` a text.
+///
+/// ```
+/// # use cidr_programs::in_examples::*;
+/// let mut slice = [0; 64];
+/// let mut errors = cidr_programs::lines::output::Output::new(Vec::new(Global), &mut slice);
+/// cidr_programs::program::messages::tell_bytes(b"10.0.0.0/8", &mut errors);
+/// assert_eq!(errors.finish(), Ok(()));
+/// ```
+pub fn tell_bytes<E: Write>(bytes: &[u8], errors: &mut Output<'_, E>) {
+    let _ = errors.put(bytes);
 }
 
 /// Writes a number in decimal to the error writer.

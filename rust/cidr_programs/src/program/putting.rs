@@ -25,3 +25,21 @@ pub fn put_both<W: Write>(
     output.put(first)?;
     output.put(second)
 }
+
+/// Writes texts, one after the other.
+///
+/// ```
+/// # use cidr_programs::in_examples::*;
+/// let (mut slice, mut room) = ([0; 8], [0; 6]);
+/// let mut output = cidr_programs::lines::output::Output::new(room.as_mut_slice(), &mut slice);
+/// assert_eq!(cidr_programs::program::putting::put_all(&["10", ".0", "/8"], &mut output), Ok(()));
+/// assert_eq!(output.finish(), Ok(()));
+/// drop(output);
+/// assert_eq!(room, *b"10.0/8");
+/// ```
+pub fn put_all<W: Write>(texts: &[&str], output: &mut Output<'_, W>) -> Result<(), RunFault> {
+    for text in texts {
+        output.put(text.as_bytes())?;
+    }
+    Ok(())
+}
