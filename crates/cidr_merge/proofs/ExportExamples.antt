@@ -1,5 +1,5 @@
 -- Whole exports of small lists. Each of these computes.
-use Rattle.std.proofs.Common.{◌≡◌, [], ◌∷◌, refl, codes}
+use Rattle.std.proofs.Common.{◌≡◌, [], ◌∷◌, ◌++◌, refl, codes}
 use Rattle.std.specs.Fmt.{digits}
 use Rattle.ipnetwork_family.specs.Network.{Network, count_up}
 use Rattle.cidr_merge.specs.Exports.{export_text}
@@ -27,11 +27,21 @@ pub values : (export_text Csv [] [] ≡ codes "family,network,first,last\n")
 unfolding digits
 values = (refl, refl)
 
--- a table of nftables, and what `ipset restore` reads, with the whole of IPv6
+-- what `nft -f` reads, and `ipset restore`, with the whole of IPv6
 pub sets : (export_text Nft (ten ∷ one ∷ []) []
-    ≡ codes "table inet cidr_merge {\n\tset ipv4 {\n\t\ttype ipv4_addr\n\t\tflags interval\n\t\telements = {\n\t\t\t10.0.0.0/8,\n\t\t\t192.0.2.7/32\n\t\t}\n\t}\n\tset ipv6 {\n\t\ttype ipv6_addr\n\t\tflags interval\n\t}\n}\n")
+    ≡ codes "add table inet cidr_merge\n"
+    ++ codes "add set inet cidr_merge ipv4 { type ipv4_addr; flags interval; }\nflush set inet cidr_merge ipv4\n"
+    ++ codes "add element inet cidr_merge ipv4 {\n\t10.0.0.0/8,\n\t192.0.2.7/32\n}\n"
+    ++ codes "add set inet cidr_merge ipv6 { type ipv6_addr; flags interval; }\nflush set inet cidr_merge ipv6\n")
     × (export_text Ipset (ten ∷ []) (record { address = 0; prefix = 0 } ∷ [])
-    ≡ codes "create cidr_merge_ipv4 hash:net family inet maxelem 4294967295\nadd cidr_merge_ipv4 10.0.0.0/8\ncreate cidr_merge_ipv6 hash:net family inet6 maxelem 4294967295\nadd cidr_merge_ipv6 ::/1\nadd cidr_merge_ipv6 8000::/1\n")
+    ≡ codes "create cidr_merge_ipv4 hash:net family inet maxelem 4294967295 -exist\n"
+    ++ codes "create cidr_merge_ipv4_new hash:net family inet maxelem 4294967295 -exist\n"
+    ++ codes "flush cidr_merge_ipv4_new\nadd cidr_merge_ipv4_new 10.0.0.0/8\n"
+    ++ codes "swap cidr_merge_ipv4_new cidr_merge_ipv4\ndestroy cidr_merge_ipv4_new\n"
+    ++ codes "create cidr_merge_ipv6 hash:net family inet6 maxelem 4294967295 -exist\n"
+    ++ codes "create cidr_merge_ipv6_new hash:net family inet6 maxelem 4294967295 -exist\n"
+    ++ codes "flush cidr_merge_ipv6_new\nadd cidr_merge_ipv6_new ::/1\nadd cidr_merge_ipv6_new 8000::/1\n"
+    ++ codes "swap cidr_merge_ipv6_new cidr_merge_ipv6\ndestroy cidr_merge_ipv6_new\n")
 unfolding digits
 sets = (refl, refl)
 

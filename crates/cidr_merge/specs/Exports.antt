@@ -2,7 +2,7 @@
 -- each block is written.
 use Rattle.std.specs.Prelude.{ℕ, ◌-◌, ◌==◌, Bool, true, false, List, [], ◌∷◌, ◌++◌, if◌then◌else◌}
 use Rattle.std.specs.Prelude.{codes}
-use Rattle.std.specs.List.{flat_map}
+use Rattle.std.specs.List.{concat, flat_map}
 use Rattle.ipnetwork_family.specs.Network.{Network, block_size, mask_of, low, high, members}
 use Rattle.ipnetwork_family.specs.Family.{Family, text_of, v4_family, v6_family}
 use Rattle.cidr_merge.specs.declared.exports.Export.{Export}
@@ -11,49 +11,76 @@ use Rattle.cidr_merge.specs.declared.exports.Export.TheVariants.{Json, Addresses
 use Rattle.cidr_merge.specs.declared.exports.Version.{Version}
 use Rattle.cidr_merge.specs.declared.exports.Version.TheVariants.{V4, V6}
 
+-- the word for a family in the names of its sets
+abbrev pub family_word : Version → List ℕ
+family_word V4 = codes "ipv4"
+family_word V6 = codes "ipv6"
+
+-- how a set of ipset is made, behind its name
+abbrev pub made : Version → List ℕ
+made V4 = codes " hash:net family inet maxelem 4294967295 -exist\n"
+made V6 = codes " hash:net family inet6 maxelem 4294967295 -exist\n"
+
 -- ---- what stands around the blocks: nothing, where a form is not named
 
 -- before everything else
 abbrev pub head : Export → List ℕ
 head Csv = codes "family,network,first,last\n"
-head Nft = codes "table inet cidr_merge {\n"
+head Nft = codes "add table inet cidr_merge\n"
 head Json = codes "["
 head _ = []
 
 -- after everything else
 abbrev pub foot : Export → List ℕ
-foot Nft = codes "}\n"
 foot Json = codes "\n]\n"
 foot _ = []
 
--- before the blocks of a family, even if there is none: what makes its set
-abbrev pub family_head : Export → Version → List ℕ
-family_head Nft V4 = codes "\tset ipv4 {\n\t\ttype ipv4_addr\n\t\tflags interval\n"
-family_head Nft V6 = codes "\tset ipv6 {\n\t\ttype ipv6_addr\n\t\tflags interval\n"
-family_head Ipset V4 = codes "create cidr_merge_ipv4 hash:net family inet maxelem 4294967295\n"
-family_head Ipset V6 = codes "create cidr_merge_ipv6 hash:net family inet6 maxelem 4294967295\n"
-family_head _ _ = []
+-- nftables: a set is made, if it is not there, and loses its elements; it gets others
+abbrev pub nft_set : List ℕ → List ℕ
+nft_set word = concat
+    (codes "add set inet cidr_merge " ∷ word ∷ codes " { type " ∷ word
+    ∷ codes "_addr; flags interval; }\nflush set inet cidr_merge " ∷ word ∷ codes "\n" ∷ [])
 
--- after the blocks of a family, even if there is none
-abbrev pub family_foot : Export → List ℕ
-family_foot Nft = codes "\t}\n"
-family_foot _ = []
+abbrev pub nft_elements : List ℕ → List ℕ
+nft_elements word = concat (codes "add element inet cidr_merge " ∷ word ∷ codes " {\n\t" ∷ [])
+
+-- ipset: a set is made, if it is not there, and a new one without elements, which takes the place of the old one
+abbrev pub ipset_sets : List ℕ → List ℕ → List ℕ
+ipset_sets word made = concat
+    (codes "create cidr_merge_" ∷ word ∷ made ∷ codes "create cidr_merge_" ∷ word ∷ codes "_new" ∷ made
+    ∷ codes "flush cidr_merge_" ∷ word ∷ codes "_new\n" ∷ [])
+
+abbrev pub ipset_swap : List ℕ → List ℕ
+ipset_swap word = concat
+    (codes "swap cidr_merge_" ∷ word ∷ codes "_new cidr_merge_" ∷ word
+    ∷ codes "\ndestroy cidr_merge_" ∷ word ∷ codes "_new\n" ∷ [])
+
+-- before the blocks of a family, even if there is none
+abbrev pub family_head : Export → Version → List ℕ
+family_head Nft version = nft_set (family_word version)
+family_head Ipset version = ipset_sets (family_word version) (made version)
+family_head _ version = []
+
+-- after them, even if there is none
+abbrev pub family_foot : Export → Version → List ℕ
+family_foot Ipset version = ipset_swap (family_word version)
+family_foot _ version = []
 
 -- before the first block of a family: in an array it may follow blocks of the other family
-abbrev pub opening : Export → Bool → List ℕ
-opening Nft follows = codes "\t\telements = {\n\t\t\t"
-opening Json follows = if follows then codes ",\n" else codes "\n"
-opening _ _ = []
+abbrev pub opening : Export → Version → Bool → List ℕ
+opening Nft version follows = nft_elements (family_word version)
+opening Json version follows = if follows then codes ",\n" else codes "\n"
+opening _ version _ = []
 
 -- between two blocks of a family
 abbrev pub separator : Export → List ℕ
-separator Nft = codes ",\n\t\t\t"
+separator Nft = codes ",\n\t"
 separator Json = codes ",\n"
 separator _ = []
 
 -- after the last block of a family
 abbrev pub closing : Export → List ℕ
-closing Nft = codes "\n\t\t}\n"
+closing Nft = codes "\n}\n"
 closing _ = []
 
 -- ---- a block
@@ -62,8 +89,8 @@ closing _ = []
 -- text stands
 abbrev pub with_mask : {w : ℕ} → Version → Family w → Network → ℕ → List ℕ
 with_mask V4 family block mask =
-    family.canonical block.address ++ codes " " ++ family.canonical mask ++ codes "\n"
-with_mask V6 family block mask = text_of family block ++ codes "\n"
+    concat (family.canonical block.address ∷ codes " " ∷ family.canonical mask ∷ codes "\n" ∷ [])
+with_mask V6 family block mask = concat (text_of family block ∷ codes "\n" ∷ [])
 
 abbrev pub family_name : Version → List ℕ
 family_name V4 = codes "IPv4"
@@ -75,23 +102,25 @@ csv_line {w} version family block =
     family_name version ++ codes "," ++ text_of family block ++ codes ","
     ++ family.canonical (low w block) ++ codes "," ++ family.canonical (high w block) ++ codes "\n"
 
--- the sets of ipset
-abbrev pub set_name : Version → List ℕ
-set_name V4 = codes "cidr_merge_ipv4"
-set_name V6 = codes "cidr_merge_ipv6"
+-- the sets of ipset cannot have the block of all addresses, but both halves of it
+abbrev pub half_blocks : Version → List ℕ × List ℕ
+half_blocks V4 = (codes "0.0.0.0/1", codes "128.0.0.0/1")
+half_blocks V6 = (codes "::/1", codes "8000::/1")
 
--- they cannot have the block of all addresses, but both halves of it
-abbrev pub halves : Version → List ℕ
-halves V4 = codes "add cidr_merge_ipv4 0.0.0.0/1\nadd cidr_merge_ipv4 128.0.0.0/1\n"
-halves V6 = codes "add cidr_merge_ipv6 ::/1\nadd cidr_merge_ipv6 8000::/1\n"
+-- a network is added to the new set, or these two
+abbrev pub ipset_line : List ℕ → List ℕ → List ℕ
+ipset_line word network =
+    concat (codes "add cidr_merge_" ∷ word ∷ codes "_new " ∷ network ∷ codes "\n" ∷ [])
 
-abbrev pub ipset_line : {w : ℕ} → Version → Family w → Network → List ℕ
-ipset_line version family block =
-    codes "add " ++ set_name version ++ codes " " ++ text_of family block ++ codes "\n"
+abbrev pub ipset_halves : List ℕ → List ℕ × List ℕ → List ℕ
+ipset_halves word halves = concat
+    (codes "add cidr_merge_" ∷ word ∷ codes "_new " ∷ halves.0
+    ∷ codes "\nadd cidr_merge_" ∷ word ∷ codes "_new " ∷ halves.1 ∷ codes "\n" ∷ [])
 
 abbrev pub ipset_lines : {w : ℕ} → Version → Family w → Network → List ℕ
 ipset_lines version family block =
-    if block.prefix == 0 then halves version else ipset_line version family block
+    if block.prefix == 0 then ipset_halves (family_word version) (half_blocks version)
+    else ipset_line (family_word version) (text_of family block)
 
 -- the line of an address
 abbrev pub address_line : {w : ℕ} → Family w → ℕ → List ℕ
@@ -105,7 +134,7 @@ element {w} Wildcard version family block =
 element Csv version family block = csv_line version family block
 element Nft version family block = text_of family block
 element Ipset version family block = ipset_lines version family block
-element Json version family block = codes "\"" ++ text_of family block ++ codes "\""
+element Json version family block = concat (codes "\"" ∷ text_of family block ∷ codes "\"" ∷ [])
 element {w} Addresses version family block = flat_map (address_line family) (members w block)
 
 -- ---- all blocks
@@ -118,13 +147,13 @@ following export version family block = separator export ++ element export versi
 abbrev pub listed : {w : ℕ} → Export → Version → Family w → Bool → List Network → List ℕ
 listed export version family follows [] = []
 listed export version family follows (block ∷ blocks) =
-    opening export follows ++ element export version family block
+    opening export version follows ++ element export version family block
     ++ flat_map (following export version family) blocks ++ closing export
 
 -- with what stands there even if there is none
 abbrev pub family_text : {w : ℕ} → Export → Version → Family w → Bool → List Network → List ℕ
 family_text export version family follows blocks =
-    family_head export version ++ listed export version family follows blocks ++ family_foot export
+    family_head export version ++ listed export version family follows blocks ++ family_foot export version
 
 abbrev pub is_any : {X : Type 0} → List X → Bool
 is_any [] = false

@@ -11,6 +11,7 @@ use Rattle.lists.specs.declared.entry.Entry.{Entry}
 use Rattle.lists.specs.declared.entry.Entry.TheVariants as entries
 use Rattle.lists.specs.declared.fault.LineFault.{LineFault}
 use Rattle.lists.specs.declared.fault.LineFault.TheVariants as faults
+use Rattle.program.specs.Escapes.{escaped}
 use Rattle.program.specs.Reported.{name_at}
 use Rattle.cidr_merge.specs.NumberedLines.{NumberedLine, numbered_lines, said_by}
 
@@ -31,7 +32,7 @@ separator line = if length line == 0 then [] else codes ": "
 abbrev pub refusal_text : List ℕ → ℕ → LineFault → List ℕ → List ℕ
 refusal_text name number fault line =
     place_text name number ++ codes ": refused " ++ line_fault_text fault
-    ++ separator (shown fault line) ++ shown fault line ++ codes "\n"
+    ++ separator (shown fault line) ++ escaped (shown fault line) ++ codes "\n"
 
 -- the entry is a network whose address is behind its first: that has host bits
 abbrev pub has_host_bits : Option Entry → Bool
@@ -42,7 +43,7 @@ has_host_bits (Some (entries.Range first last)) = false
 -- strictly it is a finding: `FILE:LINE: host bits: TEXT`
 abbrev pub host_bits_text : List ℕ → ℕ → List ℕ → List ℕ
 host_bits_text name number line =
-    place_text name number ++ codes ": host bits: " ++ line ++ codes "\n"
+    place_text name number ++ codes ": host bits: " ++ escaped line ++ codes "\n"
 
 abbrev pub host_findings : Bool → List ℕ → ℕ → List ℕ → List (List ℕ)
 host_findings is_loose name number line =

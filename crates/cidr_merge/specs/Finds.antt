@@ -7,6 +7,7 @@ use Rattle.ipnetwork.specs.Computed.IpNetworks.{is_ip_member}
 use Rattle.lists.specs.declared.entry.Entry.{Entry}
 use Rattle.lists.specs.declared.entry.Entry.TheVariants as entries
 use Rattle.lists.specs.declared.fault.LineFault.{LineFault}
+use Rattle.program.specs.Escapes.{escaped}
 use Rattle.program.specs.Reported.{name_at}
 use Rattle.cidr_merge.specs.Findings.{place_text, refusal_text}
 use Rattle.cidr_merge.specs.NumberedLines.{NumberedLine, is_range, numbered_lines, said_by}
@@ -14,7 +15,7 @@ use Rattle.cidr_merge.specs.NumberedLines.{NumberedLine, is_range, numbered_line
 -- an entry has an address: `FILE:LINE: has ADDRESS: TEXT`
 abbrev pub has_text : List ℕ → ℕ → List ℕ → List ℕ → List ℕ
 has_text name number word line =
-    place_text name number ++ codes ": has " ++ word ++ codes ": " ++ line ++ codes "\n"
+    place_text name number ++ codes ": has " ++ word ++ codes ": " ++ escaped line ++ codes "\n"
 
 -- it has it
 abbrev pub has : Entry → IpAddr → Bool

@@ -1,56 +1,48 @@
 //! How a block is written in an export.
-ghost use Rattle.std.specs.Prelude.{◌≡◌, ◌≢◌, ◌≤◌, ◌+◌, ◌-◌, ◌++◌, ◌∷◌, [], length};
+ghost use Rattle.std.specs.Prelude.{◌≡◌, ◌≤◌, ◌||◌, ◌+◌, ◌-◌, ◌++◌, OnOk, is_err, length};
 ghost use Rattle.arrayvec.specs.ArrayString.{array_string_len};
 ghost use Rattle.ipnetwork_family.specs.Family.{text_of};
+ghost use Rattle.lines.specs.Outputs.{Prints};
+ghost use Rattle.program.specs.Putting.{PutsOrFails};
 ghost use Rattle.ipnetwork_family.specs.Network.{block_size};
-ghost use Rattle.cidr_merge.specs.Exports.{element, with_mask, csv_line, ipset_line, ipset_lines};
-ghost use Rattle.cidr_merge.specs.Exports.{family_name, set_name, halves};
+ghost use Rattle.cidr_merge.specs.Exports.{element, with_mask, csv_line, ipset_lines};
+ghost use Rattle.cidr_merge.specs.Exports.{family_name, family_word, half_blocks, ipset_halves};
 
-use crate::exports::{Export, Version};
+use crate::addresses::print_addresses;
+use crate::exports::{Export, SETS, Version, family_word};
 use arrayvec::ArrayString;
 use ipnetwork::{Address, Network};
 use ipnetwork_addr::decimal::push_decimal;
+use lines::fault::RunFault;
+use lines::output::Output;
+use program::putting::put_all;
+use std::io::Write;
 
-/// The most bytes of a block: a line of comma-separated values has 129.
-pub(crate) const ELEMENT_CAPACITY: usize = 160;
+/// The most bytes of a line of comma-separated values.
+const LINE_CAPACITY: usize = 129;
 
-/// The text of a block.
-pub(crate) type Element = ArrayString<ELEMENT_CAPACITY>;
+/// A line of comma-separated values.
+type Line = ArrayString<LINE_CAPACITY>;
 
-/// Texts of a family in exports.
-#[derive(Clone, Copy, Debug)]
-struct FamilyTexts {
-    /// Its name.
-    family: &'static str,
-    /// The name of its set.
-    set: &'static str,
-    /// What adds all of its addresses to this set.
-    halves: &'static str,
-}
-
-/// The text of a block, unless each of its addresses is printed.
-pub(crate) fn element<A: Address>(export: Export, version: Version, block: Network<A>) -> Element
-    requires { export ≢ Export.Addresses }
-    ensures { result.bytes ≡ element export version A.family block }
+/// Writes a block.
+pub(crate) fn print_element<A: Address, W: Write>(
+    export: Export,
+    version: Version,
+    block: Network<A>,
+    output: &mut Output<'_, W>,
+) -> Result<(), RunFault>
+    ensures text { OnOk result
+        (Prints output.old output.new (element export version A.family block)) }
+    ensures failed { output.new.failed ≡ (output.old.failed || is_err result) }
 {
     match export {
-        Export::Netmask => with_mask(version, block, block.mask()),
-        Export::Wildcard => with_mask(version, block, wildcard(block)),
-        Export::Csv => csv_line(version, block),
-        Export::Nft => {
-            let mut text = ArrayString::new();
-            push_network(&mut text, block);
-            text
-        }
-        Export::Ipset => ipset_lines(version, block),
-        Export::Json => {
-            let mut text = ArrayString::new();
-            text.push('"');
-            push_network(&mut text, block);
-            text.push('"');
-            text
-        }
-        Export::Addresses => unreachable!(),
+        Export::Netmask => put_with_mask(version, block, block.mask(), output),
+        Export::Wildcard => put_with_mask(version, block, wildcard(block), output),
+        Export::Csv => output.put(csv_line(version, block).as_str().as_bytes()),
+        Export::Nft => output.put(block.canonical().as_str().as_bytes()),
+        Export::Ipset => put_ipset(version, block, output),
+        Export::Json => put_all(&["\"", block.canonical().as_str(), "\""], output),
+        Export::Addresses => print_addresses(block.iter(), output),
     }
 }
 
@@ -61,40 +53,36 @@ fn wildcard<A: Address>(block: Network<A>) -> A
     A::mask(0).greatest(block.prefix())
 }
 
-// A line with the address of an IPv4 block and this mask, or with the text of an IPv6 block.
-fn with_mask<A: Address>(version: Version, block: Network<A>, mask: A) -> Element
-    ensures { result.bytes ≡ with_mask version A.family block (A.number mask) }
+// Writes a line with the address of an IPv4 block and this mask, or with the text of an IPv6 block.
+fn put_with_mask<A: Address, W: Write>(
+    version: Version,
+    block: Network<A>,
+    mask: A,
+    output: &mut Output<'_, W>,
+) -> Result<(), RunFault>
+    ensures { PutsOrFails result output.old output.new
+        (with_mask version A.family block (A.number mask)) }
 {
     match version {
-        Version::V4 => address_with_mask(block.ip(), mask),
-        Version::V6 => {
-            let mut text = ArrayString::new();
-            push_network(&mut text, block);
-            text.push('\n');
-            text
-        }
+        Version::V4 => put_all(
+            &[
+                block.ip().canonical().as_str(),
+                " ",
+                mask.canonical().as_str(),
+                "\n",
+            ],
+            output,
+        ),
+        Version::V6 => put_all(&[block.canonical().as_str(), "\n"], output),
     }
 }
 
-// A line with an address and a mask.
-fn address_with_mask<A: Address>(address: A, mask: A) -> Element
-    ensures { result.bytes ≡ A.family.canonical (A.number address) ++ 32 ∷ []
-        ++ A.family.canonical (A.number mask) ++ 10 ∷ [] }
-{
-    let mut text = ArrayString::new();
-    push_address(&mut text, address);
-    text.push(' ');
-    push_address(&mut text, mask);
-    text.push('\n');
-    text
-}
-
 // A line of comma-separated values.
-fn csv_line<A: Address>(version: Version, block: Network<A>) -> Element
+fn csv_line<A: Address>(version: Version, block: Network<A>) -> Line
     ensures { result.bytes ≡ csv_line version A.family block }
 {
     let mut text = ArrayString::new();
-    text.push_str(texts(version).family);
+    text.push_str(family_name(version));
     text.push(',');
     push_network(&mut text, block);
     text.push(',');
@@ -105,58 +93,71 @@ fn csv_line<A: Address>(version: Version, block: Network<A>) -> Element
     text
 }
 
-// What adds a block to a set of ipset: a set cannot have the block of all addresses, but both
-// halves of it.
-fn ipset_lines<A: Address>(version: Version, block: Network<A>) -> Element
-    ensures { result.bytes ≡ ipset_lines version A.family block }
+// Writes what adds a block to the new set of ipset: a set cannot have the block of all addresses, but
+// both halves of it.
+fn put_ipset<A: Address, W: Write>(
+    version: Version,
+    block: Network<A>,
+    output: &mut Output<'_, W>,
+) -> Result<(), RunFault>
+    ensures { PutsOrFails result output.old output.new (ipset_lines version A.family block) }
 {
     if block.prefix() == 0 {
-        let mut text = ArrayString::new();
-        text.push_str(texts(version).halves);
-        return text;
+        return put_halves(version, output);
     }
-    ipset_line(version, block)
+    put_all(
+        &[
+            "add ",
+            SETS,
+            family_word(version),
+            "_new ",
+            block.canonical().as_str(),
+            "\n",
+        ],
+        output,
+    )
 }
 
-// What adds a block to a set of ipset.
-fn ipset_line<A: Address>(version: Version, block: Network<A>) -> Element
-    ensures { result.bytes ≡ ipset_line version A.family block }
+// Writes what adds all addresses to the new set of ipset.
+fn put_halves<W: Write>(version: Version, output: &mut Output<'_, W>) -> Result<(), RunFault>
+    ensures { PutsOrFails result output.old output.new
+        (ipset_halves (family_word version) (half_blocks version)) }
 {
-    let mut text = ArrayString::new();
-    text.push_str("add ");
-    text.push_str(texts(version).set);
-    text.push(' ');
-    push_network(&mut text, block);
-    text.push('\n');
-    text
+    let word = family_word(version);
+    let (first, second) = half_blocks(version);
+    put_all(
+        &[
+            "add ", SETS, word, "_new ", first, "\nadd ", SETS, word, "_new ", second, "\n",
+        ],
+        output,
+    )
 }
 
-// The texts of a family.
-fn texts(version: Version) -> FamilyTexts
-    ensures family { result.family.now ≡ family_name version }
-    ensures set { result.set.now ≡ set_name version }
-    ensures halves { result.halves.now ≡ halves version }
-    ensures short_family { length result.family.now ≤ 4 }
-    ensures short_set { length result.set.now ≤ 15 }
-    ensures short_halves { length result.halves.now ≤ 160 }
+// The name of a family.
+fn family_name(version: Version) -> &'static str
+    ensures name { result.now ≡ family_name version }
+    ensures short { length result.now ≤ 4 }
 {
     match version {
-        Version::V4 => FamilyTexts {
-            family: "IPv4",
-            set: "cidr_merge_ipv4",
-            halves: "add cidr_merge_ipv4 0.0.0.0/1\nadd cidr_merge_ipv4 128.0.0.0/1\n",
-        },
-        Version::V6 => FamilyTexts {
-            family: "IPv6",
-            set: "cidr_merge_ipv6",
-            halves: "add cidr_merge_ipv6 ::/1\nadd cidr_merge_ipv6 8000::/1\n",
-        },
+        Version::V4 => "IPv4",
+        Version::V6 => "IPv6",
+    }
+}
+
+// The halves of the block of all addresses.
+fn half_blocks(version: Version) -> (&'static str, &'static str)
+    ensures first { result.0.now ≡ (half_blocks version).0 }
+    ensures second { result.1.now ≡ (half_blocks version).1 }
+{
+    match version {
+        Version::V4 => ("0.0.0.0/1", "128.0.0.0/1"),
+        Version::V6 => ("::/1", "8000::/1"),
     }
 }
 
 // Writes the canonical text of an address at the end of a text.
-fn push_address<A: Address>(text: &mut Element, address: A)
-    requires { array_string_len text.old + 39 ≤ 160 }
+fn push_address<A: Address>(text: &mut Line, address: A)
+    requires { array_string_len text.old + 39 ≤ 129 }
     ensures bytes { text.new.bytes ≡ text.old.bytes ++ A.family.canonical (A.number address) }
     ensures room { array_string_len text.new ≤ array_string_len text.old + 39 }
 {
@@ -164,8 +165,8 @@ fn push_address<A: Address>(text: &mut Element, address: A)
 }
 
 // Writes the canonical text of a block at the end of a text.
-fn push_network<A: Address>(text: &mut Element, block: Network<A>)
-    requires { array_string_len text.old + 43 ≤ 160 }
+fn push_network<A: Address>(text: &mut Line, block: Network<A>)
+    requires { array_string_len text.old + 43 ≤ 129 }
     ensures bytes { text.new.bytes ≡ text.old.bytes ++ text_of A.family block }
     ensures room { array_string_len text.new ≤ array_string_len text.old + 43 }
 {

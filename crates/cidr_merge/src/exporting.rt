@@ -6,9 +6,11 @@ ghost use Rattle.cidr_merge.specs.Exports.{element, following, listed, family_te
 ghost use Rattle.cidr_merge.specs.Private.Printing.{PrintsBlocks};
 ghost use Rattle.cidr_merge.specs.Private.Sweeps.{blocks_left};
 
-use crate::addresses::print_addresses;
-use crate::elements;
-use crate::exports::{Export, Version, around, around_blocks, around_family};
+use crate::elements::print_element;
+use crate::exports::{
+    Export, Version, around_blocks, put_family_foot, put_family_head, put_foot, put_head,
+    put_opening,
+};
 use crate::sweep::Sweep;
 use ipnetwork::{Address, Ipv4Network, Ipv6Network, Network};
 use ipnetwork_sets::SetBlocks;
@@ -27,11 +29,10 @@ pub(crate) fn print_export<W: Write>(
         (export_text export (blocks_left v4.entry) (blocks_left v6.entry))) }
     ensures failed { output.new.failed ≡ (output.old.failed || is_err result) }
 {
-    let (head, foot) = around(export);
-    output.put(head.as_bytes())?;
+    put_head(export, output)?;
     let follows = print_family(export, Version::V4, false, v4, output)?;
     print_family(export, Version::V6, follows, v6, output)?;
-    output.put(foot.as_bytes())
+    put_foot(export, output)
 }
 
 // Prints the blocks of a family, which may follow blocks of the other, and tells whether any was
@@ -47,10 +48,9 @@ fn print_family<A: Address, W: Write>(
         follows (blocks_left blocks.entry) output.old output.new) }
     ensures failed { output.new.failed ≡ (output.old.failed || is_err result) }
 {
-    let (head, foot) = around_family(export, version);
-    output.put(head.as_bytes())?;
+    put_family_head(export, version, output)?;
     let any = print_listed(export, version, follows, blocks, output)?;
-    output.put(foot.as_bytes())?;
+    put_family_foot(export, version, output)?;
     Ok(any)
 }
 
@@ -69,9 +69,10 @@ fn print_listed<A: Address, W: Write>(
     let Some(block) = blocks.next_block() else {
         return Ok(follows);
     };
-    let (opening, _, closing) = around_blocks(export, follows);
-    print_after(opening, export, version, block, output)?;
+    put_opening(export, version, follows, output)?;
+    print_element(export, version, block, output)?;
     print_following(export, version, blocks, output)?;
+    let (_, closing) = around_blocks(export);
     output.put(closing.as_bytes())?;
     Ok(true)
 }
@@ -88,7 +89,7 @@ fn print_following<A: Address, W: Write>(
         (flat_map (following export version A.family) (blocks_left blocks.entry))) }
     ensures failed { output.new.failed ≡ (output.old.failed || is_err result) }
 {
-    let (_, separator, _) = around_blocks(export, true);
+    let (separator, _) = around_blocks(export);
     while let Some(block) = blocks.next_block() {
         print_after(separator, export, version, block, output)?;
     }
@@ -108,12 +109,5 @@ fn print_after<A: Address, W: Write>(
     ensures failed { output.new.failed ≡ (output.old.failed || is_err result) }
 {
     output.put(text.as_bytes())?;
-    match export {
-        Export::Addresses => print_addresses(block.iter(), output),
-        _ => output.put(
-            elements::element(export, version, block)
-                .as_str()
-                .as_bytes(),
-        ),
-    }
+    print_element(export, version, block, output)
 }

@@ -1,5 +1,6 @@
 //! The lines that tell what was found in lists.
 ghost use Rattle.std.specs.Prelude.{◌≡◌, ◌++◌, ◌||◌, codes};
+ghost use Rattle.program.specs.Escapes.{escaped};
 ghost use Rattle.program.specs.Messages.{Reports};
 ghost use Rattle.cidr_merge.specs.Findings.{place_text, refusal_text, host_bits_text};
 ghost use Rattle.cidr_merge.specs.Findings.{shown, separator};
@@ -7,6 +8,7 @@ ghost use Rattle.cidr_merge.specs.Findings.{shown, separator};
 use crate::numbered_lines::Line;
 use lines::output::Output;
 use lists::LineFault;
+use program::escapes::tell_escaped;
 use program::messages::{tell, tell_number};
 use std::io::Write;
 
@@ -38,13 +40,13 @@ pub(crate) fn tell_line<W: Write>(
     output: &mut Output<'_, W>,
 )
     ensures { Reports output.old output.new (place_text line.now.name.now line.now.number ++ what.now
-        ++ about.now ++ separator.now ++ line.now.text.now ++ codes "\n") }
+        ++ about.now ++ separator.now ++ escaped line.now.text.now ++ codes "\n") }
 {
     tell_place(line.name, line.number, output);
     tell(what, output);
     tell(about, output);
     tell(separator, output);
-    tell_bytes(line.text, output);
+    tell_escaped(line.text, output);
     tell("\n", output);
 }
 
@@ -55,13 +57,6 @@ pub(crate) fn tell_place<W: Write>(name: &str, number: usize, output: &mut Outpu
     tell(name, output);
     tell(":", output);
     tell_number(number as u64, output);
-}
-
-// Tells these bytes. If that fails, now or earlier, they are lost, and nothing else happens.
-fn tell_bytes<W: Write>(bytes: &[u8], output: &mut Output<'_, W>)
-    ensures { Reports output.old output.new bytes.now }
-{
-    let _ = output.put(bytes);
 }
 
 /// Whether something was found here or there.

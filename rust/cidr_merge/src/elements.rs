@@ -2,48 +2,37 @@
 
 //! How a block is written in an export.
 
-use crate::exports::{Export, Version};
+use crate::addresses::print_addresses;
+use crate::exports::{Export, SETS, Version, family_word};
 use fosibegan::plain_std::arrayvec::ArrayString;
 use fosibegan::ipnetwork::{Address, Network};
 use fosibegan::ipnetwork_addr::decimal::push_decimal;
+use cidr_programs::lines::fault::RunFault;
+use cidr_programs::lines::output::Output;
+use cidr_programs::program::putting::put_all;
+use fosibegan::plain_std::io::Write;
 
-/// The most bytes of a block: a line of comma-separated values has 129.
-pub(crate) const ELEMENT_CAPACITY: usize = 160;
+/// The most bytes of a line of comma-separated values.
+const LINE_CAPACITY: usize = 129;
 
-/// The text of a block.
-pub(crate) type Element = ArrayString<ELEMENT_CAPACITY>;
+/// A line of comma-separated values.
+type Line = ArrayString<LINE_CAPACITY>;
 
-/// Texts of a family in exports.
-#[derive(Clone, Copy, Debug)]
-struct FamilyTexts {
-    /// Its name.
-    family: &'static str,
-    /// The name of its set.
-    set: &'static str,
-    /// What adds all of its addresses to this set.
-    halves: &'static str,
-}
-
-/// The text of a block, unless each of its addresses is printed.
-pub(crate) fn element<A: Address>(export: Export, version: Version, block: Network<A>) -> Element {
+/// Writes a block.
+pub(crate) fn print_element<A: Address, W: Write>(
+    export: Export,
+    version: Version,
+    block: Network<A>,
+    output: &mut Output<'_, W>,
+) -> Result<(), RunFault> {
     match export {
-        Export::Netmask => with_mask(version, block, block.mask()),
-        Export::Wildcard => with_mask(version, block, wildcard(block)),
-        Export::Csv => csv_line(version, block),
-        Export::Nft => {
-            let mut text = ArrayString::new();
-            push_network(&mut text, block);
-            text
-        }
-        Export::Ipset => ipset_lines(version, block),
-        Export::Json => {
-            let mut text = ArrayString::new();
-            text.push('"');
-            push_network(&mut text, block);
-            text.push('"');
-            text
-        }
-        Export::Addresses => unreachable!(),
+        Export::Netmask => put_with_mask(version, block, block.mask(), output),
+        Export::Wildcard => put_with_mask(version, block, wildcard(block), output),
+        Export::Csv => output.put(csv_line(version, block).as_bytes()),
+        Export::Nft => output.put(block.canonical().as_bytes()),
+        Export::Ipset => put_ipset(version, block, output),
+        Export::Json => put_all(&["\"", block.canonical().as_str(), "\""], output),
+        Export::Addresses => print_addresses(block.iter(), output),
     }
 }
 
@@ -52,33 +41,31 @@ fn wildcard<A: Address>(block: Network<A>) -> A {
     A::mask(0).greatest(block.prefix())
 }
 
-// A line with the address of an IPv4 block and this mask, or with the text of an IPv6 block.
-fn with_mask<A: Address>(version: Version, block: Network<A>, mask: A) -> Element {
+// Writes a line with the address of an IPv4 block and this mask, or with the text of an IPv6 block.
+fn put_with_mask<A: Address, W: Write>(
+    version: Version,
+    block: Network<A>,
+    mask: A,
+    output: &mut Output<'_, W>,
+) -> Result<(), RunFault> {
     match version {
-        Version::V4 => address_with_mask(block.ip(), mask),
-        Version::V6 => {
-            let mut text = ArrayString::new();
-            push_network(&mut text, block);
-            text.push('\n');
-            text
-        }
+        Version::V4 => put_all(
+            &[
+                block.ip().canonical().as_str(),
+                " ",
+                mask.canonical().as_str(),
+                "\n",
+            ],
+            output,
+        ),
+        Version::V6 => put_all(&[block.canonical().as_str(), "\n"], output),
     }
 }
 
-// A line with an address and a mask.
-fn address_with_mask<A: Address>(address: A, mask: A) -> Element {
-    let mut text = ArrayString::new();
-    push_address(&mut text, address);
-    text.push(' ');
-    push_address(&mut text, mask);
-    text.push('\n');
-    text
-}
-
 // A line of comma-separated values.
-fn csv_line<A: Address>(version: Version, block: Network<A>) -> Element {
+fn csv_line<A: Address>(version: Version, block: Network<A>) -> Line {
     let mut text = ArrayString::new();
-    text.push_str(texts(version).family);
+    text.push_str(family_name(version));
     text.push(',');
     push_network(&mut text, block);
     text.push(',');
@@ -89,51 +76,64 @@ fn csv_line<A: Address>(version: Version, block: Network<A>) -> Element {
     text
 }
 
-// What adds a block to a set of ipset: a set cannot have the block of all addresses, but both
-// halves of it.
-fn ipset_lines<A: Address>(version: Version, block: Network<A>) -> Element {
+// Writes what adds a block to the new set of ipset: a set cannot have the block of all addresses, but
+// both halves of it.
+fn put_ipset<A: Address, W: Write>(
+    version: Version,
+    block: Network<A>,
+    output: &mut Output<'_, W>,
+) -> Result<(), RunFault> {
     if block.prefix() == 0 {
-        let mut text = ArrayString::new();
-        text.push_str(texts(version).halves);
-        return text;
+        return put_halves(version, output);
     }
-    ipset_line(version, block)
+    put_all(
+        &[
+            "add ",
+            SETS,
+            family_word(version),
+            "_new ",
+            block.canonical().as_str(),
+            "\n",
+        ],
+        output,
+    )
 }
 
-// What adds a block to a set of ipset.
-fn ipset_line<A: Address>(version: Version, block: Network<A>) -> Element {
-    let mut text = ArrayString::new();
-    text.push_str("add ");
-    text.push_str(texts(version).set);
-    text.push(' ');
-    push_network(&mut text, block);
-    text.push('\n');
-    text
+// Writes what adds all addresses to the new set of ipset.
+fn put_halves<W: Write>(version: Version, output: &mut Output<'_, W>) -> Result<(), RunFault> {
+    let word = family_word(version);
+    let (first, second) = half_blocks(version);
+    put_all(
+        &[
+            "add ", SETS, word, "_new ", first, "\nadd ", SETS, word, "_new ", second, "\n",
+        ],
+        output,
+    )
 }
 
-// The texts of a family.
-fn texts(version: Version) -> FamilyTexts {
+// The name of a family.
+fn family_name(version: Version) -> &'static str {
     match version {
-        Version::V4 => FamilyTexts {
-            family: "IPv4",
-            set: "cidr_merge_ipv4",
-            halves: "add cidr_merge_ipv4 0.0.0.0/1\nadd cidr_merge_ipv4 128.0.0.0/1\n",
-        },
-        Version::V6 => FamilyTexts {
-            family: "IPv6",
-            set: "cidr_merge_ipv6",
-            halves: "add cidr_merge_ipv6 ::/1\nadd cidr_merge_ipv6 8000::/1\n",
-        },
+        Version::V4 => "IPv4",
+        Version::V6 => "IPv6",
+    }
+}
+
+// The halves of the block of all addresses.
+fn half_blocks(version: Version) -> (&'static str, &'static str) {
+    match version {
+        Version::V4 => ("0.0.0.0/1", "128.0.0.0/1"),
+        Version::V6 => ("::/1", "8000::/1"),
     }
 }
 
 // Writes the canonical text of an address at the end of a text.
-fn push_address<A: Address>(text: &mut Element, address: A) {
+fn push_address<A: Address>(text: &mut Line, address: A) {
     text.push_text(&address.canonical());
 }
 
 // Writes the canonical text of a block at the end of a text.
-fn push_network<A: Address>(text: &mut Element, block: Network<A>) {
+fn push_network<A: Address>(text: &mut Line, block: Network<A>) {
     push_address(text, block.ip());
     text.push('/');
     push_decimal(text, block.prefix());

@@ -2,9 +2,11 @@
 
 //! Prints an export.
 
-use crate::addresses::print_addresses;
-use crate::elements;
-use crate::exports::{Export, Version, around, around_blocks, around_family};
+use crate::elements::print_element;
+use crate::exports::{
+    Export, Version, around_blocks, put_family_foot, put_family_head, put_foot, put_head,
+    put_opening,
+};
 use crate::sweep::Sweep;
 use fosibegan::ipnetwork::{Address, Ipv4Network, Ipv6Network, Network};
 use fosibegan::ipnetwork_sets::SetBlocks;
@@ -19,11 +21,10 @@ pub(crate) fn print_export<W: Write>(
     v6: Sweep<'_, Ipv6Network>,
     output: &mut Output<'_, W>,
 ) -> Result<(), RunFault> {
-    let (head, foot) = around(export);
-    output.put(head.as_bytes())?;
+    put_head(export, output)?;
     let follows = print_family(export, Version::V4, false, v4, output)?;
     print_family(export, Version::V6, follows, v6, output)?;
-    output.put(foot.as_bytes())
+    put_foot(export, output)
 }
 
 // Prints the blocks of a family, which may follow blocks of the other, and tells whether any was
@@ -35,10 +36,9 @@ fn print_family<A: Address, W: Write>(
     blocks: Sweep<'_, Network<A>>,
     output: &mut Output<'_, W>,
 ) -> Result<bool, RunFault> {
-    let (head, foot) = around_family(export, version);
-    output.put(head.as_bytes())?;
+    put_family_head(export, version, output)?;
     let any = print_listed(export, version, follows, blocks, output)?;
-    output.put(foot.as_bytes())?;
+    put_family_foot(export, version, output)?;
     Ok(any)
 }
 
@@ -53,9 +53,10 @@ fn print_listed<A: Address, W: Write>(
     let Some(block) = blocks.next_block() else {
         return Ok(follows);
     };
-    let (opening, _, closing) = around_blocks(export, follows);
-    print_after(opening, export, version, block, output)?;
+    put_opening(export, version, follows, output)?;
+    print_element(export, version, block, output)?;
     print_following(export, version, blocks, output)?;
+    let (_, closing) = around_blocks(export);
     output.put(closing.as_bytes())?;
     Ok(true)
 }
@@ -67,7 +68,7 @@ fn print_following<A: Address, W: Write>(
     mut blocks: Sweep<'_, Network<A>>,
     output: &mut Output<'_, W>,
 ) -> Result<(), RunFault> {
-    let (_, separator, _) = around_blocks(export, true);
+    let (separator, _) = around_blocks(export);
     while let Some(block) = blocks.next_block() {
         print_after(separator, export, version, block, output)?;
     }
@@ -83,11 +84,5 @@ fn print_after<A: Address, W: Write>(
     output: &mut Output<'_, W>,
 ) -> Result<(), RunFault> {
     output.put(text.as_bytes())?;
-    match export {
-        Export::Addresses => print_addresses(block.iter(), output),
-        _ => output.put(
-            elements::element(export, version, block)
-                .as_bytes(),
-        ),
-    }
+    print_element(export, version, block, output)
 }

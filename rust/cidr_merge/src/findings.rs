@@ -5,6 +5,7 @@
 use crate::numbered_lines::Line;
 use cidr_programs::lines::output::Output;
 use cidr_programs::lists::LineFault;
+use cidr_programs::program::escapes::tell_escaped;
 use cidr_programs::program::messages::{tell, tell_number};
 use fosibegan::plain_std::io::Write;
 
@@ -34,7 +35,7 @@ pub(crate) fn tell_line<W: Write>(
     tell(what, output);
     tell(about, output);
     tell(separator, output);
-    tell_bytes(line.text, output);
+    tell_escaped(line.text, output);
     tell("\n", output);
 }
 
@@ -44,11 +45,6 @@ pub(crate) fn tell_place<W: Write>(name: &str, number: usize, output: &mut Outpu
     tell(name, output);
     tell(":", output);
     tell_number(number as u64, output);
-}
-
-// Tells these bytes. If that fails, now or earlier, they are lost, and nothing else happens.
-fn tell_bytes<W: Write>(bytes: &[u8], output: &mut Output<'_, W>) {
-    let _ = output.put(bytes);
 }
 
 /// Whether something was found here or there.

@@ -21,10 +21,10 @@ returns g c =
     (c.push.ensures.ascii (omega arith))
     ∙ ap (λ t. t ++ 44 ∷ [] ++ network ++ 44 ∷ [] ++ first ++ 44 ∷ [] ++ last
     ++ 10 ∷ []) c.push_str.ensures.bytes
-    ∙ ap (λ t. t ++ c.texts.result.family.now ++ 44 ∷ [] ++ network ++ 44 ∷ [] ++ first ++ 44 ∷ []
+    ∙ ap (λ t. t ++ c.family_name.result.now ++ 44 ∷ [] ++ network ++ 44 ∷ [] ++ first ++ 44 ∷ []
     ++ last ++ 10 ∷ []) c.new-text.ensures
     ∙ ap (λ t. t ++ 44 ∷ [] ++ network ++ 44 ∷ [] ++ first ++ 44 ∷ [] ++ last
-    ++ 10 ∷ []) c.texts.ensures.family
+    ++ 10 ∷ []) c.family_name.ensures.name
     ∙ ap (λ n. family_name c.args.version ++ 44 ∷ [] ++ network ++ 44 ∷ [] ++ canonical n ++ 44 ∷ []
     ++ last ++ 10 ∷ []) c.network.ensures.least
     ∙ ap (λ n. family_name c.args.version ++ 44 ∷ [] ++ network ++ 44 ∷ []

@@ -1,4 +1,4 @@
-use Rattle.std.proofs.Common.{◌∙◌, ◌++◌, ap, false}
+use Rattle.std.proofs.Common.{◌++◌, ap, refl, false}
 use Rattle.ipnetwork_family.specs.Family.{v4_family, v6_family}
 use Rattle.cidr_merge.specs.Exports.{head, foot, family_text}
 use Rattle.cidr_merge.specs.Private.Sweeps.{blocks_left}
@@ -9,15 +9,13 @@ use Rattle.cidr_merge.proofs.exporting.print_export.Goals as goal
 pub returns-clause-text : goal.returns-clause-text
 returns-clause-text g c =
     let export = c.args.export in
-    put_four_ok c.put-2.result c.args.output.now.holds c.put.new.self.holds
-    c.print_family.new.output.holds c.print_family-2.new.output.holds c.put-2.new.self.holds
-    c.args.output.now.waits c.put.new.self.waits c.print_family.new.output.waits
-    c.print_family-2.new.output.waits c.put-2.new.self.waits
-    c.as_bytes.result.now _ _ c.as_bytes-2.result.now (head export) (foot export) _
-    (c.as_bytes.ensures.value ∙ c.around.ensures.before)
-    (c.as_bytes-2.ensures.value ∙ c.around.ensures.after)
+    put_four_ok c.put_foot.result c.args.output.now.holds c.put_head.new.output.holds
+    c.print_family.new.output.holds c.print_family-2.new.output.holds c.put_foot.new.output.holds
+    c.args.output.now.waits c.put_head.new.output.waits c.print_family.new.output.waits
+    c.print_family-2.new.output.waits c.put_foot.new.output.waits
+    (head export) _ _ (foot export) (head export) (foot export) _ refl refl
     (ap (λ follows. head export ++ family_text export V4 v4_family false (blocks_left c.args.v4)
     ++ family_text export V6 v6_family follows (blocks_left c.args.v6) ++ foot export)
     c.in_ok-follows.ensures.printed.1)
-    c.in_ok-put.ensures.ok c.in_ok-follows.ensures.printed.0 c.in_ok-print_family.ensures.printed.0
-    c.put-2.ensures.ok
+    c.in_ok-put_head.ensures.ok c.in_ok-follows.ensures.printed.0 c.in_ok-print_family.ensures.printed.0
+    c.put_foot.ensures.ok
