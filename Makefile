@@ -38,6 +38,7 @@ MANDIR = $(PREFIX)/share/man
 BASHDIR = $(PREFIX)/share/bash-completion/completions
 ZSHDIR = $(PREFIX)/share/zsh/site-functions
 FISHDIR = $(PREFIX)/share/fish/vendor_completions.d
+SCRIPTDIR = $(PREFIX)/share/fosibegan
 DESTDIR =
 INSTALL = install
 
@@ -52,12 +53,15 @@ SHARED = $(OUT)/libipnetwork_c.so.$(VERSION)
 SONAME = libipnetwork_c.so.$(MAJOR)
 EXTENSION = $(OUT)/cidr.so
 PROGRAMS = cidr cidr_merge cidr_filter cidr_join
+# The scripts that cut a large input in parts, and what they share.
+SCRIPTS = cidr/in_parts.sh cidr/find_in_parts.sh cidr_merge/in_parts.sh cidr_filter/in_parts.sh cidr_join/in_parts.sh
+SHARED_SCRIPTS = program.sh log_in_parts.sh
 # The folder of the kit, if the first rt of the PATH is that of a kit.
 KIT ?= $(shell command -v rt > /dev/null && dirname "$$(dirname "$$(readlink -f "$$(command -v rt)")")")
 # The file of a program that is installed.
 built = $(if $(PLAIN),$(PLAIN_OUT),$(if $(STATIC),$(OUT)/static,crates/$(1)/out))/$(1)
 
-.PHONY: all example proved plain test test-proved try library shared sqlite wasm js calculator static install install-library uninstall deb \
+.PHONY: all example proved plain test test-proved try library shared sqlite wasm js calculator static install install-scripts install-library uninstall deb \
     check-install
 
 # Says by name what is not here, before anything is proved.
@@ -179,6 +183,7 @@ install:
 	        echo "make install: without $$program, which is not $(if $(STATIC),linked by make static,built)" >&2; \
 	    fi; \
 	done; \
+	if [ -n "$$built" ]; then $(MAKE) -s install-scripts || exit 1; fi; \
 	if [ -f $(EXTENSION) ]; then \
 	    built=yes; \
 	    $(INSTALL) -d "$(DESTDIR)$(SQLITEDIR)" && \
@@ -191,6 +196,13 @@ install:
 	else \
 	    echo "make install: without the library for C, which is not built" >&2; \
 	fi
+
+install-scripts:
+	@for script in $(SCRIPTS) $(SHARED_SCRIPTS); do \
+	    $(INSTALL) -d "$(DESTDIR)$(SCRIPTDIR)/$$(dirname $$script)" && \
+	    $(INSTALL) -m $$(test -x examples/$$script && echo 755 || echo 644) examples/$$script \
+	        "$(DESTDIR)$(SCRIPTDIR)/$$script" || exit 1; \
+	done
 
 install-library:
 	$(INSTALL) -d "$(DESTDIR)$(INCLUDEDIR)" "$(DESTDIR)$(LIBDIR)/pkgconfig"
@@ -211,6 +223,8 @@ uninstall:
 	    rm -f "$(DESTDIR)$(BINDIR)/$$program" "$(DESTDIR)$(MANDIR)/man1/$$program.1" "$(DESTDIR)$(BASHDIR)/$$program"; \
 	    rm -f "$(DESTDIR)$(ZSHDIR)/_$$program" "$(DESTDIR)$(FISHDIR)/$$program.fish"; \
 	done
+	@for script in $(SCRIPTS) $(SHARED_SCRIPTS); do rm -f "$(DESTDIR)$(SCRIPTDIR)/$$script"; done
+	@for program in $(PROGRAMS) .; do rmdir "$(DESTDIR)$(SCRIPTDIR)/$$program" 2> /dev/null || true; done
 
 .PHONY: deb
 deb:

@@ -3,7 +3,7 @@
 #   program_of NAME
 #
 # prints that of the folder that CIDR_PROGRAMS names, or of the proved one that is built here, or of the plain one, or of
-# that of the PATH.
+# that of the PATH: of an installed script, always that.
 program_of() {
     local top found
     top=$(cd "$(dirname "${BASH_SOURCE[0]}")/.." && pwd)

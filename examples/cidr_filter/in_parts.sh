@@ -9,8 +9,7 @@
 # are added up. `--bad keep` and `--bad stop` are refused: a line would end its part only; and so
 # are `-m`, `-l`, `-q` and `-n`. Without GNU parallel, the parts are filtered one after the other.
 set -eu -o pipefail
-top=$(cd "$(dirname "$0")/../.." && pwd)
-. "$top/examples/log_in_parts.sh"
+. "$(dirname "$0")/../log_in_parts.sh"
 . "$(dirname "$0")/../program.sh"
 program=$(program_of cidr_filter)
 valued=" -f -e -k -d -m --after --bad "

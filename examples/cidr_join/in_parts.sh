@@ -12,8 +12,7 @@
 # If a line is too long, the status is 2, and it is reported with its number in its part; with `--tally` nothing is printed
 # then, and otherwise, by GNU parallel, the parts behind its part all the same.
 set -eu -o pipefail
-top=$(cd "$(dirname "$0")/../.." && pwd)
-. "$top/examples/log_in_parts.sh"
+. "$(dirname "$0")/../log_in_parts.sh"
 . "$(dirname "$0")/../program.sh"
 program=$(program_of cidr_join)
 valued=" -f -k -d --after --group "
