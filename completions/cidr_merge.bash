@@ -6,6 +6,8 @@ _cidr_merge() {
         COMPREPLY=($(compgen -W "union common minus differ list split check overlaps find --quiet --help --version" -- "$word"))
     elif [ "${COMP_WORDS[COMP_CWORD-1]}" = --format ]; then
         COMPREPLY=($(compgen -W "plain range netmask wildcard csv nft ipset json addresses" -- "$word"))
+    elif [ "${COMP_WORDS[COMP_CWORD-1]}" = --prefix ]; then
+        COMPREPLY=()
     elif [ "${COMP_WORDS[at]}" = split ] && [[ "$word" == -* ]]; then
         COMPREPLY=($(compgen -W "--prefix --skip-bad --json --strict -" -- "$word"))
     elif [ "${COMP_WORDS[at]}" = check ] && [[ "$word" == -* ]]; then

@@ -13,7 +13,7 @@ if (( CURRENT == 2 )); then
         'find[the entries that have an address]' \
         '--quiet[show no progress on a terminal]' '--help[print the help]' '--version[print the version]'
 elif [[ $words[2] == split ]]; then
-    _arguments '--prefix[the prefix length]:length:' '*--skip-bad[pass over refused lines]' \
+    _arguments '--prefix=[the prefix length]:length:' '*--skip-bad[pass over refused lines]' \
         '--json[read documents of JSON]' '--strict[refuse strings that are no entries]' '*:list:_files'
 elif [[ $words[2] == check ]]; then
     _arguments '--strict[tell host bits and repeated entries too]' '*:list:_files'
@@ -21,7 +21,7 @@ elif [[ $words[2] == (overlaps|find) ]]; then
     _files
 else
     _arguments '*--ranges[print ranges]' '*--count[print how many addresses]' \
-        '--format[print as another program reads it]:form:(plain range netmask wildcard csv nft ipset json addresses)' \
+        '--format=[print as another program reads it]:form:(plain range netmask wildcard csv nft ipset json addresses)' \
         '*--skip-bad[pass over refused lines]' '*--json[read documents of JSON]' \
         '*--strict[refuse strings that are no entries]' '*:list:_files'
 fi

@@ -135,6 +135,9 @@ def documents(program, folder):
         ("minus --json aws google -- google", union([AWS])),
         ("list --json --format plain google", union([GOOGLE])),
         ("split --prefix 16 --json google", union([GOOGLE])),
+        ("split google --json --prefix=16", union([GOOGLE])),
+        ("union aws --json google azure", union([AWS, GOOGLE, AZURE])),
+        ("common aws google -- google azure --json", union([GOOGLE])),
         ("split --prefix 23 --skip-bad --json aws google", b"3.5.140.0/23\n3.5.142.0/23\n3.5.144.0/23\n3.5.146.0/23\n"
          b"8.8.4.0/24\n8.8.8.0/24\n2001:4860::/32\n2600:1f00::/24\n"),
     ]:

@@ -1,5 +1,5 @@
 -- Values at which a misreading of the definitions would show. Each of these computes.
-use Rattle.std.proofs.Common.{◌≡◌, ◌==◌, ℕ, List, ◌∷◌, [], true, false, refl, map}
+use Rattle.std.proofs.Common.{◌≡◌, ℕ, List, ◌∷◌, [], true, false, refl, map}
 use Rattle.std.specs.Prelude.{codes, String, Some, None}
 use Rattle.std.specs.Option.{is_some}
 use Rattle.std.specs.Fmt.{digits}
@@ -11,15 +11,14 @@ use Rattle.lists.specs.declared.entry.EntryFault.TheVariants.{Prefix}
 use Rattle.lists.specs.declared.fault.LineFault.TheVariants.{Entry}
 use Rattle.program.specs.Reported.{in_list, refusals_text}
 use Rattle.options.specs.Faults.{pair_fault}
-use Rattle.options.specs.Items.{free_items, is_of_option}
+use Rattle.options.specs.Items.{free_items}
 use Rattle.options.specs.declared.items.Item.TheVariants as says
-use Rattle.options.specs.declared.items.Mode.TheVariants as modes
 use Rattle.options.specs.declared.table.Row.{Row}
 use Rattle.options.proofs.Tables.{rows_of, pairs_of}
 use Rattle.program.specs.Words.{is}
 use Rattle.cidr_merge.specs.Answers.{IsLeft, IsLeftOfSecond, AreBoth, merged, merged_ranges}
 use Rattle.cidr_merge.specs.Answers.{block_line, range_line}
-use Rattle.cidr_merge.specs.Faults.{name_fault}
+use Rattle.cidr_merge.specs.Faults.{files_among, files_fault, takes}
 use Rattle.cidr_merge.specs.Forms.{form_of, shape_of, prefix_in}
 use Rattle.cidr_merge.specs.Options.{entries, pairs}
 use Rattle.cidr_merge.specs.Sides.{before_dashes, behind_dashes}
@@ -153,27 +152,31 @@ tasks_called = refl
 
 -- the word after a `--format` or a `--prefix` is its value, and nothing is said twice by one word
 pub what_words_say : map (free_items rows) (codes "--skip-bad" ∷ codes "--format" ∷ codes "--format=csv" ∷ codes "-x" ∷ codes "-" ∷ codes "a" ∷ [] ∷ [])
-    ≡ (says.Flag 3 ∷ []) ∷ [] ∷ (says.Unknown (codes "--format=csv") ∷ []) ∷ (says.Unknown (codes "-x") ∷ []) ∷ (says.File (codes "-") ∷ [])
+    ≡ (says.Flag 3 ∷ []) ∷ [] ∷ (says.Joined 2 (codes "csv") (codes "--format=csv") ∷ []) ∷ (says.Unknown (codes "-x") ∷ []) ∷ (says.File (codes "-") ∷ [])
     ∷ (says.File (codes "a") ∷ []) ∷ (says.File [] ∷ []) ∷ []
 what_words_say = refl
 
--- options end at the first word that is `-`, `--` or begins with no `-`, which is no value
-pub options_end : map (is_of_option modes.Free) (codes "--count" ∷ codes "-x" ∷ codes "--" ∷ codes "-" ∷ codes "a" ∷ [] ∷ [])
-    ≡ true ∷ true ∷ false ∷ false ∷ false ∷ false ∷ []
-options_end = refl
-
-pub any_value : (word : List ℕ) → is_of_option (modes.Value 2) word ≡ true
-any_value word = refl
-
--- a file behind a dot, standard input and a `--` are no wrong names, an empty word and an option are
-pub wrong_names : map (λ word. is_some (name_fault rows tasks.Check word)) (codes "./-x" ∷ codes "-" ∷ codes "--" ∷ [] ∷ codes "--count" ∷ [])
-    ≡ false ∷ false ∷ false ∷ true ∷ true ∷ []
+-- a file behind a dot and standard input are no wrong names, standard input twice and an empty word are
+pub wrong_names : map (λ files. is_some (files_fault files)) ((codes "./-x" ∷ codes "-" ∷ []) ∷ (codes "-" ∷ codes "a" ∷ codes "-" ∷ []) ∷ (codes "a" ∷ [] ∷ []) ∷ [] ∷ [])
+    ≡ false ∷ true ∷ true ∷ false ∷ []
 wrong_names = refl
 
--- two ways to print, one of them twice, a form that is given twice, also without a value
+-- what stands before the `--` of a `find` names no file
+pub no_files : (files_among tasks.Find 2 (codes "-" ∷ [] ∷ codes "-" ∷ []) ≡ codes "-" ∷ [])
+    × (files_among tasks.Check 2 (codes "-" ∷ [] ∷ codes "-" ∷ []) ≡ codes "-" ∷ [] ∷ codes "-" ∷ [])
+no_files = (refl, refl)
+
+-- of `--ranges`, `--skip-bad`, `--strict`, `--prefix` and `--help` each task takes its own
+pub options_of_tasks : map (λ task. map (takes task) (0 ∷ 3 ∷ 5 ∷ 6 ∷ 7 ∷ [])) (tasks.Merge Differ ∷ tasks.List ∷ tasks.Split ∷ tasks.Check ∷ tasks.Overlaps ∷ tasks.Find ∷ [])
+    ≡ (true ∷ true ∷ true ∷ false ∷ false ∷ []) ∷ (true ∷ true ∷ true ∷ false ∷ false ∷ []) ∷ (false ∷ true ∷ true ∷ true ∷ false ∷ [])
+    ∷ (false ∷ false ∷ true ∷ false ∷ false ∷ []) ∷ (false ∷ false ∷ false ∷ false ∷ false ∷ []) ∷ (false ∷ false ∷ false ∷ false ∷ false ∷ []) ∷ []
+options_of_tasks = refl
+
+-- two ways to print, one of them twice, a form that is given twice, also without a value, and two lengths
 pub ways_to_print : map (λ items. is_some (pair_fault items (pairs_of pairs)))
     ((says.Flag 0 ∷ says.Flag 1 ∷ []) ∷ (says.Flag 1 ∷ says.Flag 1 ∷ []) ∷ (says.Value 2 (codes "csv") ∷ []) ∷ (says.Value 2 (codes "csv") ∷ says.Lacks 2 ∷ [])
-    ∷ (says.Value 2 (codes "csv") ∷ says.Flag 1 ∷ []) ∷ (says.Value 2 (codes "csv") ∷ says.Flag 0 ∷ []) ∷ []) ≡ true ∷ false ∷ false ∷ true ∷ true ∷ true ∷ []
+    ∷ (says.Value 2 (codes "csv") ∷ says.Flag 1 ∷ []) ∷ (says.Value 2 (codes "csv") ∷ says.Flag 0 ∷ [])
+    ∷ (says.Value 6 (codes "8") ∷ says.Joined 6 (codes "9") (codes "--prefix=9") ∷ []) ∷ []) ≡ true ∷ false ∷ false ∷ true ∷ true ∷ true ∷ true ∷ []
 ways_to_print = refl
 
 pub forms_said : map (form_of Blocks) ((says.Flag 3 ∷ says.Flag 1 ∷ []) ∷ (says.Flag 3 ∷ says.Value 2 (codes "csv") ∷ []) ∷ [] ∷ (says.Flag 0 ∷ []) ∷ [])
@@ -197,7 +200,3 @@ pub two_sides : {Z : Type 0} (list dashes other : String Z)
     → (before_dashes (list ∷ dashes ∷ other ∷ []) ≡ list ∷ [])
     × (behind_dashes (list ∷ dashes ∷ other ∷ []) ≡ other ∷ [])
 two_sides list dashes other l d = (rw (l, d), rw (l, d))
-
--- a byte alone is no option
-pub one_byte_ends_options : (byte : ℕ) → (byte == 45) ≡ false → is_of_option modes.Free (byte ∷ []) ≡ false
-one_byte_ends_options byte other = rw other

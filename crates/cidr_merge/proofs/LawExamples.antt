@@ -1,7 +1,8 @@
 -- What the laws let one conclude, where weaker laws would not.
-use Rattle.std.proofs.Common.{◌≡◌, ◌≢◌, ◌∙◌, ℕ, List, [], ◌∷◌, ◌++◌, true, false, ap, sym, subst}
+use Rattle.std.proofs.Common.{◌≡◌, ◌≢◌, ◌∙◌, ℕ, Bool, List, [], ◌∷◌, ◌++◌, true, false, ap, sym, subst}
 use Rattle.std.proofs.Common.{arith, inl, inr, length, refl}
 use Rattle.std.specs.Prelude.{◌⊎◌, bytes_eq, codes, None, Ok, String, drop}
+use Rattle.std.specs.String.{string_bytes}
 use Rattle.std.proofs.lemmas.Bool.{true≢false}
 use Rattle.std.proofs.lemmas.Slice.Eq.{bytes_eq-Decides}
 use Rattle.std.specs.List.{Contains}
@@ -10,20 +11,30 @@ use Rattle.ipnetwork_addr.specs.declared.ip.IpAddr.TheVariants.{V4, V6}
 use Rattle.ipnetwork_blocks.proofs.LeastLists.{contains_cons, contains_head, contains_nil}
 use Rattle.cidr_merge.specs.EntriesWithin.{HasAllOf, LiesInAnother, TellsWithin, TellsNotWithin}
 use Rattle.cidr_merge.specs.EntriesWithin.{IsToldWithin, EachWithinAnotherIsTold}
+use Rattle.cidr_merge.specs.Faults.{takes}
 use Rattle.cidr_merge.specs.Forms.{form_called}
-use Rattle.cidr_merge.specs.Laws.{NoOtherForm, NoOtherOption, NoOtherTask, SidesAreCut, is_of_merges}
+use Rattle.cidr_merge.specs.Laws.{NoOtherForm, NoOtherOption, NoOtherTask, SidesAreCut, is_of}
 use Rattle.cidr_merge.specs.Overlaps.{Listed, lists_entries, IsInOrder}
 use Rattle.cidr_merge.specs.Parts.{UnionPrints, HaveLines, AreShort, UnionsOfPartsPrintTheSame}
 use Rattle.cidr_merge.specs.Repetitions.{repetitions}
 use Rattle.cidr_merge.specs.Tasks.{task_called}
 use Rattle.options.specs.Table.{named}
 use Rattle.options.specs.declared.table.Row.{Row}
-use Rattle.options.specs.declared.table.Table.{Table}
-use Rattle.program.specs.Words.{is}
-use Rattle.cidr_merge.specs.CommandLines.{command_of}
+use Rattle.options.specs.Given.{files_of}
+use Rattle.options.specs.Grammar.{LongName, NoWords, OneFile, OneWord, Says}
+use Rattle.options.specs.declared.items.Item.{Item}
+use Rattle.options.specs.declared.items.Item.TheVariants as says
+use Rattle.cidr_merge.specs.CommandLines.{command_of, second_said}
+use Rattle.cidr_merge.specs.RightWords.{AFile, AFlag, AJoined, AValue, AreRight, IsRightItem, RightWordsAreTaken, TwoSides}
 use Rattle.cidr_merge.specs.declared.command_line.Command.TheVariants as commands
+use Rattle.cidr_merge.specs.declared.command_line.Form.TheVariants.{Ranges}
+use Rattle.cidr_merge.specs.declared.command_line.Operation.TheVariants.{Common, Differ, Minus, Union}
 use Rattle.cidr_merge.specs.declared.command_line.Request.{Request}
+use Rattle.cidr_merge.specs.declared.shapes.Shape.TheVariants as shapes
+use Rattle.cidr_merge.specs.declared.tasks.Task.{Task}
+use Rattle.cidr_merge.specs.declared.tasks.Task.TheVariants as tasks
 use Rattle.cidr_merge.proofs.CheckExamples.{entry}
+use Rattle.cidr_merge.proofs.UsageExamples.{table}
 
 -- a list may be cut into two parts, and into three
 pub of_two_parts : UnionsOfPartsPrintTheSame
@@ -72,14 +83,14 @@ no_tasks law = (
   law (codes "overlap") (no refl) (no refl) (no refl) (no refl) (no refl) (no refl) (no refl) (no refl) (no refl),
 )
 
-pub no_options : (rows : List Row) → NoOtherOption rows → (is_of_merges (named (codes "--skip") rows) ≡ false)
-    × (is_of_merges (named (codes "--") rows) ≡ false) × (is_of_merges (named (codes "--counts") rows) ≡ false)
-    × (is_of_merges (named (codes "--prefix") rows) ≡ false)
+pub no_options : (rows : List Row) → NoOtherOption rows → (is_of (tasks.Merge Common) (named (codes "--skip") rows) ≡ false)
+    × (is_of (tasks.Merge Union) (named (codes "--") rows) ≡ false) × (is_of (tasks.Merge Minus) (named (codes "--counts") rows) ≡ false)
+    × (is_of (tasks.Merge Differ) (named (codes "--prefix") rows) ≡ false)
 no_options rows law = (
-  law (codes "--skip") (no refl) (no refl) (no refl) (no refl) (no refl) (no refl),
-  law (codes "--") (no refl) (no refl) (no refl) (no refl) (no refl) (no refl),
-  law (codes "--counts") (no refl) (no refl) (no refl) (no refl) (no refl) (no refl),
-  law (codes "--prefix") (no refl) (no refl) (no refl) (no refl) (no refl) (no refl),
+  law Common (codes "--skip") (no refl) (no refl) (no refl) (no refl) (no refl) (no refl),
+  law Union (codes "--") (no refl) (no refl) (no refl) (no refl) (no refl) (no refl),
+  law Minus (codes "--counts") (no refl) (no refl) (no refl) (no refl) (no refl) (no refl),
+  law Differ (codes "--prefix") (no refl) (no refl) (no refl) (no refl) (no refl) (no refl),
 )
 
 pub ranges_are_no_form : NoOtherForm → form_called (codes "ranges") ≡ None
@@ -87,20 +98,104 @@ ranges_are_no_form law =
     law (codes "ranges") (no refl) (no refl) (no refl) (no refl) (no refl) (no refl) (no refl)
     (no refl) (no refl)
 
--- ---- sides
+-- ---- command lines
 
--- of `minus a -- b` the lists of the second side are `b` alone, without the `--`
-pub second_side : {Z : Type 0} (table : Table) (minus a dashes b : String Z) (request : Request) → SidesAreCut table (minus ∷ a ∷ dashes ∷ b ∷ [])
-    → command_of table (minus ∷ a ∷ dashes ∷ b ∷ []) ≡ Ok (commands.Merge request) → request.first ≡ 1 → is (codes "--") a ≡ false → is (codes "--") dashes ≡ true
-    → drop request.second (minus ∷ a ∷ dashes ∷ b ∷ []) ≡ b ∷ []
-second_side table minus a dashes b request law e first x y = rw (first, x, y) at (law request e).1
+-- `--ranges` behind the list of the second side of `minus a -- b` is an option of both
+module _ {Z : Type 0} (minus a dashes b ranges : String Z) (o : string_bytes minus ≡ codes "minus") (p : string_bytes a ≡ codes "a")
+    (d : string_bytes dashes ≡ codes "--") (q : string_bytes b ≡ codes "b") (r : string_bytes ranges ≡ codes "--ranges") where
+  abbrev words : List (String Z)
+  words = minus ∷ a ∷ dashes ∷ b ∷ ranges ∷ []
 
-pub dashes_are_no_list : {Z : Type 0} (table : Table) (minus a dashes b : String Z) (request : Request) → SidesAreCut table (minus ∷ a ∷ dashes ∷ b ∷ [])
-    → command_of table (minus ∷ a ∷ dashes ∷ b ∷ []) ≡ Ok (commands.Merge request) → request.first ≡ 1 → is (codes "--") a ≡ false → is (codes "--") dashes ≡ true
-    → request.second ≡ 2 → ⊥
-dashes_are_no_list table minus a dashes b request law e first x y second =
-    let lists = rw second at (second_side table minus a dashes b request law e first x y) in
-    omega (arith, ap length lists)
+  abbrev first : List Item
+  first = says.File (codes "a") ∷ []
+
+  abbrev second : List Item
+  second = says.File (codes "b") ∷ says.Flag 0 ∷ []
+
+  abbrev request : Request
+  request = record { operation = Minus; form = Ranges; skips_bad = false; shape = shapes.Lines; first = 0; middle = 1; second = 1 }
+
+  say_first : Says table.rows.now (a ∷ []) first
+  say_first = subst (λ (name : List ℕ). Says table.rows.now (a ∷ []) (says.File name ∷ [])) p (OneFile a [] [] (rw p refl) NoWords)
+
+  say_second : Says table.rows.now (b ∷ ranges ∷ []) second
+  say_second = subst (λ (name : List ℕ). Says table.rows.now (b ∷ ranges ∷ []) (says.File name ∷ says.Flag 0 ∷ [])) q
+      (OneFile b (ranges ∷ []) (says.Flag 0 ∷ []) (rw q refl) (OneWord ranges [] (says.Flag 0 ∷ []) []
+      (LongName 0 (record { long = record { first = 114; others = codes "anges"; spelled = r }; found = rw r refl; kind = refl })) NoWords))
+
+  right : AreRight table (tasks.Merge Minus) (first ++ second) (codes "a" ∷ []) (codes "b" ∷ [])
+  right = record {
+    each = (AFile (codes "a"), (AFile (codes "b"), (AFlag 0 refl, tt)));
+    apart = (refl, (refl, (refl, (refl, (refl, tt)))));
+    strict = λ t s. absurd (true≢false (sym s));
+    form = λ e. absurd (let x = e in cc);
+    prefix = λ e. absurd (let x = e in cc);
+    some = λ e. absurd (let x = e in cc);
+    others = λ t e. absurd (let x = e in cc);
+    named = refl;
+    input = omega arith;
+  }
+
+  pub option_behind_lists : RightWordsAreTaken table words → command_of table words ≡ Ok (commands.Merge request, codes "a" ∷ codes "b" ∷ [])
+  option_behind_lists law = (law (commands.Merge request) (codes "a" ∷ codes "b" ∷ [])).1 (record {
+    name = minus;
+    others = a ∷ dashes ∷ b ∷ ranges ∷ [];
+    task = tasks.Merge Minus;
+    first = first;
+    second = second;
+    cut = refl;
+    called = rw o refl;
+    say = TwoSides (a ∷ []) (b ∷ ranges ∷ []) dashes first second (rw p refl) d (rw (q, r) refl) say_first say_second;
+    right = right;
+    asked = refl;
+    files = refl;
+  })
+
+  -- and so of its two sides each has its own list
+  pub its_sides : RightWordsAreTaken table words → SidesAreCut table words → drop request.second (codes "a" ∷ codes "b" ∷ []) ≡ files_of (second_said table.rows.now (a ∷ dashes ∷ b ∷ ranges ∷ []))
+  its_sides law cut = (cut request (codes "a" ∷ codes "b" ∷ []) (option_behind_lists law)).1
+
+-- what is not right: an option of another task, an unknown one, and one without its value,
+abbrev flag_of : Item → ℕ
+flag_of (says.Flag row) = row
+flag_of (says.Value row text) = row
+flag_of (says.Joined row text word) = row
+flag_of item = 5
+
+pub no_ranges_of_check : (names : List (List ℕ)) → AreRight table tasks.Check (says.Flag 0 ∷ []) names [] → ⊥
+no_ranges_of_check names right = true≢false (sym (its_flag (says.Flag 0) right.each.0)) where
+  its_flag : (item : Item) → IsRightItem tasks.Check item → takes tasks.Check (flag_of item) ≡ true
+  its_flag item (AFlag row t) = t
+  its_flag item (AValue row text t v) = t
+  its_flag item (AJoined row text word t v) = t
+  its_flag item (AFile name) = refl
+
+abbrev is_said : Item → Bool
+is_said (says.Unknown word) = false
+is_said (says.Lacks row) = false
+is_said item = true
+
+right_is_said : (task : Task) (item : Item) → IsRightItem task item → is_said item ≡ true
+right_is_said task item (AFlag row t) = refl
+right_is_said task item (AValue row text t v) = refl
+right_is_said task item (AJoined row text word t v) = refl
+right_is_said task item (AFile name) = refl
+
+pub no_unknown : (task : Task) (word : List ℕ) → IsRightItem task (says.Unknown word) → ⊥
+no_unknown task word right = true≢false (sym (right_is_said task (says.Unknown word) right))
+
+pub no_missing_value : (task : Task) (row : ℕ) → IsRightItem task (says.Lacks row) → ⊥
+no_missing_value task row right = true≢false (sym (right_is_said task (says.Lacks row) right))
+
+-- two ways to print, of which each stands on a side of its own, no length, and standard input on both sides
+pub no_two_forms : AreRight table (tasks.Merge Minus) (says.Flag 0 ∷ says.Flag 1 ∷ []) (codes "a" ∷ []) (codes "b" ∷ []) → ⊥
+no_two_forms right = true≢false right.apart.0
+
+pub no_split_without_length : AreRight table tasks.Split (says.Flag 3 ∷ []) (codes "a" ∷ []) [] → ⊥
+no_split_without_length right = true≢false (sym (right.prefix refl))
+
+pub no_second_standard_input : AreRight table (tasks.Merge Minus) [] (codes "-" ∷ []) (codes "-" ∷ []) → ⊥
+no_second_standard_input right = let i = right.input in omega (arith, i)
 
 -- ---- entries that lie in another
 

@@ -24,6 +24,7 @@ pub mod Putting
 pub mod ReadInTurn
 pub mod Readings
 pub mod RepeatedEntries
+pub mod RightWords
 pub mod Runs
 pub mod SearchEnds
 pub mod Sides

@@ -1,14 +1,17 @@
 -- What no other text is.
-use Rattle.std.proofs.Common.{◌≡◌, ◌≢◌, ◌∙◌, ◌+◌, ℕ, Bool, List, [], ◌∷◌, true, false, not, cond, refl, sym, ap, arith, map, length}
+use Rattle.std.proofs.Common.{◌≡◌, ◌≢◌, ◌≤◌, ◌∙◌, ◌+◌, ℕ, Bool, List, [], ◌∷◌, true, false, not, cond, refl, sym, ap, subst, arith, map, length}
 use Rattle.std.specs.Prelude.{None, Some, bytes_eq, nat_lt}
 use Rattle.std.specs.List.{position_or_len}
-use Rattle.std.proofs.lemmas.Bool.{false_from_ne_true}
+use Rattle.std.proofs.lemmas.Bool.{false_from_ne_true, ne_eqb}
 use Rattle.std.proofs.lemmas.Slice.Eq.{bytes_eq-Decides}
 use Rattle.options.specs.Table.{Entry, entry_of, has_name, named}
 use Rattle.options.specs.declared.table.Row.{Row}
 use Rattle.options.specs.declared.table.Table.{Table}
-use Rattle.cidr_merge.specs.Laws.{NoOtherForm, NoOtherOption, NoOtherTask, is_of_merges}
+use Rattle.cidr_merge.specs.Laws.{NoOtherForm, NoOtherOption, NoOtherTask, is_of}
+use Rattle.cidr_merge.specs.Faults.{takes}
 use Rattle.cidr_merge.specs.Options.{IsOptions, entries}
+use Rattle.cidr_merge.specs.declared.command_line.Operation.{Operation}
+use Rattle.cidr_merge.specs.declared.tasks.Task.TheVariants as tasks
 
 apart : {text other : List ℕ} → text ≢ other → bytes_eq text other ≡ false
 apart {text} {other} ne =
@@ -37,14 +40,20 @@ same_place : (text : List ℕ) (rows : List Row) → position_or_len (has_name t
 same_place text [] = refl
 same_place text (row ∷ rows) = ap (λ (n : ℕ). cond (not (bytes_eq row.name.now text)) (1 + n) 0) (same_place text rows)
 
-behind_six : (text : List ℕ) (rows : List Row) → nat_lt (position_or_len (has_name text) rows) 6 ≡ false → is_of_merges (named text rows) ≡ false
-behind_six text rows far = by (nat_lt (position_or_len (has_name text) rows) (length rows)) where
-  by : (b : Bool) → is_of_merges (cond b (Some (position_or_len (has_name text) rows)) None) ≡ false
-  by true = far
+-- the operations take those of the first six rows
+behind_six : (operation : Operation) (row : ℕ) → 6 ≤ row → takes (tasks.Merge operation) row ≡ false
+behind_six operation row far =
+    rw (ne_eqb 0 row (λ e. omega (arith, far, e)), ne_eqb 1 row (λ e. omega (arith, far, e)), ne_eqb 2 row (λ e. omega (arith, far, e)))
+    (rw (ne_eqb 3 row (λ e. omega (arith, far, e)), ne_eqb 4 row (λ e. omega (arith, far, e)), ne_eqb 5 row (λ e. omega (arith, far, e))) refl)
+
+of_another : (operation : Operation) (text : List ℕ) (rows : List Row) → 6 ≤ position_or_len (has_name text) rows → is_of (tasks.Merge operation) (named text rows) ≡ false
+of_another operation text rows far = by (nat_lt (position_or_len (has_name text) rows) (length rows)) where
+  by : (b : Bool) → is_of (tasks.Merge operation) (cond b (Some (position_or_len (has_name text) rows)) None) ≡ false
+  by true = behind_six operation (position_or_len (has_name text) rows) far
   by false = refl
 
 pub no_other_option : (table : Table) → IsOptions table → NoOtherOption table.rows.now
-no_other_option table options text ranges count format skip json strict =
-    behind_six text table.rows.now (ap (λ n. nat_lt n 6) (same_place text table.rows.now ∙ ap (place_among text) options.has_options) ∙ far) where
-      far : nat_lt (place_among text entries) 6 ≡ false
+no_other_option table options operation text ranges count format skip json strict =
+    of_another operation text table.rows.now (subst (λ (n : ℕ). 6 ≤ n) (sym (same_place text table.rows.now ∙ ap (place_among text) options.has_options)) far) where
+      far : 6 ≤ place_among text entries
       far = rw (apart_from ranges, apart_from count, apart_from format, apart_from skip, apart_from json, apart_from strict) (grind arith)

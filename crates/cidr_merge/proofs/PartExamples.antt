@@ -1,10 +1,11 @@
 -- What the definitions promise, part by part: a definition without one of these parts would not
 -- give it.
 use Rattle.std.proofs.Common.{◌≡◌, ◌+◌, ◌≤◌, ◌↔◌, ◌⊎◌, inl, inr, ◌++◌, ◌∙◌, ◌==◌, sym, not}
-use Rattle.std.proofs.Common.{ℕ, Bool, List, [], ◌∷◌, true, false, length, drop, refl, min}
+use Rattle.std.proofs.Common.{ℕ, Bool, List, [], ◌∷◌, true, false, length, map, take, drop, refl}
 use Rattle.std.specs.Prelude.{codes, ◌&&◌, if◌then◌else◌, String, None, Ok, Err, slice_range}
-use Rattle.std.specs.List.{Contains, concat, position_or_len}
+use Rattle.std.specs.List.{Contains, concat}
 use Rattle.std.specs.String.{string_bytes}
+use Rattle.std.specs.declared.alloc.Global.{Global}
 use Rattle.ipnetwork_blocks.specs.Aggregate.{IsAggregate}
 use Rattle.lists.specs.Lists.{ReadLists, nothing_read, at_list, TakesLines}
 use Rattle.lists.specs.Refusals.{Refused, no_refusals}
@@ -21,14 +22,13 @@ use Rattle.program.specs.Messages.{Reports}
 use Rattle.program.specs.Runs.{text_asked}
 use Rattle.program.proofs.Runs.{otherwise}
 use Rattle.program.specs.Reported.{was_refused, fault_text, in_list, refusals_text}
-use Rattle.program.specs.Words.{is}
 use Rattle.ipnetwork_addr.specs.declared.ip.IpAddr.{IpAddr}
 use Rattle.lists.specs.declared.named.ReadFault.{ReadFault}
 use Rattle.cidr_merge.specs.Answers.{IsAnswer}
 use Rattle.cidr_merge.specs.CommandLines.{command_of, request_of}
 use Rattle.cidr_merge.specs.Endings.{EndsAs, EndsAsked}
 use Rattle.cidr_merge.specs.FindRuns.{sought_fault_text, EndsFind}
-use Rattle.cidr_merge.specs.FindWords.{sought_of, searched_of, AreAddresses}
+use Rattle.cidr_merge.specs.FindWords.{AreAddresses}
 use Rattle.cidr_merge.specs.FindWords.{StopsAtWord, with_addresses}
 use Rattle.cidr_merge.specs.Findings.{lists_findings}
 use Rattle.cidr_merge.specs.Finds.{lists_matches, lists_refusals}
@@ -55,13 +55,12 @@ use Rattle.cidr_merge.specs.declared.query.QueryFault.{QueryFault}
 
 -- ---- command lines
 
-pub what_a_request_says : {Z : Type 0} (operation : Operation) (usual : Form) (items : List Item)
-    (lists : List (String Z)) (first : ℕ) (request : Request) → request ≡ request_of operation usual items lists first
+pub what_a_request_says : (operation : Operation) (usual : Form) (items : List Item) (middle : ℕ)
+    (request : Request) → request ≡ request_of operation usual items middle
     → (request.operation ≡ operation) × (request.form ≡ form_of usual items)
     × (request.skips_bad ≡ is_given items skip_bad) × (request.shape ≡ shape_of items)
-    × (request.first ≡ first) × (request.middle ≡ first + position_or_len (is (codes "--")) lists)
-    × (request.second ≡ min (first + length lists) (first + position_or_len (is (codes "--")) lists + 1))
-what_a_request_says operation usual items lists first request e = rw e (refl, refl, refl, refl, refl, refl, refl)
+    × (request.first ≡ 0) × (request.middle ≡ middle) × (request.second ≡ middle)
+what_a_request_says operation usual items middle request e = rw e (refl, refl, refl, refl, refl, refl, refl)
 
 -- ---- what was read
 
@@ -149,21 +148,21 @@ pub what_a_run_does : {Z W E : Type 0} (program help version usage : List ℕ) (
     (words : List (String Z)) (end : Ending W E)
     → text_asked help version words ≡ None → EndsAs program help version usage known words end
     → Refuses (codes "out of memory\n") end
-    ⊎ ((table : Table) × IsOptions table × EndsAsked program usage table.rows.now known words (command_of table words) end)
+    ⊎ ((table : Table) × IsOptions table × EndsAsked program usage table.rows.now known (command_of table words) end)
 what_a_run_does program help version usage known words end e h =
     otherwise help version words _ end e h
 
 -- by what is asked for, and by what is wrong
-pub what_is_asked_is_done : {Z W E : Type 0} (program usage : List ℕ) (rows : List Row) (known : KnownLists)
-    (words : List (String Z)) (request : Request) (end : Ending W E)
-    → EndsAsked program usage rows known words (Ok (commands.Merge request)) end → EndsMerging known words request end
-what_is_asked_is_done program usage rows known words request end h = h
+pub what_is_asked_is_done : {W E : Type 0} (program usage : List ℕ) (rows : List Row) (known : KnownLists)
+    (request : Request) (files : List (List ℕ)) (end : Ending W E)
+    → EndsAsked program usage rows known (Ok (commands.Merge request, files)) end
+    → (names : List (String Global)) × (map string_bytes names ≡ files) × EndsMerging known names request end
+what_is_asked_is_done program usage rows known request files end h = h
 
-pub what_is_wrong_is_told : {Z W E : Type 0} (program usage : List ℕ) (rows : List Row) (known : KnownLists)
-    (words : List (String Z)) (fault : Fault) (end : Ending W E)
-    → EndsAsked program usage rows known words (Err fault) end
+pub what_is_wrong_is_told : {W E : Type 0} (program usage : List ℕ) (rows : List Row) (known : KnownLists)
+    (fault : Fault) (end : Ending W E) → EndsAsked program usage rows known (Err fault) end
     → ((end.output_after ≡ end.output) × (end.status ≡ 2)) × HasTold end (refusal_text program usage rows fault)
-what_is_wrong_is_told program usage rows known words fault end h = h
+what_is_wrong_is_told program usage rows known fault end h = h
 
 pub what_a_check_does : {Z W E : Type 0} (known : KnownLists) (words : List (String Z)) (first : ℕ) (end : Ending W E)
     → EndsInspecting known words Check first end
@@ -176,27 +175,26 @@ pub what_a_check_does : {Z W E : Type 0} (known : KnownLists) (words : List (Str
     × (end.status ≡ (if length (lists_findings false (drop first words) texts) == 0 then 0 else 1)))))
 what_a_check_does known words first end h = h
 
-abbrev found_in : {Z : Type 0} → List (String Z) → List IpAddr → List (List ℕ) → List (List ℕ)
-found_in words addresses texts =
-    lists_matches (with_addresses (sought_of words) addresses) (searched_of words) texts
+abbrev found_in : {Z : Type 0} → List (String Z) → ℕ → List IpAddr → List (List ℕ) → List (List ℕ)
+found_in words middle addresses texts =
+    lists_matches (with_addresses (take middle words) addresses) (drop middle words) texts
 
 pub what_a_find_does : {Z W E : Type 0} (program usage : List ℕ) (rows : List Row) (known : KnownLists)
-    (words : List (String Z)) (end : Ending W E) → EndsFind program usage rows known words end
-    → ((fault : QueryFault) × StopsAtWord 1 (sought_of words) fault
+    (words : List (String Z)) (middle : ℕ) (end : Ending W E) → EndsFind program usage rows known words middle end
+    → ((fault : QueryFault) × StopsAtWord 0 (take middle words) fault
     × (((end.output_after ≡ end.output) × (end.status ≡ 2))
     × HasTold end (sought_fault_text program usage rows words fault)))
-    ⊎ ((addresses : List IpAddr) × AreAddresses (sought_of words) addresses
-    × (((fault : ReadFault) × TextsStop known (2 + length (sought_of words))
-    (searched_of words) fault × (((end.output_after ≡ end.output) × (end.status ≡ 2))
+    ⊎ ((addresses : List IpAddr) × AreAddresses (take middle words) addresses
+    × (((fault : ReadFault) × TextsStop known middle (drop middle words) fault × (((end.output_after ≡ end.output) × (end.status ≡ 2))
     × HasTold end (fault_text words fault)))
-    ⊎ ((texts : List (List ℕ)) × AreTexts known (searched_of words) texts
+    ⊎ ((texts : List (List ℕ)) × AreTexts known (drop middle words) texts
     × ((errors : Written E)
-    × Reports end.errors errors (concat (lists_refusals (searched_of words) texts))
+    × Reports end.errors errors (concat (lists_refusals (drop middle words) texts))
     × (FailsToWrite (record end { errors = errors })
-    ⊎ (HasWritten end (concat (found_in words addresses texts)) × Reports errors end.errors_after []
-    × (end.status ≡ (if length (lists_refusals (searched_of words) texts) == 0
-    then (if length (found_in words addresses texts) == 0 then 1 else 0) else 2))))))))
-what_a_find_does program usage rows known words end h = h
+    ⊎ (HasWritten end (concat (found_in words middle addresses texts)) × Reports errors end.errors_after []
+    × (end.status ≡ (if length (lists_refusals (drop middle words) texts) == 0
+    then (if length (found_in words middle addresses texts) == 0 then 1 else 0) else 2))))))))
+what_a_find_does program usage rows known words middle end h = h
 
 -- ---- what the laws take: no more than this
 

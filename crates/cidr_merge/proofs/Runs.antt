@@ -99,8 +99,8 @@ module _ {Z W E : Type 0} (program help version usage : List ℕ) (known : Known
   no_memory h = not_asked help version words _ end no_text (inl h)
 
   -- they ask for this, or this is wrong with them
-  pub asked_ends : (table : Table) → IsOptions table → (asked : Result Command Fault) → asked ≡ command_of table words
-      → EndsAsked program usage table.rows.now known words asked end → EndsAs program help version usage known words end
+  pub asked_ends : (table : Table) → IsOptions table → (asked : Result (Command × List (List ℕ)) Fault) → asked ≡ command_of table words
+      → EndsAsked program usage table.rows.now known asked end → EndsAs program help version usage known words end
   asked_ends table options asked e h =
       not_asked help version words _ end no_text
-      (inr (table, options, subst (λ (r : Result Command Fault). EndsAsked program usage table.rows.now known words r end) e h))
+      (inr (table, options, subst (λ (r : Result (Command × List (List ℕ)) Fault). EndsAsked program usage table.rows.now known r end) e h))

@@ -1,6 +1,6 @@
 -- How a run ends that searches lists.
-use Rattle.std.proofs.Common.{◌≡◌, ◌==◌, ◌+◌, ◌||◌, ◌∙◌, ℕ, Bool, true, false, not, List, ap}
-use Rattle.std.proofs.Common.{subst, inl, inr, length}
+use Rattle.std.proofs.Common.{◌≡◌, ◌==◌, ◌||◌, ◌∙◌, ℕ, Bool, true, false, not, List, ap}
+use Rattle.std.proofs.Common.{subst, inl, inr, length, take, drop}
 use Rattle.std.specs.Prelude.{if◌then◌else◌, Result, Ok, Err, OnOk, IsFalse}
 use Rattle.std.specs.Prelude.{is_err, String}
 use Rattle.std.specs.Io.KnownBytes.{Appends}
@@ -15,7 +15,7 @@ use Rattle.program.specs.Reported.{fault_text}
 use Rattle.cidr_merge.specs.Finds.{lists_matches, lists_refusals}
 use Rattle.options.specs.declared.table.Row.{Row}
 use Rattle.cidr_merge.specs.FindRuns.{sought_fault_text, EndsSearching, EndsReadingAll, EndsFind}
-use Rattle.cidr_merge.specs.FindWords.{sought_of, searched_of, AreAddresses, StopsAtWord, with_addresses}
+use Rattle.cidr_merge.specs.FindWords.{AreAddresses, StopsAtWord, with_addresses}
 use Rattle.cidr_merge.specs.Private.Reported.{TellsFound}
 use Rattle.cidr_merge.specs.Texts.{AreTexts, TextsStop}
 use Rattle.cidr_merge.specs.declared.query.QueryFault.{QueryFault}
@@ -64,40 +64,39 @@ search_ended sought names texts end mid errors
 -- ---- what the words say
 
 module _ {Z W E : Type 0} (known : KnownLists) (words sought names : List (String Z))
-    (addresses : List IpAddr) (end : Ending W E) (s : sought ≡ sought_of words)
-    (n : names ≡ searched_of words) where
+    (middle : ℕ) (addresses : List IpAddr) (end : Ending W E) (s : sought ≡ take middle words)
+    (n : names ≡ drop middle words) where
   -- all lists were read
   pub searched : (texts : List (List ℕ)) → AreTexts known names texts
       → EndsSearching (with_addresses sought addresses) names texts end
-      → EndsReadingAll known words addresses end
+      → EndsReadingAll known words middle addresses end
   searched texts are h =
       inr (
         texts,
         subst (λ ns. AreTexts known ns texts) n are,
-        subst (λ ns. EndsSearching (with_addresses (sought_of words) addresses) ns texts end) n
+        subst (λ ns. EndsSearching (with_addresses (take middle words) addresses) ns texts end) n
             (subst (λ ss. EndsSearching (with_addresses ss addresses) names texts end) s h),
       )
 
   -- or one was not
-  pub not_read : (fault : ReadFault) → TextsStop known (2 + length sought) names fault
-      → Refuses (fault_text words fault) end → EndsReadingAll known words addresses end
+  pub not_read : (fault : ReadFault) → TextsStop known middle names fault
+      → Refuses (fault_text words fault) end → EndsReadingAll known words middle addresses end
   not_read fault stops h =
       inl (
         fault,
-        subst (λ ns. TextsStop known (2 + length (sought_of words)) ns fault) n
-            (subst (λ ss. TextsStop known (2 + length ss) names fault) s stops),
+        subst (λ ns. TextsStop known middle ns fault) n stops,
         h,
       )
 
 module _ {Z W E : Type 0} (program usage : List ℕ) (rows : List Row) (known : KnownLists)
-    (words sought : List (String Z)) (end : Ending W E) (s : sought ≡ sought_of words) where
+    (words sought : List (String Z)) (middle : ℕ) (end : Ending W E) (s : sought ≡ take middle words) where
   -- words are no addresses
-  pub no_addresses : (fault : QueryFault) → StopsAtWord 1 sought fault
+  pub no_addresses : (fault : QueryFault) → StopsAtWord 0 sought fault
       → Refuses (sought_fault_text program usage rows words fault) end
-      → EndsFind program usage rows known words end
-  no_addresses fault wrong h = inl (fault, subst (λ ss. StopsAtWord 1 ss fault) s wrong, h)
+      → EndsFind program usage rows known words middle end
+  no_addresses fault wrong h = inl (fault, subst (λ ss. StopsAtWord 0 ss fault) s wrong, h)
 
   -- or they are
   pub right_addresses : (addresses : List IpAddr) → AreAddresses sought addresses
-      → EndsReadingAll known words addresses end → EndsFind program usage rows known words end
+      → EndsReadingAll known words middle addresses end → EndsFind program usage rows known words middle end
   right_addresses addresses are h = inr (addresses, subst (λ ss. AreAddresses ss addresses) s are, h)

@@ -1,6 +1,6 @@
 -- What is wrong with words, at values at which a misreading would show. Each of these computes.
 use Rattle.std.proofs.Common.{◌≡◌, ℕ, List, ◌∷◌, ◌++◌, [], refl}
-use Rattle.std.specs.Prelude.{codes, String, Result, Ok, Err, None}
+use Rattle.std.specs.Prelude.{codes, false, true, String, Option, Result, Ok, Err, None, Some}
 use Rattle.std.specs.String.{string_bytes}
 use Rattle.options.specs.Faults.{problem_at}
 use Rattle.options.specs.Refusing.{subject_text}
@@ -10,17 +10,21 @@ use Rattle.options.proofs.Tables.{rows_of, pairs_of}
 use Rattle.cidr_merge.specs.CommandLines.{command_of}
 use Rattle.cidr_merge.specs.Faults.{no_task_fault}
 use Rattle.cidr_merge.specs.Options.{entries, pairs, another_form, format, prefix}
-use Rattle.cidr_merge.specs.Tasks.{task_called, no_option, no_file, one_side}
+use Rattle.cidr_merge.specs.Tasks.{task_called, no_option, one_side}
 use Rattle.cidr_merge.specs.declared.command_line.Command.{Command}
-use Rattle.cidr_merge.specs.declared.command_line.Operation.TheVariants.{Union}
+use Rattle.cidr_merge.specs.declared.command_line.Command.TheVariants as commands
+use Rattle.cidr_merge.specs.declared.command_line.Form.TheVariants.{Ranges}
+use Rattle.cidr_merge.specs.declared.command_line.Inspection.TheVariants as inspections
+use Rattle.cidr_merge.specs.declared.command_line.Operation.TheVariants.{Union, Minus}
+use Rattle.cidr_merge.specs.declared.shapes.Shape.TheVariants as shapes
 use Rattle.cidr_merge.specs.declared.tasks.Task.TheVariants as tasks
 
 abbrev pub table : Table
 table = record { rows = record { ref_ptr = (0, 0); now = rows_of entries }; pairs = record { ref_ptr = (0, 0); now = pairs_of pairs }; needs = record { ref_ptr = (0, 0); now = [] }; lacking = record { ref_ptr = (0, 0); now = [] } }
 
 -- what is told of words
-abbrev pub told : Result Command Fault → List ℕ
-told (Ok command) = []
+abbrev pub told : Result (Command × List (List ℕ)) Fault → List ℕ
+told (Ok asked) = []
 told (Err fault) = subject_text table.rows.now fault.subject ++ fault.problem
 
 -- of words of these bytes, behind others, this is told
@@ -36,15 +40,16 @@ pub no_task_before_all : {Z : Type 0} (word : String Z) (others : List (String Z
     → command_of table (word ∷ others) ≡ Err (no_task_fault table.rows.now (string_bytes word))
 no_task_before_all word others e = rw e refl
 
--- of options the first that is none, before what they are together, and both before the lists
+-- of options the first that is wrong, wherever it stands, before what they are together, and both before the sides
 pub options_first : {Z : Type 0}
-    → Have Z (codes "union" ∷ codes "--count" ∷ codes "-x" ∷ [] ∷ []) (codes "-x: " ++ no_option (tasks.Merge Union))
+    → Have Z (codes "union" ∷ [] ∷ codes "--count" ∷ codes "-x" ∷ []) (codes "-x: " ++ no_option (tasks.Merge Union))
     × Have Z (codes "union" ∷ codes "--count" ∷ codes "--ranges" ∷ codes "--x" ∷ []) (codes "--x: " ++ no_option (tasks.Merge Union))
-    × Have Z (codes "minus" ∷ codes "--count" ∷ codes "--ranges" ∷ [] ∷ []) (codes "--ranges: not together with --count")
+    × Have Z (codes "minus" ∷ codes "--count" ∷ codes "--" ∷ codes "--ranges" ∷ []) (codes "--ranges: not together with --count")
     × Have Z (codes "union" ∷ codes "--format" ∷ codes "--format" ∷ codes "csv" ∷ []) (codes "--format: " ++ problem_at table.rows.now format)
-    × Have Z (codes "union" ∷ codes "--ranges" ∷ codes "--format" ∷ codes "csv" ∷ []) another_form
+    × Have Z (codes "common" ∷ codes "--format" ∷ codes "--" ∷ codes "csv" ∷ []) (codes "--format: no value after it")
+    × Have Z (codes "union" ∷ codes "--ranges" ∷ codes "--format=csv" ∷ []) another_form
     × Have Z (codes "differ" ∷ codes "--format" ∷ codes "csv" ∷ []) (codes "--format: differ can be printed only as plain or range")
-    × Have Z (codes "common" ∷ codes "--" ∷ codes "a" ∷ []) (codes "--: no FILE before it")
+    × Have Z (codes "common" ∷ codes "--" ∷ codes "a" ∷ codes "--strict" ∷ []) (codes "--strict: only together with --json")
 options_first = (
   (λ _ o _ a _ b _ c. simp (o, a, b, c)),
   (λ _ o _ a _ b _ c. simp (o, a, b, c)),
@@ -53,57 +58,74 @@ options_first = (
   (λ _ o _ a _ b _ c. simp (o, a, b, c)),
   (λ _ o _ a _ b. simp (o, a, b)),
   (λ _ o _ a _ b. simp (o, a, b)),
+  (λ _ o _ a _ b _ c. simp (o, a, b, c)),
 )
 
--- of lists the first name that is none, then standard input, and then the sides
-pub names_before_sides : {Z : Type 0}
-    → Have Z (codes "union" ∷ codes "-" ∷ codes "-" ∷ [] ∷ []) (codes "'': not the name of a file")
-    × Have Z (codes "union" ∷ codes "--count" ∷ codes "a" ∷ codes "--count" ∷ []) (codes "--count: " ++ no_file (tasks.Merge Union))
-    × Have Z (codes "union" ∷ codes "a" ∷ codes "-" ∷ codes "--" ∷ codes "-" ∷ []) (codes "-: standard input can be read only once")
-    × Have Z (codes "union" ∷ codes "a" ∷ codes "--" ∷ codes "b" ∷ []) (codes "--: " ++ one_side)
+-- then the sides, and then the names of lists
+pub sides_before_names : {Z : Type 0}
+    → Have Z (codes "union" ∷ codes "-" ∷ codes "-" ∷ []) (codes "-: standard input can be read only once")
+    × Have Z (codes "minus" ∷ codes "-" ∷ codes "--" ∷ codes "-" ∷ []) (codes "-: standard input can be read only once")
+    × Have Z (codes "union" ∷ [] ∷ codes "--" ∷ codes "b" ∷ []) (codes "--: " ++ one_side)
     × Have Z (codes "differ" ∷ codes "a" ∷ codes "--" ∷ codes "--" ∷ []) (codes "--: only one -- is taken")
     × Have Z (codes "union" ∷ codes "--ranges" ∷ []) (codes "union: no FILE")
     × Have Z (codes "minus" ∷ codes "a" ∷ []) (codes "minus: no -- with a FILE behind it")
-    × Have Z (codes "minus" ∷ codes "a" ∷ codes "--" ∷ []) (codes "--: no FILE after it")
-names_before_sides = (
+    × Have Z (codes "minus" ∷ [] ∷ codes "--" ∷ codes "--count" ∷ []) (codes "--: no FILE after it")
+    × Have Z (codes "find" ∷ codes "--" ∷ codes "a" ∷ []) (codes "--: no ADDRESS before it")
+sides_before_names = (
+  (λ _ o _ a _ b. simp (o, a, b)),
   (λ _ o _ a _ b _ c. simp (o, a, b, c)),
-  (λ _ o _ a _ b _ c. simp (o, a, b, c)),
-  (λ _ o _ a _ b _ c _ d. simp (o, a, b, c, d)),
   (λ _ o _ a _ b _ c. simp (o, a, b, c)),
   (λ _ o _ a _ b _ c. simp (o, a, b, c)),
   (λ _ o _ a. simp (o, a)),
   (λ _ o _ a. simp (o, a)),
+  (λ _ o _ a _ b _ c. simp (o, a, b, c)),
   (λ _ o _ a _ b. simp (o, a, b)),
 )
 
--- an option of another operation, and words that have places of their own
-pub words_of_other_places : {Z : Type 0}
+-- an option of another task, and words that have places of their own
+pub options_of_others : {Z : Type 0}
     → Have Z (codes "union" ∷ codes "--prefix" ∷ []) (codes "--prefix: " ++ no_option (tasks.Merge Union))
+    × Have Z (codes "check" ∷ codes "a" ∷ codes "--format=x" ∷ []) (codes "--format: " ++ no_option tasks.Check)
     × Have Z (codes "common" ∷ codes "--quiet" ∷ []) (codes "--quiet: taken only once, as the first word")
     × Have Z (codes "union" ∷ codes "a" ∷ codes "--help" ∷ []) (codes "--help: taken only alone")
-    × Have Z (codes "overlaps" ∷ codes "-x" ∷ []) (codes "-x: not an option; overlaps takes none")
-    × Have Z (codes "find" ∷ codes "--" ∷ codes "a" ∷ []) (codes "--: no ADDRESS before it")
-words_of_other_places = (
-  (λ _ o _ a. simp (o, a)),
+    × Have Z (codes "overlaps" ∷ codes "-x" ∷ []) (codes "-x: not an option of overlaps; it takes none")
+    × Have Z (codes "split" ∷ codes "a" ∷ codes "--skip-bad" ∷ []) (codes "split: no --prefix N")
+    × Have Z (codes "split" ∷ codes "--prefix" ∷ codes "129" ∷ []) (codes "129: " ++ problem_at table.rows.now prefix)
+options_of_others = (
   (λ _ o _ a. simp (o, a)),
   (λ _ o _ a _ b. simp (o, a, b)),
   (λ _ o _ a. simp (o, a)),
+  (λ _ o _ a _ b. simp (o, a, b)),
+  (λ _ o _ a. simp (o, a)),
+  (λ _ o _ a _ b. simp (o, a, b)),
   (λ _ o _ a _ b. simp (o, a, b)),
 )
 
--- the options of `split` and `check` stand in their order
-pub options_in_their_order : {Z : Type 0}
-    → Have Z (codes "split" ∷ codes "--json" ∷ []) (codes "--json: " ++ no_option tasks.Split)
-    × Have Z (codes "split" ∷ codes "--skip-bad" ∷ []) (codes "split: no --prefix N before the first FILE")
-    × Have Z (codes "split" ∷ codes "--prefix" ∷ codes "129" ∷ []) (codes "129: " ++ problem_at table.rows.now prefix)
-    × Have Z (codes "split" ∷ codes "--prefix" ∷ []) (codes "'': " ++ problem_at table.rows.now prefix)
-    × Have Z (codes "split" ∷ codes "--prefix" ∷ codes "8" ∷ codes "--strict" ∷ []) (codes "--strict: " ++ no_file tasks.Split)
-    × Have Z (codes "check" ∷ codes "--strict" ∷ codes "--strict" ∷ []) (codes "--strict: " ++ no_option tasks.Check)
-options_in_their_order = (
-  (λ _ o _ a. simp (o, a)),
-  (λ _ o _ a. simp (o, a)),
-  (λ _ o _ a _ b. simp (o, a, b)),
-  (λ _ o _ a. simp (o, a)),
+-- ---- what is taken
+
+abbrev pub taken : Result (Command × List (List ℕ)) Fault → Option (Command × List (List ℕ))
+taken (Ok asked) = Some asked
+taken (Err fault) = None
+
+abbrev BehindAsked : (Z : Type 0) → List (String Z) → List (List ℕ) → Command → List (List ℕ) → Type 0
+BehindAsked Z words [] command names = taken (command_of table words) ≡ Some (command, names)
+BehindAsked Z words (bytes ∷ others) command names = (word : String Z) → string_bytes word ≡ bytes
+    → BehindAsked Z (words ++ word ∷ []) others command names
+
+abbrev Ask : (Z : Type 0) → List (List ℕ) → Command → List (List ℕ) → Type 0
+Ask Z words command names = BehindAsked Z [] words command names
+
+-- an option behind the lists of the second side, one before the `--`, and a value in its word or behind it
+pub options_anywhere : {Z : Type 0}
+    → Ask Z (codes "minus" ∷ codes "a" ∷ codes "--" ∷ codes "b" ∷ codes "--ranges" ∷ [])
+    (commands.Merge (record { operation = Minus; form = Ranges; skips_bad = false; shape = shapes.Lines; first = 0; middle = 1; second = 1 })) (codes "a" ∷ codes "b" ∷ [])
+    × Ask Z (codes "split" ∷ codes "a" ∷ codes "--prefix=+9" ∷ codes "--skip-bad" ∷ [])
+    (commands.Split (record { length = 9; skips_bad = true; shape = shapes.Lines; first = 0 })) (codes "a" ∷ [])
+    × Ask Z (codes "check" ∷ codes "a" ∷ codes "--strict" ∷ []) (commands.Inspect inspections.Strict 0) (codes "a" ∷ [])
+    × Ask Z (codes "find" ∷ codes "::1" ∷ codes "-" ∷ codes "--" ∷ codes "-" ∷ []) (commands.Find 2) (codes "::1" ∷ codes "-" ∷ codes "-" ∷ [])
+options_anywhere = (
+  (λ _ o _ a _ b _ c _ d. simp (o, a, b, c, d)),
   (λ _ o _ a _ b _ c. simp (o, a, b, c)),
   (λ _ o _ a _ b. simp (o, a, b)),
+  (λ _ o _ a _ b _ c _ d. simp (o, a, b, c, d)),
 )

@@ -1,5 +1,7 @@
 -- How the program ends: what its words ask for.
-use Rattle.std.specs.Prelude.{ℕ, List, ◌⊎◌, Result, Ok, Err, codes, String}
+use Rattle.std.specs.Prelude.{◌≡◌, ℕ, List, ◌⊎◌, Result, Ok, Err, map, codes, String}
+use Rattle.std.specs.String.{string_bytes}
+use Rattle.std.specs.declared.alloc.Global.{Global}
 use Rattle.lists.specs.KnownLists.{KnownLists}
 use Rattle.options.specs.Refusing.{refusal_text}
 use Rattle.options.specs.declared.faults.Fault.{Fault}
@@ -16,20 +18,22 @@ use Rattle.cidr_merge.specs.Splits.{EndsSplitting}
 use Rattle.cidr_merge.specs.declared.command_line.Command.{Command}
 use Rattle.cidr_merge.specs.declared.command_line.Command.TheVariants as commands
 
--- what is asked for is done
+-- what is asked for is done, of the FILEs of these names
 abbrev pub EndsCommand : {Z W E : Type 0} → List ℕ → List ℕ → List Row → KnownLists → List (String Z) → Command
     → Ending W E → Type 0
 EndsCommand program usage rows known words (commands.Merge request) end = EndsMerging known words request end
 EndsCommand program usage rows known words (commands.Split request) end = EndsSplitting known words request end
 EndsCommand program usage rows known words (commands.Inspect inspection first) end =
     EndsInspecting known words inspection first end
-EndsCommand program usage rows known words commands.Find end = EndsFind program usage rows known words end
+EndsCommand program usage rows known words (commands.Find middle) end =
+    EndsFind program usage rows known words middle end
 
 -- or something is wrong with the words, and that and the usage are reported
-abbrev pub EndsAsked : {Z W E : Type 0} → List ℕ → List ℕ → List Row → KnownLists → List (String Z)
-    → Result Command Fault → Ending W E → Type 0
-EndsAsked program usage rows known words (Ok command) end = EndsCommand program usage rows known words command end
-EndsAsked program usage rows known words (Err fault) end = Refuses (refusal_text program usage rows fault) end
+abbrev pub EndsAsked : {W E : Type 0} → List ℕ → List ℕ → List Row → KnownLists
+    → Result (Command × List (List ℕ)) Fault → Ending W E → Type 0
+EndsAsked program usage rows known (Ok asked) end = (names : List (String Global)) × (map string_bytes names ≡ asked.1)
+    × EndsCommand program usage rows known names asked.0 end
+EndsAsked program usage rows known (Err fault) end = Refuses (refusal_text program usage rows fault) end
 
 -- how a run ends of a program of this name, help, version and usage: with the help or the version, if the words ask for
 -- it. Else they are read by the table of its options, unless there is no memory for that
@@ -37,5 +41,5 @@ abbrev pub EndsAs : {Z W E : Type 0} → List ℕ → List ℕ → List ℕ → 
     → Type 0
 EndsAs program help version usage known words end = EndsRun help version words
     (Refuses (codes "out of memory\n") end
-    ⊎ ((table : Table) × IsOptions table × EndsAsked program usage table.rows.now known words
+    ⊎ ((table : Table) × IsOptions table × EndsAsked program usage table.rows.now known
     (command_of table words) end)) end

@@ -1,5 +1,5 @@
 -- How a run ends that searches lists for addresses.
-use Rattle.std.specs.Prelude.{◌≡◌, ◌==◌, ◌⊎◌, ℕ, ◌+◌, List, [], length, if◌then◌else◌, String}
+use Rattle.std.specs.Prelude.{◌≡◌, ◌==◌, ◌⊎◌, ℕ, List, [], length, take, drop, if◌then◌else◌, codes, String}
 use Rattle.std.specs.List.{concat}
 use Rattle.lines.specs.Outputs.{Written}
 use Rattle.lists.specs.KnownLists.{KnownLists}
@@ -12,8 +12,8 @@ use Rattle.program.specs.Reported.{name_at, fault_text}
 use Rattle.cidr_merge.specs.Finds.{lists_matches, lists_refusals}
 use Rattle.options.specs.Refusing.{refusal_text}
 use Rattle.options.specs.declared.table.Row.{Row}
-use Rattle.cidr_merge.specs.Faults.{sought_fault}
-use Rattle.cidr_merge.specs.FindWords.{sought_of, searched_of, AreAddresses, StopsAtWord, with_addresses}
+use Rattle.cidr_merge.specs.Faults.{at}
+use Rattle.cidr_merge.specs.FindWords.{AreAddresses, StopsAtWord, with_addresses}
 use Rattle.cidr_merge.specs.Texts.{AreTexts, TextsStop}
 use Rattle.cidr_merge.specs.Writing.{FailsToWrite}
 use Rattle.cidr_merge.specs.declared.query.QueryFault.{QueryFault}
@@ -39,24 +39,26 @@ EndsSearching {Z} {W} {E} sought names texts end =
     (record end { errors = errors }))
 
 -- a list was not read, nothing was written, and the cause was reported; or all were read
-abbrev pub EndsReadingAll : {Z W E : Type 0} → KnownLists → List (String Z) → List IpAddr
+abbrev pub EndsReadingAll : {Z W E : Type 0} → KnownLists → List (String Z) → ℕ → List IpAddr
     → Ending W E → Type 0
-EndsReadingAll known words addresses end =
-    ((fault : ReadFault) × TextsStop known (2 + length (sought_of words)) (searched_of words) fault
+EndsReadingAll known words middle addresses end =
+    ((fault : ReadFault) × TextsStop known middle (drop middle words) fault
     × Refuses (fault_text words fault) end)
-    ⊎ ((texts : List (List ℕ)) × AreTexts known (searched_of words) texts
-    × EndsSearching (with_addresses (sought_of words) addresses) (searched_of words) texts end)
+    ⊎ ((texts : List (List ℕ)) × AreTexts known (drop middle words) texts
+    × EndsSearching (with_addresses (take middle words) addresses) (drop middle words) texts end)
 
 -- what is reported of words that are not taken as addresses: the first that is none, and the usage,
 -- or that memory ran out
 abbrev pub sought_fault_text : {Z : Type 0} → List ℕ → List ℕ → List Row → List (String Z) → QueryFault → List ℕ
 sought_fault_text program usage rows words (NotAnAddress place) =
-    refusal_text program usage rows (sought_fault rows (name_at words place))
+    refusal_text program usage rows (at (name_at words place) (codes "not an address"))
 sought_fault_text program usage rows words OutOfMemory = fault_text words faults.OutOfMemory
 
--- that is reported before anything is read, or the words before the `--` name addresses
-abbrev pub EndsFind : {Z W E : Type 0} → List ℕ → List ℕ → List Row → KnownLists → List (String Z) → Ending W E → Type 0
-EndsFind program usage rows known words end =
-    ((fault : QueryFault) × StopsAtWord 1 (sought_of words) fault
+-- that is reported before anything is read, or the words before this index name addresses, and those from it on lists
+abbrev pub EndsFind : {Z W E : Type 0} → List ℕ → List ℕ → List Row → KnownLists → List (String Z) → ℕ → Ending W E
+    → Type 0
+EndsFind program usage rows known words middle end =
+    ((fault : QueryFault) × StopsAtWord 0 (take middle words) fault
     × Refuses (sought_fault_text program usage rows words fault) end)
-    ⊎ ((addresses : List IpAddr) × AreAddresses (sought_of words) addresses × EndsReadingAll known words addresses end)
+    ⊎ ((addresses : List IpAddr) × AreAddresses (take middle words) addresses
+    × EndsReadingAll known words middle addresses end)

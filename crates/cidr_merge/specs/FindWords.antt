@@ -1,20 +1,11 @@
 -- What the words of a `find` say: addresses, and lists in which they are sought.
-use Rattle.std.specs.Prelude.{◌≡◌, ℕ, ◌+◌, List, [], ◌∷◌, ◌++◌, length, drop, map, String}
+use Rattle.std.specs.Prelude.{◌≡◌, ℕ, ◌+◌, List, [], ◌∷◌, ◌++◌, length, map, String}
 use Rattle.std.specs.List.{zip}
 use Rattle.std.specs.String.{string_bytes}
 use Rattle.ipnetwork_addr.specs.Either.{NamesIp}
 use Rattle.ipnetwork_addr.specs.declared.ip.IpAddr.{IpAddr}
-use Rattle.cidr_merge.specs.Sides.{before_dashes, behind_dashes}
 use Rattle.cidr_merge.specs.declared.query.QueryFault.{QueryFault}
 use Rattle.cidr_merge.specs.declared.query.QueryFault.TheVariants.{NotAnAddress, OutOfMemory}
-
--- the words for addresses stand after `find` and before the first `--`
-abbrev pub sought_of : {Z : Type 0} → List (String Z) → List (String Z)
-sought_of words = before_dashes (drop 1 words)
-
--- the names of the lists stand after it
-abbrev pub searched_of : {Z : Type 0} → List (String Z) → List (String Z)
-searched_of words = behind_dashes (drop 1 words)
 
 -- the words are the texts of these addresses
 abbrev pub AreAddresses : {Z : Type 0} → List (String Z) → List IpAddr → Type 0

@@ -44,7 +44,7 @@ EndsFinding Check names texts end = EndsChecking names texts end
 EndsFinding Strict names texts end = EndsOrdered true names texts end
 EndsFinding Overlaps names texts end = EndsOrdered false names texts end
 
--- the lists from the word at this index on are looked over: one was not read, nothing was written, and the cause was
+-- the lists from the one at this index on are looked over: one was not read, nothing was written, and the cause was
 -- reported; or all were read
 abbrev pub EndsInspecting : {Z W E : Type 0} → KnownLists → List (String Z) → Inspection → ℕ → Ending W E → Type 0
 EndsInspecting known words inspection first end =

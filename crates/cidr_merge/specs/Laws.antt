@@ -1,5 +1,5 @@
 -- What no other text is, and what is computed of lists.
-use Rattle.std.specs.Prelude.{◌≡◌, ◌≢◌, ◌↔◌, ℕ, Bool, List, Option, None, Some, Result, Ok, false, nat_lt, drop}
+use Rattle.std.specs.Prelude.{◌≡◌, ◌≢◌, ◌↔◌, ℕ, Bool, List, Option, None, Some, Result, Ok, false, drop}
 use Rattle.std.specs.Prelude.{slice_range, codes, IsTrue, String}
 use Rattle.ipnetwork_addr.specs.declared.ip.IpAddr.{IpAddr}
 use Rattle.lists.specs.Entries.{ReadsEntry}
@@ -9,15 +9,18 @@ use Rattle.lists.specs.declared.entry.EntryFault.{EntryFault}
 use Rattle.cidr_merge.specs.Finds.{has}
 use Rattle.cidr_merge.specs.Forms.{form_called}
 use Rattle.cidr_merge.specs.NumberedLines.{reading_of}
-use Rattle.cidr_merge.specs.Options.{prefix}
 use Rattle.cidr_merge.specs.Tasks.{task_called}
 use Rattle.options.specs.Table.{named}
 use Rattle.options.specs.declared.table.Row.{Row}
 use Rattle.options.specs.declared.table.Table.{Table}
-use Rattle.cidr_merge.specs.CommandLines.{command_of}
-use Rattle.cidr_merge.specs.Sides.{before_dashes, behind_dashes}
+use Rattle.options.specs.Given.{files_of}
+use Rattle.cidr_merge.specs.CommandLines.{command_of, first_said, second_said}
+use Rattle.cidr_merge.specs.Faults.{takes}
 use Rattle.cidr_merge.specs.declared.command_line.Command.TheVariants as commands
+use Rattle.cidr_merge.specs.declared.command_line.Operation.{Operation}
 use Rattle.cidr_merge.specs.declared.command_line.Request.{Request}
+use Rattle.cidr_merge.specs.declared.tasks.Task.{Task}
+use Rattle.cidr_merge.specs.declared.tasks.Task.TheVariants as tasks
 
 -- no word but these nine says to do something
 abbrev pub NoOtherTask : Type 0
@@ -26,27 +29,27 @@ NoOtherTask =
     → text ≢ codes "differ" → text ≢ codes "list" → text ≢ codes "split" → text ≢ codes "check"
     → text ≢ codes "overlaps" → text ≢ codes "find" → task_called text ≡ None
 
--- the row of an option of the operations that merge
-abbrev pub is_of_merges : Option ℕ → Bool
-is_of_merges None = false
-is_of_merges (Some row) = nat_lt row prefix
+-- the row of an option that a task takes
+abbrev pub is_of : Task → Option ℕ → Bool
+is_of task None = false
+is_of task (Some row) = takes task row
 
 -- no text but these six is an option of an operation
 abbrev pub NoOtherOption : List Row → Type 0
 NoOtherOption rows =
-    (text : List ℕ) → text ≢ codes "--ranges" → text ≢ codes "--count" → text ≢ codes "--format"
-    → text ≢ codes "--skip-bad" → text ≢ codes "--json" → text ≢ codes "--strict"
-    → is_of_merges (named text rows) ≡ false
+    (operation : Operation) (text : List ℕ) → text ≢ codes "--ranges" → text ≢ codes "--count"
+    → text ≢ codes "--format" → text ≢ codes "--skip-bad" → text ≢ codes "--json" → text ≢ codes "--strict"
+    → is_of (tasks.Merge operation) (named text rows) ≡ false
 
--- the lists of the sides of a request are those before the first `--` behind the options, and those after it
-abbrev pub AreCut : {Z : Type 0} → List (String Z) → Request → Type 0
-AreCut words request =
-    (slice_range words request.first request.middle ≡ before_dashes (drop request.first words))
-    × (drop request.second words ≡ behind_dashes (drop request.first words))
+-- the lists of the sides of a request are the FILEs before the first `--`, and those behind it
+abbrev pub AreCut : {Z : Type 0} → Table → List (String Z) → Request → List (List ℕ) → Type 0
+AreCut table words request names =
+    (slice_range names request.first request.middle ≡ files_of (first_said table.rows.now (drop 1 words)))
+    × (drop request.second names ≡ files_of (second_said table.rows.now (drop 1 words)))
 
 abbrev pub SidesAreCut : {Z : Type 0} → Table → List (String Z) → Type 0
-SidesAreCut table words = (request : Request) → command_of table words ≡ Ok (commands.Merge request)
-    → AreCut words request
+SidesAreCut table words = (request : Request) (names : List (List ℕ))
+    → command_of table words ≡ Ok (commands.Merge request, names) → AreCut table words request names
 
 -- no text but these nine names a form
 abbrev pub NoOtherForm : Type 0

@@ -20,6 +20,7 @@ pub mod Pieces
 pub mod Private
 pub mod Reading
 pub mod Repetitions
+pub mod RightWords
 pub mod Runs
 pub mod Shapes
 pub mod Sides

@@ -1,8 +1,10 @@
--- The options of the command line.
-use Rattle.std.specs.Prelude.{ℕ, false, List, [], ◌∷◌, codes}
+-- The options of the command line, and which of them each task takes.
+use Rattle.std.specs.Prelude.{ℕ, true, List, [], ◌∷◌, codes}
 use Rattle.options.specs.Table.{Entry, IsTable, long_flag, alone, long}
 use Rattle.options.specs.declared.table.Kind.TheVariants as kinds
 use Rattle.options.specs.declared.table.Table.{Table}
+use Rattle.cidr_merge.specs.declared.tasks.Task.{Task}
+use Rattle.cidr_merge.specs.declared.tasks.Task.TheVariants as tasks
 
 -- their rows
 abbrev pub ranges : ℕ
@@ -26,26 +28,36 @@ strict = 5
 abbrev pub prefix : ℕ
 prefix = 6
 
--- the options, in the order of their rows: those up to `--strict` are of operations that merge
+-- the options, in the order of their rows
 abbrev pub entries : List Entry
 entries =
     long_flag (codes "--ranges") ∷ long_flag (codes "--count")
-    ∷ long (codes "--format") kinds.Text false
+    ∷ long (codes "--format") kinds.Text true
     (codes "not a form; the forms are plain, range, netmask, wildcard, csv, nft, ipset, json and addresses")
     ∷ long_flag (codes "--skip-bad") ∷ long_flag (codes "--json") ∷ long_flag (codes "--strict")
-    ∷ long (codes "--prefix") kinds.Text false (codes "not a prefix length, 0 to 128")
+    ∷ long (codes "--prefix") kinds.Text true (codes "not a prefix length, 0 to 128")
     ∷ alone (codes "--help") (codes "taken only alone")
     ∷ alone (codes "--version") (codes "taken only alone")
     ∷ alone (codes "--quiet") (codes "taken only once, as the first word") ∷ []
 
--- those that say how to print exclude each other
+-- those that say how to print exclude each other, and there is one length
 abbrev pub another_form : List ℕ
 another_form = codes "--format: given twice, or together with --ranges or --count"
 
 abbrev pub pairs : List (ℕ × ℕ × List ℕ)
 pairs = (ranges, count, codes "--ranges: not together with --count") ∷ (format, format, another_form)
-    ∷ (format, ranges, another_form) ∷ (format, count, another_form) ∷ []
+    ∷ (format, ranges, another_form) ∷ (format, count, another_form)
+    ∷ (prefix, prefix, codes "--prefix: given twice") ∷ []
 
 -- the table has these
 abbrev pub IsOptions : Table → Type 0
 IsOptions table = IsTable table entries pairs [] []
+
+-- those that a task takes
+abbrev pub taken : Task → List ℕ
+taken (tasks.Merge operation) = ranges ∷ count ∷ format ∷ skip_bad ∷ json ∷ strict ∷ []
+taken tasks.List = ranges ∷ count ∷ format ∷ skip_bad ∷ json ∷ strict ∷ []
+taken tasks.Split = prefix ∷ skip_bad ∷ json ∷ strict ∷ []
+taken tasks.Check = strict ∷ []
+taken tasks.Overlaps = []
+taken tasks.Find = []

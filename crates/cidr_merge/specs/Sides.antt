@@ -1,13 +1,9 @@
 -- The sides of a command line.
-use Rattle.std.specs.Prelude.{ℕ, ◌+◌, Bool, List, take, drop, nat_lt, codes, String}
+use Rattle.std.specs.Prelude.{◌+◌, List, take, drop, codes, String}
 use Rattle.std.specs.List.{position_or_len}
-use Rattle.program.specs.Words.{is, count}
+use Rattle.program.specs.Words.{is}
 
--- one of the words is this text
-abbrev pub has : {Z : Type 0} → List ℕ → List (String Z) → Bool
-has text words = nat_lt 0 (count text words)
-
--- those before the first `--`, and those after it
+-- the words before the first `--`, and those after it
 abbrev pub before_dashes : {Z : Type 0} → List (String Z) → List (String Z)
 before_dashes words = take (position_or_len (is (codes "--")) words) words
 

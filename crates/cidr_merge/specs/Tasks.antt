@@ -25,24 +25,15 @@ is_two_sided (tasks.Merge operation) = true
 is_two_sided tasks.Find = true
 is_two_sided task = false
 
--- what is told of a word that is no option where one may stand
+-- what is told of a word that begins with a `-` and is no option of a task
 abbrev pub no_option : Task → List ℕ
-no_option tasks.Split = codes
-    "not an option here; split takes --prefix N, --skip-bad, --json and, behind it, --strict, in this order"
-no_option tasks.Check = codes "not an option; check takes one --strict"
-no_option tasks.Overlaps = codes "not an option; overlaps takes none"
-no_option tasks.Find = codes "not an option; find takes none"
-no_option task = codes "not an option; union, common, minus, differ and list take --ranges, --count, --format FORM, --skip-bad, --json and --strict"
+no_option tasks.Split = codes "not an option of split; it takes --prefix N, --skip-bad, --json and --strict"
+no_option tasks.Check = codes "not an option of check; it takes --strict"
+no_option tasks.Overlaps = codes "not an option of overlaps; it takes none"
+no_option tasks.Find = codes "not an option of find; it takes none"
+no_option task = codes "not an option of union, common, minus, differ or list; they take --ranges, --count, --format FORM, --skip-bad, --json and --strict"
 
--- of a word that begins with a `-` among the lists
-abbrev pub no_file : Task → List ℕ
-no_file tasks.Split = codes
-    "not a FILE; split takes --prefix N, --skip-bad, --json and, behind it, --strict, in this order, before the first one"
-no_file tasks.Overlaps = codes "not a FILE, and overlaps takes no option"
-no_file tasks.Find = codes "not a FILE, and find takes no option"
-no_file task = codes "not a FILE; options stand before the first one"
-
--- and of a `--` where there is one side, and before all else
+-- and of a `--` where there is one side, and with nothing before it
 abbrev pub one_side : List ℕ
 one_side = codes "only common, minus, differ and find take a --"
 

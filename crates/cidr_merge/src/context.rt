@@ -7,8 +7,8 @@ use std::alloc::Global;
 pub(crate) struct Context<'a, L> {
     /// Where it allocates.
     pub alloc: Global,
-    /// The words after the program's name.
-    pub words: &'a [String],
+    /// The names of the lists, or of a `find` the addresses and then those.
+    pub names: &'a [String],
     /// The lists that it can open.
     pub lists: &'a L,
 }

@@ -1,62 +1,32 @@
 //! What is wrong with the words of a command line.
-ghost use Rattle.std.specs.Prelude.{◌≡◌};
-ghost use Rattle.cidr_merge.specs.Faults.{at, misplaced_by, misplaced, stray_word, stray, no_task_fault, option_fault, options_fault, behind, behind_shape, left_fault, dashes_fault, prefix_fault, together_fault, is_exported, merge_fault, few_fault, said_fault, name_fault, names_fault, lists_fault, one_side_fault, two_sides_fault, sides_fault, find_fault, fault_of, sought_fault};
+ghost use Rattle.std.specs.Prelude.{◌≡◌, ◌≤◌, length, map};
+ghost use Rattle.std.specs.String.{string_bytes};
+ghost use Rattle.cidr_merge.specs.Faults.{at, problem_of_row, no_task_fault, takes, option_fault, is_value, value_fault, item_fault, items_fault, lacks_json, lacks_prefix, cannot_print, together_fault, sides_fault, files_fault, files_among, fault_of};
 
 use crate::command_line::{Form, Operation, form_called, form_of, prefix_in};
-use crate::rows::{FORMAT, JSON, PREFIX, SKIP_BAD, STRICT};
-use crate::tasks::{ONE_SIDE, Task, is_two_sided, no_file, no_first, no_option};
-use crate::words::{behind_dashes, has};
+use crate::rows::{FORMAT, JSON, PREFIX, STRICT, taken};
+use crate::tasks::{ONE_SIDE, Task, is_two_sided, no_first, no_option};
 use options::faults::{Fault, Subject, about, pair_fault, problem_at};
-use options::given::{is_given, names, value_in};
+use options::given::is_given;
 use options::items::{Item, Text};
 use options::reading::is_plain;
 use options::table::{Kind, Row, Table, kind_at, named};
 use program::words::count_of;
 
-// This is wrong with a word.
-fn at<'a>(word: &'a str, problem: &'a str) -> Fault<'a>
+/// This is wrong with a word.
+pub(crate) fn at<'a>(word: &'a str, problem: &'a str) -> Fault<'a>
     ensures { result ≡ at word.now problem.now }
 {
     about(Subject::Word(Text::new(word)), problem)
 }
 
-// What is told of the option of a row where it may not stand: this, unless it stands elsewhere and alone.
-fn misplaced_by(rows: &[Row], usual: &'static str, row: usize) -> &'static str
-    ensures { result.now ≡ misplaced_by rows.now usual.now row }
+// What is told of an option that stands in a wrong place: this, unless it stands alone.
+fn problem_of_row(rows: &[Row], row: usize, usual: &'static str) -> &'static str
+    ensures { result.now ≡ problem_of_row rows.now row usual.now }
 {
     match kind_at(rows, row) {
         Kind::Alone => problem_at(rows, row),
         _ => usual,
-    }
-}
-
-// What is told of a word where it may not stand.
-fn misplaced(rows: &[Row], usual: &'static str, word: &str) -> &'static str
-    ensures { result.now ≡ misplaced rows.now usual.now word.now }
-{
-    match named(rows, word) {
-        Some(row) => misplaced_by(rows, usual, row),
-        None => usual,
-    }
-}
-
-/// A word that may not stand where it does.
-pub(crate) fn stray_word<'a>(rows: &[Row], usual: &'static str, word: &'a str) -> Fault<'a>
-    ensures { result ≡ stray_word rows.now usual.now word.now }
-{
-    at(word, misplaced(rows, usual, word))
-}
-
-// An option that may not stand where it does.
-fn stray<'a>(rows: &[Row], usual: &'static str, item: &Item<'a>) -> Fault<'a>
-    ensures { result ≡ stray rows.now usual.now item.now }
-{
-    match item {
-        Item::Flag(row) => about(Subject::Option(*row), misplaced_by(rows, usual, *row)),
-        Item::Value(row, _) | Item::Lacks(row) => about(Subject::Option(*row), usual),
-        Item::Joined(_, _, word) | Item::File(word) | Item::Unknown(word) => {
-            at(word.as_str(), usual)
-        }
     }
 }
 
@@ -65,36 +35,79 @@ pub(crate) fn no_task_fault<'a>(rows: &[Row], word: &'a str) -> Fault<'a>
     ensures { result ≡ no_task_fault rows.now word.now }
 {
     if is_plain(word) {
-        stray_word(rows, "not an operation", word)
-    } else {
-        stray_word(rows, "not an operation; options stand behind one", word)
+        return at(word, "not an operation");
+    }
+    let usual = "not an operation; options stand behind one";
+    match named(rows, word) {
+        Some(row) => at(word, problem_of_row(rows, row, usual)),
+        None => at(word, usual),
     }
 }
 
-// What is wrong with an option of an operation that merges.
-fn option_fault<'a>(rows: &[Row], task: Task, item: &Item<'a>) -> Option<Fault<'a>>
-    ensures { result ≡ option_fault rows.now task item.now }
+// Whether a task takes the option of a row.
+fn takes(task: Task, row: usize) -> bool
+    ensures { result ≡ takes task row }
+{
+    taken(task).iter().any(|one| *one == row)
+}
+
+// That a task does not take the option of a row.
+fn option_fault<'a>(rows: &[Row], task: Task, row: usize) -> Option<Fault<'a>>
+    ensures { result ≡ option_fault rows.now task row }
+{
+    if takes(task, row) {
+        return None;
+    }
+    let problem = problem_of_row(rows, row, no_option(task));
+    Some(about(Subject::Option(row), problem))
+}
+
+// Whether a text is a value of the option of a row.
+fn is_value(row: usize, text: &str) -> bool
+    ensures { result ≡ is_value row text.now }
+{
+    match row {
+        FORMAT => form_called(text).is_some(),
+        PREFIX => prefix_in(text).is_some(),
+        _ => true,
+    }
+}
+
+// That a text is no value of the option of a row.
+fn value_fault<'a>(rows: &[Row], row: usize, text: &'a str) -> Option<Fault<'a>>
+    ensures { result ≡ value_fault rows.now row text.now }
+{
+    if is_value(row, text) {
+        return None;
+    }
+    Some(at(text, problem_at(rows, row)))
+}
+
+// What is wrong with an option.
+fn item_fault<'a>(rows: &[Row], task: Task, item: &Item<'a>) -> Option<Fault<'a>>
+    ensures { result ≡ item_fault rows.now task item.now }
 {
     match item {
-        Item::Flag(row) if *row < PREFIX => None,
-        Item::Lacks(FORMAT) => None,
-        Item::Value(FORMAT, text) => {
-            if form_called(text.as_str()).is_some() {
-                return None;
-            }
-            Some(at(text.as_str(), problem_at(rows, FORMAT)))
+        Item::Flag(row) => option_fault(rows, task, *row),
+        Item::Value(row, text) | Item::Joined(row, text, _) => {
+            option_fault(rows, task, *row).or(value_fault(rows, *row, text.as_str()))
         }
-        _ => Some(stray(rows, no_option(task), item)),
+        Item::Lacks(row) => {
+            let lacks = about(Subject::Option(*row), "no value after it");
+            option_fault(rows, task, *row).or(Some(lacks))
+        }
+        Item::Unknown(word) => Some(at(word.as_str(), no_option(task))),
+        Item::File(_) => None,
     }
 }
 
-// What is wrong with the first of these with which something is wrong.
-fn options_fault<'a>(rows: &[Row], task: Task, items: &[Item<'a>]) -> Option<Fault<'a>>
-    ensures { result ≡ options_fault rows.now task items.now }
+// What is wrong with the first option with which something is wrong.
+fn items_fault<'a>(rows: &[Row], task: Task, items: &[Item<'a>]) -> Option<Fault<'a>>
+    ensures { result ≡ items_fault rows.now task items.now }
 {
     let mut at = 0;
     while at < items.len() {
-        if let Some(fault) = option_fault(rows, task, &items[at]) {
+        if let Some(fault) = item_fault(rows, task, &items[at]) {
             return Some(fault);
         }
         at += 1;
@@ -102,260 +115,124 @@ fn options_fault<'a>(rows: &[Row], task: Task, items: &[Item<'a>]) -> Option<Fau
     None
 }
 
-// The items behind the option of a row, if that is the first of them.
-fn behind<'i, 'a>(row: usize, items: &'i [Item<'a>]) -> &'i [Item<'a>]
-    ensures { result.now ≡ behind row items.now }
+// Whether `--strict` is given without the `--json` that it says more of.
+fn lacks_json(task: Task, items: &[Item<'_>]) -> bool
+    ensures { result ≡ lacks_json task items.now }
 {
-    if let Some((first, others)) = items.split_first() {
-        if names(first, row) {
-            return others;
-        }
-    }
-    items
+    takes(task, JSON) && is_given(items, STRICT) && !is_given(items, JSON)
 }
 
-// The items behind a `--json` and a `--strict` behind that.
-fn behind_shape<'i, 'a>(items: &'i [Item<'a>]) -> &'i [Item<'a>]
-    ensures { result.now ≡ behind_shape items.now }
+// Whether a `split` is without its length.
+fn lacks_prefix(task: Task, items: &[Item<'_>]) -> bool
+    ensures { result ≡ lacks_prefix task items.now }
 {
-    if let Some((first, others)) = items.split_first() {
-        if names(first, JSON) {
-            return behind(STRICT, others);
-        }
-    }
-    items
+    matches!(task, Task::Split) && !is_given(items, PREFIX)
 }
 
-// That there is an option left.
-fn left_fault<'a>(rows: &[Row], usual: &'static str, items: &[Item<'a>]) -> Option<Fault<'a>>
-    ensures { result ≡ left_fault rows.now usual.now items.now }
+// Whether a task cannot print in this form: those that other programs read cannot tell the sides of `differ`.
+fn cannot_print(task: Task, form: Form) -> bool
+    ensures { result ≡ cannot_print task form }
 {
-    match items.first() {
-        Some(item) => Some(stray(rows, usual, item)),
-        None => None,
-    }
-}
-
-// That a `--` stands before all lists.
-fn dashes_fault<'a>(task: Task, lists: &[String]) -> Option<Fault<'a>>
-    ensures { result ≡ dashes_fault task lists.now }
-{
-    match lists.first() {
-        Some(word) if word.as_str() == "--" => { Some(at("--", no_first(task))) }
-        _ => None,
-    }
-}
-
-// What is wrong with the options of a `split`, of which the first has to be `--prefix`.
-fn prefix_fault<'a>(rows: &[Row], items: &[Item<'a>], lists: &[String]) -> Option<Fault<'a>>
-    ensures { result ≡ prefix_fault rows.now items.now lists.now }
-{
-    let Some((first, others)) = items.split_first() else {
-        return dashes_fault(Task::Split, lists).or(Some(about(Subject::CommandLine, NO_PREFIX)));
-    };
-    if !names(first, PREFIX) {
-        return Some(stray(rows, no_option(Task::Split), first));
-    }
-    let value = value_in(first, PREFIX, "");
-    if prefix_in(value).is_none() {
-        return Some(at(value, problem_at(rows, PREFIX)));
-    }
-    let left = behind_shape(behind(SKIP_BAD, others));
-    left_fault(rows, no_file(Task::Split), left)
-}
-
-// What is told of a `split` without a `--prefix`.
-const NO_PREFIX: &str = "split: no --prefix N before the first FILE";
-
-// Options that do not go together, or do not go with the operation.
-fn together_fault<'a>(
-    table: &Table<'_>,
-    operation: Operation,
-    items: &[Item<'a>],
-) -> Option<Fault<'a>>
-    ensures { result ≡ together_fault table.now operation items.now }
-{
-    if let Some(fault) = pair_fault(items, table.pairs) {
-        return Some(fault);
-    }
-    if is_given(items, STRICT) && !is_given(items, JSON) {
-        return Some(about(Subject::Option(STRICT), "only together with --json"));
-    }
-    if operation == Operation::Differ && is_exported(form_of(Form::Blocks, items)) {
-        return Some(about(
-            Subject::Option(FORMAT),
-            "differ can be printed only as plain or range",
-        ));
-    }
-    None
-}
-
-// Whether a form is one that other programs read.
-fn is_exported(form: Form) -> bool
-    ensures { result ≡ is_exported form }
-{
-    match form {
-        Form::Exported(_) => true,
+    match (task, form) {
+        (Task::Merge(Operation::Differ), Form::Exported(_)) => true,
         _ => false,
     }
 }
 
-// What is wrong with the options of an operation that merges, and the `--` behind them.
-fn merge_fault<'a>(
-    table: &Table<'_>,
-    task: Task,
-    operation: Operation,
-    items: &[Item<'a>],
-    lists: &[String],
-) -> Option<Fault<'a>>
-    ensures { result ≡ merge_fault table.now task operation items.now lists.now }
+// What is wrong with options together.
+fn together_fault<'a>(table: &Table<'_>, task: Task, items: &[Item<'a>]) -> Option<Fault<'a>>
+    ensures { result ≡ together_fault table.now task items.now }
 {
-    options_fault(table.rows, task, items)
-        .or(dashes_fault(task, lists))
-        .or(together_fault(table, operation, items))
-}
-
-// What is wrong with options of which none may be left, and the `--` behind them.
-fn few_fault<'a>(
-    rows: &[Row],
-    task: Task,
-    items: &[Item<'a>],
-    lists: &[String],
-) -> Option<Fault<'a>>
-    ensures { result ≡ few_fault rows.now task items.now lists.now }
-{
-    left_fault(rows, no_option(task), items).or(dashes_fault(task, lists))
-}
-
-// What is wrong with the options.
-fn said_fault<'a>(
-    table: &Table<'_>,
-    task: Task,
-    items: &[Item<'a>],
-    lists: &[String],
-) -> Option<Fault<'a>>
-    ensures { result ≡ said_fault table.now task items.now lists.now }
-{
-    match task {
-        Task::Merge(operation) => merge_fault(table, task, operation, items, lists),
-        Task::List => merge_fault(table, task, Operation::Union, items, lists),
-        Task::Split => prefix_fault(table.rows, behind(SKIP_BAD, items), lists),
-        Task::Check => few_fault(table.rows, task, behind(STRICT, items), lists),
-        Task::Overlaps | Task::Find => few_fault(table.rows, task, items, lists),
-    }
-}
-
-// What is wrong with a word among the lists.
-fn name_fault<'a>(rows: &[Row], task: Task, word: &'a str) -> Option<Fault<'a>>
-    ensures { result ≡ name_fault rows.now task word.now }
-{
-    if word.is_empty() {
-        return Some(at(word, "not the name of a file"));
-    }
-    if is_plain(word) || word == "--" {
-        return None;
-    }
-    Some(stray_word(rows, no_file(task), word))
-}
-
-// What is wrong with the first of these words with which something is wrong.
-fn names_fault<'a>(rows: &[Row], task: Task, words: &'a [String]) -> Option<Fault<'a>>
-    ensures { result ≡ names_fault rows.now task words.now }
-{
-    let mut at = 0;
-    while at < words.len() {
-        if let Some(fault) = name_fault(rows, task, words[at].as_str()) {
-            return Some(fault);
-        }
-        at += 1;
-    }
-    None
-}
-
-// What is wrong with the names of lists: one of them, or that standard input is among them twice.
-fn lists_fault<'a>(rows: &[Row], task: Task, lists: &'a [String]) -> Option<Fault<'a>>
-    ensures { result ≡ lists_fault rows.now task lists.now }
-{
-    if let Some(fault) = names_fault(rows, task, lists) {
+    if let Some(fault) = pair_fault(items, table.pairs) {
         return Some(fault);
     }
-    if count_of(lists, "-") > 1 {
-        return Some(at("-", "standard input can be read only once"));
+    if lacks_json(task, items) {
+        return Some(about(Subject::Option(STRICT), "only together with --json"));
+    }
+    if cannot_print(task, form_of(Form::Blocks, items)) {
+        let problem = "differ can be printed only as plain or range";
+        return Some(about(Subject::Option(FORMAT), problem));
+    }
+    if lacks_prefix(task, items) {
+        return Some(about(Subject::CommandLine, "split: no --prefix N"));
     }
     None
 }
 
-// What is wrong with the lists of one side: a `--`, or that there is none.
-fn one_side_fault<'a>(name: &'a str, lists: &[String]) -> Option<Fault<'a>>
-    ensures { result ≡ one_side_fault name.now lists.now }
+// What is wrong with the sides, which have so many FILEs: with one a `--`, or that there is no FILE; with two that there is
+// no `--`, another one, or nothing before or behind it.
+fn sides_fault<'a>(
+    task: Task,
+    name: &'a str,
+    dashes: usize,
+    first: usize,
+    second: usize,
+) -> Option<Fault<'a>>
+    ensures { result ≡ sides_fault task name.now dashes first second }
 {
-    if has(lists, "--") {
-        return Some(at("--", ONE_SIDE));
-    }
-    if lists.is_empty() {
-        return Some(at(name, "no FILE"));
-    }
-    None
-}
-
-// What is wrong with two sides: that there is no `--`, another one, or nothing behind it.
-fn two_sides_fault<'a>(name: &'a str, lists: &[String]) -> Option<Fault<'a>>
-    ensures { result ≡ two_sides_fault name.now lists.now }
-{
-    if !has(lists, "--") {
-        return Some(at(name, "no -- with a FILE behind it"));
-    }
-    if count_of(lists, "--") > 1 {
-        return Some(at("--", "only one -- is taken"));
-    }
-    if behind_dashes(lists).is_empty() {
-        return Some(at("--", "no FILE after it"));
-    }
-    None
-}
-
-// What is wrong with the sides.
-fn sides_fault<'a>(task: Task, name: &'a str, lists: &[String]) -> Option<Fault<'a>>
-    ensures { result ≡ sides_fault task name.now lists.now }
-{
-    if is_two_sided(task) {
-        two_sides_fault(name, lists)
+    if !is_two_sided(task) {
+        if dashes > 0 {
+            Some(at("--", ONE_SIDE))
+        } else if first == 0 {
+            Some(at(name, "no FILE"))
+        } else {
+            None
+        }
+    } else if dashes == 0 {
+        Some(at(name, "no -- with a FILE behind it"))
+    } else if dashes > 1 {
+        Some(at("--", "only one -- is taken"))
+    } else if first == 0 {
+        Some(at("--", no_first(task)))
+    } else if second == 0 {
+        Some(at("--", "no FILE after it"))
     } else {
-        one_side_fault(name, lists)
+        None
     }
 }
 
-/// What is wrong with the words of a `find`, whatever its addresses are.
-pub(crate) fn find_fault<'a>(rows: &[Row], name: &'a str, others: &'a [String]) -> Option<Fault<'a>>
-    ensures { result ≡ find_fault rows.now name.now others.now }
+// What is wrong with the names of lists: that one is empty, or that standard input is among them twice.
+fn files_fault<'a>(files: &[String]) -> Option<Fault<'a>>
+    ensures { result ≡ files_fault (map string_bytes files.now) }
 {
-    dashes_fault(Task::Find, others)
-        .or(two_sides_fault(name, others))
-        .or(lists_fault(rows, Task::Find, behind_dashes(others)))
+    if count_of(files, "") > 0 {
+        Some(at("", "not the name of a file"))
+    } else if count_of(files, "-") > 1 {
+        Some(at("-", "standard input can be read only once"))
+    } else {
+        None
+    }
 }
 
-/// What is wrong with the words behind the first: the options before the lists, then the names of these, and then the sides.
+// The lists that are read: those of both sides, but what stands before the `--` of a `find` are addresses.
+fn files_among(task: Task, middle: usize, names: &[String]) -> &[String]
+    requires { middle ≤ length names.now }
+    ensures { result.now ≡ files_among task middle names.now }
+{
+    match task {
+        Task::Find => &names[middle..],
+        _ => names,
+    }
+}
+
+/// What is wrong with the words behind the first: with an option, the first that is wrong; then with options together, with
+/// the sides, and with the names of lists.
 pub(crate) fn fault_of<'a>(
     table: &Table<'_>,
     task: Task,
     name: &'a str,
+    dashes: usize,
     items: &[Item<'a>],
-    lists: &'a [String],
+    middle: usize,
+    names: &[String],
 ) -> Option<Fault<'a>>
-    ensures { result ≡ fault_of table.now task name.now items.now lists.now }
+    requires { middle ≤ length names.now }
+    ensures { result
+        ≡ fault_of table.now task name.now dashes items.now middle (map string_bytes names.now) }
 {
-    said_fault(table, task, items, lists)
-        .or(lists_fault(table.rows, task, lists))
-        .or(sides_fault(task, name, lists))
-}
-
-/// What is wrong with a word that is no address.
-pub(crate) fn sought_fault<'a>(rows: &[Row], word: &'a str) -> Fault<'a>
-    ensures { result ≡ sought_fault rows.now word.now }
-{
-    if is_plain(word) {
-        at(word, "not an address")
-    } else {
-        stray_word(rows, no_option(Task::Find), word)
-    }
+    let second = names.len() - middle;
+    items_fault(table.rows, task, items)
+        .or(together_fault(table, task, items))
+        .or(sides_fault(task, name, dashes, middle, second))
+        .or(files_fault(files_among(task, middle, names)))
 }

@@ -1,20 +1,18 @@
 //! The run of a `find`.
-ghost use Rattle.std.specs.Prelude.{◌≡◌, ◌<◌, drop, length, if◌then◌else◌};
+ghost use Rattle.std.specs.Prelude.{◌≡◌, ◌≤◌, take, length, if◌then◌else◌};
 ghost use Rattle.program.specs.Endings.{ending};
 ghost use Rattle.program.specs.Messages.{Reports};
-ghost use Rattle.cidr_merge.specs.Sides.{before_dashes};
 ghost use Rattle.cidr_merge.specs.FindRuns.{EndsFind, EndsReadingAll};
 ghost use Rattle.cidr_merge.specs.FindRuns.{sought_fault_text};
 ghost use Rattle.cidr_merge.specs.FindWords.{AreAddresses};
 
 use crate::context::Context;
-use crate::faults::sought_fault;
+use crate::faults::at;
 use crate::help::{PROGRAM, USAGE};
 use crate::query::{Query, QueryFault, addresses_of};
 use crate::reading::refuse_lists;
 use crate::searching::search_lists;
 use crate::texts::{WholeLists, texts_of};
-use crate::words::{before_dashes, behind_dashes};
 use ipnetwork::IpAddr;
 use lines::output::Output;
 use lists::{OpenLists, ReadFault};
@@ -30,22 +28,22 @@ const FOUND: u8 = 0;
 /// The exit status if no entry has an address that is sought.
 const NOTHING_FOUND: u8 = 1;
 
-/// Prints the entries of lists that have addresses, and returns the exit status. The words between the first and a `--` are
-/// the addresses, and those behind it name the lists.
+/// Prints the entries of lists that have addresses, and returns the exit status. The names before this index are the
+/// addresses, and those from it on the lists.
 pub(crate) fn find<L: OpenLists, W: Write, E: Write>(
+    middle: usize,
     rows: &[Row],
     context: &Context<'_, L>,
     output: &mut Output<'_, W>,
     errors: &mut Output<'_, E>,
 ) -> u8
-    requires { 0 < length context.now.words.now }
+    requires { middle ≤ length context.now.names.now }
     ensures { EndsFind PROGRAM.now USAGE.now rows.now (L.known context.now.lists.now)
-        context.now.words.now (ending output.old output.new errors.old errors.new result) }
+        context.now.names.now middle (ending output.old output.new errors.old errors.new result) }
 {
-    let others = &context.words[1..];
-    match addresses_of(context.alloc, before_dashes(others), 1) {
-        Ok(addresses) => find_all(addresses.as_slice(), context, output, errors),
-        Err(fault) => refuse_sought(rows, fault, context.words, errors),
+    match addresses_of(context.alloc, &context.names[..middle], 0) {
+        Ok(addresses) => find_all(middle, addresses.as_slice(), context, output, errors),
+        Err(fault) => refuse_sought(rows, fault, context.names, errors),
     }
 }
 
@@ -62,7 +60,7 @@ fn refuse_sought<E: Write>(
 {
     match fault {
         QueryFault::NotAnAddress(place) => {
-            let fault = sought_fault(rows, text_at(words, place));
+            let fault = at(text_at(words, place), "not an address");
             refuse(PROGRAM, USAGE, rows, &fault, errors)
         }
         QueryFault::OutOfMemory => refuse_lists(words, ReadFault::OutOfMemory, errors),
@@ -71,25 +69,25 @@ fn refuse_sought<E: Write>(
 
 // Reads the lists, and prints their entries that have one of these addresses.
 fn find_all<L: OpenLists, W: Write, E: Write>(
+    middle: usize,
     addresses: &[IpAddr],
     context: &Context<'_, L>,
     output: &mut Output<'_, W>,
     errors: &mut Output<'_, E>,
 ) -> u8
-    requires words { 0 < length context.now.words.now }
-    requires addresses { AreAddresses (before_dashes (drop 1 context.now.words.now)) addresses.now }
-    ensures { EndsReadingAll (L.known context.now.lists.now) context.now.words.now addresses.now
-        (ending output.old output.new errors.old errors.new result) }
+    requires words { middle ≤ length context.now.names.now }
+    requires addresses { AreAddresses (take middle context.now.names.now) addresses.now }
+    ensures { EndsReadingAll (L.known context.now.lists.now) context.now.names.now middle
+        addresses.now (ending output.old output.new errors.old errors.new result) }
 {
-    let others = &context.words[1..];
     let query = Query {
-        words: before_dashes(others),
+        words: &context.names[..middle],
         addresses,
     };
-    let names = behind_dashes(others);
-    let texts = match texts_of(context, names, 2 + query.words.len()) {
+    let names = &context.names[middle..];
+    let texts = match texts_of(context, names, middle) {
         Ok(texts) => texts,
-        Err(fault) => return refuse_lists(context.words, fault, errors),
+        Err(fault) => return refuse_lists(context.names, fault, errors),
     };
     let lists = WholeLists {
         names,

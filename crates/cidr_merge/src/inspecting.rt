@@ -31,7 +31,7 @@ const NOTHING_FOUND: u8 = 0;
 /// The exit status if something was found.
 const FOUND: u8 = 1;
 
-/// Looks over the lists that the words name from the one at the index `first` on, and returns the exit status.
+/// Looks over the lists from the one at the index `first` on, and returns the exit status.
 pub(crate) fn inspect<L: OpenLists, W: Write, E: Write>(
     inspection: Inspection,
     first: usize,
@@ -39,14 +39,14 @@ pub(crate) fn inspect<L: OpenLists, W: Write, E: Write>(
     output: &mut Output<'_, W>,
     errors: &mut Output<'_, E>,
 ) -> u8
-    requires { first ≤ length context.now.words.now }
-    ensures { EndsInspecting (L.known context.now.lists.now) context.now.words.now inspection first
+    requires { first ≤ length context.now.names.now }
+    ensures { EndsInspecting (L.known context.now.lists.now) context.now.names.now inspection first
         (ending output.old output.new errors.old errors.new result) }
 {
-    let names = &context.words[first..];
+    let names = &context.names[first..];
     let texts = match texts_of(context, names, first) {
         Ok(texts) => texts,
-        Err(fault) => return refuse_lists(context.words, fault, errors),
+        Err(fault) => return refuse_lists(context.names, fault, errors),
     };
     let texts = texts.as_slice();
     look_over(inspection, context.alloc, names, texts, output, errors)

@@ -5,11 +5,14 @@ ghost use Rattle.cidr_merge.specs.Laws.{EntriesHaveWhatTheyName, LinesAreReadAsC
 ghost use Rattle.cidr_merge.specs.Laws.{NoOtherForm, NoOtherOption, NoOtherTask, SidesAreCut};
 ghost use Rattle.cidr_merge.specs.Options.{IsOptions};
 ghost use Rattle.cidr_merge.specs.Parts.{UnionsOfPartsPrintTheSame};
+ghost use Rattle.cidr_merge.specs.RightWords.{RightWordsAreTaken};
 
+use crate::words::{before_dashes, behind_dashes};
 use ipnetwork::laws as network_laws;
 use ipnetwork_addr::laws as address_laws;
 use ipnetwork_blocks::laws as block_laws;
 use lists::laws as list_laws;
+use options::laws as option_laws;
 use options::table::Table;
 
 /// A list may be merged in parts, of any number and in any order: the union of what the unions of
@@ -35,7 +38,17 @@ pub fn no_other_options(table: &Table<'_>)
     let _table = table;
 }
 
-/// The lists of the sides of a request are those before the first `--` behind the options, and those after it.
+/// Words are taken exactly if they are right, by a relation that reads nothing; and what is taken is what they ask for.
+pub fn right_words_are_taken(table: &Table<'_>, words: &[String])
+    ensures { RightWordsAreTaken table.now words.now }
+{
+    if let Some((_, others)) = words.split_first() {
+        option_laws::words_say_what_is_read(table.rows, before_dashes(others));
+        option_laws::words_say_what_is_read(table.rows, behind_dashes(others));
+    }
+}
+
+/// The lists of the sides of a request are the FILEs before the first `--`, and those behind it.
 pub fn sides_are_cut(table: &Table<'_>, words: &[String])
     ensures { SidesAreCut table.now words.now }
 {

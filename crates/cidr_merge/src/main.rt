@@ -37,7 +37,6 @@ mod text_lines;
 mod texts;
 mod words;
 
-use crate::context::Context;
 use crate::help::{PROGRAM, USAGE};
 use crate::run::run;
 use program::start::start;
@@ -45,12 +44,6 @@ use std::process::ExitCode;
 
 fn main(rt: HostRuntime) -> ExitCode {
     start(&rt, PROGRAM, USAGE, |words, lists, output, errors| {
-        let alloc = rt.alloc();
-        let context = Context {
-            alloc,
-            words,
-            lists,
-        };
-        run(&context, output, errors)
+        run(rt.alloc(), words, lists, output, errors)
     })
 }

@@ -24,7 +24,7 @@ pub(crate) struct Sets {
     pub(crate) v6: AddressSet<Ipv6Network>,
 }
 
-/// Reads the lists at the places from `from` up to `to` among the words, in that order.
+/// Reads the lists at the places from `from` up to `to` among the names, in that order.
 ///
 /// The refused lines are added to the earlier ones, even if the reading ends with a fault.
 pub(crate) fn read_side<L: OpenLists>(
@@ -35,11 +35,11 @@ pub(crate) fn read_side<L: OpenLists>(
     refusals: Refusals,
 ) -> (Sets, Refusals, Result<(), ReadFault>)
     requires order { from ≤ to }
-    requires within { to ≤ length context.now.words.now }
+    requires within { to ≤ length context.now.names.now }
     ensures read { OnOk result.2 (ReadsSide (source (L.known context.now.lists.now) shape) from
-        (slice_range context.now.words.now from to) refusals result.0 result.1) }
+        (slice_range context.now.names.now from to) refusals result.0 result.1) }
     ensures stopped { IfErr result.2 (λ fault. Stops (source (L.known context.now.lists.now) shape)
-        from (slice_range context.now.words.now from to) (nothing_read refusals) fault result.1) }
+        from (slice_range context.now.names.now from to) (nothing_read refusals) fault result.1) }
 {
     let mut reader = ListReader::new(context.alloc, refusals);
     let end = read_all(context, shape, from, to, &mut reader);
@@ -56,16 +56,16 @@ fn read_all<L: OpenLists>(
     reader: &mut ListReader,
 ) -> Result<(), ReadFault>
     requires order { from ≤ to }
-    requires within { to ≤ length context.now.words.now }
+    requires within { to ≤ length context.now.names.now }
     requires memory { reader.old.is_out_of_memory ≡ false }
     ensures read { OnOk result (ReadsLists (source (L.known context.now.lists.now) shape) from
-        (slice_range context.now.words.now from to) reader.old reader.new) }
+        (slice_range context.now.names.now from to) reader.old reader.new) }
     ensures memory { OnOk result (reader.new.is_out_of_memory ≡ false) }
     ensures stopped { IfErr result (λ fault. Stops (source (L.known context.now.lists.now) shape)
-        from (slice_range context.now.words.now from to) reader.old fault reader.new.refused) }
+        from (slice_range context.now.names.now from to) reader.old fault reader.new.refused) }
 {
     for place in from..to {
-        read_one(context, shape, context.words[place].as_str(), place, reader)?;
+        read_one(context, shape, context.names[place].as_str(), place, reader)?;
     }
     Ok(())
 }

@@ -27,23 +27,34 @@ use program::ending::{FAILED, end, print_text};
 use program::memory::refuse_memory;
 use program::start::text_asked;
 use program::telling::{InLists, tell_refusals};
+use std::alloc::Global;
 use std::io::Write;
 
 /// Does what the words after the program's name ask for, and returns the exit status.
 pub(crate) fn run<L: OpenLists, W: Write, E: Write>(
-    context: &Context<'_, L>,
+    alloc: Global,
+    words: &[String],
+    lists: &L,
     output: &mut Output<'_, W>,
     errors: &mut Output<'_, E>,
 ) -> u8
-    ensures { EndsAs PROGRAM.now HELP.now VERSION.now USAGE.now (L.known context.now.lists.now)
-        context.now.words.now (ending output.old output.new errors.old errors.new result) }
+    ensures { EndsAs PROGRAM.now HELP.now VERSION.now USAGE.now (L.known lists.now) words.now
+        (ending output.old output.new errors.old errors.new result) }
 {
-    if let Some(text) = text_asked(HELP, VERSION, context.words) {
+    if let Some(text) = text_asked(HELP, VERSION, words) {
         return print_text(text, output, errors);
     }
     let table = table();
-    match command_of(context.alloc, &table, context.words) {
-        Ok(Ok(command)) => obey(command, table.rows, context, output, errors),
+    match command_of(alloc, &table, words) {
+        Ok(Ok(asked)) => {
+            let names = asked.names.as_slice();
+            let context = Context {
+                alloc,
+                names,
+                lists,
+            };
+            obey(asked.command, table.rows, &context, output, errors)
+        }
         Ok(Err(fault)) => refuse(PROGRAM, USAGE, table.rows, &fault, errors),
         Err(_) => refuse_memory(errors),
     }
@@ -57,15 +68,15 @@ fn obey<L: OpenLists, W: Write, E: Write>(
     output: &mut Output<'_, W>,
     errors: &mut Output<'_, E>,
 ) -> u8
-    requires { IsCommandWithin (length context.now.words.now) command }
+    requires { IsCommandWithin (length context.now.names.now) command }
     ensures { EndsCommand PROGRAM.now USAGE.now rows.now (L.known context.now.lists.now)
-        context.now.words.now command (ending output.old output.new errors.old errors.new result) }
+        context.now.names.now command (ending output.old output.new errors.old errors.new result) }
 {
     match command {
         Command::Merge(request) => merge(request, context, output, errors),
         Command::Split(request) => split(request, context, output, errors),
         Command::Inspect(inspection, first) => inspect(inspection, first, context, output, errors),
-        Command::Find => find(rows, context, output, errors),
+        Command::Find(middle) => find(middle, rows, context, output, errors),
     }
 }
 
@@ -76,12 +87,12 @@ fn merge<L: OpenLists, W: Write, E: Write>(
     output: &mut Output<'_, W>,
     errors: &mut Output<'_, E>,
 ) -> u8
-    requires { IsWithin (length context.now.words.now) request }
-    ensures { EndsMerging (L.known context.now.lists.now) context.now.words.now request
+    requires { IsWithin (length context.now.names.now) request }
+    ensures { EndsMerging (L.known context.now.lists.now) context.now.names.now request
         (ending output.old output.new errors.old errors.new result) }
 {
     let (first, second, refusals, read) = read_sides(request, context);
-    tell_refusals(context.words, &InLists, &refusals, errors);
+    tell_refusals(context.names, &InLists, &refusals, errors);
     match read {
         Ok(()) => {
             let merging = Merging {
@@ -91,7 +102,7 @@ fn merge<L: OpenLists, W: Write, E: Write>(
             };
             answer(&merging, !refusals.is_empty(), output, errors)
         }
-        Err(fault) => refuse_lists(context.words, fault, errors),
+        Err(fault) => refuse_lists(context.names, fault, errors),
     }
 }
 
@@ -101,16 +112,16 @@ fn read_sides<L: OpenLists>(
     request: Request,
     context: &Context<'_, L>,
 ) -> (Sets, Sets, Refusals, Result<(), ReadFault>)
-    requires { IsWithin (length context.now.words.now) request }
-    ensures read { OnOk result.3 (ReadsSides (L.known context.now.lists.now) context.now.words.now
+    requires { IsWithin (length context.now.names.now) request }
+    ensures read { OnOk result.3 (ReadsSides (L.known context.now.lists.now) context.now.names.now
         request result.0 result.1 result.2) }
     ensures stopped { IfErr result.3 (λ fault. StopsInSides (L.known context.now.lists.now)
-        context.now.words.now request fault result.2) }
+        context.now.names.now request fault result.2) }
 {
     let shape = request.shape;
     let none = Refusals::new();
     let (first, refusals, read) = read_side(context, shape, request.first, request.middle, none);
-    let to = end_of_second(&read, request.second, context.words.len());
+    let to = end_of_second(&read, request.second, context.names.len());
     let (second, refusals, end) = read_side(context, shape, request.second, to, refusals);
     match read {
         Ok(()) => (first, second, refusals, end),

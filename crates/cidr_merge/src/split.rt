@@ -24,11 +24,11 @@ pub(crate) fn split<L: OpenLists, W: Write, E: Write>(
     output: &mut Output<'_, W>,
     errors: &mut Output<'_, E>,
 ) -> u8
-    requires { request.first ≤ length context.now.words.now }
-    ensures { EndsSplitting (L.known context.now.lists.now) context.now.words.now request
+    requires { request.first ≤ length context.now.names.now }
+    ensures { EndsSplitting (L.known context.now.lists.now) context.now.names.now request
         (ending output.old output.new errors.old errors.new result) }
 {
-    let words = context.words;
+    let words = context.names;
     let none = Refusals::new();
     let (sets, refusals, read) = read_side(
         context,

@@ -1,6 +1,6 @@
 //! What the first word says to do, and what is told of words that it does not take.
 ghost use Rattle.std.specs.Prelude.{◌≡◌};
-ghost use Rattle.cidr_merge.specs.Tasks.{task_called, is_two_sided, no_option, no_file, no_first};
+ghost use Rattle.cidr_merge.specs.Tasks.{task_called, is_two_sided, no_option, no_first};
 
 use crate::command_line::Operation;
 
@@ -50,43 +50,25 @@ pub(crate) fn is_two_sided(task: Task) -> bool
     }
 }
 
-/// What is told of a word that is no option where one may stand.
+/// What is told of a word that begins with a `-` and is no option of a task.
 pub(crate) fn no_option(task: Task) -> &'static str
     ensures { result.now ≡ no_option task }
 {
     match task {
         Task::Merge(_) | Task::List => {
-            "not an option; union, common, minus, differ and list take --ranges, --count, \
+            "not an option of union, common, minus, differ or list; they take --ranges, --count, \
              --format FORM, --skip-bad, --json and --strict"
         }
         Task::Split => {
-            "not an option here; split takes --prefix N, --skip-bad, --json and, behind it, \
-             --strict, in this order"
+            "not an option of split; it takes --prefix N, --skip-bad, --json and --strict"
         }
-        Task::Check => "not an option; check takes one --strict",
-        Task::Overlaps => "not an option; overlaps takes none",
-        Task::Find => "not an option; find takes none",
+        Task::Check => "not an option of check; it takes --strict",
+        Task::Overlaps => "not an option of overlaps; it takes none",
+        Task::Find => "not an option of find; it takes none",
     }
 }
 
-/// What is told of a word that begins with a `-` among the lists.
-pub(crate) fn no_file(task: Task) -> &'static str
-    ensures { result.now ≡ no_file task }
-{
-    match task {
-        Task::Merge(_) | Task::List | Task::Check => {
-            "not a FILE; options stand before the first one"
-        }
-        Task::Split => {
-            "not a FILE; split takes --prefix N, --skip-bad, --json and, behind it, --strict, \
-             in this order, before the first one"
-        }
-        Task::Overlaps => "not a FILE, and overlaps takes no option",
-        Task::Find => "not a FILE, and find takes no option",
-    }
-}
-
-/// What is told of a `--` before all else.
+/// What is told of a `--` with nothing before it.
 pub(crate) fn no_first(task: Task) -> &'static str
     ensures { result.now ≡ no_first task }
 {

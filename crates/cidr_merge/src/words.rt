@@ -2,16 +2,9 @@
 ghost use Rattle.std.specs.Prelude.{◌≡◌, ◌≤◌, length};
 ghost use Rattle.std.specs.List.{position_or_len};
 ghost use Rattle.program.specs.Words.{is};
-ghost use Rattle.cidr_merge.specs.Sides.{has, before_dashes, behind_dashes};
+ghost use Rattle.cidr_merge.specs.Sides.{before_dashes, behind_dashes};
 
-use program::words::{count_of, is};
-
-/// Whether a word among these is this text.
-pub(crate) fn has(words: &[String], text: &str) -> bool
-    ensures { result ≡ has text.now words.now }
-{
-    count_of(words, text) > 0
-}
+use program::words::is;
 
 /// The place of the first word that is this text, or the number of words.
 pub(crate) fn place_of(words: &[String], text: &str) -> usize

@@ -27,8 +27,7 @@ const SELECTED: u8 = 0;
 /// The exit status if none was.
 const NONE_SELECTED: u8 = 1;
 
-/// Filters the logs of these names in their order, or standard input if there is no name, and
-/// returns the exit status.
+/// Filters the logs of these names in their order, and returns the exit status.
 pub(crate) fn filter_logs<'a, L: OpenLists, W: Write, E: Write>(
     filter: &mut Filter<'a>,
     lists: &L,
@@ -54,8 +53,7 @@ pub(crate) fn filter_logs<'a, L: OpenLists, W: Write, E: Write>(
     }
 }
 
-// Filters the logs of these names, or standard input, up to the first that is enough, and returns
-// whether one of them could not be opened, which is reported. If a fault ends the filtering of one
+// Filters the logs of these names up to the first that is enough, and returns whether one of them could not be opened, which is reported. If a fault ends the filtering of one
 // that was opened, it is reported, and there is no answer.
 fn filter_each<'a, L: OpenLists, W: Write, E: Write>(
     filter: &mut Filter<'a>,
@@ -66,10 +64,6 @@ fn filter_each<'a, L: OpenLists, W: Write, E: Write>(
     output: &mut Output<'_, W>,
     errors: &mut Output<'_, E>,
 ) -> Option<bool> {
-    if files.is_empty() {
-        let input = "-";
-        return filter_one(filter, tally, lists, input, buffer, output, errors);
-    }
     let is_silent = filter.is_silent();
     let mut missed = false;
     for file in files {

@@ -19,7 +19,7 @@ use cidr_programs::lists::OpenLists;
 use cidr_programs::log_programs::areas::area_of;
 use cidr_programs::log_programs::rows::MAPPED;
 use cidr_programs::options::asking::{About, asked};
-use cidr_programs::options::given::{files_of, is_given, value_of};
+use cidr_programs::options::given::{inputs_of, is_given, value_of};
 use cidr_programs::options::items::Item;
 use cidr_programs::options::values::number_in;
 use cidr_programs::program::ending::FAILED;
@@ -60,7 +60,7 @@ fn filter<L: OpenLists, W: Write, E: Write>(
     let Ok(names) = names_of(alloc, items) else {
         return refuse_memory(errors);
     };
-    let Ok(files) = files_of(alloc, items) else {
+    let Ok(files) = inputs_of(alloc, items) else {
         return refuse_memory(errors);
     };
     filter_files(

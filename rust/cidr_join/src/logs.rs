@@ -12,8 +12,8 @@ use cidr_programs::lists::{OpenLists, open_list};
 use cidr_programs::program::log_fault::{LogFault, stop};
 use fosibegan::plain_std::io::Write;
 
-/// Joins the logs of these names in their order, or standard input if there is no name, and returns whether all came to
-/// their ends. If not, the cause is reported. So is each log in which no line has an address.
+/// Joins the logs of these names in their order, and returns whether all came to their ends. If not, the cause is
+/// reported. So is each log in which no line has an address.
 pub(crate) fn join_logs<L: OpenLists, W: Write, E: Write>(
     join: &Join<'_>,
     lists: &L,
@@ -22,10 +22,6 @@ pub(crate) fn join_logs<L: OpenLists, W: Write, E: Write>(
     output: &mut Output<'_, W>,
     errors: &mut Output<'_, E>,
 ) -> bool {
-    if files.is_empty() {
-        let input = "-";
-        return join_one(join, lists, input, buffer, output, errors);
-    }
     for file in files {
         let name = file.as_str();
         if !join_one(join, lists, name, buffer, output, errors) {

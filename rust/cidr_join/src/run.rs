@@ -19,7 +19,7 @@ use cidr_programs::lists::{OpenLists, read_bytes};
 use cidr_programs::log_programs::areas::area_of;
 use cidr_programs::log_programs::rows::{LIST, MAPPED};
 use cidr_programs::options::asking::{About, asked};
-use cidr_programs::options::given::{files_of, is_given, value_of};
+use cidr_programs::options::given::{inputs_of, is_given, value_of};
 use cidr_programs::options::items::Item;
 use cidr_programs::options::values::lengths_in;
 use cidr_programs::program::ending::{FAILED, end};
@@ -59,7 +59,7 @@ fn join<L: OpenLists, W: Write, E: Write>(
     output: &mut Output<'_, W>,
     errors: &mut Output<'_, E>,
 ) -> u8 {
-    match files_of(alloc, items) {
+    match inputs_of(alloc, items) {
         Ok(files) => join_files(alloc, items, files.as_slice(), lists, output, errors),
         Err(_) => refuse_memory(errors),
     }

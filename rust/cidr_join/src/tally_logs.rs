@@ -21,8 +21,7 @@ use cidr_programs::program::putting::put_both;
 use fosibegan::plain_std::alloc::Global;
 use fosibegan::plain_std::io::Write;
 
-/// Counts what the list gives the lines of the logs of these names, or of standard input if there is no name, prints
-/// the counts, and returns the exit status.
+/// Counts what the list gives the lines of the logs of these names, prints the counts, and returns the exit status.
 pub(crate) fn tally_logs<L: OpenLists, W: Write, E: Write>(
     alloc: Global,
     join: &Join<'_>,
@@ -58,8 +57,8 @@ pub(crate) fn tally_logs<L: OpenLists, W: Write, E: Write>(
     end(written, 0, errors)
 }
 
-// Counts the lines of the logs of these names, or of standard input, and returns whether all came to their ends. If
-// not, the cause is reported. So is each log in which no line has an address.
+// Counts the lines of the logs of these names, and returns whether all came to their ends. If not, the cause is
+// reported. So is each log in which no line has an address.
 fn tally_each<L: OpenLists, E: Write>(
     alloc: Global,
     join: &Join<'_>,
@@ -70,10 +69,6 @@ fn tally_each<L: OpenLists, E: Write>(
     counts: &mut Counts,
     errors: &mut Output<'_, E>,
 ) -> bool {
-    if files.is_empty() {
-        let input = "-";
-        return tally_one(alloc, join, numbered, lists, input, buffer, counts, errors);
-    }
     for file in files {
         let name = file.as_str();
         if !tally_one(alloc, join, numbered, lists, name, buffer, counts, errors) {

@@ -2,19 +2,21 @@
 
 //! What the words of a command line ask for.
 
+use fosibegan::plain_std::vec::Vec;
 use fosibegan::plain_std::string::String;
 use crate::exports::Export;
-use crate::faults::{fault_of, find_fault, no_task_fault};
+use crate::faults::{fault_of, no_task_fault};
 use crate::rows::{COUNT, FORMAT, JSON, PREFIX, RANGES, SKIP_BAD, STRICT, table};
 use crate::shapes::Shape;
 use crate::tasks::{Task, task_called};
-use crate::words::place_of;
+use crate::words::{before_dashes, behind_dashes};
 use cidr_programs::options::faults::{Fault, Subject, about};
-use cidr_programs::options::given::{is_given, value_of};
+use cidr_programs::options::given::{files_of, is_given, value_of};
 use cidr_programs::options::items::Item;
-use cidr_programs::options::reading::options_of;
+use cidr_programs::options::reading::items_of;
 use cidr_programs::options::table::Table;
 use cidr_programs::options::values::length_in;
+use cidr_programs::program::words::count_of;
 use fosibegan::plain_std::alloc::{AllocError, Global};
 
 /// What is done with the lists.
@@ -43,7 +45,7 @@ pub enum Form {
     Exported(Export),
 }
 
-/// How the lists are merged. The lists of a side are a range of the words.
+/// How the lists are merged. The lists of a side are a range of those that are named.
 #[derive(Clone, Copy, Debug, PartialEq, Eq)]
 pub struct Request {
     /// What is done.
@@ -54,12 +56,11 @@ pub struct Request {
     pub skips_bad: bool,
     /// How the lists are written.
     pub shape: Shape,
-    /// The index of the first list among the words.
+    /// The index of the first list.
     pub first: usize,
     /// The index after the lists of the first side.
     pub middle: usize,
-    /// The index of the first list of the second side: it comes after a `--`; without one it is the
-    /// number of words.
+    /// The index of the first list of the second side.
     pub second: usize,
 }
 
@@ -72,7 +73,7 @@ pub struct SplitRequest {
     pub skips_bad: bool,
     /// How the lists are written.
     pub shape: Shape,
-    /// The index of the first list among the words.
+    /// The index of the first list.
     pub first: usize,
 }
 
@@ -94,10 +95,18 @@ pub enum Command {
     Merge(Request),
     /// Lists are split.
     Split(SplitRequest),
-    /// The lists from the word at this index on are looked over.
+    /// The lists from the one at this index on are looked over.
     Inspect(Inspection, usize),
-    /// Addresses are sought in lists.
-    Find,
+    /// Addresses are sought in lists, of which the first has this index: those before it are the addresses.
+    Find(usize),
+}
+
+/// What is asked for, and the FILEs, those of the first side first.
+pub struct Asked {
+    /// What is asked for.
+    pub command: Command,
+    /// The FILEs.
+    pub names: Vec<String>,
 }
 
 /// What the words after the program's name ask for, or what is wrong with them, unless memory runs out.
@@ -105,7 +114,7 @@ pub(crate) fn command_of<'a>(
     alloc: Global,
     table: &Table<'_>,
     words: &'a [String],
-) -> Result<Result<Command, Fault<'a>>, AllocError> {
+) -> Result<Result<Asked, Fault<'a>>, AllocError> {
     let Some((name, others)) = words.split_first() else {
         return Ok(Err(about(Subject::CommandLine, "no operation")));
     };
@@ -122,70 +131,57 @@ fn command_for<'a>(
     task: Task,
     name: &'a str,
     others: &'a [String],
-) -> Result<Result<Command, Fault<'a>>, AllocError> {
-    let (items, count) = options_of(alloc, table.rows, others)?;
+) -> Result<Result<Asked, Fault<'a>>, AllocError> {
+    let mut items = items_of(alloc, table.rows, before_dashes(others))?;
+    let mut names = files_of(alloc, items.as_slice())?;
+    let middle = names.len();
+    let mut behind = items_of(alloc, table.rows, behind_dashes(others))?;
+    let mut second = files_of(alloc, behind.as_slice())?;
+    items.append(&mut behind)?;
+    names.append(&mut second)?;
+    let dashes = count_of(others, "--");
     let items = items.as_slice();
-    let lists = &others[count..];
-    if let Some(fault) = words_fault(table, task, name, items, others, lists) {
-        return Ok(Err(fault));
-    }
-    Ok(Ok(asked_for(task, items, lists, 1 + count)))
-}
-
-// What is wrong with the words behind the first: options and lists, or, for a `find`, addresses and lists.
-fn words_fault<'a>(
-    table: &Table<'_>,
-    task: Task,
-    name: &'a str,
-    items: &[Item<'a>],
-    others: &'a [String],
-    lists: &'a [String],
-) -> Option<Fault<'a>> {
-    match task {
-        Task::Find => find_fault(table.rows, name, others),
-        _ => fault_of(table, task, name, items, lists),
+    match fault_of(table, task, name, dashes, items, middle, names.as_slice()) {
+        Some(fault) => Ok(Err(fault)),
+        None => Ok(Ok(Asked {
+            command: asked_for(task, items, middle),
+            names,
+        })),
     }
 }
 
-// What is asked for by options and lists, of which the first is the word at this index.
-fn asked_for(task: Task, items: &[Item<'_>], lists: &[String], first: usize) -> Command {
+// What is asked for by options and so many FILEs of the first side.
+fn asked_for(task: Task, items: &[Item<'_>], middle: usize) -> Command {
     match task {
         Task::Merge(operation) => {
-            Command::Merge(request_of(operation, Form::Blocks, items, lists, first))
+            Command::Merge(request_of(operation, Form::Blocks, items, middle))
         }
         Task::List => {
             let usual = Form::Exported(Export::Addresses);
-            Command::Merge(request_of(Operation::Union, usual, items, lists, first))
+            Command::Merge(request_of(Operation::Union, usual, items, middle))
         }
         Task::Split => Command::Split(SplitRequest {
             length: length_of(items),
             skips_bad: is_given(items, SKIP_BAD),
             shape: shape_of(items),
-            first,
+            first: 0,
         }),
-        Task::Check => Command::Inspect(inspection_of(is_given(items, STRICT)), first),
-        Task::Overlaps => Command::Inspect(Inspection::Overlaps, first),
-        Task::Find => Command::Find,
+        Task::Check => Command::Inspect(inspection_of(is_given(items, STRICT)), 0),
+        Task::Overlaps => Command::Inspect(Inspection::Overlaps, 0),
+        Task::Find => Command::Find(middle),
     }
 }
 
 // How lists are merged by these options.
-fn request_of(
-    operation: Operation,
-    usual: Form,
-    items: &[Item<'_>],
-    lists: &[String],
-    first: usize,
-) -> Request {
-    let middle = first + place_of(lists, "--");
+fn request_of(operation: Operation, usual: Form, items: &[Item<'_>], middle: usize) -> Request {
     Request {
         operation,
         form: form_of(usual, items),
         skips_bad: is_given(items, SKIP_BAD),
         shape: shape_of(items),
-        first,
+        first: 0,
         middle,
-        second: (first + lists.len()).min(middle + 1),
+        second: middle,
     }
 }
 

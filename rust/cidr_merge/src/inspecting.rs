@@ -26,7 +26,7 @@ const NOTHING_FOUND: u8 = 0;
 /// The exit status if something was found.
 const FOUND: u8 = 1;
 
-/// Looks over the lists that the words name from the one at the index `first` on, and returns the exit status.
+/// Looks over the lists from the one at the index `first` on, and returns the exit status.
 pub(crate) fn inspect<L: OpenLists, W: Write, E: Write>(
     inspection: Inspection,
     first: usize,
@@ -34,10 +34,10 @@ pub(crate) fn inspect<L: OpenLists, W: Write, E: Write>(
     output: &mut Output<'_, W>,
     errors: &mut Output<'_, E>,
 ) -> u8 {
-    let names = &context.words[first..];
+    let names = &context.names[first..];
     let texts = match texts_of(context, names, first) {
         Ok(texts) => texts,
-        Err(fault) => return refuse_lists(context.words, fault, errors),
+        Err(fault) => return refuse_lists(context.names, fault, errors),
     };
     let texts = texts.as_slice();
     look_over(inspection, context.alloc, names, texts, output, errors)

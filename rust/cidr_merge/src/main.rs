@@ -42,7 +42,6 @@ mod text_lines;
 mod texts;
 mod words;
 
-use crate::context::Context;
 use crate::help::{PROGRAM, USAGE};
 use crate::run::run;
 use cidr_programs::program::start::start;
@@ -51,12 +50,6 @@ use std::process::ExitCode;
 fn main() -> ExitCode {
     let rt = HostRuntime::new();
     start(&rt, PROGRAM, USAGE, |words, lists, output, errors| {
-        let alloc = rt.alloc();
-        let context = Context {
-            alloc,
-            words,
-            lists,
-        };
-        run(&context, output, errors)
+        run(rt.alloc(), words, lists, output, errors)
     })
 }

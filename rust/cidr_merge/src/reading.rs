@@ -20,7 +20,7 @@ pub(crate) struct Sets {
     pub(crate) v6: AddressSet<Ipv6Network>,
 }
 
-/// Reads the lists at the places from `from` up to `to` among the words, in that order.
+/// Reads the lists at the places from `from` up to `to` among the names, in that order.
 ///
 /// The refused lines are added to the earlier ones, even if the reading ends with a fault.
 pub(crate) fn read_side<L: OpenLists>(
@@ -45,7 +45,7 @@ fn read_all<L: OpenLists>(
     reader: &mut ListReader,
 ) -> Result<(), ReadFault> {
     for place in from..to {
-        read_one(context, shape, context.words[place].as_str(), place, reader)?;
+        read_one(context, shape, context.names[place].as_str(), place, reader)?;
     }
     Ok(())
 }

@@ -1,7 +1,8 @@
 // Written by scripts/plain out of crates/cidr_merge/src/rows.rt
 
-//! The options of the command line.
+//! The options of the command line, and which of them each task takes.
 
+use crate::tasks::Task;
 use cidr_programs::options::table::{Kind, Pair, Row, Table, long, pair};
 
 /// The row of `--ranges`.
@@ -32,14 +33,14 @@ const ROWS: [Row; 10] = [
     long!(
         "--format",
         Text,
-        false,
+        true,
         "not a form; the forms are plain, range, netmask, wildcard, csv, nft, ipset, json and \
          addresses"
     ),
     long!("--skip-bad", Flag, false, ""),
     long!("--json", Flag, false, ""),
     long!("--strict", Flag, false, ""),
-    long!("--prefix", Text, false, "not a prefix length, 0 to 128"),
+    long!("--prefix", Text, true, "not a prefix length, 0 to 128"),
     long!("--help", Alone, false, "taken only alone"),
     long!("--version", Alone, false, "taken only alone"),
     long!(
@@ -54,11 +55,12 @@ const ROWS: [Row; 10] = [
 const ANOTHER_FORM: &str = "--format: given twice, or together with --ranges or --count";
 
 // Which do not go together.
-const PAIRS: [Pair; 4] = [
+const PAIRS: [Pair; 5] = [
     pair!(RANGES, COUNT, "--ranges: not together with --count"),
     pair!(FORMAT, FORMAT, ANOTHER_FORM),
     pair!(FORMAT, RANGES, ANOTHER_FORM),
     pair!(FORMAT, COUNT, ANOTHER_FORM),
+    pair!(PREFIX, PREFIX, "--prefix: given twice"),
 ];
 
 /// The options.
@@ -68,5 +70,22 @@ pub(crate) fn table() -> Table<'static> {
         pairs: &PAIRS,
         needs: &[],
         lacking: "",
+    }
+}
+
+// Those of an operation that merges, of a `split` and of a `check`, by the indices of their rows.
+const OF_MERGES: [usize; 6] = [RANGES, COUNT, FORMAT, SKIP_BAD, JSON, STRICT];
+
+const OF_SPLIT: [usize; 4] = [PREFIX, SKIP_BAD, JSON, STRICT];
+
+const OF_CHECK: [usize; 1] = [STRICT];
+
+/// The options that a task takes, by the indices of their rows.
+pub(crate) fn taken(task: Task) -> &'static [usize] {
+    match task {
+        Task::Merge(_) | Task::List => &OF_MERGES,
+        Task::Split => &OF_SPLIT,
+        Task::Check => &OF_CHECK,
+        Task::Overlaps | Task::Find => &[],
     }
 }

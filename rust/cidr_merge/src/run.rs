@@ -2,6 +2,7 @@
 
 //! The run that the program makes.
 
+use fosibegan::plain_std::string::String;
 use crate::command_line::{Command, Operation, Request, command_of};
 use crate::context::Context;
 use crate::find::find;
@@ -20,20 +21,31 @@ use cidr_programs::program::ending::{FAILED, end, print_text};
 use cidr_programs::program::memory::refuse_memory;
 use cidr_programs::program::start::text_asked;
 use cidr_programs::program::telling::{InLists, tell_refusals};
+use fosibegan::plain_std::alloc::Global;
 use fosibegan::plain_std::io::Write;
 
 /// Does what the words after the program's name ask for, and returns the exit status.
 pub(crate) fn run<L: OpenLists, W: Write, E: Write>(
-    context: &Context<'_, L>,
+    alloc: Global,
+    words: &[String],
+    lists: &L,
     output: &mut Output<'_, W>,
     errors: &mut Output<'_, E>,
 ) -> u8 {
-    if let Some(text) = text_asked(HELP, VERSION, context.words) {
+    if let Some(text) = text_asked(HELP, VERSION, words) {
         return print_text(text, output, errors);
     }
     let table = table();
-    match command_of(context.alloc, &table, context.words) {
-        Ok(Ok(command)) => obey(command, table.rows, context, output, errors),
+    match command_of(alloc, &table, words) {
+        Ok(Ok(asked)) => {
+            let names = asked.names.as_slice();
+            let context = Context {
+                alloc,
+                names,
+                lists,
+            };
+            obey(asked.command, table.rows, &context, output, errors)
+        }
         Ok(Err(fault)) => refuse(PROGRAM, USAGE, table.rows, &fault, errors),
         Err(_) => refuse_memory(errors),
     }
@@ -51,7 +63,7 @@ fn obey<L: OpenLists, W: Write, E: Write>(
         Command::Merge(request) => merge(request, context, output, errors),
         Command::Split(request) => split(request, context, output, errors),
         Command::Inspect(inspection, first) => inspect(inspection, first, context, output, errors),
-        Command::Find => find(rows, context, output, errors),
+        Command::Find(middle) => find(middle, rows, context, output, errors),
     }
 }
 
@@ -63,7 +75,7 @@ fn merge<L: OpenLists, W: Write, E: Write>(
     errors: &mut Output<'_, E>,
 ) -> u8 {
     let (first, second, refusals, read) = read_sides(request, context);
-    tell_refusals(context.words, &InLists, &refusals, errors);
+    tell_refusals(context.names, &InLists, &refusals, errors);
     match read {
         Ok(()) => {
             let merging = Merging {
@@ -73,7 +85,7 @@ fn merge<L: OpenLists, W: Write, E: Write>(
             };
             answer(&merging, !refusals.is_empty(), output, errors)
         }
-        Err(fault) => refuse_lists(context.words, fault, errors),
+        Err(fault) => refuse_lists(context.names, fault, errors),
     }
 }
 
@@ -86,7 +98,7 @@ fn read_sides<L: OpenLists>(
     let shape = request.shape;
     let none = Refusals::new();
     let (first, refusals, read) = read_side(context, shape, request.first, request.middle, none);
-    let to = end_of_second(&read, request.second, context.words.len());
+    let to = end_of_second(&read, request.second, context.names.len());
     let (second, refusals, end) = read_side(context, shape, request.second, to, refusals);
     match read {
         Ok(()) => (first, second, refusals, end),

@@ -21,7 +21,7 @@ pub(crate) fn split<L: OpenLists, W: Write, E: Write>(
     output: &mut Output<'_, W>,
     errors: &mut Output<'_, E>,
 ) -> u8 {
-    let words = context.words;
+    let words = context.names;
     let none = Refusals::new();
     let (sets, refusals, read) = read_side(
         context,

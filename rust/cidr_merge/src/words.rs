@@ -3,12 +3,7 @@
 //! Words of a command line.
 
 use fosibegan::plain_std::string::String;
-use cidr_programs::program::words::{count_of, is};
-
-/// Whether a word among these is this text.
-pub(crate) fn has(words: &[String], text: &str) -> bool {
-    count_of(words, text) > 0
-}
+use cidr_programs::program::words::is;
 
 /// The place of the first word that is this text, or the number of words.
 pub(crate) fn place_of(words: &[String], text: &str) -> usize {

@@ -110,3 +110,24 @@ pub fn files_of(alloc: Global, items: &[Item<'_>]) -> Result<Vec<String>, AllocE
     }
     Ok(files)
 }
+
+/// The FILEs, or `-`, which is standard input, if there is none.
+///
+/// ```
+/// # use cidr_programs::in_examples::*;
+/// # ended(|| {
+/// use cidr_programs::options::given::inputs_of;
+/// use cidr_programs::options::items::{Item, Text};
+///
+/// assert_eq!(inputs_of(Global, &[Item::Flag(0)])?[0].as_str(), "-");
+/// assert_eq!(inputs_of(Global, &[Item::File(Text::new("a"))])?[0].as_str(), "a");
+/// # Ok(())
+/// # });
+/// ```
+pub fn inputs_of(alloc: Global, items: &[Item<'_>]) -> Result<Vec<String>, AllocError> {
+    let mut files = files_of(alloc, items)?;
+    if files.is_empty() {
+        files.push(String::from_str(alloc, "-")?)?;
+    }
+    Ok(files)
+}

@@ -58,6 +58,12 @@ impl<T> Vec<T> {
         Ok(())
     }
 
+    pub fn append(&mut self, other: &mut Vec<T>) -> Result<(), AllocError> {
+        self.0.try_reserve(other.0.len())?;
+        self.0.append(&mut other.0);
+        Ok(())
+    }
+
     pub fn resize(&mut self, count: usize, item: T) -> Result<(), AllocError>
     where
         T: Copy,

@@ -1,7 +1,6 @@
-use Rattle.std.proofs.Common.{◌∙◌, length, map, drop, refl, sym, ap, subst}
+use Rattle.std.proofs.Common.{◌-◌, length, map, take, drop, refl, subst}
 use Rattle.std.proofs.lemmas.List.{take_rest}
 use Rattle.program.specs.Endings.{ending}
-use Rattle.cidr_merge.specs.Sides.{before_dashes, behind_dashes}
 use Rattle.cidr_merge.specs.FindRuns.{EndsSearching}
 use Rattle.cidr_merge.specs.FindWords.{with_addresses}
 use Rattle.cidr_merge.proofs.SearchEnds.{search_ended, searched, not_read}
@@ -16,25 +15,20 @@ invariant_of-lists g c = record {
 }
 
 pub invariant_of-query : goal.invariant_of-query
-invariant_of-query g c =
-    let words = c.args.context.now.words.now in record {
-      as_many = as_many_addresses (before_dashes (drop 1 words)) c.args.addresses.now
-          c.requires.addresses ∙ sym (ap length (c.before_dashes.ensures
-          ∙ ap before_dashes (take_rest words 1)));
-    }
+invariant_of-query g c = record {
+  as_many = as_many_addresses (take c.args.middle c.args.context.now.names.now) c.args.addresses.now c.requires.addresses;
+}
 
 pub returns : goal.returns
 returns g c =
-    let words = c.args.context.now.words.now in
-    let sought = c.before_dashes.result.now in
-    let names = c.behind_dashes-names.result.now in
+    let words = c.args.context.now.names.now in
+    let sought = take c.args.middle words in
+    let names = take (length words - c.args.middle) (drop c.args.middle words) in
     let end = ending c.args.output.now c.finish-written.new.self c.args.errors.now c.end.new.errors
     c.end.result in
     let reported = c.search_lists-reported in
-    searched (g.L.OpenLists.known c.args.context.now.lists.now) words sought names
-    c.args.addresses.now end
-    (c.before_dashes.ensures ∙ ap before_dashes (take_rest words 1))
-    (c.behind_dashes-names.ensures ∙ ap behind_dashes (take_rest words 1))
+    searched (g.L.OpenLists.known c.args.context.now.lists.now) words sought names c.args.middle
+    c.args.addresses.now end refl (take_rest words c.args.middle)
     (map (λ text. text.items) c.in-Ok.texts.items) c.in-Ok.ensures.ok
     (subst (λ ts. EndsSearching (with_addresses sought c.args.addresses.now) names (map
     (λ text. text.items) ts) end) c.as_slice.ensures.value
@@ -47,13 +41,9 @@ returns g c =
 
 pub returns-in-Err : goal.returns-in-Err
 returns-in-Err g c =
-    let words = c.args.context.now.words.now in
-    not_read
-    (g.L.OpenLists.known c.args.context.now.lists.now) words c.before_dashes.result.now
-    c.behind_dashes-names.result.now c.args.addresses.now
+    let words = c.args.context.now.names.now in
+    not_read (g.L.OpenLists.known c.args.context.now.lists.now) words (take c.args.middle words)
+    (take (length words - c.args.middle) (drop c.args.middle words)) c.args.middle c.args.addresses.now
     (ending c.args.output.now c.args.output.now c.args.errors.now c.refuse_lists.new.errors
-    c.refuse_lists.result)
-    (c.before_dashes.ensures ∙ ap before_dashes (take_rest words 1))
-    (c.behind_dashes-names.ensures ∙ ap behind_dashes (take_rest words 1))
-    c.in-Err.fault c.in-Err.ensures.err
+    c.refuse_lists.result) refl (take_rest words c.args.middle) c.in-Err.fault c.in-Err.ensures.err
     ((refl, c.refuse_lists.ensures.status), c.refuse_lists.ensures.told)

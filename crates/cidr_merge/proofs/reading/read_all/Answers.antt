@@ -9,7 +9,7 @@ use Rattle.cidr_merge.proofs.reading.read_all.Goals as goal
 pub loop-place-init : goal.loop-place-init
 loop-place-init g c = record {
   read = reads_none (source (g.L.OpenLists.known c.args.context.now.lists.now) c.args.shape)
-      c.args.context.now.words.now c.args.from c.args.reader.now;
+      c.args.context.now.names.now c.args.from c.args.reader.now;
   memory = c.requires.memory;
 }
 
@@ -17,7 +17,7 @@ pub loop-place-preserved : goal.loop-place-preserved
 loop-place-preserved g c =
     let from = source (g.L.OpenLists.known c.args.context.now.lists.now) c.args.shape in
     record {
-      read = reads_on from c.args.context.now.words.now c.args.from
+      read = reads_on from c.args.context.now.names.now c.args.from
           c.loop-place.place c.index-context-place.result c.args.reader.now c.loop-place.reader
           c.read_one.new.reader (omega arith)
           (omega arith) c.index-context-place.is c.loop-place.invariant.read
@@ -32,7 +32,7 @@ returns-in_err-read_one-clause-stopped g c =
     let from = source (g.L.OpenLists.known c.args.context.now.lists.now) c.args.shape in
     let p = err_from_is_err_and c.from_residual.result c.from_residual.ensures.1 in
     rw (p.1, p.2)
-    (stops_in from c.args.context.now.words.now c.args.from
+    (stops_in from c.args.context.now.names.now c.args.from
     c.loop-place.place c.args.to c.index-context-place.result c.args.reader.now
     c.loop-place.reader _ _ (omega arith)
     (omega arith) c.requires.within c.index-context-place.is c.loop-place.invariant.read

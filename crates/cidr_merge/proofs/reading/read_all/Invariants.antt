@@ -7,6 +7,6 @@ use Rattle.cidr_merge.proofs.reading.read_all.Given as goal
 abbrev pub invariant-loop-place : goal.invariant-loop-place
 invariant-loop-place g l = record {
   read : ReadsLists (source (g.L.OpenLists.known l.context.lists.now) l.shape) l.from
-      (slice_range l.context.words.now l.from l.place) l.initial.reader l.reader;
+      (slice_range l.context.names.now l.from l.place) l.initial.reader l.reader;
   memory : l.reader.is_out_of_memory ≡ false;
 }

@@ -7,7 +7,7 @@ pub returns-in-Ok : goal.returns-in-Ok
 returns-in-Ok g c =
     let seconds = c.read_side-second.result in
     let ends = sides_read seconds.2 (g.L.OpenLists.known c.args.context.now.lists.now)
-    c.args.context.now.words.now c.args.request c.read_side-first.result.0 seconds.0
+    c.args.context.now.names.now c.args.request c.read_side-first.result.0 seconds.0
     c.read_side-first.result.1 seconds.1 c.end_of_second-to.result
     (rw c.in-Ok.is at c.end_of_second-to.ensures.end)
     (rw (c.in-Ok.is, c.new-none.ensures) at c.read_side-first.ensures.read)
@@ -19,9 +19,9 @@ returns-in-Err-clause-stopped g c =
     let firsts = c.read_side-first.result in
     let none = c.read_side-second.result in
     let known = g.L.OpenLists.known c.args.context.now.lists.now in
-    first_stopped c.in-Err.fault known c.args.context.now.words.now c.args.request firsts.1 none.1
+    first_stopped c.in-Err.fault known c.args.context.now.names.now c.args.request firsts.1 none.1
     (rw (c.in-Err.is, c.new-none.ensures) at c.read_side-first.ensures.stopped)
-    (none_refused none.2 (source known c.args.request.shape) c.args.context.now.words.now
+    (none_refused none.2 (source known c.args.request.shape) c.args.context.now.names.now
     c.args.request.second c.end_of_second-to.result firsts.1 none.0 none.1
     (rw c.in-Err.is at c.end_of_second-to.ensures.end)
     c.read_side-second.ensures.read c.read_side-second.ensures.stopped)

@@ -6,7 +6,7 @@ use Rattle.cidr_merge.proofs.split.split.Goals as goal
 pub returns-in-Ok : goal.returns-in-Ok
 returns-in-Ok g c =
     let r = c.read_side-sets.result in
-    lists_split (g.L.OpenLists.known c.args.context.now.lists.now) c.args.context.now.words.now
+    lists_split (g.L.OpenLists.known c.args.context.now.lists.now) c.args.context.now.names.now
     c.args.request r.0 r.1 c.is_empty.result
     (ending c.args.output.now c.print_split.new.output c.args.errors.now
     c.print_split.new.errors c.print_split.result) c.tell_refusals.new.errors
@@ -16,7 +16,7 @@ returns-in-Ok g c =
 pub returns : goal.returns
 returns g c =
     split_stopped c.in-Err.fault
-    (g.L.OpenLists.known c.args.context.now.lists.now) c.args.context.now.words.now
+    (g.L.OpenLists.known c.args.context.now.lists.now) c.args.context.now.names.now
     c.args.request c.read_side-sets.result.1
     (ending c.args.output.now c.args.output.now c.args.errors.now
     c.refuse_lists.new.errors c.refuse_lists.result) c.tell_refusals.new.errors

@@ -1,0 +1,318 @@
+-- Words are taken exactly if they are right.
+use Rattle.std.proofs.Common.{◌≡◌, ◌≢◌, ◌≤◌, ◌∙◌, ◌-◌, ◌==◌, ℕ, Bool, true, false, not, List, [], ◌∷◌, ◌++◌, refl, sym, ap, subst, arith, length, drop, get_or, true≢false}
+use Rattle.std.specs.Prelude.{◌&&◌, Option, None, Some, Result, Ok, Err, String, codes, nat_lt, if◌then◌else◌}
+use Rattle.std.specs.List.{AllByRecursion, find}
+use Rattle.std.specs.Option.{option_or}
+use Rattle.std.specs.String.{string_bytes}
+use Rattle.std.proofs.lemmas.List.{length-append}
+use Rattle.std.proofs.lemmas.Bool.{eqb-false, eqb-true, le-ltb, ltb-false, ne_eqb}
+use Rattle.std.proofs.lemmas.Option.{none-some}
+use Rattle.program.specs.Words.{count}
+use Rattle.options.specs.Faults.{are_both, of_pair, pair_fault}
+use Rattle.options.specs.Given.{files_of, is_given}
+use Rattle.options.specs.Grammar.{SayWhatIsRead}
+use Rattle.options.specs.declared.faults.Fault.{Fault}
+use Rattle.options.specs.declared.items.Item.{Item}
+use Rattle.options.specs.declared.items.Item.TheVariants as says
+use Rattle.options.specs.declared.table.Pair.{Pair}
+use Rattle.options.specs.declared.table.Row.{Row}
+use Rattle.options.specs.declared.table.Table.{Table}
+use Rattle.cidr_merge.specs.CommandLines.{asked_for, command_if, command_of, first_said, second_said, unless}
+use Rattle.cidr_merge.specs.Faults.{cannot_print, fault_of, files_among, files_fault, is_exported, is_value, item_fault, items_fault, lacks_json, lacks_prefix, option_fault, sides_fault, takes, times_named, together_fault, value_fault}
+use Rattle.cidr_merge.specs.Forms.{form_of}
+use Rattle.cidr_merge.specs.Options as own
+use Rattle.cidr_merge.specs.RightWords.{AFile, AFlag, AJoined, AValue, AreRight, AskFor, IsRightItem, IsValue, RightWordsAreTaken, SaySides}
+use Rattle.cidr_merge.specs.Sides.{before_dashes, behind_dashes}
+use Rattle.cidr_merge.specs.Tasks.{is_two_sided, task_called}
+use Rattle.cidr_merge.specs.declared.command_line.Command.{Command}
+use Rattle.cidr_merge.specs.declared.command_line.Form.{Form}
+use Rattle.cidr_merge.specs.declared.command_line.Form.TheVariants.{Blocks}
+use Rattle.cidr_merge.specs.declared.command_line.Operation.TheVariants as operations
+use Rattle.cidr_merge.specs.declared.tasks.Task.{Task}
+use Rattle.cidr_merge.specs.declared.tasks.Task.TheVariants as tasks
+use Rattle.cidr_merge.proofs.Sides.{dashes_of, said_sides, sides_said}
+
+-- ---- tests
+
+no_or : (a b : Option Fault) → option_or a b ≡ None → (a ≡ None) × (b ≡ None)
+no_or None b h = (refl, h)
+no_or (Some fault) b h = absurd (none-some fault (sym h))
+
+-- a fault that is told unless a test passes, or if it does
+passes : (b : Bool) (fault : Fault) → ◌≡◌ {A = Option Fault} (if b then None else Some fault) None → b ≡ true
+passes true fault h = refl
+passes false fault h = absurd (none-some fault (sym h))
+
+fails : (b : Bool) (fault : Fault) (rest : Option Fault) → (if b then Some fault else rest) ≡ None → (b ≡ false) × (rest ≡ None)
+fails true fault rest h = absurd (none-some fault (sym h))
+fails false fault rest h = (refl, h)
+
+needs : (a b c : Bool) → (a && b && not c) ≡ false → a ≡ true → b ≡ true → c ≡ true
+needs true true true h x y = refl
+needs true true false h x y = absurd (true≢false h)
+needs true false c h x y = absurd (true≢false (sym y))
+needs false b c h x y = absurd (true≢false (sym x))
+
+needed : (a b c : Bool) → (a ≡ true → b ≡ true → c ≡ true) → (a && b && not c) ≡ false
+needed true true c h = rw (h refl refl) refl
+needed true false c h = refl
+needed false b c h = refl
+
+-- ---- each option
+
+to_value : (row : ℕ) (text : List ℕ) → is_value row text ≡ true → IsValue row text
+to_value row text h = record {
+  form = λ e. subst (λ (r : ℕ). is_value r text ≡ true) e h;
+  prefix = λ e. subst (λ (r : ℕ). is_value r text ≡ true) e h;
+}
+
+is_of_value : (row : ℕ) (text : List ℕ) → IsValue row text → is_value row text ≡ true
+is_of_value row text v = by (row == own.format) (row == own.prefix) refl refl where
+  by : (f p : Bool) → (row == own.format) ≡ f → (row == own.prefix) ≡ p → is_value row text ≡ true
+  by true p e g = rw e (v.form (eqb-true row own.format e))
+  by false true e g = rw (e, g) (v.prefix (eqb-true row own.prefix g))
+  by false false e g = rw (e, g) refl
+
+module _ (rows : List Row) (task : Task) where
+  taken_row : (row : ℕ) → option_fault rows task row ≡ None → takes task row ≡ true
+  taken_row row h = passes (takes task row) _ h
+
+  no_option_fault : (row : ℕ) → takes task row ≡ true → option_fault rows task row ≡ None
+  no_option_fault row t = rw t refl
+
+  valued : (row : ℕ) (text : List ℕ) → option_or (option_fault rows task row) (value_fault rows row text) ≡ None
+      → (takes task row ≡ true) × IsValue row text
+  valued row text h = let n = no_or _ _ h in (taken_row row n.0, to_value row text (passes (is_value row text) _ n.1))
+
+  no_value_fault : (row : ℕ) (text : List ℕ) → takes task row ≡ true → IsValue row text
+      → option_or (option_fault rows task row) (value_fault rows row text) ≡ None
+  no_value_fault row text t v = rw (t, is_of_value row text v) refl
+
+  right_item : (item : Item) → item_fault rows task item ≡ None → IsRightItem task item
+  right_item (says.Flag row) h = AFlag row (taken_row row h)
+  right_item (says.Value row text) h = let v = valued row text h in AValue row text v.0 v.1
+  right_item (says.Joined row text word) h = let v = valued row text h in AJoined row text word v.0 v.1
+  right_item (says.File name) h = AFile name
+  right_item (says.Unknown word) h = absurd (none-some _ (sym h))
+  right_item (says.Lacks row) h = absurd (none-some _ (sym (no_or _ _ h).1))
+
+  no_item_fault : (item : Item) → IsRightItem task item → item_fault rows task item ≡ None
+  no_item_fault item (AFlag row t) = no_option_fault row t
+  no_item_fault item (AValue row text t v) = no_value_fault row text t v
+  no_item_fault item (AJoined row text word t v) = no_value_fault row text t v
+  no_item_fault item (AFile name) = refl
+
+  right_items : (items : List Item) → items_fault rows task items ≡ None → AllByRecursion (IsRightItem task) items
+  right_items [] h = tt
+  right_items (item ∷ items) h = let n = no_or _ _ h in (right_item item n.0, right_items items n.1)
+
+  no_items_fault : (items : List Item) → AllByRecursion (IsRightItem task) items → items_fault rows task items ≡ None
+  no_items_fault [] h = refl
+  no_items_fault (item ∷ items) h = rw (no_item_fault item h.0) (no_items_fault items h.1)
+
+-- ---- pairs
+
+module _ (items : List Item) where
+  apart : (pairs : List Pair) → of_pair (find (are_both items) pairs) ≡ None → AllByRecursion (λ (pair : Pair). are_both items pair ≡ false) pairs
+  apart [] h = tt
+  apart (pair ∷ pairs) h = by (are_both items pair) refl (apart pairs) where
+    by : (b : Bool) → are_both items pair ≡ b → (of_pair (find (are_both items) pairs) ≡ None → AllByRecursion (λ (one : Pair). are_both items one ≡ false) pairs)
+        → AllByRecursion (λ (one : Pair). are_both items one ≡ false) (pair ∷ pairs)
+    by true e rest = absurd (none-some _ (sym (rw e at h)))
+    by false e rest = (e, rest (rw e at h))
+
+  no_pair : (pairs : List Pair) → AllByRecursion (λ (pair : Pair). are_both items pair ≡ false) pairs → of_pair (find (are_both items) pairs) ≡ None
+  no_pair [] h = refl
+  no_pair (pair ∷ pairs) h = rw h.0 (no_pair pairs h.1)
+
+-- ---- what a task needs
+
+can_print : (task : Task) (form : Form) → (task ≡ tasks.Merge operations.Differ → is_exported form ≡ false) → cannot_print task form ≡ false
+can_print (tasks.Merge operations.Union) form h = refl
+can_print (tasks.Merge operations.Common) form h = refl
+can_print (tasks.Merge operations.Minus) form h = refl
+can_print (tasks.Merge operations.Differ) form h = h refl
+can_print tasks.List form h = refl
+can_print tasks.Split form h = refl
+can_print tasks.Check form h = refl
+can_print tasks.Overlaps form h = refl
+can_print tasks.Find form h = refl
+
+given : (b : Bool) → not b ≡ false → b ≡ true
+given true h = refl
+given false h = absurd (true≢false h)
+
+has_prefix : (task : Task) (items : List Item) → (task ≡ tasks.Split → is_given items own.prefix ≡ true) → lacks_prefix task items ≡ false
+has_prefix (tasks.Merge operation) items h = refl
+has_prefix tasks.List items h = refl
+has_prefix tasks.Split items h = rw (h refl) refl
+has_prefix tasks.Check items h = refl
+has_prefix tasks.Overlaps items h = refl
+has_prefix tasks.Find items h = refl
+
+-- ---- FILEs
+
+some_of : {X : Type 0} (xs : List X) → (length xs == 0) ≡ false → xs ≢ []
+some_of [] h e = true≢false h
+some_of (x ∷ xs) h e = absurd (let q = e in cc)
+
+none_is : {X : Type 0} (xs : List X) → xs ≢ [] → (length xs == 0) ≡ false
+none_is [] h = absurd (h refl)
+none_is (x ∷ xs) h = ne_eqb (length (x ∷ xs)) 0 (λ e. omega (arith, e))
+
+module _ (task : Task) (name : List ℕ) (dashes : ℕ) (firsts seconds : List (List ℕ)) where
+  record AreSides : Type 0 where
+    cut : dashes ≡ dashes_of (is_two_sided task)
+    some : firsts ≢ []
+    others : is_two_sided task ≡ true → seconds ≢ []
+
+  right_sides : sides_fault task name dashes (length firsts) (length seconds) ≡ None → AreSides
+  right_sides h = by (is_two_sided task) refl where
+    by : (two : Bool) → is_two_sided task ≡ two → AreSides
+    by false e =
+        let a = fails (nat_lt 0 dashes) _ _ (rw e at h) in
+        let b = fails (length firsts == 0) _ _ a.1 in
+        let n = ltb-false 0 dashes a.0 in
+        let none : dashes ≡ 0 = omega (arith, n) in record {
+          cut = none ∙ sym (ap dashes_of e);
+          some = some_of firsts b.0;
+          others = λ t. absurd (true≢false (sym t ∙ e));
+        }
+    by true e =
+        let a = fails (dashes == 0) _ _ (rw e at h) in
+        let b = fails (nat_lt 1 dashes) _ _ a.1 in
+        let c = fails (length firsts == 0) _ _ b.1 in
+        let d = fails (length seconds == 0) _ _ c.1 in
+        let n = ltb-false 1 dashes b.0 in
+        let m = eqb-false dashes 0 a.0 in
+        let one : dashes ≡ 1 = omega (arith, n, m) in record {
+          cut = one ∙ sym (ap dashes_of e);
+          some = some_of firsts c.0;
+          others = λ t. some_of seconds d.0;
+        }
+
+  no_sides_fault : AreSides → sides_fault task name dashes (length firsts) (length seconds) ≡ None
+  no_sides_fault s = by (is_two_sided task) refl where
+    by : (two : Bool) → is_two_sided task ≡ two → sides_fault task name dashes (length firsts) (length seconds) ≡ None
+    by false e = let d : dashes ≡ 0 = s.cut ∙ ap dashes_of e in rw (e, d, none_is firsts s.some) refl
+    by true e =
+        let d : dashes ≡ 1 = s.cut ∙ ap dashes_of e in
+        rw (e, d, none_is firsts s.some, none_is seconds (s.others e)) refl
+
+right_files : (files : List (List ℕ)) → files_fault files ≡ None → (times_named [] files ≡ 0) × (times_named (codes "-") files ≤ 1)
+right_files files h =
+    let a = fails (nat_lt 0 (times_named [] files)) _ _ h in
+    let b = fails (nat_lt 1 (times_named (codes "-") files)) _ _ a.1 in
+    let n = ltb-false 0 (times_named [] files) a.0 in
+    (omega (arith, n), ltb-false 1 (times_named (codes "-") files) b.0)
+
+no_files_fault : (files : List (List ℕ)) → times_named [] files ≡ 0 → times_named (codes "-") files ≤ 1 → files_fault files ≡ None
+no_files_fault files e i = rw (le-ltb 0 (times_named [] files) (omega (arith, e)), le-ltb 1 (times_named (codes "-") files) i) refl
+
+-- ---- all words behind the first
+
+module _ (table : Table) (task : Task) (name : List ℕ) (dashes : ℕ) (items : List Item) (firsts seconds : List (List ℕ)) where
+  behind : length (firsts ++ seconds) - length firsts ≡ length seconds
+  behind = let n = length-append firsts seconds in omega (arith, n)
+
+  abbrev Untold : Type 0
+  Untold = fault_of table task name dashes items (length firsts) (firsts ++ seconds) ≡ None
+
+  to_right : Untold → (dashes ≡ dashes_of (is_two_sided task)) × AreRight table task items firsts seconds
+  to_right h =
+      let a = no_or (items_fault table.rows.now task items) _ h in
+      let b = no_or (together_fault table task items) _ a.1 in
+      let c = no_or (sides_fault task name dashes (length firsts) (length (firsts ++ seconds) - length firsts)) _ b.1 in
+      let p = no_or (pair_fault items table.pairs.now) _ b.0 in
+      let q = fails (lacks_json task items) _ _ p.1 in
+      let r = fails (cannot_print task (form_of Blocks items)) _ _ q.1 in
+      let s = fails (lacks_prefix task items) _ _ r.1 in
+      let t = right_sides task name dashes firsts seconds (subst (λ (n : ℕ). sides_fault task name dashes (length firsts) n ≡ None) behind c.0) in
+      let f = right_files (files_among task (length firsts) (firsts ++ seconds)) c.1 in (
+        t.cut,
+        record {
+          each = right_items table.rows.now task items a.0;
+          apart = apart items table.pairs.now p.0;
+          strict = needs (takes task own.json) (is_given items own.strict) (is_given items own.json) q.0;
+          form = λ e. subst (λ (o : Task). cannot_print o (form_of Blocks items) ≡ false) e r.0;
+          prefix = λ e. given (is_given items own.prefix) (subst (λ (o : Task). lacks_prefix o items ≡ false) e s.0);
+          some = t.some;
+          others = t.others;
+          named = f.0;
+          input = f.1;
+        },
+      )
+
+  untold : dashes ≡ dashes_of (is_two_sided task) → AreRight table task items firsts seconds → Untold
+  untold d r =
+      let sides = subst (λ (n : ℕ). sides_fault task name dashes (length firsts) n ≡ None) (sym behind)
+      (no_sides_fault task name dashes firsts seconds (record { cut = d; some = r.some; others = r.others })) in
+      rw (
+        no_items_fault table.rows.now task items r.each,
+        no_pair items table.pairs.now r.apart,
+        needed (takes task own.json) (is_given items own.strict) (is_given items own.json) r.strict,
+      )
+      (rw (can_print task (form_of Blocks items) r.form, has_prefix task items r.prefix, sides)
+      (no_files_fault (files_among task (length firsts) (firsts ++ seconds)) r.named r.input))
+
+-- ---- all words
+
+abbrev picked : Command × List (List ℕ) → Result (Command × List (List ℕ)) Fault → Command × List (List ℕ)
+picked other (Ok asked) = asked
+picked other (Err fault) = other
+
+unless_ok : (fault : Option Fault) (asked command : Command) (files names : List (List ℕ)) → unless fault asked files ≡ Ok (command, names)
+    → (fault ≡ None) × (command ≡ asked) × (names ≡ files)
+unless_ok None asked command files names e =
+    let same = ap (picked (command, names)) e in (refl, sym (ap (λ (a : Command × List (List ℕ)). a.0) same), sym (ap (λ (a : Command × List (List ℕ)). a.1) same))
+unless_ok (Some fault) asked command files names e = absurd (let q = e in cc)
+
+module _ {Z : Type 0} (table : Table) (name : String Z) (others : List (String Z))
+    (reads : SayWhatIsRead table.rows.now (before_dashes others)) (others_read : SayWhatIsRead table.rows.now (behind_dashes others)) where
+  abbrev first : List Item
+  first = first_said table.rows.now others
+
+  abbrev second : List Item
+  second = second_said table.rows.now others
+
+  asks : (called : Option Task) → task_called (string_bytes name) ≡ called → (command : Command) (names : List (List ℕ))
+      → command_if table (string_bytes name) called others ≡ Ok (command, names) → AskFor table (name ∷ others) command names
+  asks None is command names e = absurd (let q = e in cc)
+  asks (Some task) is command names e =
+      let u = unless_ok (fault_of table task (string_bytes name) (count (codes "--") others) (first ++ second) (length (files_of first)) (files_of first ++ files_of second))
+      (asked_for task (first ++ second) (length (files_of first))) command (files_of first ++ files_of second) names e in
+      let r = to_right table task (string_bytes name) (count (codes "--") others) (first ++ second) (files_of first) (files_of second) u.0 in record {
+        name = name;
+        others = others;
+        task = task;
+        first = first;
+        second = second;
+        cut = refl;
+        called = is;
+        say = said_sides table.rows.now (is_two_sided task) others reads others_read r.0;
+        right = r.1;
+        asked = u.1;
+        files = u.2;
+      }
+
+  abbrev said_as : Task → List Item → List Item → Result (Command × List (List ℕ)) Fault
+  said_as task one other = unless (fault_of table task (string_bytes name) (count (codes "--") others) (one ++ other) (length (files_of one)) (files_of one ++ files_of other))
+      (asked_for task (one ++ other) (length (files_of one))) (files_of one ++ files_of other)
+
+  taken : (command : Command) (names : List (List ℕ)) → AskFor table (name ∷ others) command names → command_of table (name ∷ others) ≡ Ok (command, names)
+  taken command names a =
+      let same_name : a.name ≡ name = sym (ap (λ (ws : List (String Z)). get_or ws 0 name) a.cut) in
+      let same_others : a.others ≡ others = sym (ap (λ (ws : List (String Z)). drop 1 ws) a.cut) in
+      let called = subst (λ (w : String Z). task_called (string_bytes w) ≡ Some a.task) same_name a.called in
+      let s = sides_said table.rows.now (is_two_sided a.task) others a.first a.second reads others_read
+      (subst (λ ws. SaySides table.rows.now (is_two_sided a.task) ws a.first a.second) same_others a.say) in
+      let none = untold table a.task (string_bytes name) (count (codes "--") others) (a.first ++ a.second) (files_of a.first) (files_of a.second) s.dashes a.right in
+      let told : said_as a.task a.first a.second ≡ Ok (command, names) = rw (none, sym a.asked, sym a.files) refl in
+      ap (λ (t : Option Task). command_if table (string_bytes name) t others) called
+      ∙ sym (ap (λ (o : List Item). said_as a.task o second) s.firsts) ∙ sym (ap (λ (o : List Item). said_as a.task a.first o) s.seconds) ∙ told
+
+  pub behind_a_task : RightWordsAreTaken table (name ∷ others)
+  behind_a_task command names = (asks (task_called (string_bytes name)) refl command names, taken command names)
+
+pub no_words : {Z : Type 0} (table : Table) → RightWordsAreTaken {Z = Z} table []
+no_words table command names = ((λ e. absurd (let q = e in cc)), (λ a. absurd (let q = a.cut in cc)))

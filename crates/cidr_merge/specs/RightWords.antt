@@ -1,0 +1,81 @@
+-- Which command lines are right, and what they ask for, whatever reads them.
+use Rattle.std.specs.Prelude.{◌≡◌, ◌≢◌, ◌↔◌, ◌≤◌, ℕ, Bool, true, false, List, [], ◌∷◌, ◌++◌, Some, Ok, length, codes}
+use Rattle.std.specs.Prelude.{IsTrue, String}
+use Rattle.std.specs.List.{AllByRecursion}
+use Rattle.std.specs.Option.{is_some}
+use Rattle.std.specs.String.{string_bytes}
+use Rattle.options.specs.Faults.{are_both}
+use Rattle.options.specs.Given.{files_of, is_given}
+use Rattle.options.specs.Grammar.{Says}
+use Rattle.options.specs.declared.items.Item.{Item}
+use Rattle.options.specs.declared.items.Item.TheVariants as says
+use Rattle.options.specs.declared.table.Pair.{Pair}
+use Rattle.options.specs.declared.table.Row.{Row}
+use Rattle.options.specs.declared.table.Table.{Table}
+use Rattle.program.specs.Words.{count}
+use Rattle.cidr_merge.specs.CommandLines.{asked_for, command_of}
+use Rattle.cidr_merge.specs.Faults.{is_exported, files_among, takes, times_named}
+use Rattle.cidr_merge.specs.Forms.{form_called, form_of, prefix_in}
+use Rattle.cidr_merge.specs.Options as own
+use Rattle.cidr_merge.specs.Tasks.{is_two_sided, task_called}
+use Rattle.cidr_merge.specs.declared.command_line.Command.{Command}
+use Rattle.cidr_merge.specs.declared.command_line.Form.TheVariants.{Blocks}
+use Rattle.cidr_merge.specs.declared.command_line.Operation.TheVariants as operations
+use Rattle.cidr_merge.specs.declared.tasks.Task.{Task}
+use Rattle.cidr_merge.specs.declared.tasks.Task.TheVariants as tasks
+
+-- the words behind the first say this: of one side, without a `--`, or of two, with one between them
+pub data SaySides {Z : Type 0} (rows : List Row) : Bool → List (String Z) → List Item → List Item → Type 0 where
+  OneSide : (words : List (String Z)) (items : List Item) → count (codes "--") words ≡ 0 → Says rows words items
+      → SaySides rows false words items []
+  TwoSides : (before behind : List (String Z)) (dashes : String Z) (first second : List Item)
+      → count (codes "--") before ≡ 0 → string_bytes dashes ≡ codes "--" → count (codes "--") behind ≡ 0
+      → Says rows before first → Says rows behind second
+      → SaySides rows true (before ++ dashes ∷ behind) first second
+
+-- a value of the option of a row
+pub record IsValue (row : ℕ) (text : List ℕ) : Type 0 where
+  pub form : row ≡ own.format → IsTrue (is_some (form_called text))
+  pub prefix : row ≡ own.prefix → IsTrue (is_some (prefix_in text))
+
+-- an option that the task takes, with a value if it has one, or a FILE
+pub data IsRightItem (task : Task) : Item → Type 0 where
+  AFlag : (row : ℕ) → IsTrue (takes task row) → IsRightItem task (says.Flag row)
+  AValue : (row : ℕ) (text : List ℕ) → IsTrue (takes task row) → IsValue row text
+      → IsRightItem task (says.Value row text)
+  AJoined : (row : ℕ) (text word : List ℕ) → IsTrue (takes task row) → IsValue row text
+      → IsRightItem task (says.Joined row text word)
+  AFile : (name : List ℕ) → IsRightItem task (says.File name)
+
+-- these options of both sides, and these FILEs of each, are right: no two options exclude each other, those are there
+-- that another or the task needs, FILEs are on each side, none without a name, and standard input is read at most once
+pub record AreRight (table : Table) (task : Task) (items : List Item) (first second : List (List ℕ)) : Type 0 where
+  pub each : AllByRecursion (IsRightItem task) items
+  pub apart : AllByRecursion (λ (pair : Pair). are_both items pair ≡ false) table.pairs.now
+  pub strict : IsTrue (takes task own.json) → IsTrue (is_given items own.strict) → IsTrue (is_given items own.json)
+  pub form : task ≡ tasks.Merge operations.Differ → is_exported (form_of Blocks items) ≡ false
+  pub prefix : task ≡ tasks.Split → IsTrue (is_given items own.prefix)
+  pub some : first ≢ []
+  pub others : IsTrue (is_two_sided task) → second ≢ []
+  pub named : times_named [] (files_among task (length first) (first ++ second)) ≡ 0
+  pub input : times_named (codes "-") (files_among task (length first) (first ++ second)) ≤ 1
+
+-- the words are right, and this is what they ask for, of these FILEs
+pub record AskFor {Z : Type 0} (table : Table) (words : List (String Z)) (command : Command)
+    (names : List (List ℕ)) : Type 0 where
+  pub name : String Z
+  pub others : List (String Z)
+  pub task : Task
+  pub first : List Item
+  pub second : List Item
+  pub cut : words ≡ name ∷ others
+  pub called : task_called (string_bytes name) ≡ Some task
+  pub say : SaySides table.rows.now (is_two_sided task) others first second
+  pub right : AreRight table task (first ++ second) (files_of first) (files_of second)
+  pub asked : command ≡ asked_for task (first ++ second) (length (files_of first))
+  pub files : names ≡ files_of first ++ files_of second
+
+-- words are taken exactly if they are right, as what they ask for
+abbrev pub RightWordsAreTaken : {Z : Type 0} → Table → List (String Z) → Type 0
+RightWordsAreTaken table words = (command : Command) (names : List (List ℕ))
+    → (command_of table words ≡ Ok (command, names)) ↔ AskFor table words command names
