@@ -1,13 +1,13 @@
 -- What the laws let one conclude, where a weaker law would not.
-use Rattle.std.proofs.Common.{◌≡◌, ◌∙◌, ℕ, Bool, true, false, not, ◌&&◌, map, List, [], ◌∷◌, refl, sym, ap, subst, arith, get_or, take}
+use Rattle.std.proofs.Common.{◌≡◌, ◌∙◌, ℕ, Bool, true, false, not, ◌&&◌, map, List, [], ◌∷◌, refl, sym, ap, subst, arith, get_or}
 use Rattle.std.specs.Prelude.{codes, bytes_eq, String}
 use Rattle.std.specs.List.{AllByRecursion, list_all, list_any}
 use Rattle.std.proofs.lemmas.Bool.{and_parts, not-true}
 use Rattle.std.specs.String.{string_bytes}
 use Rattle.options.specs.Grammar.{NoFlags, OneMore, Opens, OpenLetter, Says, NoWords, OneFile, TwoWords, SayWhatIsRead}
-use Rattle.options.specs.Items.{begins, free_items, items_of, next_mode, option_items, options_len}
+use Rattle.options.specs.Items.{begins, free_items, items_of, next_mode}
 use Rattle.options.specs.Table.{Entry, entry_of, flag, valued, long}
-use Rattle.options.specs.WordRules.{AsksNothing, HasFault, IsOther, OptionsAreRead, OthersAreNoOptions, OthersAskForNothing, WordsHaveOneFault, is_option_word, is_unknown}
+use Rattle.options.specs.WordRules.{AsksNothing, HasFault, IsOther, OthersAreNoOptions, OthersAskForNothing, WordsHaveOneFault, is_option_word, is_unknown}
 use Rattle.options.specs.declared.faults.Fault.{Fault}
 use Rattle.options.specs.declared.items.Item.{Item}
 use Rattle.options.specs.declared.items.Item.TheVariants as says
@@ -59,13 +59,6 @@ module _ {Z : Type 0} (first second third : String Z) (e : string_bytes first �
   value_is_not_a_file law told =
       let one = words_say_one_thing rows (first ∷ second ∷ third ∷ []) _ _ law say told in
       omega (arith, ap (λ l. lacks (get_or l 1 (says.Flag 0))) one)
-
-  -- and where options stand before all FILEs, that ends them, and what they say is what the words before it say
-  two : options_len rows modes.Free (first ∷ second ∷ third ∷ []) ≡ 2
-  two = simp (e, file)
-
-  pub a_file_ends_options : OptionsAreRead rows (first ∷ second ∷ third ∷ []) → option_items rows modes.Free (first ∷ second ∷ third ∷ []) ≡ items_of rows modes.Free (first ∷ second ∷ [])
-  a_file_ends_options law = law ∙ ap (λ n. items_of rows modes.Free (take n (first ∷ second ∷ third ∷ []))) two
 
 -- ---- words that are no options
 

@@ -1,5 +1,4 @@
 -- The lemmas of this crate.
-pub mod BeforeFiles
 pub mod Examples
 pub mod Grammar
 pub mod LawExamples

@@ -1,5 +1,5 @@
 -- How a run ends, by what its words ask for.
-use Rattle.std.proofs.Common.{◌≡◌, ℕ, List, ◌⊎◌, inl, inr, sym, subst, codes, [], ◌∷◌}
+use Rattle.std.proofs.Common.{ℕ, List, ◌⊎◌, inl, inr, sym, subst, codes}
 use Rattle.std.specs.Prelude.{Option, None, Some, MatchOption, String}
 use Rattle.program.specs.Endings.{Ending, EndsPrinting, Refuses}
 use Rattle.program.specs.Runs.{text_asked}

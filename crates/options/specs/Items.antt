@@ -1,5 +1,5 @@
 -- What the words of a command line say, one thing after another.
-use Rattle.std.specs.Prelude.{ℕ, ◌+◌, ◌==◌, ◌||◌, ◌&&◌, Bool, true, false, not, List, [], ◌∷◌, ◌++◌, Option, None, Some}
+use Rattle.std.specs.Prelude.{ℕ, ◌==◌, ◌||◌, Bool, true, false, not, List, [], ◌∷◌, ◌++◌, Option, None, Some}
 use Rattle.std.specs.Prelude.{length, nat_lt, take, drop, if◌then◌else◌, codes, bytes_eq, String}
 use Rattle.std.specs.List.{position_or_len, before_first, after_first}
 use Rattle.std.specs.String.{string_bytes}
@@ -103,23 +103,3 @@ abbrev pub items_of : {Z : Type 0} → List Row → Mode → List (String Z) →
 items_of rows mode [] = end_items mode
 items_of rows mode (word ∷ words) = word_items rows mode (string_bytes word)
     ++ items_of rows (next_mode rows mode (string_bytes word)) words
-
--- ---- options that stand before all FILEs
-
--- a word that stands so is an option or the value of one
-abbrev pub is_of_option : Mode → List ℕ → Bool
-is_of_option modes.Free word = not (is_plain word) && not (bytes_eq word (codes "--"))
-is_of_option (modes.Value row) word = true
-is_of_option modes.Files word = false
-
--- what these words say up to the first that is neither, and how many words that is
-abbrev pub option_items : {Z : Type 0} → List Row → Mode → List (String Z) → List Item
-option_items rows mode [] = end_items mode
-option_items rows mode (word ∷ words) =
-    if is_of_option mode (string_bytes word) then word_items rows mode (string_bytes word)
-    ++ option_items rows (next_mode rows mode (string_bytes word)) words else []
-
-abbrev pub options_len : {Z : Type 0} → List Row → Mode → List (String Z) → ℕ
-options_len rows mode [] = 0
-options_len rows mode (word ∷ words) = if is_of_option mode (string_bytes word)
-    then 1 + options_len rows (next_mode rows mode (string_bytes word)) words else 0

@@ -1,10 +1,10 @@
 -- What holds of the words of a command line, whatever options a program has.
 use Rattle.std.specs.Prelude.{◌≡◌, ℕ, ◌==◌, ◌||◌, ◌&&◌, Bool, true, false, List, [], ◌∷◌, ◌++◌, None, Some, length}
-use Rattle.std.specs.Prelude.{take, drop, nat_lt, if◌then◌else◌, codes, bytes_eq, String}
+use Rattle.std.specs.Prelude.{drop, nat_lt, if◌then◌else◌, codes, bytes_eq, String}
 use Rattle.std.specs.List.{list_any, position_or_len, before_first}
 use Rattle.std.specs.String.{string_bytes}
 use Rattle.options.specs.Faults.{fault_of}
-use Rattle.options.specs.Items.{begins, free_items, items_of, next_mode, option_items, options_len}
+use Rattle.options.specs.Items.{begins, free_items, items_of, next_mode}
 use Rattle.options.specs.Table.{Entry, takes_value}
 use Rattle.options.specs.declared.faults.Fault.{Fault}
 use Rattle.options.specs.declared.items.Item.{Item}
@@ -102,8 +102,3 @@ OthersAskForNothing {Z} table is_option_word words =
     (before : List (String Z)) (word : String Z) (others : List (String Z)) → words ≡ before ++ word ∷ others
     → mode_after table.rows.now modes.Free before ≡ modes.Free → IsOther is_option_word (string_bytes word)
     → AsksNothing table words
-
--- what the options before all FILEs say is what their words say alone
-abbrev pub OptionsAreRead : {Z : Type 0} → List Row → List (String Z) → Type 0
-OptionsAreRead rows words = option_items rows modes.Free words
-    ≡ items_of rows modes.Free (take (options_len rows modes.Free words) words)

@@ -3,7 +3,7 @@
 ghost use Rattle.std.specs.Prelude.{map};
 ghost use Rattle.options.specs.Grammar.{SayWhatIsRead};
 ghost use Rattle.options.specs.Table.{entry_of};
-ghost use Rattle.options.specs.WordRules.{OptionsAreRead, OthersAreNoOptions, OthersAskForNothing, WordsHaveOneFault, is_option_word};
+ghost use Rattle.options.specs.WordRules.{OthersAreNoOptions, OthersAskForNothing, WordsHaveOneFault, is_option_word};
 
 use crate::table::{Row, Table};
 
@@ -31,14 +31,6 @@ pub fn other_words_are_no_options(table: &Table<'_>, word: &str, words: &[String
 /// What words say is one thing, by the grammar of command lines, and it is what `items_of` gives.
 pub fn words_say_what_is_read(rows: &[Row], words: &[String])
     ensures { SayWhatIsRead rows.now words.now }
-{
-    let _rows = rows;
-    let _words = words;
-}
-
-/// What the options that stand before all FILEs say is what their words say alone.
-pub fn options_are_read(rows: &[Row], words: &[String])
-    ensures { OptionsAreRead rows.now words.now }
 {
     let _rows = rows;
     let _words = words;

@@ -1,7 +1,7 @@
 //! Reads the words of a command line by the rows of a table.
-ghost use Rattle.std.specs.Prelude.{◌≡◌, ◌≢◌, ℕ, ◌++◌, ◌∷◌, ◌<◌, ◌≤◌, List, [], true, None, drop, length, codes, OnOk, IfOk, IfSome, MatchOption};
+ghost use Rattle.std.specs.Prelude.{◌≡◌, ◌≢◌, ℕ, ◌++◌, ◌∷◌, ◌<◌, List, [], true, None, drop, codes, OnOk, IfOk, IfSome, MatchOption};
 ghost use Rattle.std.specs.String.{string_bytes};
-ghost use Rattle.options.specs.Items.{begins, is_plain, value_items, opened, letters, letters_mode, name_items, joined_name, name_mode, free_items, free_mode, word_items, next_mode, end_items, items_of, is_of_option, option_items, options_len};
+ghost use Rattle.options.specs.Items.{begins, is_plain, value_items, opened, letters, letters_mode, name_items, joined_name, name_mode, free_items, free_mode, word_items, next_mode, end_items, items_of};
 ghost use Rattle.options.specs.Table.{named};
 
 use crate::items::{Item, Mode, Text};
@@ -40,54 +40,6 @@ pub fn items_of<'a>(
         all.push(Item::Lacks(row))?;
     }
     Ok(all)
-}
-
-/// What the options say that stand before all FILEs and a `--`, and how many words they and their values are.
-///
-/// ```
-/// use options::reading::options_of;
-/// use options::table::{Kind, Row, letter};
-///
-/// let rows = [letter!(b'v', Flag, ""), letter!(b'k', Field, "is no field number")];
-/// let mut words = Vec::new(rt.alloc());
-/// for word in ["-vk", "7", "log", "-v"] {
-///     words.push(String::from_str(rt.alloc(), word)?)?;
-/// }
-/// let (items, count) = options_of(rt.alloc(), &rows, words.as_slice())?;
-/// assert_eq!(rt; (items.len(), count), (2, 2));
-/// ```
-pub fn options_of<'a>(
-    alloc: Global,
-    rows: &[Row],
-    words: &'a [String],
-) -> Result<(Vec<Item<'a>>, usize), AllocError>
-    ensures items { IfOk result
-        (λ found. found.0.items ≡ option_items rows.now Mode.Free words.now) }
-    ensures count { IfOk result (λ found. found.1 ≡ options_len rows.now Mode.Free words.now) }
-    ensures within { IfOk result (λ found. found.1 ≤ length words.now) }
-{
-    let mut all = Vec::new(alloc);
-    let mut mode = Mode::Free;
-    let mut at = 0;
-    while at < words.len() && is_of_option(mode, words[at].as_str()) {
-        mode = put_word(rows, mode, words[at].as_str(), &mut all)?;
-        at += 1;
-    }
-    if let Mode::Value(row) = mode {
-        all.push(Item::Lacks(row))?;
-    }
-    Ok((all, at))
-}
-
-// Whether a word that stands so is an option or the value of one.
-fn is_of_option(mode: Mode, word: &str) -> bool
-    ensures { result ≡ is_of_option mode word.now }
-{
-    match mode {
-        Mode::Free => !is_plain(word) && word != "--",
-        Mode::Value(_) => true,
-        Mode::Files => false,
-    }
 }
 
 // Adds what a word says, and returns where the word behind it stands.

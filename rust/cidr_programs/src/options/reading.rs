@@ -44,51 +44,6 @@ pub fn items_of<'a>(
     Ok(all)
 }
 
-/// What the options say that stand before all FILEs and a `--`, and how many words they and their values are.
-///
-/// ```
-/// # use cidr_programs::in_examples::*;
-/// # ended(|| {
-/// use cidr_programs::options::reading::options_of;
-/// use cidr_programs::options::table::{Kind, Row, letter};
-///
-/// let rows = [letter!(b'v', Flag, ""), letter!(b'k', Field, "is no field number")];
-/// let mut words = Vec::new(Global);
-/// for word in ["-vk", "7", "log", "-v"] {
-///     words.push(String::from_str(Global, word)?)?;
-/// }
-/// let (items, count) = options_of(Global, &rows, words.as_slice())?;
-/// assert_eq!((items.len(), count), (2, 2));
-/// # Ok(())
-/// # });
-/// ```
-pub fn options_of<'a>(
-    alloc: Global,
-    rows: &[Row],
-    words: &'a [String],
-) -> Result<(Vec<Item<'a>>, usize), AllocError> {
-    let mut all = Vec::new(alloc);
-    let mut mode = Mode::Free;
-    let mut at = 0;
-    while at < words.len() && is_of_option(mode, words[at].as_str()) {
-        mode = put_word(rows, mode, words[at].as_str(), &mut all)?;
-        at += 1;
-    }
-    if let Mode::Value(row) = mode {
-        all.push(Item::Lacks(row))?;
-    }
-    Ok((all, at))
-}
-
-// Whether a word that stands so is an option or the value of one.
-fn is_of_option(mode: Mode, word: &str) -> bool {
-    match mode {
-        Mode::Free => !is_plain(word) && word != "--",
-        Mode::Value(_) => true,
-        Mode::Files => false,
-    }
-}
-
 // Adds what a word says, and returns where the word behind it stands.
 fn put_word<'a>(
     rows: &[Row],
