@@ -1,24 +1,21 @@
 -- How a run ends that looks lists over.
-use Rattle.std.proofs.Common.{◌≡◌, ◌-◌, ◌||◌, ◌∙◌, ℕ, Bool, true, false, not, List, []}
-use Rattle.std.proofs.Common.{◌∷◌, ◌++◌, refl, sym, ap, subst, inl, inr, length, take, drop, map}
+use Rattle.std.proofs.Common.{◌≡◌, ◌||◌, ◌∙◌, ℕ, Bool, true, false, not, List, []}
+use Rattle.std.proofs.Common.{◌∷◌, ◌++◌, refl, sym, ap, subst, inl, inr, length, map}
 use Rattle.std.specs.Prelude.{◌⊎◌, if◌then◌else◌, Option, Result, Ok, Err, OnOk}
 use Rattle.std.specs.Prelude.{IsFalse, is_err, String}
 use Rattle.std.specs.List.{concat}
 use Rattle.std.specs.Io.KnownBytes.{Appends}
 use Rattle.std.proofs.KnownBytes.{Appends-trans}
 use Rattle.std.proofs.Math.Dec.{eqb-suc-zero}
-use Rattle.std.proofs.lemmas.List.{take_rest}
 use Rattle.lines.specs.Outputs.{Written, Puts}
 use Rattle.lines.specs.declared.fault.RunFault.{RunFault}
 use Rattle.lists.specs.KnownLists.{KnownLists}
-use Rattle.lists.specs.declared.named.ReadFault.{ReadFault}
-use Rattle.program.specs.Endings.{Ending, Refuses, status_of, end_text}
+use Rattle.program.specs.Endings.{Ending, status_of, end_text}
 use Rattle.program.specs.Messages.{Reports}
-use Rattle.program.specs.Reported.{fault_text}
 use Rattle.cidr_merge.specs.Findings.{lists_findings, IsFound}
 use Rattle.cidr_merge.specs.InspectionRuns.{findings_status, EndsChecking, EndsFinding}
 use Rattle.cidr_merge.specs.InspectionRuns.{EndsInspecting, WritesFindings}
-use Rattle.cidr_merge.specs.Texts.{AreTexts, TextsStop}
+use Rattle.cidr_merge.specs.Texts.{AreTexts}
 use Rattle.cidr_merge.specs.Private.Reported.{TellsFound}
 use Rattle.cidr_merge.specs.Writing.{FailsToWrite}
 use Rattle.cidr_merge.specs.declared.command_line.Inspection.{Inspection}
@@ -82,26 +79,10 @@ checked names texts end mid written found status h s wrote works failed is told 
 
 -- ---- the lists
 
--- those from a place on
-abbrev pub names_from : {Z : Type 0} → ℕ → List (String Z) → List (String Z)
-names_from first words = take (length words - first) (drop first words)
-
-module _ {Z W E : Type 0} (known : KnownLists) (words : List (String Z)) (inspection : Inspection)
-    (first : ℕ) (end : Ending W E) where
-  -- one was not read
-  pub stopped : (fault : ReadFault) → TextsStop known first (names_from first words) fault
-      → Refuses (fault_text words fault) end → EndsInspecting known words inspection first end
-  stopped fault stops h = inl (fault, subst (λ ns. TextsStop known first ns fault) (take_rest words first) stops, h)
-
-  -- all were
+module _ {Z W E : Type 0} (known : KnownLists) (words : List (String Z)) (inspection : Inspection) (end : Ending W E) where
+  -- all were read
   pub read : {X : Type 0} (texts held : List X) (items : X → List ℕ) → held ≡ texts
-      → AreTexts known (names_from first words) (map items texts)
-      → EndsFinding inspection (names_from first words) (map items held) end
-      → EndsInspecting known words inspection first end
+      → AreTexts known words (map items texts) → EndsFinding inspection words (map items held) end
+      → EndsInspecting known words inspection end
   read texts held items t are h =
-      inr (
-        map items texts,
-        subst (λ ns. AreTexts known ns (map items texts)) (take_rest words first) are,
-        subst (λ ns. EndsFinding inspection ns (map items texts) end) (take_rest words first)
-            (subst (λ ts. EndsFinding inspection (names_from first words) (map items ts) end) t h),
-      )
+      inr (map items texts, are, subst (λ ts. EndsFinding inspection words (map items ts) end) t h)

@@ -113,7 +113,7 @@ module _ {Z : Type 0} (minus a dashes b ranges : String Z) (o : string_bytes min
   second = says.File (codes "b") ∷ says.Flag 0 ∷ []
 
   abbrev request : Request
-  request = record { operation = Minus; form = Ranges; skips_bad = false; shape = shapes.Lines; first = 0; middle = 1; second = 1 }
+  request = record { operation = Minus; form = Ranges; skips_bad = false; shape = shapes.Lines; middle = 1 }
 
   say_first : Says table.rows.now (a ∷ []) first
   say_first = subst (λ (name : List ℕ). Says table.rows.now (a ∷ []) (says.File name ∷ [])) p (OneFile a [] [] (rw p refl) NoWords)
@@ -152,7 +152,7 @@ module _ {Z : Type 0} (minus a dashes b ranges : String Z) (o : string_bytes min
   })
 
   -- and so of its two sides each has its own list
-  pub its_sides : RightWordsAreTaken table words → SidesAreCut table words → drop request.second (codes "a" ∷ codes "b" ∷ []) ≡ files_of (second_said table.rows.now (a ∷ dashes ∷ b ∷ ranges ∷ []))
+  pub its_sides : RightWordsAreTaken table words → SidesAreCut table words → drop request.middle (codes "a" ∷ codes "b" ∷ []) ≡ files_of (second_said table.rows.now (a ∷ dashes ∷ b ∷ ranges ∷ []))
   its_sides law cut = (cut request (codes "a" ∷ codes "b" ∷ []) (option_behind_lists law)).1
 
 -- what is not right: an option of another task, an unknown one, and one without its value,

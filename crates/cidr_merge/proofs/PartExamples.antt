@@ -2,7 +2,7 @@
 -- give it.
 use Rattle.std.proofs.Common.{◌≡◌, ◌+◌, ◌≤◌, ◌↔◌, ◌⊎◌, inl, inr, ◌++◌, ◌∙◌, ◌==◌, sym, not}
 use Rattle.std.proofs.Common.{ℕ, Bool, List, [], ◌∷◌, true, false, length, map, take, drop, refl}
-use Rattle.std.specs.Prelude.{codes, ◌&&◌, if◌then◌else◌, String, None, Ok, Err, slice_range}
+use Rattle.std.specs.Prelude.{codes, ◌&&◌, if◌then◌else◌, String, None, Ok, Err}
 use Rattle.std.specs.List.{Contains, concat}
 use Rattle.std.specs.String.{string_bytes}
 use Rattle.std.specs.declared.alloc.Global.{Global}
@@ -59,8 +59,8 @@ pub what_a_request_says : (operation : Operation) (usual : Form) (items : List I
     (request : Request) → request ≡ request_of operation usual items middle
     → (request.operation ≡ operation) × (request.form ≡ form_of usual items)
     × (request.skips_bad ≡ is_given items skip_bad) × (request.shape ≡ shape_of items)
-    × (request.first ≡ 0) × (request.middle ≡ middle) × (request.second ≡ middle)
-what_a_request_says operation usual items middle request e = rw e (refl, refl, refl, refl, refl, refl, refl)
+    × (request.middle ≡ middle)
+what_a_request_says operation usual items middle request e = rw e (refl, refl, refl, refl, refl)
 
 -- ---- what was read
 
@@ -75,10 +75,10 @@ what_a_side_has known number names before refused sets h =
 pub what_both_sides_have : {Z : Type 0} (known : KnownLists) (words : List (String Z))
     (request : Request) (first second : Sets) (refused : Refused)
     → ReadsSides known words request first second refused
-    → (between : Refused) × ReadsSide (source known request.shape) request.first
-    (slice_range words request.first request.middle) no_refusals first between
-    × ReadsSide (source known request.shape) request.second
-    (drop request.second words) between second refused
+    → (between : Refused) × ReadsSide (source known request.shape) 0
+    (take request.middle words) no_refusals first between
+    × ReadsSide (source known request.shape) request.middle
+    (drop request.middle words) between second refused
 what_both_sides_have known words request first second refused h = (h.between, h.firsts, h.seconds)
 
 pub where_the_reading_stops : {Z : Type 0} (known : Source) (number : ℕ) (names : List (String Z))
@@ -93,11 +93,11 @@ where_the_reading_stops known number names before fault refused h =
 pub what_stops_both_sides : {Z : Type 0} (known : KnownLists) (words : List (String Z))
     (request : Request) (fault : ReadFault) (refused : Refused)
     → StopsInSides known words request fault refused
-    → Stops (source known request.shape) request.first
-    (slice_range words request.first request.middle) (nothing_read no_refusals) fault refused
-    ⊎ ((first : Sets) × (between : Refused) × ReadsSide (source known request.shape) request.first
-    (slice_range words request.first request.middle) no_refusals first between
-    × Stops (source known request.shape) request.second (drop request.second words)
+    → Stops (source known request.shape) 0
+    (take request.middle words) (nothing_read no_refusals) fault refused
+    ⊎ ((first : Sets) × (between : Refused) × ReadsSide (source known request.shape) 0
+    (take request.middle words) no_refusals first between
+    × Stops (source known request.shape) request.middle (drop request.middle words)
     (nothing_read between) fault refused)
 what_stops_both_sides known words request fault refused h = h
 
@@ -164,16 +164,16 @@ pub what_is_wrong_is_told : {W E : Type 0} (program usage : List ℕ) (rows : Li
     → ((end.output_after ≡ end.output) × (end.status ≡ 2)) × HasTold end (refusal_text program usage rows fault)
 what_is_wrong_is_told program usage rows known fault end h = h
 
-pub what_a_check_does : {Z W E : Type 0} (known : KnownLists) (words : List (String Z)) (first : ℕ) (end : Ending W E)
-    → EndsInspecting known words Check first end
-    → ((fault : ReadFault) × TextsStop known first (drop first words) fault
+pub what_a_check_does : {Z W E : Type 0} (known : KnownLists) (words : List (String Z)) (end : Ending W E)
+    → EndsInspecting known words Check end
+    → ((fault : ReadFault) × TextsStop known 0 words fault
     × (((end.output_after ≡ end.output) × (end.status ≡ 2))
     × HasTold end (fault_text words fault)))
-    ⊎ ((texts : List (List ℕ)) × AreTexts known (drop first words) texts
-    × (FailsToWrite end ⊎ (HasWritten end (concat (lists_findings false (drop first words) texts))
+    ⊎ ((texts : List (List ℕ)) × AreTexts known words texts
+    × (FailsToWrite end ⊎ (HasWritten end (concat (lists_findings false words texts))
     × HasTold end []
-    × (end.status ≡ (if length (lists_findings false (drop first words) texts) == 0 then 0 else 1)))))
-what_a_check_does known words first end h = h
+    × (end.status ≡ (if length (lists_findings false words texts) == 0 then 0 else 1)))))
+what_a_check_does known words end h = h
 
 abbrev found_in : {Z : Type 0} → List (String Z) → ℕ → List IpAddr → List (List ℕ) → List (List ℕ)
 found_in words middle addresses texts =

@@ -1,16 +1,15 @@
 -- Lists that are read in turn.
-use Rattle.std.proofs.Common.{◌≡◌, ◌<◌, ◌≤◌, ◌+◌, ◌-◌, ◌++◌, ◌∷◌, ◌∙◌, [], ℕ, List, false, refl}
-use Rattle.std.proofs.Common.{sym, ap, subst, arith, length, get_or, take, drop, length-take}
-use Rattle.std.proofs.Common.{length-drop}
-use Rattle.std.specs.Prelude.{Result, Ok, Err, OnOk, String, slice_range}
+use Rattle.std.proofs.Common.{◌≡◌, ◌<◌, ◌+◌, ◌++◌, ◌∷◌, [], ℕ, List, false, refl}
+use Rattle.std.proofs.Common.{sym, subst, arith, length, get_or, take, length-take}
+use Rattle.std.specs.Prelude.{Result, Ok, Err, OnOk, String}
 use Rattle.std.specs.String.{string_bytes}
-use Rattle.std.proofs.lemmas.List.{take_more, get_or-drop, take_all}
 use Rattle.ipnetwork_blocks.specs.Aggregate.{IsAggregate}
 use Rattle.lists.specs.Lists.{ReadLists, nothing_read}
 use Rattle.lists.specs.Refusals.{Refused}
 use Rattle.cidr_merge.specs.Shapes.{Source, ReadsOne}
 use Rattle.cidr_merge.specs.Reading.{ReadsLists, ReadsSide}
 use Rattle.cidr_merge.specs.declared.reading.Sets.{Sets}
+use Rattle.cidr_merge.proofs.Places.{up_to_next}
 
 -- a list more
 reads_more : {Z : Type 0} (known : Source) (number place : ℕ) (names : List (String Z))
@@ -31,43 +30,15 @@ reads_more known number place (n ∷ names) name before mid after e h r = (
       (omega (arith, e)) h.2 r,
 )
 
--- the words from one place on up to another, and one more
-pub slice_more : {X : Type 0} (words : List X) (from place : ℕ) (word : X) → from ≤ place
-    → place < length words → word ≡ get_or words place word
-    → slice_range words from (place + 1) ≡ slice_range words from place ++ word ∷ []
-slice_more words from place word le l is =
-    let more : place + 1 - from ≡ place - from + 1 = omega (arith, le) in
-    let at : from + (place - from) ≡ place = omega (arith, le) in
-    ap (λ n. take n (drop from words)) more ∙ take_more (drop from words) (place - from) word
-    (omega (arith, le, l, length-drop from words))
-    ∙ ap (λ w. take (place - from) (drop from words) ++ w ∷ [])
-    (get_or-drop from words (place - from) word ∙ ap (λ n. get_or words n word) at ∙ sym is)
-
-pub slice_count : {X : Type 0} (words : List X) (from place : ℕ) → from ≤ place
-    → place < length words → place ≡ from + length (slice_range words from place)
-slice_count words from place le l =
-    omega (arith, le, l, length-take (place - from) (drop from words), length-drop from words)
-
-pub slice_none : {X : Type 0} (words : List X) (from : ℕ) → slice_range words from from ≡ []
-slice_none words from =
-    let e : from - from ≡ 0 = omega arith in ap (λ n. take n (drop from words)) e
-
-pub reads_none : {Z : Type 0} (known : Source) (words : List (String Z)) (from : ℕ)
-    (before : ReadLists) → ReadsLists known from (slice_range words from from) before before
-reads_none known words from before =
-    subst (λ names. ReadsLists known from names before before) (sym (slice_none words from)) refl
-
-pub reads_on : {Z : Type 0} (known : Source) (words : List (String Z)) (from place : ℕ)
-    (word : String Z) (before mid after : ReadLists) → from ≤ place → place < length words
-    → word ≡ get_or words place word
-    → ReadsLists known from (slice_range words from place) before mid
-    → ReadsOne known place (string_bytes word) mid after
-    → ReadsLists known from (slice_range words from (place + 1)) before after
-reads_on known words from place word before mid after le l is h r =
-    subst (λ names. ReadsLists known from names before after)
-    (sym (slice_more words from place word le l is))
-    (reads_more known from place (slice_range words from place) word before mid after
-    (slice_count words from place le l) h r)
+pub reads_on : {Z : Type 0} (known : Source) (names : List (String Z)) (first place : ℕ)
+    (name : String Z) (before mid after : ReadLists) → place < length names → name ≡ get_or names place name
+    → ReadsLists known first (take place names) before mid
+    → ReadsOne known (first + place) (string_bytes name) mid after
+    → ReadsLists known first (take (place + 1) names) before after
+reads_on known names first place name before mid after l is h r =
+    subst (λ ns. ReadsLists known first ns before after) (sym (up_to_next names place name l is))
+    (reads_more known first (first + place) (take place names) name before mid after
+    (omega (arith, l, length-take place names)) h r)
 
 -- the sets of what was read
 pub side_ok : {Z T E : Type 0} (result : Result T E) (known : Source) (number : ℕ)
@@ -85,9 +56,3 @@ side_ok (Ok done) known number names before after start read sets e h m v4 v6 r 
   refused_lines = sym r;
 }
 side_ok (Err fault) known number names before after start read sets e h m v4 v6 r = tt
-
--- the words from a place on
-pub slice_rest : {X : Type 0} (words : List X) (from : ℕ)
-    → slice_range words from (length words) ≡ drop from words
-slice_rest words from =
-    take_all (length words - from) (drop from words) (omega (arith, length-drop from words))

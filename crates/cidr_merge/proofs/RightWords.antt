@@ -25,6 +25,10 @@ use Rattle.cidr_merge.specs.RightWords.{AFile, AFlag, AJoined, AValue, AreRight,
 use Rattle.cidr_merge.specs.Sides.{before_dashes, behind_dashes}
 use Rattle.cidr_merge.specs.Tasks.{is_two_sided, task_called}
 use Rattle.cidr_merge.specs.declared.command_line.Command.{Command}
+use Rattle.cidr_merge.specs.declared.command_line.Command.TheVariants as commands
+use Rattle.cidr_merge.specs.declared.command_line.Request.{Request}
+use Rattle.cidr_merge.specs.Laws.{AreCut, SidesAreCut}
+use Rattle.std.proofs.Math.Seq.{take-append_seam, drop-append_seam}
 use Rattle.cidr_merge.specs.declared.command_line.Form.{Form}
 use Rattle.cidr_merge.specs.declared.command_line.Form.TheVariants.{Blocks}
 use Rattle.cidr_merge.specs.declared.command_line.Operation.TheVariants as operations
@@ -314,5 +318,31 @@ module _ {Z : Type 0} (table : Table) (name : String Z) (others : List (String Z
   pub behind_a_task : RightWordsAreTaken table (name ∷ others)
   behind_a_task command names = (asks (task_called (string_bytes name)) refl command names, taken command names)
 
-pub no_words : {Z : Type 0} (table : Table) → RightWordsAreTaken {Z = Z} table []
-no_words table command names = ((λ e. absurd (let q = e in cc)), (λ a. absurd (let q = a.cut in cc)))
+-- ---- the FILEs of a request
+
+abbrev middle_of : Command → ℕ
+middle_of (commands.Merge request) = request.middle
+middle_of (commands.Find middle) = middle
+middle_of command = 0
+
+has_middle : (task : Task) (items : List Item) (middle : ℕ) (request : Request) → commands.Merge request ≡ asked_for task items middle → request.middle ≡ middle
+has_middle (tasks.Merge operation) items middle request e = ap middle_of e
+has_middle tasks.List items middle request e = ap middle_of e
+has_middle tasks.Split items middle request e = absurd (let q = e in cc)
+has_middle tasks.Check items middle request e = absurd (let q = e in cc)
+has_middle tasks.Overlaps items middle request e = absurd (let q = e in cc)
+has_middle tasks.Find items middle request e = ap middle_of e
+
+sides_by : {Z : Type 0} (table : Table) (name : String Z) (others : List (String Z)) (called : Option Task) (request : Request) (names : List (List ℕ))
+    → command_if table (string_bytes name) called others ≡ Ok (commands.Merge request, names) → AreCut table (name ∷ others) request names
+sides_by table name others None request names e = absurd (let q = e in cc)
+sides_by table name others (Some task) request names e =
+    let first = first_said table.rows.now others in
+    let second = second_said table.rows.now others in
+    let u = unless_ok (fault_of table task (string_bytes name) (count (codes "--") others) (first ++ second) (length (files_of first)) (files_of first ++ files_of second))
+    (asked_for task (first ++ second) (length (files_of first))) (commands.Merge request) (files_of first ++ files_of second) names e in
+    rw (has_middle task (first ++ second) (length (files_of first)) request u.1, u.2) (take-append_seam (files_of first) (files_of second), drop-append_seam (files_of first) (files_of second))
+
+pub sides_cut : {Z : Type 0} (table : Table) (words : List (String Z)) → SidesAreCut table words
+sides_cut table [] request names e = absurd (let q = e in cc)
+sides_cut table (name ∷ others) request names e = sides_by table name others (task_called (string_bytes name)) request names e

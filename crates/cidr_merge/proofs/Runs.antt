@@ -1,7 +1,7 @@
 -- How a run ends.
 use Rattle.lines.specs.Outputs.{Written}
-use Rattle.std.proofs.Common.{◌≡◌, ◌==◌, ◌∙◌, ℕ, List, Bool, not, codes, sym, ap, subst, inl, inr, length}
-use Rattle.std.specs.Prelude.{None, Result, Ok, Err, OnOk, IfErr, String, slice_range}
+use Rattle.std.proofs.Common.{◌≡◌, ◌==◌, ℕ, List, Bool, not, codes, sym, subst, inl, inr, length, take, drop}
+use Rattle.std.specs.Prelude.{None, Result, Ok, Err, OnOk, IfErr, String}
 use Rattle.lists.specs.Lists.{nothing_read}
 use Rattle.lists.specs.Refusals.{Refused, no_refusals}
 use Rattle.program.specs.Endings.{Ending, Refuses}
@@ -23,52 +23,36 @@ use Rattle.cidr_merge.specs.Stopping.{Stops, StopsInSides}
 use Rattle.cidr_merge.specs.declared.command_line.Request.{Request}
 use Rattle.lists.specs.declared.named.ReadFault.{ReadFault}
 use Rattle.cidr_merge.specs.declared.reading.Sets.{Sets}
-use Rattle.cidr_merge.proofs.ReadInTurn.{slice_rest}
 
 -- the reading stopped at a list of the first side,
 pub first_stopped : {Z : Type 0} (fault : ReadFault) (known : KnownLists) (words : List (String Z))
     (request : Request) (between refused : Refused)
-    → Stops (source known request.shape) request.first
-    (slice_range words request.first request.middle) (nothing_read no_refusals) fault between
+    → Stops (source known request.shape) 0 (take request.middle words) (nothing_read no_refusals) fault between
     → refused ≡ between → StopsInSides known words request fault refused
 first_stopped fault known words request between refused stops r =
-    inl (subst (λ (l : Refused). Stops (source known request.shape) request.first
-    (slice_range words request.first request.middle) (nothing_read no_refusals) fault l) (sym r)
-    stops)
+    inl (subst (λ (l : Refused). Stops (source known request.shape) 0 (take request.middle words)
+    (nothing_read no_refusals) fault l) (sym r) stops)
 
 -- or both sides were read, or the reading stopped at a list of the second
 pub sides_read : {Z T : Type 0} (result : Result T ReadFault) (known : KnownLists)
-    (words : List (String Z)) (request : Request) (first second : Sets) (between refused : Refused)
-    (to : ℕ) → to ≡ length words
-    → ReadsSide (source known request.shape) request.first
-    (slice_range words request.first request.middle) no_refusals first between
-    → OnOk result (ReadsSide (source known request.shape) request.second
-    (slice_range words request.second to) between second refused)
-    → IfErr result (λ f. Stops (source known request.shape) request.second
-    (slice_range words request.second to) (nothing_read between) f refused)
+    (words others : List (String Z)) (request : Request) (first second : Sets) (between refused : Refused)
+    → others ≡ drop request.middle words
+    → ReadsSide (source known request.shape) 0 (take request.middle words) no_refusals first between
+    → OnOk result (ReadsSide (source known request.shape) request.middle others between second refused)
+    → IfErr result (λ f. Stops (source known request.shape) request.middle others (nothing_read between) f refused)
     → OnOk result (ReadsSides known words request first second refused)
     × IfErr result (λ f. StopsInSides known words request f refused)
-sides_read (Ok all) known words request first second between refused to t firsts seconds stops = (
+sides_read (Ok all) known words others request first second between refused o firsts seconds stops = (
   record {
     between = between;
     firsts = firsts;
-    seconds = subst (λ names. ReadsSide
-        (source known request.shape) request.second names between second refused)
-        (ap (λ n. slice_range words request.second n) t ∙ slice_rest words request.second) seconds;
+    seconds = subst (λ names. ReadsSide (source known request.shape) request.middle names between second refused) o seconds;
   },
   tt,
 )
-sides_read (Err fault) known words request first second between refused to t firsts seconds stops = (
+sides_read (Err fault) known words others request first second between refused o firsts seconds stops = (
   tt,
-  inr (
-    first,
-    between,
-    firsts,
-    subst (λ names. Stops (source known request.shape) request.second names
-        (nothing_read between) fault refused)
-        (ap (λ n. slice_range words request.second n) t
-        ∙ slice_rest words request.second) stops,
-  ),
+  inr (first, between, firsts, subst (λ names. Stops (source known request.shape) request.middle names (nothing_read between) fault refused) o stops),
 )
 
 -- the answer was given

@@ -1,34 +1,21 @@
 -- The sides of a command line: what its words say before the first `--` and behind it, and the FILEs of a request.
 use Rattle.std.proofs.Common.{◌≡◌, ◌+◌, ◌∙◌, ℕ, Bool, true, false, cond, List, [], ◌∷◌, ◌++◌, refl, sym, ap, subst, arith, length, take, drop}
-use Rattle.std.specs.Prelude.{Option, None, Some, Result, Ok, Err, String, codes, slice_range, if◌then◌else◌}
+use Rattle.std.specs.Prelude.{String, codes, if◌then◌else◌}
 use Rattle.std.specs.List.{count_by, position_or_len}
-use Rattle.std.specs.Option.{unwrap_or}
 use Rattle.std.specs.String.{string_bytes}
-use Rattle.std.proofs.Math.Seq.{take-append_seam, drop-append_seam, drop-append-add}
+use Rattle.std.proofs.Math.Seq.{take-append_seam, drop-append-add}
 use Rattle.std.proofs.lemmas.List.{drop_all, take_all}
 use Rattle.std.proofs.lemmas.List.Sums.{sum_by-append}
-use Rattle.std.proofs.lemmas.Option.{none-some}
 use Rattle.std.proofs.lemmas.Slice.Eq.{bytes_eq-Decides}
 use Rattle.program.specs.Words.{count, is}
-use Rattle.options.specs.Given.{files_of}
 use Rattle.options.specs.Grammar.{SayWhatIsRead}
 use Rattle.options.specs.Items.{items_of}
-use Rattle.options.specs.declared.faults.Fault.{Fault}
 use Rattle.options.specs.declared.items.Item.{Item}
 use Rattle.options.specs.declared.items.Mode.TheVariants as modes
 use Rattle.options.specs.declared.table.Row.{Row}
-use Rattle.options.specs.declared.table.Table.{Table}
-use Rattle.cidr_merge.specs.CommandLines.{asked_for, command_if, first_said, second_said, unless}
-use Rattle.cidr_merge.specs.Faults.{fault_of}
-use Rattle.cidr_merge.specs.Laws.{SidesAreCut}
+use Rattle.cidr_merge.specs.CommandLines.{first_said, second_said}
 use Rattle.cidr_merge.specs.RightWords.{SaySides, OneSide, TwoSides}
 use Rattle.cidr_merge.specs.Sides.{before_dashes, behind_dashes}
-use Rattle.cidr_merge.specs.Tasks.{task_called}
-use Rattle.cidr_merge.specs.declared.command_line.Command.{Command}
-use Rattle.cidr_merge.specs.declared.command_line.Command.TheVariants as commands
-use Rattle.cidr_merge.specs.declared.command_line.Request.{Request}
-use Rattle.cidr_merge.specs.declared.tasks.Task.{Task}
-use Rattle.cidr_merge.specs.declared.tasks.Task.TheVariants as tasks
 
 -- ---- the first of some, and what is before it and behind it
 
@@ -152,56 +139,3 @@ module _ {Z : Type 0} (rows : List Row) where
         dashes = let n = sum_by-append (λ word. cond (is (codes "--") word) 1 0) before (dashes ∷ behind) in
             let m = counted (is (codes "--")) dashes behind true t in omega (arith, n, m, e, k);
       }
-
--- ---- the FILEs of a request
-
-abbrev merge_of : Command → Option Request
-merge_of (commands.Merge request) = Some request
-merge_of (commands.Split request) = None
-merge_of (commands.Inspect inspection first) = None
-merge_of (commands.Find middle) = None
-
-abbrev said_of : Result (Command × List (List ℕ)) Fault → Option Request
-said_of (Ok asked) = merge_of asked.0
-said_of (Err fault) = None
-
-abbrev named_of : Result (Command × List (List ℕ)) Fault → List (List ℕ)
-named_of (Ok asked) = asked.1
-named_of (Err fault) = []
-
-module _ (firsts seconds : List (List ℕ)) (request : Request) (names : List (List ℕ)) where
-  abbrev IsCutAt : Type 0
-  IsCutAt = (slice_range names request.first request.middle ≡ firsts) × (drop request.second names ≡ seconds)
-
-  cut_at : (asked : Request) → asked.first ≡ 0 → asked.middle ≡ length firsts → asked.second ≡ length firsts → Some asked ≡ Some request → firsts ++ seconds ≡ names → IsCutAt
-  cut_at asked f m s e n =
-      let same : asked ≡ request = ap (λ o. unwrap_or o asked) e in
-      subst (λ (r : Request). (slice_range names r.first r.middle ≡ firsts) × (drop r.second names ≡ seconds)) same
-      (rw (f, m, s, sym n) (ap (λ (k : ℕ). take k (firsts ++ seconds)) (omega arith) ∙ take-append_seam firsts seconds, drop-append_seam firsts seconds))
-
-  asked_cut : (task : Task) (items : List Item) → merge_of (asked_for task items (length firsts)) ≡ Some request → firsts ++ seconds ≡ names → IsCutAt
-  asked_cut (tasks.Merge operation) items e n = cut_at _ refl refl refl e n
-  asked_cut tasks.List items e n = cut_at _ refl refl refl e n
-  asked_cut tasks.Split items e n = absurd (none-some request e)
-  asked_cut tasks.Check items e n = absurd (none-some request e)
-  asked_cut tasks.Overlaps items e n = absurd (none-some request e)
-  asked_cut tasks.Find items e n = absurd (none-some request e)
-
-  unless_cut : (fault : Option Fault) (task : Task) (items : List Item) (asked : Result (Command × List (List ℕ)) Fault)
-      → asked ≡ unless fault (asked_for task items (length firsts)) (firsts ++ seconds) → said_of asked ≡ Some request → named_of asked ≡ names → IsCutAt
-  unless_cut None task items asked a e n = asked_cut task items (sym (ap said_of a) ∙ e) (sym (ap named_of a) ∙ n)
-  unless_cut (Some fault) task items asked a e n = absurd (none-some request (sym (ap said_of a) ∙ e))
-
-by_task : {Z : Type 0} (table : Table) (name : String Z) (others : List (String Z)) (task : Option Task) (request : Request) (names : List (List ℕ))
-    → command_if table (string_bytes name) task others ≡ Ok (commands.Merge request, names)
-    → IsCutAt (files_of (first_said table.rows.now others)) (files_of (second_said table.rows.now others)) request names
-by_task table name others None request names e = absurd (none-some request (ap said_of e))
-by_task table name others (Some task) request names e =
-    let first = first_said table.rows.now others in let second = second_said table.rows.now others in
-    unless_cut (files_of first) (files_of second) request names
-    (fault_of table task (string_bytes name) (count (codes "--") others) (first ++ second) (length (files_of first)) (files_of first ++ files_of second))
-    task (first ++ second) _ refl (ap said_of e) (ap named_of e)
-
-pub sides_cut : {Z : Type 0} (table : Table) (words : List (String Z)) → SidesAreCut table words
-sides_cut table [] request names e = absurd (let q = e in cc)
-sides_cut table (name ∷ others) request names e = by_task table name others (task_called (string_bytes name)) request names e

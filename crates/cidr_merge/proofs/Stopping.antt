@@ -1,8 +1,7 @@
 -- Where the reading of lists stops.
-use Rattle.std.proofs.Common.{◌≡◌, ◌<◌, ◌≤◌, ◌+◌, ◌-◌, ◌++◌, ◌∷◌, ◌∙◌, [], ℕ, List, false, sym, ap}
-use Rattle.std.proofs.Common.{subst, arith, length, get_or, take, drop, append_assoc}
-use Rattle.std.proofs.Math.Seq.{take-add}
-use Rattle.std.specs.Prelude.{Result, Ok, Err, OnOk, IfErr, String, slice_range}
+use Rattle.std.proofs.Common.{◌≡◌, ◌<◌, ◌+◌, ◌++◌, ◌∷◌, ◌∙◌, [], ℕ, List, false, sym, ap}
+use Rattle.std.proofs.Common.{subst, arith, length, get_or, take, drop, length-take}
+use Rattle.std.specs.Prelude.{Result, Ok, Err, OnOk, IfErr, String}
 use Rattle.std.specs.String.{string_bytes}
 use Rattle.lists.specs.Lists.{ReadLists, nothing_read}
 use Rattle.lists.specs.Refusals.{Refused}
@@ -11,45 +10,28 @@ use Rattle.cidr_merge.specs.Reading.{ReadsLists, ReadsSide}
 use Rattle.cidr_merge.specs.Stopping.{Stops}
 use Rattle.lists.specs.declared.named.ReadFault.{ReadFault}
 use Rattle.cidr_merge.specs.declared.reading.Sets.{Sets}
-use Rattle.cidr_merge.proofs.ReadInTurn.{slice_more, slice_count, slice_none}
+use Rattle.cidr_merge.proofs.Places.{cut_at}
 
 -- ---- lists in turn
 
--- the words from one place on up to another, of which one is this
-slice_cut : {X : Type 0} (words : List X) (from place to : ℕ) (word : X) → from ≤ place → place < to
-    → to ≤ length words → word ≡ get_or words place word
-    → slice_range words from to ≡ slice_range words from place
-    ++ word ∷ take (to - (place + 1)) (drop (place + 1 - from) (drop from words))
-slice_cut words from place to word le l within is =
-    let count : to - from ≡ (place + 1 - from) + (to - (place + 1)) = omega (arith, le, l) in
-    let others = take (to - (place + 1)) (drop (place + 1 - from) (drop from words)) in
-    ap (λ n. take n (drop from words)) count ∙ take-add (place + 1 - from) (to - (place + 1))
-    (drop from words)
-    ∙ ap (λ ws. ws ++ others) (slice_more words from place word le (omega (arith, l, within)) is)
-    ∙ append_assoc (slice_range words from place) (word ∷ []) others
-
 -- the reading of the list at a place stops
-pub stops_in : {Z : Type 0} (known : Source) (words : List (String Z)) (from place to : ℕ)
-    (word : String Z) (start mid : ReadLists) (fault : ReadFault) (refused : Refused) → from ≤ place
-    → place < to
-    → to ≤ length words → word ≡ get_or words place word
-    → ReadsLists known from (slice_range words from place) start mid → mid.is_out_of_memory ≡ false
-    → StopsOne known place (string_bytes word) mid fault refused
-    → Stops known from (slice_range words from to) start fault refused
-stops_in known words from place to word start mid fault refused le l within is reads memory stops =
-    let place_of : place ≡ from + length (slice_range words from place) =
-    slice_count words from place le (omega (arith, l, within)) in
-    record {
-      first = slice_range words from place;
-      name = word;
-      others = take (to - (place + 1)) (drop (place + 1 - from) (drop from words));
-      between = mid;
-      cut = slice_cut words from place to word le l within is;
-      reads = reads;
-      memory = memory;
-      stops = subst (λ (p : ℕ). StopsOne known p
-          (string_bytes word) mid fault refused) place_of stops;
-    }
+pub stops_in : {Z : Type 0} (known : Source) (names : List (String Z)) (number place : ℕ)
+    (name : String Z) (start mid : ReadLists) (fault : ReadFault) (refused : Refused)
+    → place < length names → name ≡ get_or names place name
+    → ReadsLists known number (take place names) start mid → mid.is_out_of_memory ≡ false
+    → StopsOne known (number + place) (string_bytes name) mid fault refused
+    → Stops known number names start fault refused
+stops_in known names number place name start mid fault refused l is reads memory stops = record {
+  first = take place names;
+  name = name;
+  others = drop (place + 1) names;
+  between = mid;
+  cut = cut_at names place name l is;
+  reads = reads;
+  memory = memory;
+  stops = subst (λ (p : ℕ). StopsOne known p (string_bytes name) mid fault refused)
+      (omega (arith, l, length-take place names)) stops;
+}
 
 -- ---- sides
 
@@ -78,16 +60,13 @@ reads_no_more known number [] start read e h = h
 reads_no_more known number (name ∷ names) start read e h = absurd (let q = e in cc)
 
 -- where there are no lists, no line is refused
-pub none_refused : {Z T : Type 0} (result : Result T ReadFault) (known : Source)
-    (words : List (String Z)) (place to : ℕ) (before : Refused) (sets : Sets) (refused : Refused)
-    → to ≡ place
-    → OnOk result (ReadsSide known place (slice_range words place to) before sets refused)
-    → IfErr result (λ fault. Stops known place (slice_range words place to)
-    (nothing_read before) fault refused) → refused ≡ before
-none_refused (Ok done) known words place to before sets refused e side stops =
+pub none_refused : {Z T : Type 0} (result : Result T ReadFault) (known : Source) (names : List (String Z))
+    (number : ℕ) (before : Refused) (sets : Sets) (refused : Refused) → names ≡ []
+    → OnOk result (ReadsSide known number names before sets refused)
+    → IfErr result (λ fault. Stops known number names (nothing_read before) fault refused)
+    → refused ≡ before
+none_refused (Ok done) known names number before sets refused e side stops =
     sym side.refused_lines ∙ ap (λ (l : ReadLists). l.refused)
-    (reads_no_more known place (slice_range words place to) (nothing_read before) side.read
-    (ap (λ n. slice_range words place n) e ∙ slice_none words place) side.lists)
-none_refused (Err fault) known words place to before sets refused e side stops =
-    absurd (no_names (slice_range words place to) stops.first stops.others stops.name
-    (ap (λ n. slice_range words place n) e ∙ slice_none words place) stops.cut)
+    (reads_no_more known number names (nothing_read before) side.read e side.lists)
+none_refused (Err fault) known names number before sets refused e side stops =
+    absurd (no_names names stops.first stops.others stops.name e stops.cut)

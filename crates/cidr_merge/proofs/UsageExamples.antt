@@ -118,10 +118,10 @@ Ask Z words command names = BehindAsked Z [] words command names
 -- an option behind the lists of the second side, one before the `--`, and a value in its word or behind it
 pub options_anywhere : {Z : Type 0}
     → Ask Z (codes "minus" ∷ codes "a" ∷ codes "--" ∷ codes "b" ∷ codes "--ranges" ∷ [])
-    (commands.Merge (record { operation = Minus; form = Ranges; skips_bad = false; shape = shapes.Lines; first = 0; middle = 1; second = 1 })) (codes "a" ∷ codes "b" ∷ [])
+    (commands.Merge (record { operation = Minus; form = Ranges; skips_bad = false; shape = shapes.Lines; middle = 1 })) (codes "a" ∷ codes "b" ∷ [])
     × Ask Z (codes "split" ∷ codes "a" ∷ codes "--prefix=+9" ∷ codes "--skip-bad" ∷ [])
-    (commands.Split (record { length = 9; skips_bad = true; shape = shapes.Lines; first = 0 })) (codes "a" ∷ [])
-    × Ask Z (codes "check" ∷ codes "a" ∷ codes "--strict" ∷ []) (commands.Inspect inspections.Strict 0) (codes "a" ∷ [])
+    (commands.Split (record { length = 9; skips_bad = true; shape = shapes.Lines })) (codes "a" ∷ [])
+    × Ask Z (codes "check" ∷ codes "a" ∷ codes "--strict" ∷ []) (commands.Inspect inspections.Strict) (codes "a" ∷ [])
     × Ask Z (codes "find" ∷ codes "::1" ∷ codes "-" ∷ codes "--" ∷ codes "-" ∷ []) (commands.Find 2) (codes "::1" ∷ codes "-" ∷ codes "-" ∷ [])
 options_anywhere = (
   (λ _ o _ a _ b _ c _ d. simp (o, a, b, c, d)),

@@ -38,9 +38,7 @@ request_of operation usual items middle = record {
   form = form_of usual items;
   skips_bad = is_given items own.skip_bad;
   shape = shape_of items;
-  first = 0;
   middle = middle;
-  second = middle;
 }
 
 -- how a `check` looks lists over, strictly or not
@@ -56,10 +54,9 @@ asked_for tasks.Split items middle = commands.Split
       length = length_of items;
       skips_bad = is_given items own.skip_bad;
       shape = shape_of items;
-      first = 0;
     })
-asked_for tasks.Check items middle = commands.Inspect (inspection_of (is_given items own.strict)) 0
-asked_for tasks.Overlaps items middle = commands.Inspect inspections.Overlaps 0
+asked_for tasks.Check items middle = commands.Inspect (inspection_of (is_given items own.strict))
+asked_for tasks.Overlaps items middle = commands.Inspect inspections.Overlaps
 asked_for tasks.Find items middle = commands.Find middle
 
 -- what the words before the first `--` say, and those behind it

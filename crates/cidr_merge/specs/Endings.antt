@@ -23,8 +23,7 @@ abbrev pub EndsCommand : {Z W E : Type 0} → List ℕ → List ℕ → List Row
     → Ending W E → Type 0
 EndsCommand program usage rows known words (commands.Merge request) end = EndsMerging known words request end
 EndsCommand program usage rows known words (commands.Split request) end = EndsSplitting known words request end
-EndsCommand program usage rows known words (commands.Inspect inspection first) end =
-    EndsInspecting known words inspection first end
+EndsCommand program usage rows known words (commands.Inspect inspection) end = EndsInspecting known words inspection end
 EndsCommand program usage rows known words (commands.Find middle) end =
     EndsFind program usage rows known words middle end
 

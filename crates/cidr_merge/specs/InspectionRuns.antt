@@ -1,5 +1,5 @@
 -- How a run ends that looks lists over.
-use Rattle.std.specs.Prelude.{◌≡◌, ◌==◌, ◌⊎◌, ℕ, Bool, true, false, List, [], ◌++◌, length, drop, if◌then◌else◌, codes}
+use Rattle.std.specs.Prelude.{◌≡◌, ◌==◌, ◌⊎◌, ℕ, Bool, true, false, List, [], ◌++◌, length, if◌then◌else◌, codes}
 use Rattle.std.specs.Prelude.{String}
 use Rattle.std.specs.List.{concat}
 use Rattle.lists.specs.KnownLists.{KnownLists}
@@ -44,10 +44,9 @@ EndsFinding Check names texts end = EndsChecking names texts end
 EndsFinding Strict names texts end = EndsOrdered true names texts end
 EndsFinding Overlaps names texts end = EndsOrdered false names texts end
 
--- the lists from the one at this index on are looked over: one was not read, nothing was written, and the cause was
+-- the lists are looked over: one was not read, nothing was written, and the cause was
 -- reported; or all were read
-abbrev pub EndsInspecting : {Z W E : Type 0} → KnownLists → List (String Z) → Inspection → ℕ → Ending W E → Type 0
-EndsInspecting known words inspection first end =
-    ((fault : ReadFault) × TextsStop known first (drop first words) fault × Refuses (fault_text words fault) end)
-    ⊎ ((texts : List (List ℕ)) × AreTexts known (drop first words) texts
-    × EndsFinding inspection (drop first words) texts end)
+abbrev pub EndsInspecting : {Z W E : Type 0} → KnownLists → List (String Z) → Inspection → Ending W E → Type 0
+EndsInspecting known words inspection end =
+    ((fault : ReadFault) × TextsStop known 0 words fault × Refuses (fault_text words fault) end)
+    ⊎ ((texts : List (List ℕ)) × AreTexts known words texts × EndsFinding inspection words texts end)

@@ -1,6 +1,6 @@
 -- What no other text is, and what is computed of lists.
 use Rattle.std.specs.Prelude.{◌≡◌, ◌≢◌, ◌↔◌, ℕ, Bool, List, Option, None, Some, Result, Ok, false, drop}
-use Rattle.std.specs.Prelude.{slice_range, codes, IsTrue, String}
+use Rattle.std.specs.Prelude.{take, codes, IsTrue, String}
 use Rattle.ipnetwork_addr.specs.declared.ip.IpAddr.{IpAddr}
 use Rattle.lists.specs.Entries.{ReadsEntry}
 use Rattle.lists.specs.Lists.{Names}
@@ -44,8 +44,8 @@ NoOtherOption rows =
 -- the lists of the sides of a request are the FILEs before the first `--`, and those behind it
 abbrev pub AreCut : {Z : Type 0} → Table → List (String Z) → Request → List (List ℕ) → Type 0
 AreCut table words request names =
-    (slice_range names request.first request.middle ≡ files_of (first_said table.rows.now (drop 1 words)))
-    × (drop request.second names ≡ files_of (second_said table.rows.now (drop 1 words)))
+    (take request.middle names ≡ files_of (first_said table.rows.now (drop 1 words)))
+    × (drop request.middle names ≡ files_of (second_said table.rows.now (drop 1 words)))
 
 abbrev pub SidesAreCut : {Z : Type 0} → Table → List (String Z) → Type 0
 SidesAreCut table words = (request : Request) (names : List (List ℕ))

@@ -1,5 +1,5 @@
 -- What is read of lists.
-use Rattle.std.specs.Prelude.{◌≡◌, ℕ, ◌+◌, List, [], ◌∷◌, false, String, slice_range, drop}
+use Rattle.std.specs.Prelude.{◌≡◌, ℕ, ◌+◌, List, [], ◌∷◌, false, String, take, drop}
 use Rattle.std.specs.String.{string_bytes}
 use Rattle.ipnetwork_blocks.specs.Aggregate.{IsAggregate}
 use Rattle.lists.specs.Lists.{ReadLists, nothing_read}
@@ -31,7 +31,6 @@ pub record ReadsSide {Z : Type 0} (from : Source) (number : ℕ) (names : List (
 pub record ReadsSides {Z : Type 0} (known : KnownLists) (words : List (String Z))
     (request : Request) (first second : Sets) (refused : Refused) : Type 0 where
   pub between : Refused
-  pub firsts : ReadsSide (source known request.shape) request.first
-      (slice_range words request.first request.middle) no_refusals first between
-  pub seconds : ReadsSide (source known request.shape) request.second
-      (drop request.second words) between second refused
+  pub firsts : ReadsSide (source known request.shape) 0 (take request.middle words) no_refusals first between
+  pub seconds : ReadsSide (source known request.shape) request.middle
+      (drop request.middle words) between second refused

@@ -1,5 +1,5 @@
 -- How a run ends that splits lists.
-use Rattle.std.specs.Prelude.{◌≡◌, ◌<◌, ◌≤◌, ℕ, List, [], Bool, true, false, not, ◌&&◌, ◌⊎◌, drop}
+use Rattle.std.specs.Prelude.{◌≡◌, ◌<◌, ◌≤◌, ℕ, List, [], Bool, true, false, not, ◌&&◌, ◌⊎◌}
 use Rattle.std.specs.Prelude.{if◌then◌else◌, String}
 use Rattle.lines.specs.Outputs.{Written}
 use Rattle.lists.specs.KnownLists.{KnownLists}
@@ -41,7 +41,7 @@ EndsCutting request skips sets end =
 abbrev pub StopsSplitting : {Z W E : Type 0} → KnownLists → List (String Z) → SplitRequest → Refused
     → Ending W E → Type 0
 StopsSplitting known words request refused end = (fault : ReadFault)
-    × Stops (source known request.shape) request.first (drop request.first words)
+    × Stops (source known request.shape) 0 words
     (nothing_read no_refusals) fault refused × IsSilent end × HasTold end (fault_text words fault)
 
 -- the refused lines were reported, and then either why the reading stopped, or the pieces were
@@ -51,6 +51,5 @@ abbrev pub EndsSplitting : {Z W E : Type 0} → KnownLists → List (String Z) �
 EndsSplitting {Z} {W} {E} known words request end = (refused : Refused) × (told : Written E)
     × Reports end.errors told (refusals_text words in_list refused)
     × (StopsSplitting known words request refused (record end { errors = told })
-    ⊎ ((sets : Sets) × ReadsSide (source known request.shape) request.first
-    (drop request.first words) no_refusals sets refused
+    ⊎ ((sets : Sets) × ReadsSide (source known request.shape) 0 words no_refusals sets refused
     × EndsCutting request (was_refused refused) sets (record end { errors = told })))

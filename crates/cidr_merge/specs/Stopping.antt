@@ -1,5 +1,5 @@
 -- Where the reading of lists stops.
-use Rattle.std.specs.Prelude.{◌≡◌, ℕ, ◌+◌, List, ◌∷◌, ◌++◌, ◌⊎◌, false, String, length, slice_range}
+use Rattle.std.specs.Prelude.{◌≡◌, ℕ, ◌+◌, List, ◌∷◌, ◌++◌, ◌⊎◌, false, String, length, take}
 use Rattle.std.specs.Prelude.{drop}
 use Rattle.std.specs.String.{string_bytes}
 use Rattle.lists.specs.Lists.{ReadLists, nothing_read}
@@ -29,9 +29,8 @@ pub record Stops {Z : Type 0} (from : Source) (number : ℕ) (names : List (Stri
 abbrev pub StopsInSides : {Z : Type 0} → KnownLists → List (String Z) → Request → ReadFault
     → Refused → Type 0
 StopsInSides known words request fault refused =
-    Stops (source known request.shape) request.first
-    (slice_range words request.first request.middle) (nothing_read no_refusals) fault refused
-    ⊎ ((first : Sets) × (between : Refused) × ReadsSide (source known request.shape) request.first
-    (slice_range words request.first request.middle) no_refusals first between
-    × Stops (source known request.shape) request.second (drop request.second words)
+    Stops (source known request.shape) 0 (take request.middle words) (nothing_read no_refusals) fault refused
+    ⊎ ((first : Sets) × (between : Refused)
+    × ReadsSide (source known request.shape) 0 (take request.middle words) no_refusals first between
+    × Stops (source known request.shape) request.middle (drop request.middle words)
     (nothing_read between) fault refused)

@@ -45,7 +45,7 @@ pub enum Form {
     Exported(Export),
 }
 
-/// How the lists are merged. The lists of a side are a range of those that are named.
+/// How the lists are merged.
 #[derive(Clone, Copy, Debug, PartialEq, Eq)]
 pub struct Request {
     /// What is done.
@@ -56,12 +56,8 @@ pub struct Request {
     pub skips_bad: bool,
     /// How the lists are written.
     pub shape: Shape,
-    /// The index of the first list.
-    pub first: usize,
-    /// The index after the lists of the first side.
+    /// How many lists the first side has: those of the second follow.
     pub middle: usize,
-    /// The index of the first list of the second side.
-    pub second: usize,
 }
 
 /// How lists are split.
@@ -73,8 +69,6 @@ pub struct SplitRequest {
     pub skips_bad: bool,
     /// How the lists are written.
     pub shape: Shape,
-    /// The index of the first list.
-    pub first: usize,
 }
 
 /// How lists are looked over.
@@ -95,9 +89,9 @@ pub enum Command {
     Merge(Request),
     /// Lists are split.
     Split(SplitRequest),
-    /// The lists from the one at this index on are looked over.
-    Inspect(Inspection, usize),
-    /// Addresses are sought in lists, of which the first has this index: those before it are the addresses.
+    /// Lists are looked over.
+    Inspect(Inspection),
+    /// Of so many names the addresses are sought in the lists that follow.
     Find(usize),
 }
 
@@ -176,10 +170,9 @@ fn asked_for(task: Task, items: &[Item<'_>], middle: usize) -> Command
             length: length_of(items),
             skips_bad: is_given(items, SKIP_BAD),
             shape: shape_of(items),
-            first: 0,
         }),
-        Task::Check => Command::Inspect(inspection_of(is_given(items, STRICT)), 0),
-        Task::Overlaps => Command::Inspect(Inspection::Overlaps, 0),
+        Task::Check => Command::Inspect(inspection_of(is_given(items, STRICT))),
+        Task::Overlaps => Command::Inspect(Inspection::Overlaps),
         Task::Find => Command::Find(middle),
     }
 }
@@ -193,9 +186,7 @@ fn request_of(operation: Operation, usual: Form, items: &[Item<'_>], middle: usi
         form: form_of(usual, items),
         skips_bad: is_given(items, SKIP_BAD),
         shape: shape_of(items),
-        first: 0,
         middle,
-        second: middle,
     }
 }
 

@@ -1,5 +1,5 @@
 //! The run that looks lists over.
-ghost use Rattle.std.specs.Prelude.{◌≡◌, ◌≤◌, length, map, if◌then◌else◌};
+ghost use Rattle.std.specs.Prelude.{◌≡◌, length, map, if◌then◌else◌};
 ghost use Rattle.std.specs.List.Sorted.{IsSorted};
 ghost use Rattle.program.specs.Endings.{ending};
 ghost use Rattle.cidr_merge.specs.InspectionRuns.{EndsChecking, EndsFinding, EndsInspecting};
@@ -31,20 +31,18 @@ const NOTHING_FOUND: u8 = 0;
 /// The exit status if something was found.
 const FOUND: u8 = 1;
 
-/// Looks over the lists from the one at the index `first` on, and returns the exit status.
+/// Looks over the lists, and returns the exit status.
 pub(crate) fn inspect<L: OpenLists, W: Write, E: Write>(
     inspection: Inspection,
-    first: usize,
     context: &Context<'_, L>,
     output: &mut Output<'_, W>,
     errors: &mut Output<'_, E>,
 ) -> u8
-    requires { first ≤ length context.now.names.now }
-    ensures { EndsInspecting (L.known context.now.lists.now) context.now.names.now inspection first
+    ensures { EndsInspecting (L.known context.now.lists.now) context.now.names.now inspection
         (ending output.old output.new errors.old errors.new result) }
 {
-    let names = &context.names[first..];
-    let texts = match texts_of(context, names, first) {
+    let names = context.names;
+    let texts = match texts_of(context, names, 0) {
         Ok(texts) => texts,
         Err(fault) => return refuse_lists(context.names, fault, errors),
     };

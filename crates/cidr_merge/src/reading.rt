@@ -1,5 +1,5 @@
 //! Reads the lists of a side.
-ghost use Rattle.std.specs.Prelude.{◌≡◌, ◌≤◌, false, length, slice_range, OnOk, IfErr};
+ghost use Rattle.std.specs.Prelude.{◌≡◌, ◌+◌, ◌^◌, ◌<◌, false, length, OnOk, IfErr};
 ghost use Rattle.lists.specs.Lists.{nothing_read};
 ghost use Rattle.program.specs.Messages.{Reports};
 ghost use Rattle.program.specs.Reported.{fault_text};
@@ -24,48 +24,46 @@ pub(crate) struct Sets {
     pub(crate) v6: AddressSet<Ipv6Network>,
 }
 
-/// Reads the lists at the places from `from` up to `to` among the names, in that order.
+/// Reads the lists of these names, in that order. The first has this index.
 ///
 /// The refused lines are added to the earlier ones, even if the reading ends with a fault.
 pub(crate) fn read_side<L: OpenLists>(
     context: &Context<'_, L>,
     shape: Shape,
-    from: usize,
-    to: usize,
+    names: &[String],
+    first: usize,
     refusals: Refusals,
 ) -> (Sets, Refusals, Result<(), ReadFault>)
-    requires order { from ≤ to }
-    requires within { to ≤ length context.now.names.now }
-    ensures read { OnOk result.2 (ReadsSide (source (L.known context.now.lists.now) shape) from
-        (slice_range context.now.names.now from to) refusals result.0 result.1) }
+    requires { first + length names.now < 2 ^ 64 }
+    ensures read { OnOk result.2 (ReadsSide (source (L.known context.now.lists.now) shape) first
+        names.now refusals result.0 result.1) }
     ensures stopped { IfErr result.2 (λ fault. Stops (source (L.known context.now.lists.now) shape)
-        from (slice_range context.now.names.now from to) (nothing_read refusals) fault result.1) }
+        first names.now (nothing_read refusals) fault result.1) }
 {
     let mut reader = ListReader::new(context.alloc, refusals);
-    let end = read_all(context, shape, from, to, &mut reader);
+    let end = read_all(context, shape, names, first, &mut reader);
     let (v4, v6, refusals) = reader.into_sets();
     (Sets { v4, v6 }, refusals, end)
 }
 
-// Reads the lists at these places.
+// Reads the lists of these names.
 fn read_all<L: OpenLists>(
     context: &Context<'_, L>,
     shape: Shape,
-    from: usize,
-    to: usize,
+    names: &[String],
+    first: usize,
     reader: &mut ListReader,
 ) -> Result<(), ReadFault>
-    requires order { from ≤ to }
-    requires within { to ≤ length context.now.names.now }
+    requires fits { first + length names.now < 2 ^ 64 }
     requires memory { reader.old.is_out_of_memory ≡ false }
-    ensures read { OnOk result (ReadsLists (source (L.known context.now.lists.now) shape) from
-        (slice_range context.now.names.now from to) reader.old reader.new) }
+    ensures read { OnOk result (ReadsLists (source (L.known context.now.lists.now) shape) first
+        names.now reader.old reader.new) }
     ensures memory { OnOk result (reader.new.is_out_of_memory ≡ false) }
     ensures stopped { IfErr result (λ fault. Stops (source (L.known context.now.lists.now) shape)
-        from (slice_range context.now.names.now from to) reader.old fault reader.new.refused) }
+        first names.now reader.old fault reader.new.refused) }
 {
-    for place in from..to {
-        read_one(context, shape, context.names[place].as_str(), place, reader)?;
+    for place in 0..names.len() {
+        read_one(context, shape, names[place].as_str(), first + place, reader)?;
     }
     Ok(())
 }

@@ -1,9 +1,9 @@
 //! The run that the program makes.
-ghost use Rattle.std.specs.Prelude.{◌≡◌, ◌≤◌, ℕ, List, length, if◌then◌else◌, OnOk, IfErr, is_err};
+ghost use Rattle.std.specs.Prelude.{◌≡◌, ◌≤◌, ℕ, List, [], length, if◌then◌else◌, OnOk, IfErr, is_err};
 ghost use Rattle.lines.specs.Outputs.{Writes};
 ghost use Rattle.program.specs.Endings.{ending};
 ghost use Rattle.cidr_merge.specs.Answers.{IsAnswer};
-ghost use Rattle.cidr_merge.specs.Private.Words.{IsWithin, IsCommandWithin};
+ghost use Rattle.cidr_merge.specs.Private.Words.{IsCommandWithin};
 ghost use Rattle.cidr_merge.specs.Endings.{EndsAs, EndsCommand};
 ghost use Rattle.cidr_merge.specs.Reading.{ReadsSides};
 ghost use Rattle.cidr_merge.specs.Runs.{answer_status, EndsAnswering, EndsMerging};
@@ -75,7 +75,7 @@ fn obey<L: OpenLists, W: Write, E: Write>(
     match command {
         Command::Merge(request) => merge(request, context, output, errors),
         Command::Split(request) => split(request, context, output, errors),
-        Command::Inspect(inspection, first) => inspect(inspection, first, context, output, errors),
+        Command::Inspect(inspection) => inspect(inspection, context, output, errors),
         Command::Find(middle) => find(middle, rows, context, output, errors),
     }
 }
@@ -87,7 +87,7 @@ fn merge<L: OpenLists, W: Write, E: Write>(
     output: &mut Output<'_, W>,
     errors: &mut Output<'_, E>,
 ) -> u8
-    requires { IsWithin (length context.now.names.now) request }
+    requires { request.middle ≤ length context.now.names.now }
     ensures { EndsMerging (L.known context.now.lists.now) context.now.names.now request
         (ending output.old output.new errors.old errors.new result) }
 {
@@ -112,7 +112,7 @@ fn read_sides<L: OpenLists>(
     request: Request,
     context: &Context<'_, L>,
 ) -> (Sets, Sets, Refusals, Result<(), ReadFault>)
-    requires { IsWithin (length context.now.names.now) request }
+    requires { request.middle ≤ length context.now.names.now }
     ensures read { OnOk result.3 (ReadsSides (L.known context.now.lists.now) context.now.names.now
         request result.0 result.1 result.2) }
     ensures stopped { IfErr result.3 (λ fault. StopsInSides (L.known context.now.lists.now)
@@ -120,24 +120,21 @@ fn read_sides<L: OpenLists>(
 {
     let shape = request.shape;
     let none = Refusals::new();
-    let (first, refusals, read) = read_side(context, shape, request.first, request.middle, none);
-    let to = end_of_second(&read, request.second, context.names.len());
-    let (second, refusals, end) = read_side(context, shape, request.second, to, refusals);
+    let middle = request.middle;
+    let (first, refusals, read) = read_side(context, shape, &context.names[..middle], 0, none);
+    let others = lists_behind(&read, &context.names[middle..]);
+    let (second, refusals, end) = read_side(context, shape, others, middle, refusals);
     match read {
         Ok(()) => (first, second, refusals, end),
         Err(fault) => (first, second, refusals, Err(fault)),
     }
 }
 
-// Up to which word the lists of the second side are read, of which this is the first: none of them,
-// if those of the first side were not read to the end.
-fn end_of_second(read: &Result<(), ReadFault>, first: usize, count: usize) -> usize
-    requires { first ≤ count }
-    ensures end { result ≡ (if is_err read.now then first else count) }
-    ensures order { first ≤ result }
-    ensures within { result ≤ count }
+// Which lists of the second side are read: none, if those of the first were not read to the end.
+fn lists_behind<'a>(read: &Result<(), ReadFault>, names: &'a [String]) -> &'a [String]
+    ensures { result.now ≡ (if is_err read.now then [] else names.now) }
 {
-    if read.is_err() { first } else { count }
+    if read.is_err() { &[] } else { names }
 }
 
 // Prints what the operation leaves of the sides, unless lines were refused that are not to be

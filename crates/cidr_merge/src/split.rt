@@ -1,5 +1,5 @@
 //! The run of a `split`.
-ghost use Rattle.std.specs.Prelude.{◌≡◌, ◌≤◌, length, min, ◌-◌, ◌^◌, OnOk, is_err};
+ghost use Rattle.std.specs.Prelude.{◌≡◌, min, ◌-◌, ◌^◌, OnOk, is_err};
 ghost use Rattle.lines.specs.Outputs.{Writes};
 ghost use Rattle.program.specs.Endings.{ending};
 ghost use Rattle.cidr_merge.specs.Pieces.{split_text, split_count};
@@ -24,23 +24,16 @@ pub(crate) fn split<L: OpenLists, W: Write, E: Write>(
     output: &mut Output<'_, W>,
     errors: &mut Output<'_, E>,
 ) -> u8
-    requires { request.first ≤ length context.now.names.now }
     ensures { EndsSplitting (L.known context.now.lists.now) context.now.names.now request
         (ending output.old output.new errors.old errors.new result) }
 {
-    let words = context.names;
+    let names = context.names;
     let none = Refusals::new();
-    let (sets, refusals, read) = read_side(
-        context,
-        request.shape,
-        request.first,
-        words.len(),
-        none,
-    );
-    tell_refusals(words, &InLists, &refusals, errors);
+    let (sets, refusals, read) = read_side(context, request.shape, names, 0, none);
+    tell_refusals(names, &InLists, &refusals, errors);
     match read {
         Ok(()) => print_split(request, !refusals.is_empty(), &sets, output, errors),
-        Err(fault) => refuse_lists(words, fault, errors),
+        Err(fault) => refuse_lists(names, fault, errors),
     }
 }
 

@@ -26,16 +26,15 @@ const NOTHING_FOUND: u8 = 0;
 /// The exit status if something was found.
 const FOUND: u8 = 1;
 
-/// Looks over the lists from the one at the index `first` on, and returns the exit status.
+/// Looks over the lists, and returns the exit status.
 pub(crate) fn inspect<L: OpenLists, W: Write, E: Write>(
     inspection: Inspection,
-    first: usize,
     context: &Context<'_, L>,
     output: &mut Output<'_, W>,
     errors: &mut Output<'_, E>,
 ) -> u8 {
-    let names = &context.names[first..];
-    let texts = match texts_of(context, names, first) {
+    let names = context.names;
+    let texts = match texts_of(context, names, 0) {
         Ok(texts) => texts,
         Err(fault) => return refuse_lists(context.names, fault, errors),
     };

@@ -20,32 +20,32 @@ pub(crate) struct Sets {
     pub(crate) v6: AddressSet<Ipv6Network>,
 }
 
-/// Reads the lists at the places from `from` up to `to` among the names, in that order.
+/// Reads the lists of these names, in that order. The first has this index.
 ///
 /// The refused lines are added to the earlier ones, even if the reading ends with a fault.
 pub(crate) fn read_side<L: OpenLists>(
     context: &Context<'_, L>,
     shape: Shape,
-    from: usize,
-    to: usize,
+    names: &[String],
+    first: usize,
     refusals: Refusals,
 ) -> (Sets, Refusals, Result<(), ReadFault>) {
     let mut reader = ListReader::new(context.alloc, refusals);
-    let end = read_all(context, shape, from, to, &mut reader);
+    let end = read_all(context, shape, names, first, &mut reader);
     let (v4, v6, refusals) = reader.into_sets();
     (Sets { v4, v6 }, refusals, end)
 }
 
-// Reads the lists at these places.
+// Reads the lists of these names.
 fn read_all<L: OpenLists>(
     context: &Context<'_, L>,
     shape: Shape,
-    from: usize,
-    to: usize,
+    names: &[String],
+    first: usize,
     reader: &mut ListReader,
 ) -> Result<(), ReadFault> {
-    for place in from..to {
-        read_one(context, shape, context.names[place].as_str(), place, reader)?;
+    for place in 0..names.len() {
+        read_one(context, shape, names[place].as_str(), first + place, reader)?;
     }
     Ok(())
 }

@@ -62,7 +62,7 @@ fn obey<L: OpenLists, W: Write, E: Write>(
     match command {
         Command::Merge(request) => merge(request, context, output, errors),
         Command::Split(request) => split(request, context, output, errors),
-        Command::Inspect(inspection, first) => inspect(inspection, first, context, output, errors),
+        Command::Inspect(inspection) => inspect(inspection, context, output, errors),
         Command::Find(middle) => find(middle, rows, context, output, errors),
     }
 }
@@ -97,19 +97,19 @@ fn read_sides<L: OpenLists>(
 ) -> (Sets, Sets, Refusals, Result<(), ReadFault>) {
     let shape = request.shape;
     let none = Refusals::new();
-    let (first, refusals, read) = read_side(context, shape, request.first, request.middle, none);
-    let to = end_of_second(&read, request.second, context.names.len());
-    let (second, refusals, end) = read_side(context, shape, request.second, to, refusals);
+    let middle = request.middle;
+    let (first, refusals, read) = read_side(context, shape, &context.names[..middle], 0, none);
+    let others = lists_behind(&read, &context.names[middle..]);
+    let (second, refusals, end) = read_side(context, shape, others, middle, refusals);
     match read {
         Ok(()) => (first, second, refusals, end),
         Err(fault) => (first, second, refusals, Err(fault)),
     }
 }
 
-// Up to which word the lists of the second side are read, of which this is the first: none of them,
-// if those of the first side were not read to the end.
-fn end_of_second(read: &Result<(), ReadFault>, first: usize, count: usize) -> usize {
-    if read.is_err() { first } else { count }
+// Which lists of the second side are read: none, if those of the first were not read to the end.
+fn lists_behind<'a>(read: &Result<(), ReadFault>, names: &'a [String]) -> &'a [String] {
+    if read.is_err() { &[] } else { names }
 }
 
 // Prints what the operation leaves of the sides, unless lines were refused that are not to be

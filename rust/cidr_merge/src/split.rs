@@ -21,19 +21,13 @@ pub(crate) fn split<L: OpenLists, W: Write, E: Write>(
     output: &mut Output<'_, W>,
     errors: &mut Output<'_, E>,
 ) -> u8 {
-    let words = context.names;
+    let names = context.names;
     let none = Refusals::new();
-    let (sets, refusals, read) = read_side(
-        context,
-        request.shape,
-        request.first,
-        words.len(),
-        none,
-    );
-    tell_refusals(words, &InLists, &refusals, errors);
+    let (sets, refusals, read) = read_side(context, request.shape, names, 0, none);
+    tell_refusals(names, &InLists, &refusals, errors);
     match read {
         Ok(()) => print_split(request, !refusals.is_empty(), &sets, output, errors),
-        Err(fault) => refuse_lists(words, fault, errors),
+        Err(fault) => refuse_lists(names, fault, errors),
     }
 }
 

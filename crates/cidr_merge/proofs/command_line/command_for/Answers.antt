@@ -9,11 +9,11 @@ use Rattle.cidr_merge.specs.declared.tasks.Task.TheVariants as tasks
 use Rattle.cidr_merge.proofs.command_line.command_for.Goals as goal
 
 within : (task : Task) (items : List Item) (middle count : ℕ) → middle ≤ count → IsCommandWithin count (asked_for task items middle)
-within (tasks.Merge operation) items middle count l = (omega arith, l, l)
-within tasks.List items middle count l = (omega arith, l, l)
-within tasks.Split items middle count l = omega arith
-within tasks.Check items middle count l = omega arith
-within tasks.Overlaps items middle count l = omega arith
+within (tasks.Merge operation) items middle count l = l
+within tasks.List items middle count l = l
+within tasks.Split items middle count l = tt
+within tasks.Check items middle count l = tt
+within tasks.Overlaps items middle count l = tt
 within tasks.Find items middle count l = l
 
 pub returns-clause-within : goal.returns-clause-within

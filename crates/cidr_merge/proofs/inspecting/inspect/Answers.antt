@@ -1,12 +1,10 @@
-use Rattle.std.proofs.Common.{refl}
-use Rattle.cidr_merge.proofs.Inspected.{stopped, read}
+use Rattle.std.proofs.Common.{inl, refl}
+use Rattle.cidr_merge.proofs.Inspected.{read}
 use Rattle.cidr_merge.proofs.WholeLists.{as_many_held}
 use Rattle.cidr_merge.proofs.inspecting.inspect.Goals as goal
 
 pub returns-in-Err : goal.returns-in-Err
-returns-in-Err g c =
-    stopped _ c.args.context.now.names.now c.args.inspection c.args.first _ c.in-Err.fault c.in-Err.ensures.err
-    ((refl, c.refuse_lists.ensures.status), c.refuse_lists.ensures.told)
+returns-in-Err g c = inl (c.in-Err.fault, c.in-Err.ensures.err, ((refl, c.refuse_lists.ensures.status), c.refuse_lists.ensures.told))
 
 pub look_over-requires : goal.look_over-requires
 look_over-requires g c =
@@ -15,5 +13,5 @@ look_over-requires g c =
 
 pub returns : goal.returns
 returns g c =
-    read _ c.args.context.now.names.now c.args.inspection c.args.first _ c.in-Ok.texts.items c.as_slice-texts.result.now
+    read _ c.args.context.now.names.now c.args.inspection _ c.in-Ok.texts.items c.as_slice-texts.result.now
     (λ text. text.items) c.as_slice-texts.ensures.value c.in-Ok.ensures.ok c.look_over.ensures

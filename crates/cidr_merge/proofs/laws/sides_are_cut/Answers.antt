@@ -1,4 +1,4 @@
-use Rattle.cidr_merge.proofs.Sides.{sides_cut}
+use Rattle.cidr_merge.proofs.RightWords.{sides_cut}
 use Rattle.cidr_merge.proofs.laws.sides_are_cut.Goals as goal
 
 pub returns : goal.returns

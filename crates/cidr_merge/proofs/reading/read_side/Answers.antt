@@ -1,4 +1,3 @@
-use Rattle.std.specs.Prelude.{slice_range}
 use Rattle.cidr_merge.specs.Shapes.{source}
 use Rattle.cidr_merge.proofs.ReadInTurn.{side_ok}
 use Rattle.cidr_merge.proofs.Stopping.{side_stopped}
@@ -7,8 +6,8 @@ use Rattle.cidr_merge.proofs.reading.read_side.Goals as goal
 pub returns-clause-read : goal.returns-clause-read
 returns-clause-read g c =
     side_ok c.read_all-end.result (source
-    (g.L.OpenLists.known c.args.context.now.lists.now) c.args.shape) c.args.from
-    (slice_range c.args.context.now.names.now c.args.from c.args.to) c.args.refusals _ c.new-reader.result
+    (g.L.OpenLists.known c.args.context.now.lists.now) c.args.shape) c.args.first
+    c.args.names.now c.args.refusals _ c.new-reader.result
     c.read_all-end.new.reader _ c.new-reader.ensures c.read_all-end.ensures.read
     c.read_all-end.ensures.memory c.into_sets-v4.ensures.v4 c.into_sets-v4.ensures.v6
     c.into_sets-v4.ensures.refused
@@ -16,7 +15,7 @@ returns-clause-read g c =
 pub returns-clause-stopped : goal.returns-clause-stopped
 returns-clause-stopped g c =
     side_stopped c.read_all-end.result (source
-    (g.L.OpenLists.known c.args.context.now.lists.now) c.args.shape) c.args.from
-    (slice_range c.args.context.now.names.now c.args.from c.args.to) c.args.refusals _
+    (g.L.OpenLists.known c.args.context.now.lists.now) c.args.shape) c.args.first
+    c.args.names.now c.args.refusals _
     c.new-reader.result c.read_all-end.new.reader c.new-reader.ensures
     c.read_all-end.ensures.stopped c.into_sets-v4.ensures.refused

@@ -1,6 +1,6 @@
-use Rattle.std.proofs.Common.{refl}
+use Rattle.std.proofs.Common.{inl, refl}
 use Rattle.program.specs.Endings.{ending}
-use Rattle.cidr_merge.proofs.Splitting.{lists_split, split_stopped}
+use Rattle.cidr_merge.proofs.Splitting.{lists_split}
 use Rattle.cidr_merge.proofs.split.split.Goals as goal
 
 pub returns-in-Ok : goal.returns-in-Ok
@@ -14,12 +14,14 @@ returns-in-Ok g c =
     c.tell_refusals.ensures c.is_empty.ensures c.print_split.ensures
 
 pub returns : goal.returns
-returns g c =
-    split_stopped c.in-Err.fault
-    (g.L.OpenLists.known c.args.context.now.lists.now) c.args.context.now.names.now
-    c.args.request c.read_side-sets.result.1
-    (ending c.args.output.now c.args.output.now c.args.errors.now
-    c.refuse_lists.new.errors c.refuse_lists.result) c.tell_refusals.new.errors
-    (rw (c.in-Err.is, c.new-none.ensures) at c.read_side-sets.ensures.stopped)
-    c.tell_refusals.ensures (refl, c.refuse_lists.ensures.status)
-    c.refuse_lists.ensures.told
+returns g c = (
+  c.read_side-sets.result.1,
+  c.tell_refusals.new.errors,
+  c.tell_refusals.ensures,
+  inl (
+    c.in-Err.fault,
+    rw (c.in-Err.is, c.new-none.ensures) at c.read_side-sets.ensures.stopped,
+    (refl, c.refuse_lists.ensures.status),
+    c.refuse_lists.ensures.told,
+  ),
+)
