@@ -3,10 +3,10 @@
 #
 #   make example                          answers examples/cidr/questions.txt, by cidr as plain Rust, or where there is no
 #                                         cargo, by the proved one
-#   make plain                            builds the four programs and the library for C as plain Rust, in rust/target
+#   make plain                            builds the five programs and the library for C as plain Rust, in rust/target
 #   make test                             the same, and then every test by its script
 #   make proved                           proves and builds cidr, and answers the example by it
-#   make                                  proves and builds the four programs and the library for C
+#   make                                  proves and builds the five programs and the library for C
 #   make test-proved                      the same, and then every test by its script
 #   make try                              the answers of the example from a program that is not proved, and not kept
 #   make sqlite                           builds the extension of SQLite, of the library for C that is built
@@ -52,7 +52,7 @@ ARCHIVE = $(if $(PLAIN),$(PLAIN_OUT),crates/ipnetwork_c/out)/libipnetwork_c.a
 SHARED = $(OUT)/libipnetwork_c.so.$(VERSION)
 SONAME = libipnetwork_c.so.$(MAJOR)
 EXTENSION = $(OUT)/cidr.so
-PROGRAMS = cidr cidr_merge cidr_filter cidr_join
+PROGRAMS = cidr cidr_merge cidr_filter cidr_join cidr_info
 # The scripts that cut a large input in parts, and what they share.
 SCRIPTS = cidr/in_parts.sh cidr/find_in_parts.sh cidr_merge/in_parts.sh cidr_filter/in_parts.sh cidr_join/in_parts.sh
 SHARED_SCRIPTS = program.sh log_in_parts.sh

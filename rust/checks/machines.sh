@@ -32,7 +32,7 @@ all_units() {
         units "$package" --features serde --tests "$@"
     done
     units cidr_merge "$@"
-    for package in cidr cidr_filter cidr_join; do
+    for package in cidr cidr_filter cidr_join cidr_info; do
         quiet units.log cargo test --offline --manifest-path "$tests/Cargo.toml" -p "$package" "$@"
         passed=$((passed + $(awk '/^test result: ok/ { count += $4 } END { print count + 0 }' "$out/units.log")))
     done
@@ -76,6 +76,8 @@ cidr_filter --longest -a -f today.txt -e 203.0.113.0/24 auth.log access.log
 cidr_join -f today.txt access.log
 cidr_join --group 24,64 access.log
 cidr_join --tally --group 24,64 access.log
+cidr_info 10.1.9.32/20 2001:db8::1/47 ::/0 x
+cidr_info --in 10.0.0.0/8 11.0.0.0
 cidr no_argument'
 # FOLDER [SUFFIX]: compares what the programs of this folder, whose names end so, print in these runs, and their status,
 # with what those that are built here do.
@@ -118,7 +120,7 @@ machine() {
     mkdir -p "$programs"
     by "$least" quiet programs.log cargo build --offline --locked --release --target "$target"
     by "$least" quiet programs.log of_package build cidr_merge --release --target "$target"
-    for program in cidr cidr_merge cidr_filter cidr_join; do
+    for program in cidr cidr_merge cidr_filter cidr_join cidr_info; do
         at="$out/target_$least/$target/release/$program"
         printf '#!/bin/sh\nexec qemu-%s-static -L /usr/%s-linux-gnu %s "$@"\n' "$architecture" "$architecture" "$at" \
             > "$programs/$program"
@@ -157,7 +159,7 @@ elif here Windows x86_64-w64-mingw32-gcc gcc-mingw-w64-x86-64-win32 && here Wind
     below="--extern fosibegan=$out/old/libfosibegan.rlib"
     older fosibegan fosibegan/src/lib.rs --crate-type rlib --cfg 'feature="std"'
     older cidr_programs cidr_programs/src/lib.rs --crate-type rlib $below
-    for program in cidr cidr_filter cidr_join; do
+    for program in cidr cidr_filter cidr_join cidr_info; do
         older "$program" "$program/src/main.rs" $below --extern cidr_programs="$out/old/libcidr_programs.rlib"
     done
     older units fosibegan/tests/units/main.rs --test $below
@@ -166,13 +168,13 @@ elif here Windows x86_64-w64-mingw32-gcc gcc-mingw-w64-x86-64-win32 && here Wind
     echo "Windows: $(sed -n 's/^test result: ok. \([0-9]* passed\).*/\1/p' "$out/wine.log") of the unit tests of the library"
     wine "$out/old/cidr.exe" < ../examples/cidr/questions.txt 2> "$out/errors" > "$out/windows"
     "$out/target/debug/cidr" < ../examples/cidr/questions.txt | cmp - "$out/windows"
-    for words in "cidr_filter -a -f today.txt access.log" "cidr_join --tally --group 24,64 access.log"; do
+    for words in "cidr_filter -a -f today.txt access.log" "cidr_join --tally --group 24,64 access.log" "cidr_info 10.1.9.32/20 ::/0"; do
         # shellcheck disable=SC2086
         (cd ../examples/recipes && wine "$out/old/${words%% *}.exe" ${words#* } > "$out/windows" 2> "$out/errors")
         # shellcheck disable=SC2086
         (cd ../examples/recipes && "$out/target/debug/${words%% *}" ${words#* }) | cmp - "$out/windows"
     done
-    echo "Windows: cidr, cidr_filter and cidr_join print the bytes that they print here"
+    echo "Windows: cidr, cidr_filter, cidr_join and cidr_info print the bytes that they print here"
 fi
 
 step "exchanged arguments of the library for C"

@@ -4,6 +4,7 @@ pub mod Given
 pub mod Grammar
 pub mod Items
 pub mod Numbers
+pub mod Operands
 pub mod Refusing
 pub mod Runs
 pub mod Table

@@ -142,7 +142,7 @@ fn item_fault<'a>(rows: &[Row], of_files: bool, item: &Item<'a>) -> Option<Fault
 }
 
 // What is wrong with the first FILE, or with the first option, with which something is wrong.
-fn first_fault<'a>(rows: &[Row], of_files: bool, items: &[Item<'a>]) -> Option<Fault<'a>>
+pub(crate) fn first_fault<'a>(rows: &[Row], of_files: bool, items: &[Item<'a>]) -> Option<Fault<'a>>
     ensures { result ≡ first_fault rows.now of_files items.now }
 {
     let mut at = 0;
@@ -212,14 +212,14 @@ fn is_input(rows: &[Row], item: &Item<'_>) -> bool
 }
 
 // Whether there is a FILE.
-fn has_file(items: &[Item<'_>]) -> bool
+pub(crate) fn has_file(items: &[Item<'_>]) -> bool
     ensures { result ≡ has_file items.now }
 {
     items.iter().any(|item| matches!(item, Item::File(_)))
 }
 
 // Whether standard input is read at most once. It is read if there is no FILE.
-fn is_read_once(rows: &[Row], items: &[Item<'_>]) -> bool
+pub(crate) fn is_read_once(rows: &[Row], items: &[Item<'_>]) -> bool
     ensures { result ≡ is_read_once rows.now items.now }
 {
     let inputs = items.iter().filter(|item| is_input(rows, item)).count();

@@ -7,6 +7,7 @@ pub mod faults;
 pub mod given;
 pub mod items;
 pub mod numbers;
+pub mod operands;
 pub mod reading;
 pub mod refusing;
 pub mod table;

@@ -132,7 +132,7 @@ fn item_fault<'a>(rows: &[Row], of_files: bool, item: &Item<'a>) -> Option<Fault
 }
 
 // What is wrong with the first FILE, or with the first option, with which something is wrong.
-fn first_fault<'a>(rows: &[Row], of_files: bool, items: &[Item<'a>]) -> Option<Fault<'a>> {
+pub(crate) fn first_fault<'a>(rows: &[Row], of_files: bool, items: &[Item<'a>]) -> Option<Fault<'a>> {
     let mut at = 0;
     while at < items.len() {
         if let Some(fault) = item_fault(rows, of_files, &items[at]) {
@@ -191,12 +191,12 @@ fn is_input(rows: &[Row], item: &Item<'_>) -> bool {
 }
 
 // Whether there is a FILE.
-fn has_file(items: &[Item<'_>]) -> bool {
+pub(crate) fn has_file(items: &[Item<'_>]) -> bool {
     items.iter().any(|item| matches!(item, Item::File(_)))
 }
 
 // Whether standard input is read at most once. It is read if there is no FILE.
-fn is_read_once(rows: &[Row], items: &[Item<'_>]) -> bool {
+pub(crate) fn is_read_once(rows: &[Row], items: &[Item<'_>]) -> bool {
     let inputs = items.iter().filter(|item| is_input(rows, item)).count();
     if has_file(items) {
         inputs <= 1

@@ -1,0 +1,4 @@
+pub mod Ends
+pub mod Lines
+pub mod Places
+pub mod Texts

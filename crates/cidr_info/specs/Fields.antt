@@ -1,0 +1,70 @@
+-- What there is to tell of a network.
+use Rattle.std.specs.Prelude.{ℕ, ◌+◌, ◌-◌, ◌^◌, List, [], ◌∷◌, ◌++◌, nat_lt, if◌then◌else◌, codes, decimal}
+use Rattle.ipnetwork_addr.specs.Either.{canonical_ip}
+use Rattle.ipnetwork_addr.specs.declared.ip.IpAddr.{IpAddr}
+use Rattle.ipnetwork_addr.specs.declared.ip.IpAddr.TheVariants as addresses
+use Rattle.ipnetwork_family.specs.Network.{Network, low, high, mask_of}
+use Rattle.ipnetwork.specs.IpNetworks.{address_of, prefix_of, ip_mask_of, ip_low, ip_high, made_of}
+use Rattle.ipnetwork.specs.IpNetworkText.{ip_network_text}
+use Rattle.ipnetwork.specs.declared.ip_network.IpNetwork.{IpNetwork}
+use Rattle.ipnetwork.specs.declared.ip_network.IpNetwork.TheVariants.{V4, V6}
+use Rattle.cidr_info.specs.Numbers.{hex_text}
+use Rattle.cidr_info.specs.Zones.{zone_of}
+use Rattle.cidr_info.specs.declared.field.Field.{Field}
+use Rattle.cidr_info.specs.declared.field.Field.TheVariants as says
+
+-- all fields, in the order in which they are printed
+abbrev pub fields : List Field
+fields = says.Address ∷ says.Network ∷ says.Mask ∷ says.Wildcard ∷ says.First ∷ says.Last ∷ says.Hosts
+    ∷ says.Addresses ∷ says.Reverse ∷ says.Integer ∷ says.Hexadecimal ∷ []
+
+-- the network without host bits, as a text
+abbrev pub block_text : IpNetwork → List ℕ
+block_text network = ip_network_text (made_of (ip_low network) (prefix_of network))
+
+-- the complement of the mask, as an address
+abbrev pub wildcard_of : IpNetwork → IpAddr
+wildcard_of (V4 network) = addresses.V4 (2 ^ 32 - 1 - mask_of 32 network.prefix)
+wildcard_of (V6 network) = addresses.V6 (2 ^ 128 - 1 - mask_of 128 network.prefix)
+
+-- the first and the last address that a host may have: of an IPv4 network, up to prefix length 30, neither the least nor
+-- the greatest (RFC 1122, section 3.2.1.3); else these (RFC 3021)
+abbrev pub v4_hosts_of : Network → ℕ × ℕ
+v4_hosts_of network =
+    if nat_lt 30 network.prefix then (low 32 network, high 32 network)
+    else (low 32 network + 1, high 32 network - 1)
+
+abbrev pub hosts_of : IpNetwork → IpAddr × IpAddr
+hosts_of (V4 network) = (addresses.V4 (v4_hosts_of network).0, addresses.V4 (v4_hosts_of network).1)
+hosts_of (V6 network) = (addresses.V6 (low 128 network), addresses.V6 (high 128 network))
+
+abbrev pub hosts_text : IpNetwork → List ℕ
+hosts_text network = canonical_ip (hosts_of network).0 ++ codes " - " ++ canonical_ip (hosts_of network).1
+
+-- how many bits of its addresses are not fixed
+abbrev pub host_bits : IpNetwork → ℕ
+host_bits (V4 network) = 32 - network.prefix
+host_bits (V6 network) = 128 - network.prefix
+
+-- an address as a number, and how many digits of base 16 those of its family have
+abbrev pub number_of : IpAddr → ℕ
+number_of (addresses.V4 address) = address
+number_of (addresses.V6 address) = address
+
+abbrev pub hex_width : IpAddr → ℕ
+hex_width (addresses.V4 address) = 8
+hex_width (addresses.V6 address) = 32
+
+-- what a field tells of a network
+abbrev pub value_of : Field → IpNetwork → List ℕ
+value_of says.Address network = canonical_ip (address_of network)
+value_of says.Network network = block_text network
+value_of says.Mask network = canonical_ip (ip_mask_of network)
+value_of says.Wildcard network = canonical_ip (wildcard_of network)
+value_of says.First network = canonical_ip (ip_low network)
+value_of says.Last network = canonical_ip (ip_high network)
+value_of says.Hosts network = hosts_text network
+value_of says.Addresses network = decimal (2 ^ host_bits network)
+value_of says.Reverse network = zone_of network
+value_of says.Integer network = decimal (number_of (address_of network))
+value_of says.Hexadecimal network = hex_text (hex_width (address_of network)) (number_of (address_of network))

@@ -1,0 +1,27 @@
+-- The options of the command line.
+use Rattle.std.specs.Prelude.{ℕ, false, List, [], ◌∷◌, codes}
+use Rattle.options.specs.Table.{Entry, IsTable, long_flag, long, alone}
+use Rattle.options.specs.declared.table.Kind.TheVariants as kinds
+use Rattle.options.specs.declared.table.Table.{Table}
+
+-- the rows of `--in` and of `--json`
+abbrev pub in_network : ℕ
+in_network = 0
+
+abbrev pub json : ℕ
+json = 1
+
+-- the options, in the order of their rows
+abbrev pub entries : List Entry
+entries = long (codes "--in") kinds.Text false (codes "is no network") ∷ long_flag (codes "--json")
+    ∷ alone (codes "--help") (codes "is not the only argument")
+    ∷ alone (codes "--version") (codes "is not the only argument") ∷ []
+
+-- `--in` is given once at the most, and not with `--json`
+abbrev pub pairs : List (ℕ × ℕ × List ℕ)
+pairs = (in_network, in_network, codes "--in is given more than once")
+    ∷ (in_network, json, codes "--in does not go with --json") ∷ []
+
+-- the table has these, of which none has to be given, and this is told if there is no NETWORK
+abbrev pub IsOptions : Table → Type 0
+IsOptions table = IsTable table entries pairs [] (codes "no NETWORK is given")

@@ -1,0 +1,49 @@
+-- What is reported of texts that name no network, and of standard input.
+use Rattle.std.specs.Prelude.{ℕ, Bool, List, [], ◌∷◌, ◌++◌, Option, None, Some, nat_lt, if◌then◌else◌, codes, decimal}
+use Rattle.std.specs.List.{flat_map}
+use Rattle.ipnetwork_addr.specs.Computed.Either.{ip_of}
+use Rattle.ipnetwork_addr.specs.declared.ip.IpAddr.{IpAddr}
+use Rattle.ipnetwork.specs.declared.ip_network.IpNetwork.{IpNetwork}
+use Rattle.ipnetwork_family.specs.NetworkText.{slashes, before_slash}
+use Rattle.lists.specs.declared.bytes.BytesFault.{BytesFault}
+use Rattle.lists.specs.declared.bytes.BytesFault.TheVariants as faults
+use Rattle.program.specs.Escapes.{escaped}
+use Rattle.cidr_info.specs.Words.{Saying}
+
+-- why a text names no network, in a word: it has several slashes, what stands before the first is no address, or what
+-- stands behind it is no prefix length
+abbrev pub cause_by : Option IpAddr → List ℕ
+cause_by None = codes "address"
+cause_by (Some address) = codes "prefix"
+
+abbrev pub cause_text : List ℕ → List ℕ
+cause_text text = if nat_lt 1 (slashes text) then codes "format" else cause_by (ip_of (before_slash text))
+
+-- a word of the command line, without what a terminal obeys; an empty one as two quotes
+abbrev pub word_text : List ℕ → List ℕ
+word_text [] = codes "''"
+word_text (byte ∷ bytes) = escaped (byte ∷ bytes)
+
+-- where a text stands: the word, or `-` and the number of its line
+abbrev pub place_text : Saying → List ℕ
+place_text said =
+    if nat_lt 0 said.line then codes "-:" ++ decimal said.line else word_text said.text
+
+-- what is reported of a text that names no network
+abbrev pub refusal_text : Saying → List ℕ
+refusal_text said = codes "cidr_info: " ++ place_text said ++ codes ": refused " ++ cause_text said.text ++ codes "\n"
+
+-- and of several texts
+abbrev pub if_refused : Saying → Option IpNetwork → List ℕ
+if_refused said None = refusal_text said
+if_refused said (Some network) = []
+
+abbrev pub refusals_text : List Saying → List ℕ
+refusals_text all = flat_map (λ said. if_refused said said.network) all
+
+-- what is reported if standard input was not read
+abbrev pub input_fault_text : BytesFault → List ℕ
+input_fault_text (faults.Open cause) = codes "cidr_info: -: cannot open\n"
+input_fault_text faults.Read = codes "cidr_info: -: cannot read\n"
+input_fault_text faults.Length = codes "cidr_info: -: too long\n"
+input_fault_text faults.OutOfMemory = codes "out of memory\n"

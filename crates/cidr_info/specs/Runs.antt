@@ -1,0 +1,113 @@
+-- How a run ends: its exit status, what was written, and what was reported.
+use Rattle.std.specs.Prelude.{◌≡◌, ◌⊎◌, ℕ, ◌&&◌, Bool, true, false, not, List, [], ◌++◌, Option, None, Some, MatchOption}
+use Rattle.std.specs.Prelude.{if◌then◌else◌, codes, String}
+use Rattle.std.specs.List.{list_any, list_all}
+use Rattle.std.specs.Option.{option_or, is_some}
+use Rattle.ipnetwork.specs.Computed.IpNetworks.{is_ip_subnet}
+use Rattle.ipnetwork.specs.declared.ip_network.IpNetwork.{IpNetwork}
+use Rattle.lists.specs.Bytes.{IsAllOf, BytesStop}
+use Rattle.lists.specs.KnownLists.{KnownLists}
+use Rattle.lists.specs.declared.bytes.BytesFault.{BytesFault}
+use Rattle.options.specs.Faults.{about}
+use Rattle.options.specs.Given.{is_given, value_of}
+use Rattle.options.specs.Items.{items_of}
+use Rattle.options.specs.Operands.{operands_fault}
+use Rattle.options.specs.Refusing.{refusal_text}
+use Rattle.options.specs.declared.faults.Fault.{Fault}
+use Rattle.options.specs.declared.faults.Subject.TheVariants as subjects
+use Rattle.options.specs.declared.items.Item.{Item}
+use Rattle.options.specs.declared.items.Mode.TheVariants as modes
+use Rattle.options.specs.declared.table.Table.{Table}
+use Rattle.program.specs.Endings.{Ending, Refuses, HasTold, HasWritten}
+use Rattle.program.specs.LogFaults.{FailsWriting}
+use Rattle.program.specs.Runs.{EndsRun}
+use Rattle.cidr_info.specs.Options as own
+use Rattle.cidr_info.specs.Options.{IsOptions}
+use Rattle.cidr_info.specs.Refusals.{refusals_text, input_fault_text}
+use Rattle.cidr_info.specs.Texts.{infos_text}
+use Rattle.cidr_info.specs.Words.{Saying, network_in, networks_in, reads_input, words_said}
+
+-- ---- the command line
+
+-- the network that `--in` gives
+abbrev pub outer_of : List Item → Option IpNetwork
+outer_of items = if is_given items own.in_network then network_in (value_of items own.in_network) else None
+
+-- what is wrong with its value, and with a command line
+abbrev pub in_fault : List Item → Option Fault
+in_fault items =
+    if is_given items own.in_network && not (is_some (outer_of items))
+    then Some (about (subjects.Value own.in_network (value_of items own.in_network)) (codes "is no network")) else None
+
+abbrev pub fault_of : Table → List Item → Option Fault
+fault_of table items = option_or (operands_fault table items) (in_fault items)
+
+-- ---- the answer
+
+-- a text names a network that lies within this one
+abbrev pub is_within : IpNetwork → Option IpNetwork → Bool
+is_within outer None = false
+is_within outer (Some network) = is_ip_subnet network outer
+
+abbrev pub all_within : IpNetwork → List Saying → Bool
+all_within outer all = list_all (λ said. is_within outer said.network) all
+
+-- the exit status: 2 if a text names no network, and with `--in` 1 if one does not lie within that network
+abbrev pub is_refused : Saying → Bool
+is_refused said = not (is_some said.network)
+
+abbrev pub within_status : Option IpNetwork → List Saying → ℕ
+within_status None all = 0
+within_status (Some outer) all = if all_within outer all then 0 else 1
+
+abbrev pub status_of : Option IpNetwork → List Saying → ℕ
+status_of outer all = if list_any is_refused all then 2 else within_status outer all
+
+-- what is printed: nothing, if `--in` is given, and else what there is to tell of the networks
+abbrev pub answer_text : List Item → List Saying → List ℕ
+answer_text items all =
+    if is_given items own.in_network then [] else infos_text (is_given items own.json) (networks_in all)
+
+-- ---- the run
+
+-- the text was written and the other one reported, and the status is this; or the writer failed, which took a beginning
+-- of what waited and the text, and that was reported after the other one
+abbrev pub EndsWith : {W E : Type 0} → List ℕ → List ℕ → ℕ → Ending W E → Type 0
+EndsWith text told status end = (HasWritten end text × HasTold end told × (end.status ≡ status))
+    ⊎ (FailsWriting end text × HasTold end (told ++ codes "write error\n") × (end.status ≡ 2))
+
+-- these texts were answered: those that name no network were reported
+abbrev pub EndsSaid : {W E : Type 0} → List Item → List Saying → Ending W E → Type 0
+EndsSaid items all end = EndsWith (answer_text items all) (refusals_text all) (status_of (outer_of items) all) end
+
+-- the words and the lines of this input were, unless there was no memory for them
+abbrev pub EndsAnswering : {W E : Type 0} → List Item → List ℕ → Ending W E → Type 0
+EndsAnswering items input end = Refuses (codes "out of memory\n") end ⊎ EndsSaid items (words_said input items) end
+
+-- these are the bytes of standard input, if a word asks for it; it was not read, for this reason
+abbrev pub IsInput : KnownLists → List Item → List ℕ → Type 0
+IsInput known items input = (reads_input items ≡ true → IsAllOf known (codes "-") input)
+    × (reads_input items ≡ false → input ≡ [])
+
+abbrev pub NoInput : KnownLists → List Item → BytesFault → Type 0
+NoInput known items fault = (reads_input items ≡ true) × BytesStop known (codes "-") 1073741824 fault
+
+-- standard input was not read, nothing was written, and the cause was reported; or it was, if a word asks for it, and
+-- the words and its lines were answered
+abbrev pub EndsReading : {W E : Type 0} → KnownLists → List Item → Ending W E → Type 0
+EndsReading known items end = ((fault : BytesFault) × NoInput known items fault × Refuses (input_fault_text fault) end)
+    ⊎ ((input : List ℕ) × IsInput known items input × EndsAnswering items input end)
+
+-- something is wrong with what the words say, and that and the usage are reported; or it is done
+abbrev pub EndsItems : {W E : Type 0} → Table → List ℕ → List ℕ → KnownLists → List Item → Ending W E → Type 0
+EndsItems table program usage known items end =
+    MatchOption (fault_of table items) (EndsReading known items end)
+    (λ fault. Refuses (refusal_text program usage table.rows.now fault) end)
+
+-- how a run ends of a program of this name, help, version and usage, by the table of its options
+abbrev pub EndsAs : {Z W E : Type 0} → List ℕ → List ℕ → List ℕ → List ℕ → KnownLists → List (String Z) → Ending W E
+    → Type 0
+EndsAs program help version usage known words end =
+    (table : Table) × IsOptions table × EndsRun help version words
+    (Refuses (codes "out of memory\n") end
+    ⊎ EndsItems table program usage known (items_of table.rows.now modes.Free words) end) end

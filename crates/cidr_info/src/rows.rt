@@ -1,0 +1,39 @@
+//! The options of the command line.
+ghost use Rattle.cidr_info.specs.Options.{IsOptions};
+
+use options::table::{Kind, Pair, Row, Table, long, pair};
+
+/// The row of `--in`.
+pub(crate) const IN: usize = 0;
+
+/// The row of `--json`.
+pub(crate) const JSON: usize = 1;
+
+/// What is told of a value of `--in` that names no network.
+pub(crate) const NO_NETWORK: &str = "is no network";
+
+// The options.
+const ROWS: [Row; 4] = [
+    long!("--in", Text, false, NO_NETWORK),
+    long!("--json", Flag, false, ""),
+    long!("--help", Alone, false, "is not the only argument"),
+    long!("--version", Alone, false, "is not the only argument"),
+];
+
+// Which do not go together, and that `--in` is given once at the most.
+const PAIRS: [Pair; 2] = [
+    pair!(IN, IN, "--in is given more than once"),
+    pair!(IN, JSON, "--in does not go with --json"),
+];
+
+/// The options, none of which has to be given.
+pub(crate) fn table() -> Table<'static>
+    ensures { IsOptions result }
+{
+    Table {
+        rows: &ROWS,
+        pairs: &PAIRS,
+        needs: &[],
+        lacking: "no NETWORK is given",
+    }
+}

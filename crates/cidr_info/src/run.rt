@@ -1,0 +1,226 @@
+//! The run that the program makes.
+ghost use Rattle.std.specs.Prelude.{◌≡◌, None, IfOk, IfErr, OnOk, OnErr, is_err, ◌||◌, [], true, string_bytes};
+ghost use Rattle.std.specs.List.{list_any};
+ghost use Rattle.lines.specs.Outputs.{Writes, FailsIn};
+ghost use Rattle.lists.specs.Bytes.{BytesStop};
+ghost use Rattle.program.specs.Endings.{ending};
+ghost use Rattle.cidr_info.specs.Runs.{EndsAs, EndsReading, EndsAnswering, EndsSaid, fault_of, in_fault, outer_of, is_within, all_within, is_refused, within_status, status_of, answer_text, IsInput, NoInput};
+
+use crate::help::{HELP, PROGRAM, USAGE, VERSION};
+use crate::printing::put_infos;
+use crate::rows::{IN, JSON, NO_NETWORK, table};
+use crate::said::{Said, network_in};
+use crate::telling::{tell_input_fault, tell_refusals};
+use crate::words::{reads_input, words_said};
+use ipnetwork::{IpNetwork, laws};
+use lines::fault::RunFault;
+use lines::output::Output;
+use lists::{BytesFault, OpenLists, read_bytes};
+use options::faults::{Fault, Subject, about};
+use options::given::{is_given, value_of};
+use options::items::{Item, Text};
+use options::operands::operands_fault;
+use options::reading::items_of;
+use options::refusing::refuse;
+use options::table::Table;
+use program::ending::{FAILED, end, print_text};
+use program::memory::refuse_memory;
+use program::start::text_asked;
+use std::alloc::Global;
+use std::io::Write;
+
+/// The most bytes of standard input.
+const INPUT_MAX: usize = 1_073_741_824;
+
+/// Does what the words after the program's name ask for, and returns the exit status.
+pub(crate) fn run<L: OpenLists, W: Write, E: Write>(
+    alloc: Global,
+    words: &[String],
+    lists: &L,
+    output: &mut Output<'_, W>,
+    errors: &mut Output<'_, E>,
+) -> u8
+    ensures { EndsAs PROGRAM.now HELP.now VERSION.now USAGE.now (L.known lists.now) words.now
+        (ending output.old output.new errors.old errors.new result) }
+{
+    let table = table();
+    if let Some(text) = text_asked(HELP, VERSION, words) {
+        return print_text(text, output, errors);
+    }
+    let Ok(items) = items_of(alloc, table.rows, words) else {
+        return refuse_memory(errors);
+    };
+    if let Some(fault) = fault_of(&table, items.as_slice()) {
+        return refuse(PROGRAM, USAGE, table.rows, &fault, errors);
+    }
+    read(alloc, items.as_slice(), lists, output, errors)
+}
+
+// What is wrong with a command line that says this: with its words, or with the value of `--in`.
+fn fault_of<'a>(table: &Table<'_>, items: &[Item<'a>]) -> Option<Fault<'a>>
+    ensures { result ≡ fault_of table.now items.now }
+{
+    match operands_fault(table, items) {
+        Some(fault) => Some(fault),
+        None => in_fault(items),
+    }
+}
+
+// What is wrong with the value of `--in`, if it is given: it names no network.
+fn in_fault<'a>(items: &[Item<'a>]) -> Option<Fault<'a>>
+    ensures { result ≡ in_fault items.now }
+{
+    if is_given(items, IN) && outer_of(items).is_none() {
+        let value = Text::new(value_of(items, IN));
+        return Some(about(Subject::Value(IN, value), NO_NETWORK));
+    }
+    None
+}
+
+// The network that `--in` gives.
+fn outer_of(items: &[Item<'_>]) -> Option<IpNetwork>
+    ensures { result ≡ outer_of items.now }
+{
+    if is_given(items, IN) {
+        network_in(value_of(items, IN).as_bytes())
+    } else {
+        None
+    }
+}
+
+// Reads standard input, if a word asks for it, and then answers.
+fn read<L: OpenLists, W: Write, E: Write>(
+    alloc: Global,
+    items: &[Item<'_>],
+    lists: &L,
+    output: &mut Output<'_, W>,
+    errors: &mut Output<'_, E>,
+) -> u8
+    ensures { EndsReading (L.known lists.now) items.now
+        (ending output.old output.new errors.old errors.new result) }
+{
+    match input_of(alloc, items, lists) {
+        Ok(input) => answer(alloc, items, input.as_slice(), output, errors),
+        Err(fault) => {
+            tell_input_fault(fault, errors);
+            FAILED
+        }
+    }
+}
+
+// The bytes of standard input, or none if no word asks for it.
+fn input_of<L: OpenLists>(
+    alloc: Global,
+    items: &[Item<'_>],
+    lists: &L,
+) -> Result<Vec<u8>, BytesFault>
+    ensures ok { IfOk result (λ input. IsInput (L.known lists.now) items.now input.items) }
+    ensures err { IfErr result (NoInput (L.known lists.now) items.now) }
+{
+    if reads_input(items) {
+        read_bytes(alloc, lists, "-", INPUT_MAX)
+    } else {
+        Ok(Vec::new(alloc))
+    }
+}
+
+// Answers what is asked for of the words and of the lines of this input.
+fn answer<W: Write, E: Write>(
+    alloc: Global,
+    items: &[Item<'_>],
+    input: &[u8],
+    output: &mut Output<'_, W>,
+    errors: &mut Output<'_, E>,
+) -> u8
+    ensures { EndsAnswering items.now input.now
+        (ending output.old output.new errors.old errors.new result) }
+{
+    let Ok(all) = words_said(alloc, items, input) else {
+        return refuse_memory(errors);
+    };
+    answer_of(items, all.as_slice(), output, errors)
+}
+
+// Answers what is asked for of these texts.
+fn answer_of<W: Write, E: Write>(
+    items: &[Item<'_>],
+    all: &[Said<'_>],
+    output: &mut Output<'_, W>,
+    errors: &mut Output<'_, E>,
+) -> u8
+    ensures { EndsSaid items.now all.now
+        (ending output.old output.new errors.old errors.new result) }
+{
+    tell_refusals(all, errors);
+    let status = status_of(outer_of(items), all);
+    let written = write_answer(items, all, output);
+    end(written, status, errors)
+}
+
+// The exit status by these texts: 2 if one of them names no network.
+fn status_of(outer: Option<IpNetwork>, all: &[Said<'_>]) -> u8
+    ensures { result ≡ status_of outer all.now }
+{
+    if is_refused(all) {
+        return FAILED;
+    }
+    within_status(outer, all)
+}
+
+// Whether one of these texts names no network.
+fn is_refused(all: &[Said<'_>]) -> bool
+    ensures { result ≡ list_any is_refused all.now }
+{
+    all.iter().any(|said| said.network().is_none())
+}
+
+// The exit status if each of them names one: 1 if one is to lie within a network and does not.
+fn within_status(outer: Option<IpNetwork>, all: &[Said<'_>]) -> u8
+    ensures { result ≡ within_status outer all.now }
+{
+    match outer {
+        Some(outer) => { if all_within(outer, all) { 0 } else { 1 } }
+        None => 0,
+    }
+}
+
+// Whether each of these texts names a network that lies within this one.
+fn all_within(outer: IpNetwork, all: &[Said<'_>]) -> bool
+    ensures { result ≡ all_within outer all.now }
+{
+    all.iter().all(|said| is_within(outer, said.network()))
+}
+
+// Whether a network lies within another.
+fn is_within(outer: IpNetwork, network: Option<IpNetwork>) -> bool
+    ensures { result ≡ is_within outer network }
+{
+    // Does nothing: the proof of this body needs the law, and from the next two calls that these are networks.
+    laws::ip_subnet_is_computed();
+    match network {
+        Some(network) => {
+            let _ = network.prefix();
+            let _ = outer.prefix();
+            network.is_subnet_of(outer)
+        }
+        None => false,
+    }
+}
+
+// Writes what waits and what there is to tell of the networks of these texts, unless `--in` is given.
+fn write_answer<W: Write>(
+    items: &[Item<'_>],
+    all: &[Said<'_>],
+    output: &mut Output<'_, W>,
+) -> Result<(), RunFault>
+    ensures ok { OnOk result (Writes output.old output.new (answer_text items.now all.now)) }
+    ensures failed { output.new.failed ≡ (output.old.failed || is_err result) }
+    ensures beginning { OnErr result
+        (FailsIn output.old output.new (answer_text items.now all.now)) }
+{
+    if is_given(items, IN) {
+        return output.finish();
+    }
+    put_infos(is_given(items, JSON), all, output)?;
+    output.finish()
+}

@@ -1,0 +1,75 @@
+//! A text that should name a network.
+ghost use Rattle.std.specs.Prelude.{◌≡◌};
+ghost use Rattle.cidr_info.specs.Words.{network_in, said_of};
+
+use ipnetwork::{IpNetwork, laws};
+use std::marker::Model;
+
+/// A text of a command line or of a line, and the network that it names, if it names one.
+#[derive(Debug, Drop)]
+pub struct Said<'a> {
+    // The number of its line, from 1 on; 0 for a word of the command line.
+    line: u64,
+    text: &'a [u8],
+    network: Option<IpNetwork>,
+}
+
+// A contract sees its bytes.
+impl<'a> Model for Said<'a> {
+    ghost use Rattle.std.specs.Prelude.{◌≡◌};
+    ghost use Rattle.cidr_info.specs.Words.{Saying, network_in};
+
+    ghost Value = { Saying };
+
+    ghost view = { λ said. record {
+      line = said.line;
+      text = said.text.now;
+      network = said.network;
+    } };
+
+    ghost invariant = { λ said. said.network ≡ network_in said.text.now };
+}
+
+impl<'a> Said<'a> {
+    /// What this text of a line says; line 0 is the command line.
+    pub(crate) fn new(line: u64, text: &'a [u8]) -> Said<'a>
+        ensures { result ≡ said_of line text.now }
+    {
+        Said {
+            line,
+            text,
+            network: network_in(text),
+        }
+    }
+
+    /// The number of its line; 0 for a word of the command line.
+    pub(crate) fn line(&self) -> u64
+        ensures { result ≡ self.now.line }
+    {
+        self.line
+    }
+
+    /// The text.
+    pub(crate) fn text(&self) -> &'a [u8]
+        ensures value { result.now ≡ self.now.text }
+        ensures named { self.now.network ≡ network_in self.now.text }
+    {
+        self.text
+    }
+
+    /// The network that it names.
+    pub(crate) fn network(&self) -> Option<IpNetwork>
+        ensures { result ≡ self.now.network }
+    {
+        self.network
+    }
+}
+
+/// The network that a text names.
+pub(crate) fn network_in(text: &[u8]) -> Option<IpNetwork>
+    ensures { result ≡ network_in text.now }
+{
+    // Does nothing: the proof of this body needs the law.
+    laws::ip_network_reading_is_computed();
+    IpNetwork::read_bytes(text).ok()
+}

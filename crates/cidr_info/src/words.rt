@@ -1,0 +1,104 @@
+//! What the words of a command line and the lines of standard input say.
+ghost use Rattle.std.specs.Prelude.{◌≡◌, ◌==◌, ◌++◌, IfOk, OnOk};
+ghost use Rattle.std.specs.List.{slice_split};
+ghost use Rattle.cidr_info.specs.Words.{is_input, is_skipped, line_said, lines_said, word_said, words_said, reads_input};
+
+use crate::said::Said;
+use lists::{ByteKind, trim};
+use options::items::Item;
+use std::alloc::{AllocError, Global};
+
+// What may stand around a text in a line: spaces, tabs and carriage returns.
+struct Blank;
+
+impl ByteKind for Blank {
+    ghost use Rattle.cidr_info.specs.Words.{is_blank};
+
+    ghost is_one = { is_blank };
+
+    fn has(byte: u8) -> bool {
+        byte == b' ' || byte == b'\t' || byte == b'\r'
+    }
+}
+
+/// Whether one of the words is `-`, which is standard input.
+pub(crate) fn reads_input(items: &[Item<'_>]) -> bool
+    ensures { result ≡ reads_input items.now }
+{
+    items.iter().any(|item| is_input(item))
+}
+
+// Whether this is the word `-`.
+fn is_input(item: &Item<'_>) -> bool
+    ensures { result ≡ is_input item.now }
+{
+    match item {
+        Item::File(name) => name.as_str() == "-",
+        _ => false,
+    }
+}
+
+/// What the words say, in turn, of which `-` stands for the lines of this input.
+pub(crate) fn words_said<'a>(
+    alloc: Global,
+    items: &[Item<'a>],
+    input: &'a [u8],
+) -> Result<Vec<Said<'a>>, AllocError>
+    ensures { IfOk result (λ all. all.items ≡ words_said input.now items.now) }
+{
+    let mut all = Vec::new(alloc);
+    let mut at = 0;
+    while at < items.len() {
+        put_word(&items[at], input, &mut all)?;
+        at += 1;
+    }
+    Ok(all)
+}
+
+// Adds what a word says.
+fn put_word<'a>(item: &Item<'a>, input: &'a [u8], all: &mut Vec<Said<'a>>) -> Result<(), AllocError>
+    ensures { OnOk result (all.new.items ≡ all.old.items ++ word_said input.now item.now) }
+{
+    if is_input(item) {
+        return put_lines(input, all);
+    }
+    if let Item::File(name) = item {
+        let word = name.as_str();
+        all.push(Said::new(0, word.as_bytes()))?;
+    }
+    Ok(())
+}
+
+// Adds what the lines of an input say.
+fn put_lines<'a>(input: &'a [u8], all: &mut Vec<Said<'a>>) -> Result<(), AllocError>
+    ensures { OnOk result (all.new.items ≡ all.old.items
+        ++ lines_said 1 (slice_split (λ byte. byte == 10) input.now)) }
+{
+    let mut line = 1u64;
+    for bytes in input.split(|byte| *byte == b'\n') {
+        put_line(line, bytes, all)?;
+        line = line.saturating_add(1);
+    }
+    Ok(())
+}
+
+// Adds what a line says, if that is something.
+fn put_line<'a>(line: u64, bytes: &'a [u8], all: &mut Vec<Said<'a>>) -> Result<(), AllocError>
+    ensures { OnOk result (all.new.items ≡ all.old.items ++ line_said line bytes.now) }
+{
+    let text = trim::<Blank>(bytes);
+    if !is_skipped(text) {
+        all.push(Said::new(line, text))?;
+    }
+    Ok(())
+}
+
+// Whether a text, without the blanks around it, is empty or a comment.
+fn is_skipped(text: &[u8]) -> bool
+    ensures { result ≡ is_skipped text.now }
+{
+    match text.first() {
+        Some(byte) => *byte == b'#',
+        None => true,
+    }
+}

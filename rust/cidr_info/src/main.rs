@@ -1,0 +1,32 @@
+// Written by scripts/plain out of crates/cidr_info/src/main.rt
+
+//! What there is to tell of networks.
+#![allow(unused_imports, unused_labels, unused_variables, dead_code)]
+#![allow(clippy::complexity, clippy::style, clippy::large_enum_variant, clippy::non_canonical_clone_impl)]
+#![forbid(unsafe_code)]
+
+use fosibegan::plain_std::rt::HostRuntime;
+
+mod field;
+mod help;
+mod number_texts;
+mod printing;
+mod rows;
+mod run;
+mod said;
+mod telling;
+mod value;
+mod words;
+mod zone;
+
+use crate::help::{PROGRAM, USAGE};
+use crate::run::run;
+use cidr_programs::program::start::start;
+use std::process::ExitCode;
+
+fn main() -> ExitCode {
+    let rt = HostRuntime::new();
+    start(&rt, PROGRAM, USAGE, |words, lists, output, errors| {
+        run(rt.alloc(), words, lists, output, errors)
+    })
+}

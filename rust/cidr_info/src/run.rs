@@ -1,0 +1,187 @@
+// Written by scripts/plain out of crates/cidr_info/src/run.rt
+
+//! The run that the program makes.
+
+use fosibegan::plain_std::vec::Vec;
+use fosibegan::plain_std::string::String;
+use crate::help::{HELP, PROGRAM, USAGE, VERSION};
+use crate::printing::put_infos;
+use crate::rows::{IN, JSON, NO_NETWORK, table};
+use crate::said::{Said, network_in};
+use crate::telling::{tell_input_fault, tell_refusals};
+use crate::words::{reads_input, words_said};
+use fosibegan::ipnetwork::IpNetwork;
+use cidr_programs::lines::fault::RunFault;
+use cidr_programs::lines::output::Output;
+use cidr_programs::lists::{BytesFault, OpenLists, read_bytes};
+use cidr_programs::options::faults::{Fault, Subject, about};
+use cidr_programs::options::given::{is_given, value_of};
+use cidr_programs::options::items::{Item, Text};
+use cidr_programs::options::operands::operands_fault;
+use cidr_programs::options::reading::items_of;
+use cidr_programs::options::refusing::refuse;
+use cidr_programs::options::table::Table;
+use cidr_programs::program::ending::{FAILED, end, print_text};
+use cidr_programs::program::memory::refuse_memory;
+use cidr_programs::program::start::text_asked;
+use fosibegan::plain_std::alloc::Global;
+use fosibegan::plain_std::io::Write;
+
+/// The most bytes of standard input.
+const INPUT_MAX: usize = 1_073_741_824;
+
+/// Does what the words after the program's name ask for, and returns the exit status.
+pub(crate) fn run<L: OpenLists, W: Write, E: Write>(
+    alloc: Global,
+    words: &[String],
+    lists: &L,
+    output: &mut Output<'_, W>,
+    errors: &mut Output<'_, E>,
+) -> u8 {
+    let table = table();
+    if let Some(text) = text_asked(HELP, VERSION, words) {
+        return print_text(text, output, errors);
+    }
+    let Ok(items) = items_of(alloc, table.rows, words) else {
+        return refuse_memory(errors);
+    };
+    if let Some(fault) = fault_of(&table, items.as_slice()) {
+        return refuse(PROGRAM, USAGE, table.rows, &fault, errors);
+    }
+    read(alloc, items.as_slice(), lists, output, errors)
+}
+
+// What is wrong with a command line that says this: with its words, or with the value of `--in`.
+fn fault_of<'a>(table: &Table<'_>, items: &[Item<'a>]) -> Option<Fault<'a>> {
+    match operands_fault(table, items) {
+        Some(fault) => Some(fault),
+        None => in_fault(items),
+    }
+}
+
+// What is wrong with the value of `--in`, if it is given: it names no network.
+fn in_fault<'a>(items: &[Item<'a>]) -> Option<Fault<'a>> {
+    if is_given(items, IN) && outer_of(items).is_none() {
+        let value = Text::new(value_of(items, IN));
+        return Some(about(Subject::Value(IN, value), NO_NETWORK));
+    }
+    None
+}
+
+// The network that `--in` gives.
+fn outer_of(items: &[Item<'_>]) -> Option<IpNetwork> {
+    if is_given(items, IN) {
+        network_in(value_of(items, IN).as_bytes())
+    } else {
+        None
+    }
+}
+
+// Reads standard input, if a word asks for it, and then answers.
+fn read<L: OpenLists, W: Write, E: Write>(
+    alloc: Global,
+    items: &[Item<'_>],
+    lists: &L,
+    output: &mut Output<'_, W>,
+    errors: &mut Output<'_, E>,
+) -> u8 {
+    match input_of(alloc, items, lists) {
+        Ok(input) => answer(alloc, items, input.as_slice(), output, errors),
+        Err(fault) => {
+            tell_input_fault(fault, errors);
+            FAILED
+        }
+    }
+}
+
+// The bytes of standard input, or none if no word asks for it.
+fn input_of<L: OpenLists>(
+    alloc: Global,
+    items: &[Item<'_>],
+    lists: &L,
+) -> Result<Vec<u8>, BytesFault> {
+    if reads_input(items) {
+        read_bytes(alloc, lists, "-", INPUT_MAX)
+    } else {
+        Ok(Vec::new(alloc))
+    }
+}
+
+// Answers what is asked for of the words and of the lines of this input.
+fn answer<W: Write, E: Write>(
+    alloc: Global,
+    items: &[Item<'_>],
+    input: &[u8],
+    output: &mut Output<'_, W>,
+    errors: &mut Output<'_, E>,
+) -> u8 {
+    let Ok(all) = words_said(alloc, items, input) else {
+        return refuse_memory(errors);
+    };
+    answer_of(items, all.as_slice(), output, errors)
+}
+
+// Answers what is asked for of these texts.
+fn answer_of<W: Write, E: Write>(
+    items: &[Item<'_>],
+    all: &[Said<'_>],
+    output: &mut Output<'_, W>,
+    errors: &mut Output<'_, E>,
+) -> u8 {
+    tell_refusals(all, errors);
+    let status = status_of(outer_of(items), all);
+    let written = write_answer(items, all, output);
+    end(written, status, errors)
+}
+
+// The exit status by these texts: 2 if one of them names no network.
+fn status_of(outer: Option<IpNetwork>, all: &[Said<'_>]) -> u8 {
+    if is_refused(all) {
+        return FAILED;
+    }
+    within_status(outer, all)
+}
+
+// Whether one of these texts names no network.
+fn is_refused(all: &[Said<'_>]) -> bool {
+    all.iter().any(|said| said.network().is_none())
+}
+
+// The exit status if each of them names one: 1 if one is to lie within a network and does not.
+fn within_status(outer: Option<IpNetwork>, all: &[Said<'_>]) -> u8 {
+    match outer {
+        Some(outer) => { if all_within(outer, all) { 0 } else { 1 } }
+        None => 0,
+    }
+}
+
+// Whether each of these texts names a network that lies within this one.
+fn all_within(outer: IpNetwork, all: &[Said<'_>]) -> bool {
+    all.iter().all(|said| is_within(outer, said.network()))
+}
+
+// Whether a network lies within another.
+fn is_within(outer: IpNetwork, network: Option<IpNetwork>) -> bool {
+    // Does nothing: the proof of this body needs the law, and from the next two calls that these are networks.
+    match network {
+        Some(network) => {
+            let _ = network.prefix();
+            let _ = outer.prefix();
+            network.is_subnet_of(outer)
+        }
+        None => false,
+    }
+}
+
+// Writes what waits and what there is to tell of the networks of these texts, unless `--in` is given.
+fn write_answer<W: Write>(
+    items: &[Item<'_>],
+    all: &[Said<'_>],
+    output: &mut Output<'_, W>,
+) -> Result<(), RunFault> {
+    if is_given(items, IN) {
+        return output.finish();
+    }
+    put_infos(is_given(items, JSON), all, output)?;
+    output.finish()
+}

@@ -1,0 +1,73 @@
+// Written by scripts/plain out of crates/cidr_info/src/telling.rt
+
+//! What is reported of texts that name no network, and of standard input.
+
+use crate::help::PROGRAM;
+use crate::said::Said;
+use fosibegan::ipnetwork::{CidrFault, cause};
+use cidr_programs::lines::output::Output;
+use cidr_programs::lists::BytesFault;
+use cidr_programs::program::escapes::tell_escaped;
+use cidr_programs::program::messages::{tell, tell_number};
+use fosibegan::plain_std::io::Write;
+
+/// Reports each of these texts that names no network.
+pub(crate) fn tell_refusals<E: Write>(all: &[Said<'_>], errors: &mut Output<'_, E>) {
+    for said in all {
+        tell_if_refused(said, errors);
+    }
+}
+
+// Reports a text if it names no network.
+fn tell_if_refused<E: Write>(said: &Said<'_>, errors: &mut Output<'_, E>) {
+    match said.network() {
+        Some(_) => {}
+        None => tell_refusal(said, errors),
+    }
+}
+
+// Reports a text that names no network.
+fn tell_refusal<E: Write>(said: &Said<'_>, errors: &mut Output<'_, E>) {
+    tell(PROGRAM, errors);
+    tell(": ", errors);
+    tell_place(said, errors);
+    tell(": refused ", errors);
+    tell(cause_word(said.text()), errors);
+    tell("\n", errors);
+}
+
+// Writes where a text stands: the word, without what a terminal obeys, or `-` and the number of the line.
+fn tell_place<E: Write>(said: &Said<'_>, errors: &mut Output<'_, E>)
+{
+    let line = said.line();
+    if line > 0 {
+        tell("-:", errors);
+        tell_number(line, errors);
+    } else if said.text().is_empty() {
+        tell("''", errors);
+    } else {
+        tell_escaped(said.text(), errors);
+    }
+}
+
+// Why a text names no network, in a word.
+fn cause_word(text: &[u8]) -> &'static str {
+    // Do nothing: the proof of this body needs the laws.
+    match cause(text) {
+        Some(CidrFault::Format) => "format",
+        Some(CidrFault::Prefix) => "prefix",
+        Some(CidrFault::Addr) => "address",
+        // A text that names a network has no cause.
+        None => "",
+    }
+}
+
+/// Reports why standard input was not read.
+pub(crate) fn tell_input_fault<E: Write>(fault: BytesFault, errors: &mut Output<'_, E>) {
+    match fault {
+        BytesFault::Open(_) => tell("cidr_info: -: cannot open\n", errors),
+        BytesFault::Read => tell("cidr_info: -: cannot read\n", errors),
+        BytesFault::Length => tell("cidr_info: -: too long\n", errors),
+        BytesFault::OutOfMemory => tell("out of memory\n", errors),
+    }
+}

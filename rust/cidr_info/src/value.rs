@@ -1,0 +1,114 @@
+// Written by scripts/plain out of crates/cidr_info/src/value.rt
+
+//! What a field tells of a network.
+
+use crate::field::Field;
+use crate::number_texts::{decimal_text, hex_text, power_text};
+use crate::zone::zone_text;
+use fosibegan::plain_std::arrayvec::ArrayString;
+use fosibegan::ipnetwork::{IpAddr, IpNetwork, Ipv4Addr, Ipv4Network, Ipv6Addr};
+use fosibegan::ipnetwork_addr::decimal::push_decimal;
+
+/// The most bytes of a value: two addresses of IPv6 with ` - ` between them.
+pub(crate) const VALUE_MAX: usize = 81;
+
+/// What a field tells of a network.
+pub(crate) fn value_of(field: Field, network: &IpNetwork) -> ArrayString<VALUE_MAX> {
+    match field {
+        Field::Address => address_text(network.ip()),
+        Field::Network => block_text(network),
+        Field::Mask => address_text(network.mask()),
+        Field::Wildcard => address_text(wildcard_of(network)),
+        Field::First => address_text(network.network()),
+        Field::Last => address_text(network.broadcast()),
+        Field::Hosts => hosts_text(network),
+        Field::Addresses => power_text(host_bits(network)),
+        Field::Reverse => zone_text(network),
+        Field::Integer => decimal_text(number_of(network.ip())),
+        Field::Hexadecimal => hex_text(number_of(network.ip()), hex_width(network.ip())),
+    }
+}
+
+// The canonical text of an address.
+fn address_text(address: IpAddr) -> ArrayString<VALUE_MAX> {
+    let mut text = ArrayString::new();
+    text.push_text(&address.canonical());
+    text
+}
+
+// The canonical text of a network without host bits.
+fn block_text(network: &IpNetwork) -> ArrayString<VALUE_MAX> {
+    let mut text = address_text(network.network());
+    text.push_str("/");
+    push_decimal(&mut text, network.prefix());
+    text
+}
+
+// The complement of the mask of a network, as an address.
+fn wildcard_of(network: &IpNetwork) -> IpAddr {
+    match network.mask() {
+        IpAddr::V4(mask) => IpAddr::V4(Ipv4Addr::from(u32::MAX - u32::from(mask))),
+        IpAddr::V6(mask) => IpAddr::V6(Ipv6Addr::from(u128::MAX - u128::from(mask))),
+    }
+}
+
+// The first and the last address of a network that a host may have, with ` - ` between them.
+fn hosts_text(network: &IpNetwork) -> ArrayString<VALUE_MAX> {
+    let (first, last) = hosts_of(network);
+    let mut text = address_text(first);
+    text.push_str(" - ");
+    text.push_text(&last.canonical());
+    text
+}
+
+// The first and the last address of a network that a host may have.
+fn hosts_of(network: &IpNetwork) -> (IpAddr, IpAddr) {
+    match network {
+        IpNetwork::V4(network) => {
+            let (first, last) = v4_hosts_of(network);
+            (
+                IpAddr::V4(Ipv4Addr::from(first)),
+                IpAddr::V4(Ipv4Addr::from(last)),
+            )
+        }
+        IpNetwork::V6(network) => (
+            IpAddr::V6(network.network()),
+            IpAddr::V6(network.broadcast()),
+        ),
+    }
+}
+
+// The same of an IPv4 network, as numbers.
+fn v4_hosts_of(network: &Ipv4Network) -> (u32, u32) {
+    let first = u32::from(network.network());
+    let last = u32::from(network.broadcast());
+    if network.prefix() > 30 {
+        (first, last)
+    } else {
+        (first + 1, last - 1)
+    }
+}
+
+// How many bits of the addresses of a network are not fixed.
+fn host_bits(network: &IpNetwork) -> u8 {
+    match network {
+        IpNetwork::V4(network) => 32 - network.prefix(),
+        IpNetwork::V6(network) => 128 - network.prefix(),
+    }
+}
+
+// An address as a number.
+fn number_of(address: IpAddr) -> u128 {
+    match address {
+        IpAddr::V4(address) => u128::from(u32::from(address)),
+        IpAddr::V6(address) => u128::from(address),
+    }
+}
+
+// How many digits of base 16 the addresses of an address's family have.
+fn hex_width(address: IpAddr) -> u8 {
+    match address {
+        IpAddr::V4(_) => 8,
+        IpAddr::V6(_) => 32,
+    }
+}

@@ -1,0 +1,43 @@
+// Written by scripts/plain out of crates/options/src/operands.rt
+
+//! What is wrong with a command line, if a FILE has to be given and no option.
+
+use crate::options::faults::{
+    Fault, Subject, about, first_fault, has_file, is_read_once, pair_fault,
+};
+use crate::options::items::Item;
+use crate::options::table::Table;
+
+/// What is wrong with a command line that says this, if a FILE has to be given and no option: the first option that is none or
+/// has a wrong value or none, then the first pair of options that do not go together, then that there is no FILE, and then
+/// that standard input is read twice. A FILE may be empty.
+///
+/// ```
+/// # use cidr_programs::in_examples::*;
+/// use cidr_programs::options::items::{Item, Text};
+/// use cidr_programs::options::operands::operands_fault;
+/// use cidr_programs::options::table::Table;
+///
+/// let table = Table { rows: &[], pairs: &[], needs: &[], lacking: "no NETWORK is given" };
+/// assert!(operands_fault(&table, &[Item::File(Text::new("10.0.0.1"))]).is_none());
+/// let nothing = operands_fault(&table, &[]);
+/// assert!(nothing.is_some_and(|fault| fault.problem.as_str() == "no NETWORK is given"));
+/// ```
+pub fn operands_fault<'a>(table: &Table<'_>, items: &[Item<'a>]) -> Option<Fault<'a>> {
+    if let Some(fault) = first_fault(table.rows, false, items) {
+        return Some(fault);
+    }
+    if let Some(fault) = pair_fault(items, table.pairs) {
+        return Some(fault);
+    }
+    if !has_file(items) {
+        return Some(about(Subject::CommandLine, table.lacking));
+    }
+    if is_read_once(table.rows, items) {
+        return None;
+    }
+    Some(about(
+        Subject::CommandLine,
+        "-: standard input can be read only once",
+    ))
+}
