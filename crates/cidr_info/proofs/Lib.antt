@@ -1,4 +1,6 @@
 pub mod Ends
+pub mod Examples
+pub mod Labels
 pub mod Lines
 pub mod Places
 pub mod Texts

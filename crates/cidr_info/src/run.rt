@@ -4,7 +4,7 @@ ghost use Rattle.std.specs.List.{list_any};
 ghost use Rattle.lines.specs.Outputs.{Writes, FailsIn};
 ghost use Rattle.lists.specs.Bytes.{BytesStop};
 ghost use Rattle.program.specs.Endings.{ending};
-ghost use Rattle.cidr_info.specs.Runs.{EndsAs, EndsReading, EndsAnswering, EndsSaid, fault_of, in_fault, outer_of, is_within, all_within, is_refused, within_status, status_of, answer_text, IsInput, NoInput};
+ghost use Rattle.cidr_info.specs.Runs.{EndsAs, EndsReading, EndsAnswering, fault_of, in_fault, outer_of, is_within, all_within, is_refused, within_status, status_of, answer_text, IsInput, NoInput};
 
 use crate::help::{HELP, PROGRAM, USAGE, VERSION};
 use crate::printing::put_infos;
@@ -138,19 +138,7 @@ fn answer<W: Write, E: Write>(
     let Ok(all) = words_said(alloc, items, input) else {
         return refuse_memory(errors);
     };
-    answer_of(items, all.as_slice(), output, errors)
-}
-
-// Answers what is asked for of these texts.
-fn answer_of<W: Write, E: Write>(
-    items: &[Item<'_>],
-    all: &[Said<'_>],
-    output: &mut Output<'_, W>,
-    errors: &mut Output<'_, E>,
-) -> u8
-    ensures { EndsSaid items.now all.now
-        (ending output.old output.new errors.old errors.new result) }
-{
+    let all = all.as_slice();
     tell_refusals(all, errors);
     let status = status_of(outer_of(items), all);
     let written = write_answer(items, all, output);

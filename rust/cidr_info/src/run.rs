@@ -118,16 +118,7 @@ fn answer<W: Write, E: Write>(
     let Ok(all) = words_said(alloc, items, input) else {
         return refuse_memory(errors);
     };
-    answer_of(items, all.as_slice(), output, errors)
-}
-
-// Answers what is asked for of these texts.
-fn answer_of<W: Write, E: Write>(
-    items: &[Item<'_>],
-    all: &[Said<'_>],
-    output: &mut Output<'_, W>,
-    errors: &mut Output<'_, E>,
-) -> u8 {
+    let all = all.as_slice();
     tell_refusals(all, errors);
     let status = status_of(outer_of(items), all);
     let written = write_answer(items, all, output);
