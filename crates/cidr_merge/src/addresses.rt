@@ -2,11 +2,13 @@
 ghost use Rattle.std.specs.Prelude.{◌≡◌, ◌||◌, OnOk, is_err};
 ghost use Rattle.std.specs.List.{flat_map};
 ghost use Rattle.lines.specs.Outputs.{Prints};
+ghost use Rattle.program.specs.Putting.{PutsOrFails};
 ghost use Rattle.cidr_merge.specs.Exports.{address_line};
 
 use ipnetwork::{Address, NetworkIterator};
 use lines::fault::RunFault;
 use lines::output::Output;
+use program::putting::put_all;
 use std::io::Write;
 
 /// Prints each of the addresses on a line.
@@ -27,10 +29,7 @@ pub(crate) fn print_addresses<A: Address, W: Write>(
 
 // Prints an address on a line.
 fn put_address<A: Address, W: Write>(address: A, output: &mut Output<'_, W>) -> Result<(), RunFault>
-    ensures text { OnOk result (Prints output.old output.new
-        (address_line A.family (A.number address))) }
-    ensures failed { output.new.failed ≡ (output.old.failed || is_err result) }
+    ensures { PutsOrFails result output.old output.new (address_line A.family (A.number address)) }
 {
-    output.put(address.canonical().as_str().as_bytes())?;
-    output.put(b"\n")
+    put_all(&[address.canonical().as_str(), "\n"], output)
 }

@@ -2,6 +2,7 @@
 ghost use Rattle.std.specs.Prelude.{◌≡◌, ◌≤◌, ◌-◌, ◌^◌, ◌||◌, min, OnOk, is_err};
 ghost use Rattle.std.specs.List.{flat_map};
 ghost use Rattle.lines.specs.Outputs.{Prints};
+ghost use Rattle.program.specs.Putting.{PutsOrFails};
 ghost use Rattle.cidr_merge.specs.Pieces.{network_line, pieces_text, piece_count, all_pieces_count};
 ghost use Rattle.cidr_merge.specs.Pieces.{too_many_text};
 
@@ -12,6 +13,7 @@ use ipnetwork_blocks::{AddressSpace, subnets};
 use ipnetwork_sets::AddressSet;
 use lines::fault::RunFault;
 use lines::output::Output;
+use program::putting::put_all;
 use std::io::Write;
 
 /// Prints the pieces of this prefix length of each block of a set.
@@ -56,11 +58,9 @@ fn put_network<A: Address, W: Write>(
     network: Network<A>,
     output: &mut Output<'_, W>,
 ) -> Result<(), RunFault>
-    ensures text { OnOk result (Prints output.old output.new (network_line A.family network)) }
-    ensures failed { output.new.failed ≡ (output.old.failed || is_err result) }
+    ensures { PutsOrFails result output.old output.new (network_line A.family network) }
 {
-    output.put(network.canonical().as_str().as_bytes())?;
-    output.put(b"\n")
+    put_all(&[network.canonical().as_str(), "\n"], output)
 }
 
 /// How many pieces of this prefix length the blocks of a set have, or the greatest number of 128

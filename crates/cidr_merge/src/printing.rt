@@ -6,6 +6,7 @@ ghost use Rattle.cidr_merge.specs.Answers.{IsCountLine, AreCountsLeft, AreCounts
 ghost use Rattle.cidr_merge.specs.Private.Printing.{PrintsSome};
 ghost use Rattle.cidr_merge.specs.Private.Sweeps.{left_of_second, AreLines};
 ghost use Rattle.lines.specs.Outputs.{Prints};
+ghost use Rattle.program.specs.Putting.{PutsOrFails};
 
 use crate::command_line::{Form, Operation, Request};
 use crate::counts::Counts;
@@ -18,6 +19,7 @@ use ipnetwork::{Address, Network};
 use ipnetwork_sets::{AddressSet, Ranges};
 use lines::fault::RunFault;
 use lines::output::Output;
+use program::putting::put_all;
 use std::io::Write;
 
 /// A request, and what was read of the lists of its sides.
@@ -161,12 +163,8 @@ fn put_counts<W: Write>(
     counts: &str,
     output: &mut Output<'_, W>,
 ) -> Result<(), RunFault>
-    ensures text { OnOk result (Prints output.old output.new
-        ((sign.now ++ family.now) ++ counts.now ++ 10 ∷ [])) }
-    ensures failed { output.new.failed ≡ (output.old.failed || is_err result) }
+    ensures { PutsOrFails result output.old output.new
+        ((sign.now ++ family.now) ++ counts.now ++ 10 ∷ []) }
 {
-    output.put(sign.as_bytes())?;
-    output.put(family.as_bytes())?;
-    output.put(counts.as_bytes())?;
-    output.put(b"\n")
+    put_all(&[sign, family, counts, "\n"], output)
 }

@@ -14,6 +14,7 @@ use ipnetwork::{Address, CidrNetwork, Network};
 use ipnetwork_sets::{Ranges, SetBlocks};
 use lines::fault::RunFault;
 use lines::output::Output;
+use program::putting::put_all;
 use std::io::Write;
 
 /// Parts in the order of where they begin, one after the other.
@@ -83,9 +84,8 @@ impl<'a, A: Address> Parts for Sweep<'a, Network<A>> {
         block: Network<A>,
         output: &mut Output<'_, W>,
     ) -> Result<(), RunFault> {
-        output.put(sign_of(operation, side).as_bytes())?;
-        output.put(block.canonical().as_str().as_bytes())?;
-        output.put(b"\n")
+        let sign = sign_of(operation, side);
+        put_all(&[sign, block.canonical().as_str(), "\n"], output)
     }
 }
 
@@ -117,11 +117,9 @@ impl<'a, A: Address> Parts for Ranges<Network<A>, Sweep<'a, Network<A>>> {
         range: (A, A),
         output: &mut Output<'_, W>,
     ) -> Result<(), RunFault> {
-        output.put(sign_of(operation, side).as_bytes())?;
-        output.put(range.0.canonical().as_str().as_bytes())?;
-        output.put(b" - ")?;
-        output.put(range.1.canonical().as_str().as_bytes())?;
-        output.put(b"\n")
+        let sign = sign_of(operation, side);
+        let (first, last) = (range.0.canonical(), range.1.canonical());
+        put_all(&[sign, first.as_str(), " - ", last.as_str(), "\n"], output)
     }
 }
 

@@ -5,6 +5,7 @@
 use fosibegan::ipnetwork::{Address, NetworkIterator};
 use cidr_programs::lines::fault::RunFault;
 use cidr_programs::lines::output::Output;
+use cidr_programs::program::putting::put_all;
 use fosibegan::plain_std::io::Write;
 
 /// Prints each of the addresses on a line.
@@ -20,6 +21,5 @@ pub(crate) fn print_addresses<A: Address, W: Write>(
 
 // Prints an address on a line.
 fn put_address<A: Address, W: Write>(address: A, output: &mut Output<'_, W>) -> Result<(), RunFault> {
-    output.put(address.canonical().as_bytes())?;
-    output.put(b"\n")
+    put_all(&[address.canonical().as_str(), "\n"], output)
 }

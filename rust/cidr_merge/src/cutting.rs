@@ -9,6 +9,7 @@ use fosibegan::ipnetwork_blocks::{AddressSpace, subnets};
 use fosibegan::ipnetwork_sets::AddressSet;
 use cidr_programs::lines::fault::RunFault;
 use cidr_programs::lines::output::Output;
+use cidr_programs::program::putting::put_all;
 use fosibegan::plain_std::io::Write;
 
 /// Prints the pieces of this prefix length of each block of a set.
@@ -44,8 +45,7 @@ fn put_network<A: Address, W: Write>(
     network: Network<A>,
     output: &mut Output<'_, W>,
 ) -> Result<(), RunFault> {
-    output.put(network.canonical().as_bytes())?;
-    output.put(b"\n")
+    put_all(&[network.canonical().as_str(), "\n"], output)
 }
 
 /// How many pieces of this prefix length the blocks of a set have, or the greatest number of 128

@@ -13,6 +13,7 @@ use fosibegan::ipnetwork::{Address, Network};
 use fosibegan::ipnetwork_sets::{AddressSet, Ranges};
 use cidr_programs::lines::fault::RunFault;
 use cidr_programs::lines::output::Output;
+use cidr_programs::program::putting::put_all;
 use fosibegan::plain_std::io::Write;
 
 /// A request, and what was read of the lists of its sides.
@@ -126,8 +127,5 @@ fn put_counts<W: Write>(
     counts: &str,
     output: &mut Output<'_, W>,
 ) -> Result<(), RunFault> {
-    output.put(sign.as_bytes())?;
-    output.put(family.as_bytes())?;
-    output.put(counts.as_bytes())?;
-    output.put(b"\n")
+    put_all(&[sign, family, counts, "\n"], output)
 }

@@ -9,6 +9,7 @@ use fosibegan::ipnetwork::{Address, CidrNetwork, Network};
 use fosibegan::ipnetwork_sets::{Ranges, SetBlocks};
 use cidr_programs::lines::fault::RunFault;
 use cidr_programs::lines::output::Output;
+use cidr_programs::program::putting::put_all;
 use fosibegan::plain_std::io::Write;
 
 /// Parts in the order of where they begin, one after the other.
@@ -49,9 +50,8 @@ impl<'a, A: Address> Parts for Sweep<'a, Network<A>> {
         block: Network<A>,
         output: &mut Output<'_, W>,
     ) -> Result<(), RunFault> {
-        output.put(sign_of(operation, side).as_bytes())?;
-        output.put(block.canonical().as_bytes())?;
-        output.put(b"\n")
+        let sign = sign_of(operation, side);
+        put_all(&[sign, block.canonical().as_str(), "\n"], output)
     }
 }
 
@@ -73,11 +73,9 @@ impl<'a, A: Address> Parts for Ranges<Network<A>, Sweep<'a, Network<A>>> {
         range: (A, A),
         output: &mut Output<'_, W>,
     ) -> Result<(), RunFault> {
-        output.put(sign_of(operation, side).as_bytes())?;
-        output.put(range.0.canonical().as_bytes())?;
-        output.put(b" - ")?;
-        output.put(range.1.canonical().as_bytes())?;
-        output.put(b"\n")
+        let sign = sign_of(operation, side);
+        let (first, last) = (range.0.canonical(), range.1.canonical());
+        put_all(&[sign, first.as_str(), " - ", last.as_str(), "\n"], output)
     }
 }
 

@@ -9,7 +9,7 @@ use Rattle.cidr_merge.proofs.cutting.print_block.Goals as goal
 pub loop-piece-preserved : goal.loop-piece-preserved
 loop-piece-preserved g c =
     printed_more _ _ _ _ _ _ _ _ c.loop-piece.invariant c.in-Some-next.ensures.steps
-    c.in_ok-put_network.ensures.text c.in_ok-put_network.ensures.failed
+    c.in_ok-put_network.ensures.ok c.in_ok-put_network.ensures.failed
 
 pub returns-clause-text : goal.returns-clause-text
 returns-clause-text g c =

@@ -19,4 +19,4 @@ returns-clause-text g c =
     (count_number c.of-counts.result.addresses) c.of.ensures.left c.of.ensures.counted
     c.requires.some c.requires.bits c.of-counts.ensures.blocks c.of-counts.ensures.addresses
     (c.as_str.ensures.value ∙ c.text.ensures))
-    c.put_counts.ensures.text
+    c.put_counts.ensures.ok
