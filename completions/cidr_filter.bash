@@ -2,7 +2,7 @@
 _cidr_filter() {
     local word="${COMP_WORDS[COMP_CWORD]}" before="${COMP_WORDS[COMP_CWORD - 1]}"
     case "$before" in
-        --bad) COMPREPLY=($(compgen -W "drop keep stop" -- "$word")) ;;
+        --bad) COMPREPLY=($(compgen -W "drop keep stop report" -- "$word")) ;;
         -k | -d | --after | -e | -m) COMPREPLY=() ;;
         -f) ;;
         *)

@@ -2,11 +2,12 @@
 _cidr_join() {
     local word="${COMP_WORDS[COMP_CWORD]}" before="${COMP_WORDS[COMP_CWORD - 1]}"
     case "$before" in
+        --bad) COMPREPLY=($(compgen -W "drop keep stop report" -- "$word")) ;;
         -k | -d | --after | --group) COMPREPLY=() ;;
         -f) ;;
         *)
             if [[ "$word" == -* ]]; then
-                COMPREPLY=($(compgen -W "-f --last-wins -k -d -w -a --after --mapped --last --network --tally --group --quiet --help --version -- -" -- "$word"))
+                COMPREPLY=($(compgen -W "-f --last-wins -k -d -w -a --after --mapped --last --network --tally --group --bad --quiet --help --version -- -" -- "$word"))
             fi
             ;;
     esac

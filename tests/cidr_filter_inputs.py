@@ -202,7 +202,7 @@ WHOLE = (
     "-hc -fmade",
     "-Hfmade",
 )
-REFUSED = ("--bad stop -f made", "--bad=keep -f made", "-f -", "-f-", "-vf -", "-f made made_log", "-f made -")
+REFUSED = ("--bad stop -f made", "--bad=stop -f made", "-f -", "-f-", "-vf -", "-f made made_log", "-f made -")
 REFUSED += ("-m1 -f made", "-l -f made", "-vqf made", "-nf made")
 
 
@@ -263,12 +263,15 @@ def stretches(program, folder):
         log = [one for one in lines if one[0] != 12] if 0 in kinds else lines
         selected = [(at, line.rstrip(b"\n") + b"\n") for at, (first, line) in enumerate(log, 1) if first in kinds]
         shown = [line for _, line in selected]
+        long = next((at for at, (first, _) in enumerate(log, 1) if first == 12), 0)
         rows = [("", b"".join(shown)), ("-n", b"".join(b"%d:%s" % one for one in selected)), ("-c", b"%d\n" % len(shown))]
         rows += [(f"-m {most}", b"".join(shown[:most])) for most in (1, 15, 16, 17, 63, 64, 65, len(shown) // 2)]
         for more, wanted in rows:
             words = f"-f list {options} {more}".split()
             got = run([program, *words], short if 0 in kinds else given, folder)
-            yield f"{words} < stretches", got == (wanted, b"", 0), got[1:]
+            last = selected[int(words[-1]) - 1][0] if "-m" in words else len(log)
+            told = (b"cidr_filter: -:%d: line too long\n" % long, 2) if 0 < long <= last else (b"", 0)
+            yield f"{words} < stretches", got == (wanted, *told), got[1:]
         words = [program, *f"-f list {options}".split()]
         with open(os.path.join(folder, "stretches"), "wb") as log:
             log.write(short if 0 in kinds else given)

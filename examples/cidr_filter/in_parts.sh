@@ -6,8 +6,11 @@
 # usage: examples/cidr_filter/in_parts.sh OPTION .. < LOG > SELECTED
 #
 # The options are those of cidr_filter, also joined in one word. With `-c` the numbers of the parts
-# are added up. `--bad keep` and `--bad stop` are refused: a line would end its part only; and so
-# are `-m`, `-l`, `-q` and `-n`. Without GNU parallel, the parts are filtered one after the other.
+# are added up. `--bad stop` is refused: a line would end its part only; and so are `-m`, `-l`, `-q`
+# and `-n`. Without GNU parallel, the parts are filtered one after the other.
+#
+# If a line is too long, the status is 2, and it is reported with its number in its part; with `-c`
+# nothing is printed then, and otherwise, by GNU parallel, the parts behind its part all the same.
 set -eu -o pipefail
 . "$(dirname "$0")/../log_in_parts.sh"
 . "$(dirname "$0")/../program.sh"
@@ -23,7 +26,7 @@ option() {
     -[mlq]) refuse "$1: a line would end its part only" ;;
     --bad)
         case ${2-} in
-        keep | stop) refuse "--bad $2: a line would end its part only" ;;
+        stop) refuse "--bad $2: a line would end its part only" ;;
         esac
         ;;
     esac

@@ -7,7 +7,7 @@
 # The options are those of cidr_join, also joined in one word. With `--tally` the counts of the parts are added up, of
 # each text, and printed most first, those of one count in the order of the bytes of the texts. Without GNU parallel, the
 # parts are joined one after the other. With PARALLEL='--sshlogin ONE,TWO' they go to these machines, which need the
-# program and the list at the same path.
+# program and the list at the same path. `--bad stop` is refused: a line would end its part only.
 #
 # If a line is too long, the status is 2, and it is reported with its number in its part; with `--tally` nothing is printed
 # then, and otherwise, by GNU parallel, the parts behind its part all the same.
@@ -15,13 +15,18 @@ set -eu -o pipefail
 . "$(dirname "$0")/../log_in_parts.sh"
 . "$(dirname "$0")/../program.sh"
 program=$(program_of cidr_join)
-valued=" -f -k -d --after --group "
+valued=" -f -k -d --after --group --bad "
 
 tally=
 option() {
     case $1 in
     -f) [ "$2" != - ] || refuse "-f -: standard input is the log" ;;
     --tally) tally=1 ;;
+    --bad)
+        case ${2-} in
+        stop) refuse "--bad $2: a line would end its part only" ;;
+        esac
+        ;;
     esac
 }
 each_option "$@"

@@ -10,7 +10,7 @@ use Rattle.cidr_filter.specs.Runs.{EndsLogs, StopsAtLog, most_of, shows_of, is_n
 use Rattle.cidr_filter.specs.declared.filter.Filter.{Filter}
 use Rattle.cidr_filter.specs.declared.filter.OutputMode.TheVariants as shows
 use Rattle.cidr_filter.specs.declared.filter.Verdict.TheVariants as verdicts
-use Rattle.cidr_filter.specs.declared.filter.WithoutAddress.TheVariants as without
+use Rattle.log_programs.specs.declared.without_address.WithoutAddress.TheVariants as without
 use Rattle.options.specs.declared.items.Item.{Item}
 use Rattle.options.specs.declared.items.Item.TheVariants as says
 use Rattle.cidr_filter.proofs.Examples.{ended, by}
@@ -84,6 +84,7 @@ module _ (known : KnownLists) (inside : IsVerdict silent (codes "10.0.0.1") (ver
         refl,
         (verdicts.Outside, [], 1, outside, refl, (verdicts.Inside None, [], 0, inside, refl, (refl, refl), refl, refl), refl, refl),
         record { most = refl; last = inr (ended (codes "11.0.0.1") ∷ [], ended (codes "10.0.0.1"), verdicts.Inside None, refl, inl refl, inside, refl) },
+        refl,
         refl,
       )) (refl, refl, refl, refl) written told status
 

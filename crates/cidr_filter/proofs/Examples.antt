@@ -23,8 +23,8 @@ use Rattle.options.specs.declared.items.Item.TheVariants as says
 use Rattle.lists.specs.declared.refusals.Refusal.{Refusal}
 use Rattle.program.specs.Reported.{refusals_text}
 use Rattle.cidr_filter.specs.Reported.{in_option}
-use Rattle.cidr_filter.specs.declared.filter.WithoutAddress.{WithoutAddress}
-use Rattle.cidr_filter.specs.declared.filter.WithoutAddress.TheVariants as without
+use Rattle.log_programs.specs.declared.without_address.WithoutAddress.{WithoutAddress}
+use Rattle.log_programs.specs.declared.without_address.WithoutAddress.TheVariants as without
 use Rattle.cidr_filter.specs.declared.filter.Filter.{Filter}
 use Rattle.cidr_filter.specs.declared.filter.OutputMode.{OutputMode}
 use Rattle.cidr_filter.specs.declared.filter.OutputMode.TheVariants as shows
@@ -170,7 +170,7 @@ pub selected_without_an_address : (is_selected (by true without.Drop) verdicts.N
 selected_without_an_address = (refl, refl, refl)
 
 pub refused_without_an_address : (is_refused (by true without.Stop) verdicts.NoAddress ≡ true) × (is_refused (by true without.Keep) verdicts.NoAddress ≡ false)
-    × (is_refused (by false without.Keep) verdicts.TooLong ≡ true) × (is_refused (by false without.Drop) verdicts.TooLong ≡ false)
+    × (is_refused (by false without.Keep) verdicts.TooLong ≡ false) × (is_refused (by false without.Stop) verdicts.TooLong ≡ true)
 refused_without_an_address = (refl, refl, refl, refl)
 
 -- the longest network and a tab, or a minus sign

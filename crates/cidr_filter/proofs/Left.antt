@@ -1,5 +1,5 @@
 -- A log that is not read any more, since as many of its lines are selected as may be.
-use Rattle.std.proofs.Common.{◌≡◌, ℕ, ◌+◌, ◌-◌, ◌^◌, ◌≤◌, ◌||◌, Bool, true, false, List, [], ◌∷◌, ◌++◌, length, refl, sym, ap, ◌∙◌, subst, inl, inr, append-nil, true≢false}
+use Rattle.std.proofs.Common.{◌≡◌, ℕ, ◌+◌, ◌||◌, Bool, true, false, List, [], ◌∷◌, ◌++◌, length, refl, sym, ap, ◌∙◌, subst, inl, inr, append-nil, true≢false}
 use Rattle.std.specs.Prelude.{Option, Some, Result, Ok, Err, IfOk, IfErr, OnOk, OnErr, IsOkUnless, IsTrue}
 use Rattle.lines.specs.Outputs.{Written, AppendsBeginning, Prints, FailsIn}
 use Rattle.lines.specs.declared.line_end.LineEnd.{LineEnd}
@@ -14,15 +14,17 @@ use Rattle.program.specs.declared.log_fault.LogFault.TheVariants as faults
 use Rattle.program.specs.declared.log_reader.LogReader.{LogReader}
 use Rattle.program.specs.declared.log_reader.NextLogLine.TheVariants.{Line}
 use Rattle.cidr_filter.specs.Filters.{is_selected, is_within, one_if, output_of}
-use Rattle.cidr_filter.specs.Stands.{Stand, stand, Goes}
+use Rattle.cidr_filter.specs.Stands.{Stand, stand, begun, Goes}
 use Rattle.cidr_filter.specs.Stops.{Leaves, EndsBy, WritesBeginning, Stops}
 use Rattle.cidr_filter.specs.Private.Progress.{FiltersLine, FiltersSoFar}
 use Rattle.cidr_filter.specs.declared.filter.Filter.{Filter}
 use Rattle.cidr_filter.specs.declared.log.Reached.{Reached}
 use Rattle.cidr_filter.specs.declared.log.Reached.TheVariants as reached
 use Rattle.cidr_filter.specs.declared.log.Tally.{Tally}
-use Rattle.cidr_filter.proofs.Filtering.{goes_idle, goes_still, more_filters, more_goes, line_judged, line_goes}
+use Rattle.cidr_filter.proofs.Filtering.{goes_nowhere, goes_still, more_filters, more_goes, line_judged, line_adds, line_goes}
 use Rattle.cidr_filter.proofs.Spent.{within_more}
+use Rattle.cidr_filter.specs.Addressed.{seen_of}
+use Rattle.log_programs.specs.LogStats.{nothing}
 
 -- ---- what was written at the end
 
@@ -71,23 +73,26 @@ reads_still result false new e same = same ∙ sym (by_no_read result e)
 -- ---- at a line
 
 module _ {W : Type 0} (filter : Filter) (was now : LogReader) (remained before after : Option (List ℕ)) (old mid between : Stand)
-    (s : FiltersSoFar filter was remained before old mid) (idle : Goes mid between [] 0 0) (still : between.addressed ≡ mid.addressed) (fits : old.lines ≤ 2 ^ 64 - 1)
+    (s : FiltersSoFar filter was remained before old mid) (idle : Goes mid between [] 0) (still : between.seen ≡ mid.seen)
     (output output_after : Written W) (tally : Tally) (end : LineEnd) (line whole : List ℕ) (given : GivesNext now remained after s.first (Line end))
     (is : line ≡ line_of now) (all : whole ≡ whole_of now) (selected : Bool) (f : FiltersLine filter line (whole ++ feed_behind end) selected between (stand output tally)) where
-  goes : Goes old (stand output tally) (s.is_done.added ++ output_of filter (old.lines + length s.first + 1) f.0 (log_line (line_of now) end)) (s.is_done.count + one_if (is_selected filter f.0)) (length (s.first ++ log_line (line_of now) end ∷ []))
+  adds : tally.seen ≡ seen_of filter (s.first ++ log_line (line_of now) end ∷ [])
+  adds = line_adds filter was now remained before after old mid between s idle still (stand output tally) end line whole given is all selected f
+
+  goes : Goes old (stand output tally) (s.is_done.added ++ output_of filter (0 + length s.first + 1) f.0 (log_line (line_of now) end)) (s.is_done.count + one_if (is_selected filter f.0))
   goes =
-      more_goes filter was now remained before after old mid between s idle still fits (stand output tally) (log_line (line_of now) end) f.0
-      (line_goes filter was now remained before after old mid between s idle still fits (stand output tally) end line whole given is all selected f)
+      more_goes filter was now remained before after old mid between s idle still (stand output tally) (log_line (line_of now) end) f.0
+      (line_goes filter was now remained before after old mid between s idle still (stand output tally) end line whole given is all selected f)
 
   leaves_line : filter.most ≡ Some (s.is_done.count + one_if selected) → selected ≡ true → Prints output output_after []
       → Leaves filter now remained after old (stand output_after tally)
   leaves_line most chosen put = record {
     first = s.first ++ log_line (line_of now) end ∷ [];
-    added = s.is_done.added ++ output_of filter (old.lines + length s.first + 1) f.0 (log_line (line_of now) end);
+    added = s.is_done.added ++ output_of filter (0 + length s.first + 1) f.0 (log_line (line_of now) end);
     count = s.is_done.count + one_if (is_selected filter f.0);
     hands = given.hands;
-    filters = more_filters filter was now remained before after old mid between s idle still fits (log_line (line_of now) end) f.0
-        (line_judged filter was now remained before after old mid between s idle still fits (stand output tally) end line whole given is all selected f) f.2;
+    filters = more_filters filter was now remained before after old mid between s idle still (log_line (line_of now) end) f.0
+        (line_judged filter was now remained before after old mid between s idle still (stand output tally) end line whole given is all selected f) f.2;
     all = record {
       most = most ∙ ap (λ (b : Bool). Some (s.is_done.count + one_if b)) f.5;
       last = inr (
@@ -96,22 +101,24 @@ module _ {W : Type 0} (filter : Filter) (was now : LogReader) (remained before a
         f.0,
         refl,
         given.next.is_line,
-        line_judged filter was now remained before after old mid between s idle still fits (stand output tally) end line whole given is all selected f,
+        line_judged filter was now remained before after old mid between s idle still (stand output tally) end line whole given is all selected f,
         sym f.5 ∙ chosen,
       );
     };
-    goes = goes_still old (stand output tally) (stand output_after tally) _ _ _ goes (goes_idle (stand output tally) (stand output_after tally) refl refl put);
+    goes = goes_still old (stand output tally) (stand output_after tally) _ _ goes (goes_nowhere (stand output tally) (stand output_after tally) refl put);
+    seen = adds;
   }
 
   writes_line : FailsIn output output_after [] → ReadsFirst (WritesBeginning filter old (stand output_after tally)) remained after
   writes_line took =
-      let added = s.is_done.added ++ output_of filter (old.lines + length s.first + 1) f.0 (log_line (line_of now) end) in
+      let added = s.is_done.added ++ output_of filter (0 + length s.first + 1) f.0 (log_line (line_of now) end) in
       line_stops _ (WritesBeginning filter old (stand output_after tally)) was now remained before after s end given (record {
         added = added;
         count = s.is_done.count + one_if (is_selected filter f.0);
-        filters = more_filters filter was now remained before after old mid between s idle still fits (log_line (line_of now) end) f.0
-            (line_judged filter was now remained before after old mid between s idle still fits (stand output tally) end line whole given is all selected f) f.2;
+        filters = more_filters filter was now remained before after old mid between s idle still (log_line (line_of now) end) f.0
+            (line_judged filter was now remained before after old mid between s idle still (stand output tally) end line whole given is all selected f) f.2;
         within = within_more filter.most s.is_done.count (is_selected filter f.0) s.is_done.below;
+        seen = adds;
         beginning = subst (λ (t : List ℕ). AppendsBeginning old.holds output_after.holds (old.waits ++ t)) (append-nil added)
             (begins_after_puts old.holds output.holds output_after.holds old.waits output.waits added [] goes.0 took);
       })
@@ -129,9 +136,12 @@ module _ {W : Type 0} (filter : Filter) (was now : LogReader) (remained before a
 
 -- ---- before the first line
 
-module _ {W : Type 0} (filter : Filter) (log : LogReader) (remained : Option (List ℕ)) (hands : HandsFirst log remained remained []) (output output_after : Written W) (tally : Tally)
-    (most : filter.most ≡ Some 0) where
-  leaves_all : Prints output output_after [] → Leaves filter log remained remained (stand output tally) (stand output_after tally)
+module _ {W : Type 0} (filter : Filter) (log : LogReader) (remained : Option (List ℕ)) (hands : HandsFirst log remained remained []) (output output_after : Written W) (was tally : Tally)
+    (same : tally.selected ≡ was.selected) (fresh : tally.seen ≡ nothing) (most : filter.most ≡ Some 0) where
+  abbrev old : Stand
+  old = begun (stand output was)
+
+  leaves_all : Prints output output_after [] → Leaves filter log remained remained old (stand output_after tally)
   leaves_all put = record {
     first = [];
     added = [];
@@ -139,26 +149,27 @@ module _ {W : Type 0} (filter : Filter) (log : LogReader) (remained : Option (Li
     hands = hands;
     filters = (refl, refl);
     all = record { most = most; last = inl refl };
-    goes = goes_idle (stand output tally) (stand output_after tally) refl refl put;
+    goes = goes_nowhere old (stand output_after tally) same put;
+    seen = fresh;
   }
 
-  writes_none : FailsIn output output_after [] → ReadsFirst (WritesBeginning filter (stand output tally) (stand output_after tally)) remained remained
+  writes_none : FailsIn output output_after [] → ReadsFirst (WritesBeginning filter old (stand output_after tally)) remained remained
   writes_none took = record {
     read = hands.read;
     first = [];
     others = log_lines hands.read;
     reads = hands.reads;
     lines = refl;
-    is_done = record { added = []; count = 0; filters = (refl, refl); within = ap (λ (o : Option ℕ). is_within o 0) most; beginning = took };
+    is_done = record { added = []; count = 0; filters = (refl, refl); within = ap (λ (o : Option ℕ). is_within o 0) most; seen = fresh; beginning = took };
   }
 
   pub all_left : (result : Result Reached LogFault) → IfOk result (λ r. r ≡ reached.Last)
-      → OnOk result (Prints output output_after []) → IfOk result (λ r. EndsBy r filter log remained remained (stand output tally) (stand output_after tally))
+      → OnOk result (Prints output output_after []) → IfOk result (λ r. EndsBy r filter log remained remained old (stand output_after tally))
   all_left result last put =
-      is_left filter log remained remained (stand output tally) (stand output_after tally) result last (ok_so result leaves_all put)
+      is_left filter log remained remained old (stand output_after tally) result last (ok_so result leaves_all put)
 
   pub all_left_unwritten : (read_failed : Bool) (result : Result Reached LogFault) → IsOkUnless result faults.Write → OnErr result (IsTrue output_after.failed) → OnErr result (FailsIn output output_after [])
-      → IfErr result (λ fault. Stops filter remained remained read_failed output_after.failed (stand output tally) (stand output_after tally) fault)
+      → IfErr result (λ fault. Stops filter remained remained read_failed output_after.failed old (stand output_after tally) fault)
   all_left_unwritten read_failed result is_write failed took =
-      is_stopped filter log remained remained (stand output tally) (stand output_after tally) read_failed output_after.failed result is_write
+      is_stopped filter log remained remained old (stand output_after tally) read_failed output_after.failed result is_write
       (err_both _ _ result failed (err_so result writes_none took))

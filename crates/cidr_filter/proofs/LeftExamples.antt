@@ -9,7 +9,7 @@ use Rattle.cidr_filter.specs.Filters.{IsVerdict, is_below, AreAll}
 use Rattle.cidr_filter.specs.Logs.{LeavesLog, is_short}
 use Rattle.cidr_filter.specs.declared.filter.Filter.{Filter}
 use Rattle.cidr_filter.specs.declared.filter.Verdict.TheVariants as verdicts
-use Rattle.cidr_filter.specs.declared.filter.WithoutAddress.TheVariants as without
+use Rattle.log_programs.specs.declared.without_address.WithoutAddress.TheVariants as without
 use Rattle.program.specs.declared.log_fault.LogFault.TheVariants as faults
 use Rattle.cidr_filter.proofs.Examples.{ended, by}
 
@@ -42,7 +42,7 @@ up_to_two = record (by false without.Drop) { most = Some 2 }
 module _ (known : KnownLists) (inside : IsVerdict up_to_two (codes "10.0.0.1") (verdicts.Inside None)) (outside : IsVerdict up_to_two (codes "11.0.0.1") verdicts.Outside) where
   -- at its second selected line, whatever follows it
   pub left_at_the_second : known.may_open (codes "a") true → IsFirstOf known (codes "a") (codes "10.0.0.1\n11.0.0.1\n10.0.0.1\n10.0.0.1\nx")
-      → LeavesLog up_to_two known (codes "a") (codes "10.0.0.1\n10.0.0.1\n") 2 []
+      → LeavesLog up_to_two known (codes "a") (codes "10.0.0.1\n10.0.0.1\n") 2 [] false
   left_at_the_second opened first = (
     codes "10.0.0.1\n11.0.0.1\n10.0.0.1\n10.0.0.1\nx",
     ended (codes "10.0.0.1") ∷ ended (codes "11.0.0.1") ∷ ended (codes "10.0.0.1") ∷ [],
@@ -64,6 +64,7 @@ module _ (known : KnownLists) (inside : IsVerdict up_to_two (codes "10.0.0.1") (
       most = refl;
       last = inr (ended (codes "10.0.0.1") ∷ ended (codes "11.0.0.1") ∷ [], ended (codes "10.0.0.1"), verdicts.Inside None, refl, inl refl, inside, refl);
     },
+    refl,
     refl,
   )
 

@@ -1,5 +1,5 @@
 -- Logs that are filtered in turn.
-use Rattle.std.proofs.Common.{◌≡◌, ◌+◌, ◌++◌, ◌∷◌, ◌∙◌, ◌||◌, [], ℕ, Bool, List, true, false, inl, inr, refl, sym, ap, subst, arith, length, append_assoc, append-nil, codes}
+use Rattle.std.proofs.Common.{◌≡◌, ◌+◌, ◌++◌, ◌∷◌, ◌∙◌, ◌||◌, [], ℕ, Bool, List, true, false, inl, inr, refl, sym, ap, subst, arith, append_assoc, append-nil}
 use Rattle.std.specs.Prelude.{Option, Some}
 use Rattle.std.specs.Io.KnownBytes.{Consumes, IsAtEnd}
 use Rattle.lines.specs.Outputs.{Written}
@@ -7,7 +7,8 @@ use Rattle.lines.proofs.Putting.{puts_nothing, puts_more}
 use Rattle.lists.specs.KnownLists.{KnownLists}
 use Rattle.program.specs.Messages.{Reports}
 use Rattle.program.proofs.Reported.{tells_more, tells_nothing, tells_same}
-use Rattle.cidr_filter.specs.Addressed.{any_addressed, lacking_by, lacking_text, closed_text}
+use Rattle.cidr_filter.specs.Addressed.{seen_of, seen_by, ended_by, closed_text}
+use Rattle.log_programs.specs.Seen.{is_missed}
 use Rattle.program.proofs.Counts.{counts_more, counts_none, counts_from_none}
 use Rattle.program.proofs.LogNames.{all_of, first_of}
 use Rattle.program.specs.LogLines.{LogLine, log_lines, IsWhole}
@@ -15,14 +16,13 @@ use Rattle.program.specs.Logs.{IsAllOf}
 use Rattle.program.specs.declared.log_reader.LogReader.{LogReader}
 use Rattle.cidr_filter.specs.Filters.{is_silent, LastIsSelected}
 use Rattle.cidr_filter.specs.Logs.{FiltersLogs, is_enough, filter_for}
-use Rattle.cidr_filter.specs.Stands.{Stand}
+use Rattle.cidr_filter.specs.Stands.{Stand, begun}
 use Rattle.cidr_filter.specs.Stops.{Ends, Leaves}
 use Rattle.cidr_filter.specs.Private.Runs.{FiltersNames}
 use Rattle.cidr_filter.specs.declared.filter.Filter.{Filter}
 use Rattle.lists.specs.declared.opening.OpenFault.{OpenFault}
-use Rattle.log_programs.proofs.Lacking.{lacking_same}
 use Rattle.cidr_filter.proofs.Enough.{few_first, few_second, enough_behind, not_enough, enough_same, goes_nowhere, went_on, goes_on, goes_so}
-use Rattle.log_programs.proofs.Failing.{or_assoc}
+use Rattle.log_programs.proofs.Failing.{or_assoc, or_none}
 
 -- ---- one log
 
@@ -33,11 +33,11 @@ first_lines read pending first e = sym (ap log_lines (append-nil read)) ∙ e �
 module _ (filter : Filter) (known : KnownLists) where
   module _ (name : List ℕ) (remained remains : Option (List ℕ)) (has : (input : List ℕ) → known.bytes_of name ≡ Some input → remained ≡ Some input) (opened : known.may_open name true) where
     -- a log that was filtered to its end
-    pub name_ended : {E : Type 0} (old new : Stand) (errors told : Written E) → Ends (filter_for filter name) remained remains (record old { lines = 0; addressed = false }) new
-        → Reports errors told (lacking_by filter.area name new.lines new.addressed) → FiltersNames filter known (name ∷ []) false old new errors told
-    name_ended old new errors told ends tells =
+    pub name_ended : {E : Type 0} (old new : Stand) (errors told : Written E) (missed : Bool) → Ends (filter_for filter name) remained remains (begun old) new
+        → Reports errors told (ended_by filter name new.seen) → missed ≡ is_missed filter.bad new.seen → FiltersNames filter known (name ∷ []) missed old new errors told
+    name_ended old new errors told missed ends tells misses =
         let lines = log_lines ends.read in
-        let text = lacking_text filter name lines in
+        let text = ended_by filter name (seen_of filter lines) in
         record {
           output = ends.is_done.added;
           count = ends.is_done.count;
@@ -49,17 +49,16 @@ module _ (filter : Filter) (known : KnownLists) where
             0,
             text,
             [],
+            missed,
             false,
-            false,
-            inl ((ends.read, all_of known name remained remains has opened ends.read ends.reads ends.end, ends.is_done.filters, refl, ends.is_done.below), refl),
+            inl (ends.read, all_of known name remained remains has opened ends.read ends.reads ends.end, ends.is_done.filters, refl, ends.is_done.below, misses ∙ ap (is_missed filter.bad) ends.is_done.seen),
             goes_nowhere (is_enough filter.shows ends.is_done.count),
             sym (append-nil ends.is_done.added),
             omega arith,
             sym (append-nil text),
-            refl,
+            or_none missed missed refl,
           );
-          tells = tells_same errors told (lacking_by filter.area name new.lines new.addressed) text
-              (lacking_same (codes "cidr_filter") filter.area name new.lines (length lines) new.addressed (any_addressed filter lines) (counts_from_none 0 new.lines (length lines) refl ends.is_done.goes.2) ends.is_done.addressed) tells;
+          tells = tells_same errors told (ended_by filter name new.seen) text (ap (ended_by filter name) ends.is_done.seen) tells;
           puts = ends.is_done.goes.0;
           counted = ends.is_done.goes.1;
         }
@@ -75,56 +74,56 @@ module _ (filter : Filter) (known : KnownLists) where
     last_whole lines read reads (inr h) = inr (h.0, h.1, h.2, h.3, is_whole read h.1 reads h.4, h.5, h.6)
 
     -- a log that was left
-    pub name_left : {E : Type 0} (old new : Stand) (errors : Written E) (log : LogReader) → Leaves (filter_for filter name) log remained remains (record old { lines = 0; addressed = false }) new
-        → FiltersNames filter known (name ∷ []) false old new errors errors
-    name_left old new errors log left = record {
-      output = left.added;
-      count = left.count;
-      text = [];
-      filters = (
-        left.added,
-        [],
-        left.count,
-        0,
-        [],
-        [],
-        false,
-        false,
-        inr (
-            inl (
-              (
-                left.hands.read,
-                left.first,
-                log_lines left.hands.pending,
-                opened,
-                first_of known name remained remains has left.hands.read left.hands.reads,
-                first_lines left.hands.read left.hands.pending left.first (left.hands.lines [] (λ e. refl)),
-                left.filters,
-                record { most = left.all.most; last = last_whole left.first left.hands.read left.hands.reads left.all.last },
-                refl,
-              ),
-              refl,
-            )
-            ),
-        goes_nowhere (is_enough filter.shows left.count),
-        sym (append-nil left.added),
-        omega arith,
-        refl,
-        refl,
-      );
-      tells = tells_nothing errors;
-      puts = left.goes.0;
-      counted = left.goes.1;
-    }
+    pub name_left : {E : Type 0} (old new : Stand) (errors told : Written E) (log : LogReader) (missed : Bool) → Leaves (filter_for filter name) log remained remains (begun old) new
+        → Reports errors told (seen_by filter name new.seen) → missed ≡ is_missed filter.bad new.seen → FiltersNames filter known (name ∷ []) missed old new errors told
+    name_left old new errors told log missed left tells misses =
+        let text = seen_by filter name (seen_of filter left.first) in
+        record {
+          output = left.added;
+          count = left.count;
+          text = text;
+          filters = (
+            left.added,
+            [],
+            left.count,
+            0,
+            text,
+            [],
+            missed,
+            false,
+            inr (
+                inl (
+                  left.hands.read,
+                  left.first,
+                  log_lines left.hands.pending,
+                  opened,
+                  first_of known name remained remains has left.hands.read left.hands.reads,
+                  first_lines left.hands.read left.hands.pending left.first (left.hands.lines [] (λ e. refl)),
+                  left.filters,
+                  record { most = left.all.most; last = last_whole left.first left.hands.read left.hands.reads left.all.last },
+                  refl,
+                  misses ∙ ap (is_missed filter.bad) left.seen,
+                )
+                ),
+            goes_nowhere (is_enough filter.shows left.count),
+            sym (append-nil left.added),
+            omega arith,
+            sym (append-nil text),
+            or_none missed missed refl,
+          );
+          tells = tells_same errors told (seen_by filter name new.seen) text (ap (seen_by filter name) left.seen) tells;
+          puts = left.goes.0;
+          counted = left.goes.1;
+        }
 
   -- a log that was not opened
   pub name_missed : {E : Type 0} (name : List ℕ) (fault : OpenFault) (old : Stand) (errors told : Written E) → known.may_open name false → known.may_miss name fault → Reports errors told (closed_text name fault)
-      → FiltersNames filter known (name ∷ []) true old (record old { lines = 0; addressed = false }) errors told
+      → FiltersNames filter known (name ∷ []) true old old errors told
   name_missed name fault old errors told closed missed tells = record {
     output = [];
     count = 0;
     text = closed_text name fault;
-    filters = ([], [], 0, 0, closed_text name fault, [], true, false, inr (inr ((fault, closed, missed, refl, refl, refl), refl)), goes_nowhere (is_enough filter.shows 0), refl, refl, sym (append-nil (closed_text name fault)), refl);
+    filters = ([], [], 0, 0, closed_text name fault, [], true, false, inr (inr (fault, closed, missed, refl, refl, refl, refl)), goes_nowhere (is_enough filter.shows 0), refl, refl, sym (append-nil (closed_text name fault)), refl);
     tells = tells;
     puts = puts_nothing old.holds old.waits;
     counted = counts_none old.selected old.selected refl;

@@ -8,7 +8,7 @@ use Rattle.cidr_filter.specs.Filters.{IsVerdict, number_head, output_of, Filters
 use Rattle.cidr_filter.specs.declared.filter.Filter.{Filter}
 use Rattle.cidr_filter.specs.declared.filter.OutputMode.TheVariants as shows
 use Rattle.cidr_filter.specs.declared.filter.Verdict.TheVariants as verdicts
-use Rattle.cidr_filter.specs.declared.filter.WithoutAddress.TheVariants as without
+use Rattle.log_programs.specs.declared.without_address.WithoutAddress.TheVariants as without
 use Rattle.cidr_filter.specs.declared.matcher.Matcher.TheVariants.{Blocks}
 use Rattle.cidr_filter.specs.declared.matcher.Tables.{Tables}
 use Rattle.cidr_filter.proofs.Examples.{ended, by, addresses_of_ten}

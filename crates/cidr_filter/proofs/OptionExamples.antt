@@ -1,6 +1,6 @@
 -- Options and FILEs at which a misreading of the definitions would show.
 use Rattle.std.proofs.Common.{◌≡◌, ℕ, List, [], ◌∷◌, map, true, false, refl}
-use Rattle.std.specs.Prelude.{codes, Some, None, bytes_eq}
+use Rattle.std.specs.Prelude.{codes}
 use Rattle.log_programs.specs.Areas.{area_of}
 use Rattle.options.specs.Faults.{is_read_once}
 use Rattle.options.specs.Given.{value_of, files_of, inputs_of}
@@ -10,8 +10,9 @@ use Rattle.options.specs.declared.items.Mode.TheVariants as modes
 use Rattle.options.specs.declared.table.Row.{Row}
 use Rattle.options.proofs.Tables.{rows_of}
 use Rattle.line_addresses.specs.declared.area.Area.TheVariants as areas
-use Rattle.cidr_filter.specs.Options.{entries, bad_in}
-use Rattle.cidr_filter.specs.declared.filter.WithoutAddress.TheVariants as without
+use Rattle.cidr_filter.specs.Options.{entries}
+use Rattle.log_programs.specs.WithoutAddress.{bad_in}
+use Rattle.log_programs.specs.declared.without_address.WithoutAddress.TheVariants as without
 
 abbrev pub rows : List Row
 rows = rows_of entries
@@ -77,7 +78,7 @@ pub standard_input : map (is_read_once rows)
     ∷ (says.Value 9 (codes "-") ∷ []) ∷ []) ≡ false ∷ false ∷ true ∷ true ∷ []
 standard_input = refl
 
-pub bad_words : map bad_in (codes "stop" ∷ codes "keep" ∷ codes "drop" ∷ [] ∷ []) ≡ without.Stop ∷ without.Keep ∷ without.Drop ∷ without.Drop ∷ []
+pub bad_words : map bad_in (codes "stop" ∷ codes "keep" ∷ codes "drop" ∷ codes "report" ∷ [] ∷ []) ≡ without.Stop ∷ without.Keep ∷ without.Drop ∷ without.Report ∷ without.Unsaid ∷ []
 bad_words = refl
 
 -- ---- where addresses are looked for

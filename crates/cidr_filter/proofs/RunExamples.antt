@@ -1,5 +1,5 @@
 -- Runs at which a misreading of the definitions would show.
-use Rattle.std.proofs.Common.{◌≡◌, ℕ, List, [], ◌∷◌, true, false, inl, inr, refl, drop, append-nil, sym, ◌∙◌, ◌⊎◌, true≢false, arith}
+use Rattle.std.proofs.Common.{◌≡◌, ℕ, List, [], ◌∷◌, true, false, inl, inr, refl, append-nil, sym, ◌∙◌, ◌⊎◌, true≢false, arith}
 use Rattle.std.specs.Prelude.{codes, Some, None}
 use Rattle.std.specs.Fmt.{digits}
 use Rattle.std.specs.Str.Lines.{lines}
@@ -19,7 +19,7 @@ use Rattle.options.specs.declared.items.Item.TheVariants as says
 use Rattle.program.specs.Endings.{Ending, Refuses, HasTold, HasWritten}
 use Rattle.cidr_filter.specs.Runs.{total_text, EndsLogs, EndsFiltering, filter_of, status_by}
 use Rattle.cidr_filter.specs.declared.filter.Filter.{Filter}
-use Rattle.cidr_filter.specs.declared.filter.WithoutAddress.TheVariants as without
+use Rattle.log_programs.specs.declared.without_address.WithoutAddress.TheVariants as without
 use Rattle.cidr_filter.specs.declared.filter.Verdict.TheVariants as verdicts
 use Rattle.cidr_filter.specs.declared.matcher.Matcher.{Matcher}
 use Rattle.program.specs.declared.log_fault.LogFault.{LogFault}
@@ -54,14 +54,14 @@ not_silent known items read end none (inr ends) = ends.1
 
 -- nothing was written of the first log, and nothing more comes of those behind it
 pub nothing_written : {W E : Type 0} (filter : Filter) (known : KnownLists) (name : List ℕ) (names : List (List ℕ)) (text : List ℕ) (selected : ℕ) (end : Ending W E)
-    → ReadsLog filter known name [] selected text ⊎ LeavesLog filter known name [] selected text → GoesOn (is_enough filter.shows selected) (FiltersLogs filter known names [] 0 [] false) [] 0 [] false
+    → ReadsLog filter known name [] selected text false ⊎ LeavesLog filter known name [] selected text false → GoesOn (is_enough filter.shows selected) (FiltersLogs filter known names [] 0 [] false) [] 0 [] false
     → HasWritten end (total_text (is_count filter.shows) selected) → HasTold end text → end.status ≡ status_by (is_enough filter.shows selected) false selected → EndsLogs filter known (name ∷ names) end
 nothing_written filter known name names text selected end one goes written told status = inl (record {
   output = [];
   selected = selected;
   texts = text;
   missed = false;
-  filters = ([], [], selected, 0, text, [], false, false, elim one [ inl read ↦ inl (read, refl) | inr left ↦ inr (inl (left, refl)) ], goes, refl, omega arith, sym (append-nil text), refl);
+  filters = ([], [], selected, 0, text, [], false, false, elim one [ inl read ↦ inl read | inr left ↦ inr (inl left) ], goes, refl, omega arith, sym (append-nil text), refl);
   ends = inl (written, told, status);
 })
 
@@ -87,10 +87,7 @@ module _ (known : KnownLists) (inside : IsVerdict (by false without.Stop) (codes
     [],
     false,
     false,
-    inl (
-      (codes "11.0.0.1\n10.0.0.1\n", a, (verdicts.Outside, codes "10.0.0.1\n", 1, outside, refl, (verdicts.Inside None, [], 0, inside, refl, (refl, refl), refl, refl), refl, refl), refl, refl),
-      refl,
-    ),
+    inl (codes "11.0.0.1\n10.0.0.1\n", a, (verdicts.Outside, codes "10.0.0.1\n", 1, outside, refl, (verdicts.Inside None, [], 0, inside, refl, (refl, refl), refl, refl), refl, refl), refl, refl, refl),
     (
       codes "10.0.0.1\n",
       [],
@@ -100,7 +97,7 @@ module _ (known : KnownLists) (inside : IsVerdict (by false without.Stop) (codes
       [],
       false,
       false,
-      inl ((codes "10.0.0.1", b, (verdicts.Inside None, [], 0, inside, refl, (refl, refl), refl, refl), refl, refl), refl),
+      inl (codes "10.0.0.1", b, (verdicts.Inside None, [], 0, inside, refl, (refl, refl), refl, refl), refl, refl, refl),
       (refl, refl, refl, refl),
       refl,
       refl,
@@ -131,8 +128,8 @@ module _ (known : KnownLists) (inside : IsVerdict (by false without.Stop) (codes
       [],
       false,
       false,
-      inl ((codes "10.0.0.1\n", a, (verdicts.Inside None, [], 0, inside, refl, (refl, refl), refl, refl), refl, refl), refl),
-      ([], [], 1, 0, [], [], false, false, inl ((codes "10.0.0.1\n", b, (verdicts.Inside None, [], 0, inside, refl, (refl, refl), refl, refl), refl, refl), refl), (refl, refl, refl, refl), refl, refl, refl, refl),
+      inl (codes "10.0.0.1\n", a, (verdicts.Inside None, [], 0, inside, refl, (refl, refl), refl, refl), refl, refl, refl),
+      ([], [], 1, 0, [], [], false, false, inl (codes "10.0.0.1\n", b, (verdicts.Inside None, [], 0, inside, refl, (refl, refl), refl, refl), refl, refl, refl), (refl, refl, refl, refl), refl, refl, refl, refl),
       refl,
       refl,
       refl,
@@ -159,8 +156,8 @@ module _ (known : KnownLists) (inside : IsVerdict (by false without.Stop) (codes
       [],
       true,
       false,
-      inr (inr ((causes.Denied, closed, denied, refl, refl, refl), refl)),
-      (codes "10.0.0.1\n", [], 1, 0, [], [], false, false, inl ((codes "10.0.0.1\n", b, (verdicts.Inside None, [], 0, inside, refl, (refl, refl), refl, refl), refl, refl), refl), (refl, refl, refl, refl), refl, refl, refl, refl),
+      inr (inr (causes.Denied, closed, denied, refl, refl, refl, refl)),
+      (codes "10.0.0.1\n", [], 1, 0, [], [], false, false, inl (codes "10.0.0.1\n", b, (verdicts.Inside None, [], 0, inside, refl, (refl, refl), refl, refl), refl, refl, refl), (refl, refl, refl, refl), refl, refl, refl, refl),
       refl,
       refl,
       refl,
@@ -224,7 +221,7 @@ module _ (known : KnownLists) (inside : IsVerdict (by false without.Stop) (codes
       → EndsLogs (by false without.Stop) known (codes "-" ∷ []) end
   unfolding address_of digits v6_of gap_below
   nothing_selected a end written told status =
-      nothing_written (by false without.Stop) known (codes "-") [] [] 0 end (inl (codes "11.0.0.1\n", a, (verdicts.Outside, [], 0, outside, refl, (refl, refl), refl, refl), refl, refl))
+      nothing_written (by false without.Stop) known (codes "-") [] [] 0 end (inl (codes "11.0.0.1\n", a, (verdicts.Outside, [], 0, outside, refl, (refl, refl), refl, refl), refl, refl, refl))
       (refl, refl, refl, refl) written told status
 
   -- no line of a log has an address
@@ -233,4 +230,4 @@ module _ (known : KnownLists) (inside : IsVerdict (by false without.Stop) (codes
   unfolding address_of digits v6_of gap_below
   nothing_found none a end written told status =
       nothing_written (by false without.Drop) known (codes "a") [] (codes "cidr_filter: a: no line has an address in field 1\n") 0 end
-      (inl (codes "x\n", a, (verdicts.NoAddress, [], 0, none, refl, (refl, refl), refl, refl), refl, refl)) (refl, refl, refl, refl) written told status
+      (inl (codes "x\n", a, (verdicts.NoAddress, [], 0, none, refl, (refl, refl), refl, refl), refl, refl, refl)) (refl, refl, refl, refl) written told status

@@ -1,6 +1,6 @@
 -- How a run ends.
 use Rattle.std.proofs.Common.{◌≡◌, ◌==◌, ◌+◌, ◌-◌, ◌^◌, ◌<◌, ◌≤◌, ◌++◌, ◌∷◌, ◌∙◌, [], ◌||◌, ◌&&◌, ℕ, List, Bool, true, false, not, refl, sym, ap, subst, ◌⊎◌, inl, inr, arith, length, min, map, take, drop, take-append-drop, append_assoc, append-nil, decimal, codes}
-use Rattle.std.specs.Prelude.{Option, MatchOption, Result, Ok, Err, OnOk, OnErr, IfErr, IfOk, IsTrue, is_err, if◌then◌else◌, String}
+use Rattle.std.specs.Prelude.{Option, Result, Ok, Err, OnOk, OnErr, IfErr, IfOk, IsTrue, is_err, if◌then◌else◌, String}
 use Rattle.std.specs.String.{string_bytes}
 use Rattle.std.specs.Io.KnownBytes.{Appends}
 use Rattle.std.proofs.lemmas.List.{take_all, map-append}
@@ -12,6 +12,7 @@ use Rattle.program.proofs.Reported.{tells_same, tells_more}
 use Rattle.program.specs.Endings.{Ending, ending, Refuses, HasTold, HasWritten, status_of, end_text}
 use Rattle.program.specs.Messages.{Reports}
 use Rattle.lists.specs.KnownLists.{KnownLists}
+use Rattle.cidr_filter.specs.Addressed.{seen_of, seen_by}
 use Rattle.cidr_filter.specs.Filters.{Filters, is_count, is_silent}
 use Rattle.program.specs.LogLines.{LogLine}
 use Rattle.cidr_filter.specs.Logs.{is_enough, EndsRunBy, is_short, filter_for}
@@ -21,7 +22,7 @@ use Rattle.program.specs.Logs.{HaltsBy}
 use Rattle.cidr_filter.specs.Reading.{StopsAtItems, HoldsRead}
 use Rattle.cidr_filter.specs.Options as own
 use Rattle.cidr_filter.specs.Runs.{StopsAtLog, total_text, status_by, EndsWith, FiltersAll, EndsLogs, filter_of, EndsReading}
-use Rattle.cidr_filter.specs.Stands.{Stand, stand}
+use Rattle.cidr_filter.specs.Stands.{Stand, stand, begun}
 use Rattle.cidr_filter.specs.Stops.{FiltersLines, WritesBeginning}
 use Rattle.program.specs.Reported.{was_refused, fault_text, refusals_text}
 use Rattle.cidr_filter.specs.Reported.{in_option}
@@ -35,6 +36,7 @@ use Rattle.program.specs.declared.log_fault.LogFault.{LogFault}
 use Rattle.program.specs.declared.log_fault.LogFault.TheVariants as faults
 use Rattle.cidr_filter.specs.declared.log.Tally.{Tally}
 use Rattle.lists.specs.declared.named.ReadFault.{ReadFault}
+use Rattle.log_programs.specs.declared.log_stats.LogStats.{LogStats}
 use Rattle.program.proofs.Counts.{counts_from_none}
 use Rattle.program.proofs.LogNames.{some_first, names_behind, names_apart}
 use Rattle.program.proofs.LogReading.{failed_now}
@@ -58,39 +60,62 @@ halts_same filter known name lines faults.Length h =
     (record { read = h.0.read; line = h.0.line; others = h.0.others; is_first = h.0.is_first; are = h.0.are; is_line = h.0.is_line; is_so = h.0.is_so }, h.1)
 halts_same filter known name lines faults.Endless h = h
 
-module _ {W E : Type 0} (filter : Filter) (known : KnownLists) (name : List ℕ) (end : Ending W E) (two : end.status ≡ 2) (mid : Written W) (old new : Tally) (lines : List LogLine) where
+module _ {W E : Type 0} (filter : Filter) (known : KnownLists) (name : List ℕ) (end : Ending W E) (two : end.status ≡ 2) (mid : Written W) (between : Written E) (old new : Tally) (lines : List LogLine)
+    (tells : Reports end.errors between (seen_by filter name new.seen)) where
   -- before the lines of the log
   abbrev start : Stand
-  start = record (stand end.output old) { lines = 0; addressed = false }
+  start = begun (stand end.output old)
 
   -- the first lines of a log were filtered, and then it stopped
-  at_log : (fault : LogFault) (added : List ℕ) (more : ℕ) → Filters (filter_for filter name) 0 lines added more → is_short fault filter.most more ≡ true
+  at_log : (fault : LogFault) (added : List ℕ) (more : ℕ) → Filters (filter_for filter name) 0 lines added more → new.seen ≡ seen_of filter lines → is_short fault filter.most more ≡ true
       → HaltsBy (EndsRunBy (filter_for filter name)) known name lines fault → Wrote fault end ([] ++ added)
-      → HasTold end (log_fault_text name (length lines) fault) → StopsAtLog filter known (name ∷ []) end
-  at_log fault added more filters short halts wrote told =
-      record { before = []; name = name; behind = []; output = []; selected = 0; texts = []; missed = false; lines = lines; added = added; more = more; fault = fault; logs = refl; filters = (refl, refl, refl, refl); few = none_few (is_silent filter.shows); first = filters; short = short; halts = halts_same filter known name lines fault halts; wrote = wrote; told = told; status = two }
+      → Reports between end.errors_after (log_fault_text name new.seen.lines fault) → StopsAtLog filter known (name ∷ []) end
+  at_log fault added more filters seen short halts wrote told =
+      record {
+        before = [];
+        name = name;
+        behind = [];
+        output = [];
+        selected = 0;
+        texts = [];
+        missed = false;
+        lines = lines;
+        added = added;
+        more = more;
+        fault = fault;
+        logs = refl;
+        filters = (refl, refl, refl, refl);
+        few = none_few (is_silent filter.shows);
+        first = filters;
+        short = short;
+        halts = halts_same filter known name lines fault halts;
+        wrote = wrote;
+        told = tells_same end.errors end.errors_after _ _ (ap (λ (s : LogStats). seen_by filter name s ++ log_fault_text name (length lines) fault) seen)
+            (tells_more end.errors between end.errors_after (seen_by filter name new.seen) (log_fault_text name (length lines) fault) tells
+            (tells_same between end.errors_after _ _ (told_log name new.seen.lines (length lines) fault (ap (λ (s : LogStats). s.lines) seen)) told));
+        status = two;
+      }
 
   -- their output was put, and then what waited was written or not
   handed : (fault : LogFault) → HaltsBy (EndsRunBy (filter_for filter name)) known name lines fault → ((text : List ℕ) → HasWritten end text → Wrote fault end text)
       → (d : FiltersLines (filter_for filter name) start (stand mid new) lines) → is_short fault filter.most d.count ≡ true
-      → HandsOn name new.lines fault (record end { output = mid }) → StopsAtLog filter known (name ∷ []) end
+      → HandsOn name new.seen.lines fault (record end { output = mid; errors = between }) → StopsAtLog filter known (name ∷ []) end
   handed fault halts wrote d short (inl h) =
-      at_log fault d.added d.count d.filters short halts (wrote ([] ++ d.added) (written_behind end mid d.added d.goes.0 h.0))
-      (tells_same end.errors end.errors_after _ _ (told_log name new.lines (length lines) fault (counts_from_none 0 new.lines _ refl d.goes.2)) h.1)
+      at_log fault d.added d.count d.filters d.seen short halts (wrote ([] ++ d.added) (written_behind end mid d.added d.goes.0 h.0)) h.1
   handed fault halts wrote d short (inr h) =
-      at_log faults.Write d.added d.count d.filters (below_within filter.most d.count d.below) (some_first (EndsRunBy (filter_for filter name)) known name lines fault halts)
+      at_log faults.Write d.added d.count d.filters d.seen (below_within filter.most d.count d.below) (some_first (EndsRunBy (filter_for filter name)) known name lines fault halts)
       (failed_behind end mid d.added d.goes.0 h.0) h.1
 
   -- the writer had failed
   had_failed : HaltsBy (EndsRunBy (filter_for filter name)) known name lines faults.Write → IsTrue mid.failed × WritesBeginning (filter_for filter name) start (stand mid new) lines
-      → (end.output_after ≡ mid) × HasTold (record end { output = mid }) (codes "write error\n") → StopsAtLog filter known (name ∷ []) end
+      → (end.output_after ≡ mid) × HasTold (record end { output = mid; errors = between }) (codes "write error\n") → StopsAtLog filter known (name ∷ []) end
   had_failed halts d stops =
-      at_log faults.Write d.1.added d.1.count d.1.filters d.1.within halts
+      at_log faults.Write d.1.added d.1.count d.1.filters d.1.seen d.1.within halts
       (subst (λ (o : Written W). (o.failed ≡ true) × FailsIn end.output o d.1.added) (sym stops.0) (d.0, d.1.beginning)) stops.1
 
   pub name_stops : (fault : LogFault) → HaltsBy (EndsRunBy (filter_for filter name)) known name lines fault
       → IfWrite fault (IsTrue mid.failed × WritesBeginning (filter_for filter name) start (stand mid new) lines) (FiltersLines (filter_for filter name) start (stand mid new) lines)
-      → StopsBy name new.lines fault (record end { output = mid }) → StopsAtLog filter known (name ∷ []) end
+      → StopsBy name new.seen.lines fault (record end { output = mid; errors = between }) → StopsAtLog filter known (name ∷ []) end
   name_stops (faults.Open cause) halts d stops = handed (faults.Open cause) halts (λ text h. h) d d.below stops
   name_stops faults.Read halts d stops = handed faults.Read halts (λ text h. h) d d.below stops
   name_stops faults.Write halts d stops = had_failed halts d stops
@@ -125,8 +150,9 @@ stops_behind_names filter known done more rest names missed end mid between old 
   short = s.short;
   halts = s.halts;
   wrote = wrote_same s.fault end _ _ (sym (append_assoc f.output s.output s.added)) (wrote_behind s.fault end mid between f.output (s.output ++ s.added) f.puts s.wrote);
-  told = tells_same end.errors end.errors_after _ _ (sym (append_assoc f.text s.texts (log_fault_text s.name (length s.lines) s.fault)))
-      (tells_more end.errors between end.errors_after f.text (s.texts ++ log_fault_text s.name (length s.lines) s.fault) f.tells s.told);
+  told =
+      let stop = seen_by filter s.name (seen_of filter s.lines) ++ log_fault_text s.name (length s.lines) s.fault in
+      tells_same end.errors end.errors_after _ _ (sym (append_assoc f.text s.texts stop)) (tells_more end.errors between end.errors_after f.text (s.texts ++ stop) f.tells s.told);
   status = s.status;
 }
 

@@ -1,5 +1,5 @@
 -- How the filtering of a log ends.
-use Rattle.std.proofs.Common.{◌≡◌, ℕ, ◌+◌, ◌-◌, ◌^◌, ◌≤◌, Bool, true, false, List, [], ◌∷◌, ◌++◌, length, refl, sym, ap, ◌∙◌, subst, append-nil}
+use Rattle.std.proofs.Common.{◌≡◌, ℕ, ◌+◌, ◌≤◌, Bool, true, false, List, [], ◌∷◌, ◌++◌, length, refl, sym, ap, ◌∙◌, subst, arith, append-nil}
 use Rattle.std.specs.Prelude.{Option, Err, if◌then◌else◌}
 use Rattle.lines.specs.Outputs.{Written, AppendsBeginning, FailsIn}
 use Rattle.lines.specs.declared.line_end.LineEnd.{LineEnd}
@@ -22,7 +22,10 @@ use Rattle.cidr_filter.specs.declared.filter.Filter.{Filter}
 use Rattle.cidr_filter.specs.declared.filter.Verdict.{Verdict}
 use Rattle.cidr_filter.specs.declared.filter.Verdict.TheVariants as verdicts
 use Rattle.cidr_filter.specs.declared.log.Tally.{Tally}
-use Rattle.cidr_filter.proofs.Filtering.{goes_idle, goes_still, more_filters, numbers_same}
+use Rattle.cidr_filter.proofs.Filtering.{goes_nowhere, goes_still, more_filters}
+use Rattle.cidr_filter.proofs.Addressed.{seen_more, number_same}
+use Rattle.cidr_filter.specs.Addressed.{is_addressed_by}
+use Rattle.log_programs.specs.LogStats.{with_line}
 use Rattle.cidr_filter.proofs.Heads.{heads_same}
 use Rattle.cidr_filter.proofs.Spent.{below_within, within_more}
 
@@ -37,9 +40,9 @@ no_read_at_line T filter line text write_failed old new faults.Length h = refl
 no_read_at_line T filter line text write_failed old new faults.Endless h = absurd h
 
 module _ (filter : Filter) (was now : LogReader) (remained before after : Option (List ℕ)) (old mid between : Stand)
-    (s : FiltersSoFar filter was remained before old mid) (idle : Goes mid between [] 0 0) (seen : between.addressed ≡ mid.addressed) where
-  still_goes : Goes old between s.is_done.added s.is_done.count (length s.first)
-  still_goes = goes_still old mid between s.is_done.added s.is_done.count (length s.first) s.is_done.goes idle
+    (s : FiltersSoFar filter was remained before old mid) (idle : Goes mid between [] 0) (seen : between.seen ≡ mid.seen) where
+  still_goes : Goes old between s.is_done.added s.is_done.count
+  still_goes = goes_still old mid between s.is_done.added s.is_done.count s.is_done.goes idle
 
   still : FiltersLines filter old between s.first
   still = record {
@@ -48,7 +51,7 @@ module _ (filter : Filter) (was now : LogReader) (remained before after : Option
     filters = s.is_done.filters;
     below = s.is_done.below;
     goes = still_goes;
-    addressed = seen ∙ s.is_done.addressed;
+    seen = seen ∙ s.is_done.seen;
   }
 
   -- ---- at a line
@@ -59,7 +62,7 @@ module _ (filter : Filter) (was now : LogReader) (remained before after : Option
   ends_at fault line next ends = readings.line_ends _ (FiltersLines filter old between) was now remained before after s (EndsRunBy filter fault) line next ends still
 
   -- a line within the limit
-  module _ (fits : old.lines ≤ 2 ^ 64 - 1) (new : Stand) (end : LineEnd) (line whole : List ℕ)
+  module _ (new : Stand) (end : LineEnd) (line whole : List ℕ)
       (given : GivesNext now remained after s.first (Line end))
       (is : line ≡ line_of now) (all : whole ≡ whole_of now) where
     text : whole ++ feed_behind end ≡ printed (log_line (line_of now) end)
@@ -68,22 +71,26 @@ module _ (filter : Filter) (was now : LogReader) (remained before after : Option
     same : line ≡ content (log_line (line_of now) end)
     same = is ∙ sym given.is_content
 
+    short : length (content (log_line (line_of now) end)) ≤ 1048576
+    short = omega (arith, ap length given.is_content, given.within)
+
     refused_at : (fault : LogFault) → EndsRunBy filter fault line → new ≡ between → ReadsToLine (FiltersLines filter old new) (EndsRunBy filter fault) remained after
     refused_at fault ends stands =
         subst (λ (n : Stand). ReadsToLine (FiltersLines filter old n) (EndsRunBy filter fault) remained after) (sym stands)
         (ends_at fault (log_line (line_of now) end) given.next (subst (λ (l : List ℕ). EndsRunBy filter fault l) same ends))
 
     -- or the writer failed at it
-    writes_at : (verdict : Verdict) → IsVerdict filter (content (log_line (line_of now) end)) verdict → is_refused filter verdict ≡ false
-        → AppendsBeginning between.holds new.holds (between.waits ++ output_of filter (old.lines + length s.first + 1) verdict (log_line (line_of now) end))
+    writes_at : (verdict : Verdict) → IsVerdict filter (content (log_line (line_of now) end)) verdict → is_refused filter verdict ≡ false → new.seen ≡ with_line between.seen (is_addressed_by verdict)
+        → AppendsBeginning between.holds new.holds (between.waits ++ output_of filter (0 + length s.first + 1) verdict (log_line (line_of now) end))
         → WritesBeginning filter old new (s.first ++ log_line (line_of now) end ∷ [])
-    writes_at verdict judges passes took =
-        let added = output_of filter (old.lines + length s.first + 1) verdict (log_line (line_of now) end) in
+    writes_at verdict judges passes adds took =
+        let added = output_of filter (0 + length s.first + 1) verdict (log_line (line_of now) end) in
         record {
           added = s.is_done.added ++ added;
           count = s.is_done.count + one_if (is_selected filter verdict);
-          filters = more_filters filter was now remained before after old mid between s idle seen fits (log_line (line_of now) end) verdict judges passes;
+          filters = more_filters filter was now remained before after old mid between s idle seen (log_line (line_of now) end) verdict judges passes;
           within = within_more filter.most s.is_done.count (is_selected filter verdict) s.is_done.below;
+          seen = seen_more filter s.first (log_line (line_of now) end) verdict mid.seen between.seen new.seen judges s.is_done.seen seen adds short;
           beginning = begins_after_puts old.holds between.holds new.holds old.waits between.waits s.is_done.added added still_goes.0 took;
         }
 
@@ -92,18 +99,19 @@ module _ (filter : Filter) (was now : LogReader) (remained before after : Option
         → Stops filter remained after read_failed write_failed old new fault
     line_stops read_failed write_failed (faults.Open cause) h = absurd h
     line_stops read_failed write_failed faults.Read h = absurd h
-    line_stops read_failed write_failed faults.Write h = (
-      h.0,
-      readings.line_stops _ (WritesBeginning filter old new) was now remained before after s end given
-          (writes_at h.1 (subst (λ l. IsVerdict filter l h.1) same h.2) h.3
-          (subst (λ (t : List ℕ). AppendsBeginning between.holds new.holds
-          (between.waits ++ (if is_selected filter h.1 then shown_of filter t h.1 (content (log_line (line_of now) end)) (printed (log_line (line_of now) end)) else [])))
-          (heads_same filter new.lines (old.lines + length s.first + 1) (numbers_same old.lines mid.lines between.lines new.lines (length s.first) fits s.is_done.goes.2 idle.2 h.5))
-          (subst (λ t. AppendsBeginning between.holds new.holds
-          (between.waits ++ shown filter new.lines h.1 (content (log_line (line_of now) end)) t)) text
-          (subst (λ l. AppendsBeginning between.holds new.holds
-          (between.waits ++ shown filter new.lines h.1 l (whole ++ feed_behind end))) same h.4)))),
-    )
+    line_stops read_failed write_failed faults.Write h =
+        let judged = subst (λ l. IsVerdict filter l h.1) same h.2 in (
+          h.0,
+          readings.line_stops _ (WritesBeginning filter old new) was now remained before after s end given
+              (writes_at h.1 judged h.3 h.5
+              (subst (λ (t : List ℕ). AppendsBeginning between.holds new.holds
+              (between.waits ++ (if is_selected filter h.1 then shown_of filter t h.1 (content (log_line (line_of now) end)) (printed (log_line (line_of now) end)) else [])))
+              (heads_same filter new.seen.lines (0 + length s.first + 1) (number_same filter s.first (log_line (line_of now) end) h.1 mid.seen between.seen new.seen judged s.is_done.seen seen h.5))
+              (subst (λ t. AppendsBeginning between.holds new.holds
+              (between.waits ++ shown filter new.seen.lines h.1 (content (log_line (line_of now) end)) t)) text
+              (subst (λ l. AppendsBeginning between.holds new.holds
+              (between.waits ++ shown filter new.seen.lines h.1 l (whole ++ feed_behind end))) same h.4)))),
+        )
     line_stops read_failed write_failed faults.Address h = refused_at faults.Address (h.0, h.1) h.2
     line_stops read_failed write_failed faults.Length h = refused_at faults.Length (h.0, h.1) h.2
     line_stops read_failed write_failed faults.Endless h = absurd h
@@ -128,6 +136,7 @@ module _ {W : Type 0} (filter : Filter) (was : LogReader) (remained before after
     count = s.is_done.count;
     filters = s.is_done.filters;
     within = below_within filter.most s.is_done.count s.is_done.below;
+    seen = s.is_done.seen;
     beginning = subst (λ t. AppendsBeginning old.holds new.holds (old.waits ++ t)) (append-nil s.is_done.added)
         (begins_after_puts old.holds mid.holds new.holds old.waits mid.waits s.is_done.added [] s.is_done.goes.0 took);
   }
@@ -136,5 +145,5 @@ module _ {W : Type 0} (filter : Filter) (was : LogReader) (remained before after
       → Stops filter remained after read_failed new.failed old (stand new tally) fault
   breaks read_failed fault h =
       readings.breaks _ (FiltersLines filter old (stand new tally)) was was remained before after s (EndsRunBy filter) (WritesBeginning filter old (stand new tally)) mid new
-      (λ put. still filter was was remained before after old (stand mid tally) (stand new tally) s (goes_idle (stand mid tally) (stand new tally) refl refl put) refl)
+      (λ put. still filter was was remained before after old (stand mid tally) (stand new tally) s (goes_nowhere (stand mid tally) (stand new tally) refl put) refl)
       unwritten read_failed fault h

@@ -1,5 +1,5 @@
 -- Command lines that are refused, at which a misreading of the definitions would show.
-use Rattle.std.proofs.Common.{◌≡◌, ℕ, List, [], ◌∷◌, map, true, false, refl}
+use Rattle.std.proofs.Common.{◌≡◌, ℕ, List, [], ◌∷◌, map, false, refl}
 use Rattle.std.specs.Prelude.{codes, Option, Some, None}
 use Rattle.options.specs.Faults.{about, together, first_fault, fault_by}
 use Rattle.options.specs.Items.{free_items}
@@ -22,7 +22,7 @@ word_told word problem = Some (about (subjects.Word word) problem)
 
 pub words_by_themselves : map (λ word. first_fault rows false (free_items rows word)) (codes "-k0" ∷ codes "-d--" ∷ codes "-mx" ∷ codes "--bad=" ∷ codes "--bae=drop" ∷ codes "--help=" ∷ codes "-vx" ∷ codes "-k7" ∷ [])
     ≡ word_told (codes "-k0") (codes "is no field number") ∷ word_told (codes "-d--") (codes "is not one ASCII byte other than LF, CR and NUL")
-    ∷ word_told (codes "-mx") (codes "is no number of lines") ∷ word_told (codes "--bad=") (codes "is not drop, keep or stop") ∷ word_told (codes "--bae=drop") (codes "is no option")
+    ∷ word_told (codes "-mx") (codes "is no number of lines") ∷ word_told (codes "--bad=") (codes "is not drop, keep, stop or report") ∷ word_told (codes "--bae=drop") (codes "is no option")
     ∷ word_told (codes "--help=") (codes "is no option") ∷ word_told (codes "-vx") (codes "is no option") ∷ None ∷ []
 words_by_themselves = refl
 
@@ -36,7 +36,7 @@ value_told row value problem = Some (about (subjects.Value row value) problem)
 
 pub values_of_options : map (λ item. first_fault rows false (item ∷ [])) (says.Value 6 [] ∷ says.Value 9 [] ∷ says.Value 2 (codes "0") ∷ says.Value 3 (codes "xx") ∷ says.Value 12 (codes "x") ∷ says.Value 4 [] ∷ says.Lacks 2 ∷ says.Value 6 (codes "-v") ∷ [])
     ≡ value_told 6 [] (codes "is no file name") ∷ value_told 9 [] (codes "is no network or range") ∷ value_told 2 (codes "0") (codes "is no field number")
-    ∷ value_told 3 (codes "xx") (codes "is not one ASCII byte other than LF, CR and NUL") ∷ value_told 12 (codes "x") (codes "is not drop, keep or stop")
+    ∷ value_told 3 (codes "xx") (codes "is not one ASCII byte other than LF, CR and NUL") ∷ value_told 12 (codes "x") (codes "is not drop, keep, stop or report")
     ∷ value_told 4 [] (codes "is no text") ∷ Some (about (subjects.Option 2) (codes "has no value")) ∷ None ∷ []
 values_of_options = refl
 

@@ -14,8 +14,9 @@ use Rattle.line_addresses.specs.Words.{words_of}
 use Rattle.line_addresses.specs.Fields.{field_of}
 use Rattle.program.specs.LogLines.{LogLine, content, printed, IsWhole}
 use Rattle.cidr_filter.specs.Matcher.{IsIn, IsLongestBlock, has_address}
-use Rattle.cidr_filter.specs.declared.filter.WithoutAddress.{WithoutAddress}
-use Rattle.cidr_filter.specs.declared.filter.WithoutAddress.TheVariants as without
+use Rattle.log_programs.specs.WithoutAddress.{is_stopped}
+use Rattle.log_programs.specs.declared.without_address.WithoutAddress.{WithoutAddress}
+use Rattle.log_programs.specs.declared.without_address.WithoutAddress.TheVariants as without
 use Rattle.cidr_filter.specs.declared.filter.Filter.{Filter}
 use Rattle.cidr_filter.specs.declared.filter.OutputMode.{OutputMode}
 use Rattle.cidr_filter.specs.declared.filter.OutputMode.TheVariants as shows
@@ -105,22 +106,12 @@ is_selected filter verdicts.Outside = filter.inverts
 is_selected filter verdicts.NoAddress = is_kept filter.bad
 is_selected filter verdicts.TooLong = false
 
--- a line without an address ends the run
-abbrev pub is_stopped : WithoutAddress → Bool
-is_stopped without.Stop = true
-is_stopped other = false
-
--- lines without an address are not selected
-abbrev pub is_dropped : WithoutAddress → Bool
-is_dropped without.Drop = true
-is_dropped other = false
-
--- a line without an address ends the run if the option says so, and so does one that is too long and is not dropped
+-- a line without an address ends the run if the option says so, and so does one that is too long
 abbrev pub is_refused : Filter → Verdict → Bool
 is_refused filter (verdicts.Inside told) = false
 is_refused filter verdicts.Outside = false
 is_refused filter verdicts.NoAddress = is_stopped filter.bad
-is_refused filter verdicts.TooLong = not (is_dropped filter.bad)
+is_refused filter verdicts.TooLong = is_stopped filter.bad
 
 -- the block that is printed before a line of this verdict
 abbrev pub block_in : Verdict → Option IpNetwork

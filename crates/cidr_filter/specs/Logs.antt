@@ -2,8 +2,9 @@
 use Rattle.std.specs.Prelude.{◌≡◌, ℕ, ◌+◌, ◌||◌, ◌&&◌, ◌⊎◌, Bool, true, false, Option, List, [], ◌∷◌, ◌++◌}
 use Rattle.std.specs.Prelude.{if◌then◌else◌, nat_lt, codes, bytes_eq}
 use Rattle.lists.specs.KnownLists.{KnownLists}
-use Rattle.cidr_filter.specs.Addressed.{lacking_text, closed_text}
+use Rattle.cidr_filter.specs.Addressed.{seen_of, seen_by, ended_by, closed_text}
 use Rattle.cidr_filter.specs.Filters.{IsVerdict, is_refused, is_silent, is_below, is_within, Filters, AreAll}
+use Rattle.log_programs.specs.Seen.{is_missed}
 use Rattle.program.specs.LogLines.{LogLine, log_lines}
 use Rattle.program.specs.Logs.{IsAllOf, IsFirstOf}
 use Rattle.cidr_filter.specs.declared.filter.Filter.{Filter}
@@ -22,24 +23,27 @@ label_of named name = if named then if bytes_eq name (codes "-") then codes "(st
 abbrev pub filter_for : Filter → List ℕ → Filter
 filter_for filter name = record filter { name = label_of filter.named name }
 
--- the log of this name was read to its end: this is the output of its lines, this many of them were selected, and it is
--- reported if none of them has an address
-abbrev pub ReadsLog : Filter → KnownLists → List ℕ → List ℕ → ℕ → List ℕ → Type 0
-ReadsLog filter known name output selected told = (read : List ℕ) × IsAllOf known name read
+-- the log of this name was read to its end: this is the output of its lines, this many of them were selected, what was
+-- seen of them is reported, and whether one is missed
+abbrev pub ReadsLog : Filter → KnownLists → List ℕ → List ℕ → ℕ → List ℕ → Bool → Type 0
+ReadsLog filter known name output selected told missed = (read : List ℕ) × IsAllOf known name read
     × Filters (filter_for filter name) 0 (log_lines read) output selected
-    × (told ≡ lacking_text filter name (log_lines read)) × (is_below filter.most selected ≡ true)
+    × (told ≡ ended_by filter name (seen_of filter (log_lines read))) × (is_below filter.most selected ≡ true)
+    × (missed ≡ is_missed filter.bad (seen_of filter (log_lines read)))
 
--- or it was read up to the last line that may be selected, and nothing is reported of it
-abbrev pub LeavesLog : Filter → KnownLists → List ℕ → List ℕ → ℕ → List ℕ → Type 0
-LeavesLog filter known name output selected told = (read : List ℕ) × (lines : List LogLine) × (others : List LogLine)
-    × known.may_open name true × IsFirstOf known name read
+-- or it was read up to the last line that may be selected, and of the lines up to there the same is so, but that none
+-- has to have an address
+abbrev pub LeavesLog : Filter → KnownLists → List ℕ → List ℕ → ℕ → List ℕ → Bool → Type 0
+LeavesLog filter known name output selected told missed = (read : List ℕ) × (lines : List LogLine)
+    × (others : List LogLine) × known.may_open name true × IsFirstOf known name read
     × (log_lines read ≡ lines ++ others) × Filters (filter_for filter name) 0 lines output selected
-    × AreAll (filter_for filter name) (IsAllOf known name read) lines selected × (told ≡ [])
+    × AreAll (filter_for filter name) (IsAllOf known name read) lines selected
+    × (told ≡ seen_by filter name (seen_of filter lines)) × (missed ≡ is_missed filter.bad (seen_of filter lines))
 
 -- or it cannot be opened, which is reported with the cause
-abbrev pub MissesLog : KnownLists → List ℕ → List ℕ → ℕ → List ℕ → Type 0
-MissesLog known name output selected told = (fault : OpenFault) × known.may_open name false × known.may_miss name fault
-    × (output ≡ []) × (selected ≡ 0) × (told ≡ closed_text name fault)
+abbrev pub MissesLog : KnownLists → List ℕ → List ℕ → ℕ → List ℕ → Bool → Type 0
+MissesLog known name output selected told missed = (fault : OpenFault) × known.may_open name false
+    × known.may_miss name fault × (output ≡ []) × (selected ≡ 0) × (told ≡ closed_text name fault) × (missed ≡ true)
 
 -- whether the run ends behind logs of which so many lines are selected: with `-q`, if there is one
 abbrev pub is_enough : OutputMode → ℕ → Bool
@@ -56,15 +60,14 @@ GoesOn false goes output selected told missed = goes
 
 -- the logs of these names were read to their ends, or left, or could not be opened, one after the
 -- other, up to the first that is enough: this is the output of their lines, this many of them were
--- selected, this is reported, and whether one could not be opened
+-- selected, this is reported, and whether one could not be opened or a line of one is missed
 abbrev pub FiltersLogs : Filter → KnownLists → List (List ℕ) → List ℕ → ℕ → List ℕ → Bool → Type 0
 FiltersLogs filter known [] output selected told missed = NoLogs output selected told missed
 FiltersLogs filter known (name ∷ names) output selected told missed = (added : List ℕ) × (others : List ℕ) × (one : ℕ)
     × (more : ℕ) × (text : List ℕ) × (texts : List ℕ)
     × (is_missed : Bool) × (are_missed : Bool)
-    × ((ReadsLog filter known name added one text × (is_missed ≡ false))
-    ⊎ ((LeavesLog filter known name added one text × (is_missed ≡ false))
-    ⊎ (MissesLog known name added one text × (is_missed ≡ true))))
+    × (ReadsLog filter known name added one text is_missed
+    ⊎ (LeavesLog filter known name added one text is_missed ⊎ MissesLog known name added one text is_missed))
     × GoesOn (is_enough filter.shows one)
     (FiltersLogs filter known names others more texts are_missed) others more texts are_missed
     × (output ≡ added ++ others) × (selected ≡ one + more) × (told ≡ text ++ texts)
@@ -80,8 +83,8 @@ is_short faults.Address most count = is_below most count
 is_short faults.Length most count = is_below most count
 is_short faults.Endless most count = is_below most count
 
--- what ends a run, by the fault: a line, given without its end, without an address, if the option says so, or one that
--- is too long and is not dropped
+-- what ends a run, by the fault: a line, given without its end, without an address, or one that is too long, if the
+-- option says so
 abbrev pub EndsRunBy : Filter → LogFault → List ℕ → Type 0
 EndsRunBy filter (faults.Open cause) line = ⊥
 EndsRunBy filter faults.Read line = ⊥

@@ -1,11 +1,9 @@
 -- The options of the command line.
-use Rattle.std.specs.Prelude.{ℕ, true, List, [], ◌∷◌, ◌++◌, if◌then◌else◌, codes, bytes_eq}
+use Rattle.std.specs.Prelude.{ℕ, true, List, [], ◌∷◌, ◌++◌, codes}
 use Rattle.log_programs.specs.Rows as rows
 use Rattle.options.specs.Table.{Entry, IsTable, flag, long_flag, valued, long}
 use Rattle.options.specs.declared.table.Kind.TheVariants as kinds
 use Rattle.options.specs.declared.table.Table.{Table}
-use Rattle.cidr_filter.specs.declared.filter.WithoutAddress.{WithoutAddress}
-use Rattle.cidr_filter.specs.declared.filter.WithoutAddress.TheVariants as without
 
 -- the rows of the options that this program alone has: `-e`, `-m`, `--longest`, `--bad`, `-v`, `-c`, `-o`, `-H`, `-h`,
 -- `-n`, `-l` and `-q`
@@ -50,7 +48,7 @@ abbrev pub entries : List Entry
 entries = rows.shared
     ++ valued (codes "e") kinds.Text (codes "is no network or range")
     ∷ valued (codes "m") kinds.Number (codes "is no number of lines")
-    ∷ long_flag (codes "--longest") ∷ long (codes "--bad") kinds.Rule true (codes "is not drop, keep or stop")
+    ∷ long_flag (codes "--longest") ∷ long (codes "--bad") kinds.Rule true (codes "is not drop, keep, stop or report")
     ∷ flag (codes "v") ∷ flag (codes "c") ∷ flag (codes "o") ∷ flag (codes "H") ∷ flag (codes "h") ∷ flag (codes "n")
     ∷ flag (codes "l") ∷ flag (codes "q") ∷ []
 
@@ -68,8 +66,3 @@ pairs =
 -- the table has these, and of `-f` and `-e` one at least is given
 abbrev pub IsOptions : Table → Type 0
 IsOptions table = IsTable table entries pairs (rows.list ∷ text ∷ []) (codes "neither -f nor -e is given")
-
--- what becomes of a line without an address, by a value of `--bad`, or by an empty text
-abbrev pub bad_in : List ℕ → WithoutAddress
-bad_in value = if bytes_eq value (codes "keep") then without.Keep
-    else if bytes_eq value (codes "stop") then without.Stop else without.Drop

@@ -13,18 +13,20 @@ use Rattle.lists.specs.declared.named.ReadFault.{ReadFault}
 use Rattle.lists.specs.KnownLists.{KnownLists}
 use Rattle.log_programs.specs.Areas.{area_of}
 use Rattle.log_programs.specs.Rows as rows
+use Rattle.log_programs.specs.WithoutAddress.{bad_in}
 use Rattle.options.specs.Given.{is_given, value_of, inputs_of}
 use Rattle.options.specs.Runs as runs
 use Rattle.options.specs.Values.{number_in}
 use Rattle.options.specs.declared.items.Item.{Item}
 use Rattle.options.specs.declared.table.Table.{Table}
+use Rattle.cidr_filter.specs.Addressed.{seen_of, seen_by}
 use Rattle.cidr_filter.specs.Filters.{Filters, is_count}
 use Rattle.program.specs.LogFaults.{log_fault_text, FailsWriting, Wrote}
 use Rattle.program.specs.Logs.{HaltsBy}
 use Rattle.cidr_filter.specs.Logs.{FiltersLogs, is_enough, EndsRunBy, is_short, filter_for}
 use Rattle.cidr_filter.specs.Reading.{IsReadOf, StopsAtItems, HoldsRead}
 use Rattle.cidr_filter.specs.Options as own
-use Rattle.cidr_filter.specs.Options.{IsOptions, bad_in}
+use Rattle.cidr_filter.specs.Options.{IsOptions}
 use Rattle.program.specs.LogLines.{LogLine}
 use Rattle.cidr_filter.specs.Reported.{in_option, told_name}
 use Rattle.cidr_filter.specs.declared.filter.Filter.{Filter}
@@ -34,7 +36,8 @@ use Rattle.cidr_filter.specs.declared.matcher.Matcher.{Matcher}
 use Rattle.program.specs.declared.log_fault.LogFault.{LogFault}
 
 -- a log that was opened was not filtered to its end, and ended the run: those before it were filtered, and its first
--- lines; their outputs were written, the cause was reported after what there is to report of them, and the status is 2
+-- lines; their outputs were written, the cause was reported after what there is to report of them, and of what was seen
+-- of these lines, and the status is 2
 pub record StopsAtLog {W E : Type 0} (filter : Filter) (known : KnownLists) (names : List (List ℕ))
     (end : Ending W E) : Type 0 where
   pub before : List (List ℕ)
@@ -55,14 +58,15 @@ pub record StopsAtLog {W E : Type 0} (filter : Filter) (known : KnownLists) (nam
   pub short : is_short fault filter.most more ≡ true
   pub halts : HaltsBy (EndsRunBy filter) known name lines fault
   pub wrote : Wrote fault end (output ++ added)
-  pub told : HasTold end (texts ++ log_fault_text name (length lines) fault)
+  pub told : HasTold end (texts ++ (seen_by filter name (seen_of filter lines)
+      ++ log_fault_text name (length lines) fault))
   pub status : end.status ≡ 2
 
 -- if lines are counted, one line says how many lines of all logs were selected, up to the greatest number of 64 bits
 abbrev pub total_text : Bool → ℕ → List ℕ
 total_text counts selected = if counts then decimal (min selected (2 ^ 64 - 1)) ++ codes "\n" else []
 
--- the status is 0 if a line was selected with `-q`. Else it is 2 if a log could not be opened, and
+-- the status is 0 if a line was selected with `-q`. Else it is 2 if a log could not be opened or a line is missed, and
 -- else 0 if a line was selected, and 1 if none was
 abbrev pub status_by : Bool → Bool → ℕ → ℕ
 status_by enough missed selected = if enough then 0 else if missed then 2 else if nat_lt 0 selected then 0 else 1

@@ -1,8 +1,8 @@
 -- How the filtering of a log ends.
-use Rattle.std.specs.Prelude.{◌≡◌, ℕ, ◌||◌, Bool, true, List, ◌++◌, length, Option}
+use Rattle.std.specs.Prelude.{◌≡◌, ℕ, Bool, true, List, ◌++◌, Option}
 use Rattle.std.specs.Io.KnownBytes.{IsAtEnd}
 use Rattle.lines.specs.Outputs.{AppendsBeginning}
-use Rattle.cidr_filter.specs.Addressed.{any_addressed}
+use Rattle.cidr_filter.specs.Addressed.{seen_of}
 use Rattle.cidr_filter.specs.Filters.{is_below, is_within, Filters, AreAll}
 use Rattle.cidr_filter.specs.Logs.{EndsRunBy}
 use Rattle.program.specs.LogLines.{LogLine}
@@ -15,21 +15,22 @@ use Rattle.cidr_filter.specs.declared.log.Reached.{Reached}
 use Rattle.cidr_filter.specs.declared.log.Reached.TheVariants.{End, Last}
 use Rattle.program.specs.declared.log_fault.LogFault.{LogFault}
 
--- these lines were filtered, and more may be selected
+-- these lines of a log were filtered from the first on, and more may be selected
 pub record FiltersLines (filter : Filter) (old new : Stand) (lines : List LogLine) : Type 0 where
   pub added : List ℕ
   pub count : ℕ
-  pub filters : Filters filter old.lines lines added count
+  pub filters : Filters filter 0 lines added count
   pub below : is_below filter.most count ≡ true
-  pub goes : Goes old new added count (length lines)
-  pub addressed : new.addressed ≡ (old.addressed || any_addressed filter lines)
+  pub goes : Goes old new added count
+  pub seen : new.seen ≡ seen_of filter lines
 
 -- they were, and the writer, which failed, took a beginning of their output
 pub record WritesBeginning (filter : Filter) (old new : Stand) (lines : List LogLine) : Type 0 where
   pub added : List ℕ
   pub count : ℕ
-  pub filters : Filters filter old.lines lines added count
+  pub filters : Filters filter 0 lines added count
   pub within : is_within filter.most count ≡ true
+  pub seen : new.seen ≡ seen_of filter lines
   pub beginning : AppendsBeginning old.holds new.holds (old.waits ++ added)
 
 -- what was read was filtered to its end
@@ -44,9 +45,10 @@ pub record Leaves (filter : Filter) (log : LogReader) (remained remains : Option
   pub added : List ℕ
   pub count : ℕ
   pub hands : HandsFirst log remained remains first
-  pub filters : Filters filter old.lines first added count
+  pub filters : Filters filter 0 first added count
   pub all : AreAll filter (IsAtEnd remains) first count
-  pub goes : Goes old new added count (length first)
+  pub goes : Goes old new added count
+  pub seen : new.seen ≡ seen_of filter first
 
 -- where it ends, if nothing stops it
 abbrev pub EndsBy : Reached → Filter → LogReader → Option (List ℕ) → Option (List ℕ) → Stand → Stand → Type 0

@@ -1,5 +1,5 @@
 //! What a line is to the lists, and whether it is selected.
-ghost use Rattle.std.specs.Prelude.{◌≡◌, ◌≤◌, ◌||◌, ◌∷◌, [], Some, IfSome, MatchOption};
+ghost use Rattle.std.specs.Prelude.{◌≡◌, ◌≤◌, ◌∷◌, [], Some, IfSome, MatchOption};
 ghost use Rattle.line_addresses.specs.Addresses.{addresses_of};
 ghost use Rattle.cidr_filter.specs.Addressed.{is_addressed_by};
 ghost use Rattle.cidr_filter.specs.Filters.{is_listed, IsVerdict, IsVerdictOfAddresses, IsListed, TellsBlock, addresses_in, asked, asked_of, of_part, of_rest, spelled_at, is_selected, is_refused, is_count, is_silent};
@@ -11,18 +11,8 @@ use line_addresses::{
     Area, Text, address_of, field_of, following, next_address, unmapped, word_of,
 };
 use log_programs::finding::found_in;
+use log_programs::without_address::WithoutAddress;
 use program::log_reader::LINE_MAX;
-
-/// What becomes of a line without an address.
-#[derive(Clone, Copy, Debug, PartialEq, Eq)]
-pub enum WithoutAddress {
-    /// It is not selected.
-    Drop,
-    /// It is selected.
-    Keep,
-    /// It ends the run.
-    Stop,
-}
 
 /// What a line is to a list.
 #[derive(Clone, Copy, Debug, PartialEq, Eq)]
@@ -39,15 +29,9 @@ pub enum Verdict {
 }
 
 impl Verdict {
-    /// Whether a line of this verdict has an address where it is looked for, or one before it has.
-    pub(crate) fn is_addressed_or(&self, before: bool) -> bool
-        ensures { result ≡ (before || is_addressed_by self.now) }
-    {
-        before || self.is_addressed()
-    }
-
-    // Whether a line of this verdict has one. A line that is too long has none.
-    fn is_addressed(&self) -> bool
+    /// Whether a line of this verdict has an address where it is looked for. A line that is too long has none.
+    #[inline(always)]
+    pub(crate) fn is_addressed(&self) -> bool
         ensures { result ≡ is_addressed_by self.now }
     {
         match *self {
@@ -298,8 +282,8 @@ impl Filter<'_> {
         match *verdict {
             Verdict::Inside(_) => false,
             Verdict::Outside => false,
-            Verdict::NoAddress => self.bad == WithoutAddress::Stop,
-            Verdict::TooLong => self.bad != WithoutAddress::Drop,
+            Verdict::NoAddress => self.bad.is_stopped(),
+            Verdict::TooLong => self.bad.is_stopped(),
         }
     }
 }

@@ -37,9 +37,12 @@ Prints the lines of logs whose address is in a list of IP networks.
     --longest       before a line print the longest network that holds its address (with -a the
                     first of its addresses that is in one), and a tab; a range counts as the fewest
                     networks that make it up. Not with -v or -c
-    --bad drop      a line without an address is not printed, also with -v (this is the default)
+    --bad drop      a line without an address is not printed, also with -v (so it is without this
+                    option), and nothing is told of lines that are too long
     --bad keep      it is printed, after a minus sign and a tab with --longest
-    --bad stop      it ends the program
+    --bad stop      it ends the program, and so does one that is too long
+    --bad report    it is not printed; told is of each FILE how many there are, and how many are too
+                    long
     --quiet         as the first word: do not show on a terminal how much was read
     --help          print this text
     --version       print the version
@@ -47,13 +50,13 @@ Prints the lines of logs whose address is in a list of IP networks.
 Options may stand behind FILEs; what follows a -- are FILEs. Options of one letter may be one word,
 with the value of the last behind it: -vk1, -e10.0.0.0/8; and so may --bad=keep. A FILE is a name,
 or - for standard input, as is no FILE at all. A line is printed as it was; a last line without a
-line feed gets one. A line has at most 1,048,576 bytes; a longer one has no address, and ends the
-program unless such lines are dropped. A FILE that cannot be opened is reported, and the others are
-read. So is a FILE with lines of which none has an address where it is looked for.
+line feed gets one. A line has at most 1,048,576 bytes; a longer one has no address and is never
+printed, and the first of a FILE is reported. A FILE that cannot be opened is reported, and the
+others are read. So is a FILE with lines of which none has an address where it is looked for.
 
-Status: 0 if a line was selected, 1 if none was, 2 on wrong usage, a refused line, a file
-that cannot be opened or read, a failed write or out of memory, 141 if standard output is a pipe
-that nobody reads any more.
+Status: 0 if a line was selected, 1 if none was, 2 on wrong usage, a refused line, one that is too
+long without --bad drop, a file that cannot be opened or read, a failed write or out of memory, 141
+if standard output is a pipe that nobody reads any more.
 
 Examples:
     cidr_filter -f networks.txt access.log
@@ -71,5 +74,5 @@ pub(crate) const PROGRAM: &str = "cidr_filter";
 /// How the program is used: what is reported for arguments that are not a command, after what is
 /// wrong with them.
 pub(crate) const USAGE: &str = "usage: cidr_filter [-v] [-c | -H] [-h] [-n] [-l] [-q] [-o] [-m N] \
-     [-a | --after TEXT | [-k N] [-d CHAR | -w]] [--mapped] [--bad drop|keep|stop] [--longest] \
-     (-f LIST | -e TEXT).. [FILE..]; try --help\n";
+     [-a | --after TEXT | [-k N] [-d CHAR | -w]] [--mapped] [--bad drop|keep|stop|report] \
+     [--longest] (-f LIST | -e TEXT).. [FILE..]; try --help\n";

@@ -1,14 +1,14 @@
 //! Filters the lines of a log.
-ghost use Rattle.std.specs.Prelude.{◌≡◌, ◌||◌, ◌≤◌, ◌-◌, ◌^◌, ◌++◌, [], ℕ, List, true, Option, IsTrue, OnOk, OnErr, IfOk, IsOkUnless};
+ghost use Rattle.std.specs.Prelude.{◌≡◌, ◌||◌, ◌++◌, [], ℕ, List, true, Option, IsTrue, OnOk, OnErr, IfOk, IsOkUnless};
 ghost use Rattle.lines.specs.Outputs.{AppendsBeginning};
 ghost use Rattle.lines.specs.Watched.{device_of, has_failed};
 ghost use Rattle.program.specs.LogFaults.{ended_by_write};
 ghost use Rattle.program.specs.LogLines.{feed_behind};
 ghost use Rattle.program.specs.LogReaders.{HandsFirst, hurries_of};
-ghost use Rattle.program.specs.Counts.{Counts};
 ghost use Rattle.log_programs.specs.LogEnds.{EndsOrStops};
+ghost use Rattle.log_programs.specs.LogStats.{with_line};
 ghost use Rattle.cidr_filter.specs.Filters.{is_refused, one_if};
-ghost use Rattle.cidr_filter.specs.Stands.{stand, stand, Goes};
+ghost use Rattle.cidr_filter.specs.Stands.{stand, begun, Goes};
 ghost use Rattle.cidr_filter.specs.Stops.{EndsBy, Stops};
 ghost use Rattle.cidr_filter.specs.Private.Copying.{copied, PrintsAsRead};
 ghost use Rattle.cidr_filter.specs.Private.Judging.{fault_of};
@@ -21,6 +21,7 @@ use crate::recent::Recent;
 use lines::line_end::LineEnd;
 use lines::output::Output;
 use lines::watched::Watched;
+use log_programs::log_stats::LogStats;
 use program::log_fault::LogFault;
 use program::log_reader::{LogReader, NextLogLine};
 use std::io::{Read, Write};
@@ -34,23 +35,21 @@ pub enum Reached {
     Last,
 }
 
-/// How many lines were selected.
+/// How many lines were selected, and what was seen of those of a log.
 #[derive(Clone, Copy, Debug, PartialEq, Eq)]
 pub struct Tally {
     /// How many lines of all logs were selected.
     pub selected: u64,
-    /// How many lines of this log came before the one that is read.
-    pub lines: u64,
-    /// Whether one of these has an address where it is looked for.
-    pub is_addressed: bool,
+    /// What was seen of the lines of this log.
+    pub seen: LogStats,
 }
 
 /// Filters the lines of a log, up to the last that may be selected: those that are selected are
 /// written, or only counted. No line behind that is asked for, so that no read is made for it.
 ///
 /// What is selected of the lines that a read completes is written before the next read. After a
-/// failed read nothing is written. A line that is too long ends the run even if its end was not
-/// read.
+/// failed read nothing is written. If a line that is too long ends the run, it does so even if its
+/// end was not read. What is seen of the lines is counted from the first on.
 pub fn filter_log<R: Read, W: Write>(
     filter: &Filter,
     log: &mut LogReader<'_>,
@@ -64,9 +63,9 @@ pub fn filter_log<R: Read, W: Write>(
     ensures { EndsOrStops (λ reached. EndsBy reached filter.now log.new) (Stops filter.now) result
         (R.remaining (device_of reader.old)) (R.remaining (device_of reader.new))
         (has_failed reader.old) (has_failed reader.new) output.old output.new
-        (stand output.old tally.old) (stand output.new tally.new) }
+        (begun (stand output.old tally.old)) (stand output.new tally.new) }
 {
-    let _ = counted(tally.lines);
+    tally.seen = LogStats::new();
     let refuses_long_lines = filter.refuses(&Verdict::TooLong);
     let mut left = filter.most;
     let mut recent = Recent::new(tally.selected);
@@ -83,7 +82,7 @@ pub fn filter_log<R: Read, W: Write>(
                 match filter_line(filter, line, whole, end, is_copied, output, tally) {
                     Ok(is_selected) => {
                         left = fewer(left, is_selected);
-                        recent.note(tally.lines, tally.selected);
+                        recent.note(tally.seen.lines, tally.selected);
                     }
                     Err(fault) => return Err(fault),
                 }
@@ -95,7 +94,7 @@ pub fn filter_log<R: Read, W: Write>(
                 if refuses_long_lines {
                     return Err(LogFault::Length);
                 }
-                tally.lines = tally.lines.saturating_add(1);
+                tally.seen.add_long();
             }
             Ok(NextLogLine::End) => return Ok(Reached::End),
             Err(fault) => return Err(fault),
@@ -136,18 +135,16 @@ fn pass_line<W: Write>(
 ) -> Result<bool, LogFault>
     ensures ok { OnOk result (Goes
         (stand output.old tally.old) (stand output.new tally.new)
-        (copied is_selected whole.now) (one_if is_selected) 1) }
+        (copied is_selected whole.now) (one_if is_selected)) }
     ensures selected { IfOk result (λ selected. selected ≡ is_selected) }
     ensures err { OnErr result (IsTrue output.new.failed) }
     ensures beginning { OnErr result (AppendsBeginning output.old.holds output.new.holds
         (output.old.waits ++ copied is_selected whole.now)) }
     ensures fault { IsOkUnless result LogFault.Write }
-    ensures lines { Counts tally.old.lines tally.new.lines 1 }
-    ensures addressed { tally.new.is_addressed ≡ true }
+    ensures seen { tally.new.seen ≡ with_line tally.old.seen true }
     ensures writer_failed { output.new.failed ≡ (output.old.failed || ended_by_write result) }
 {
-    tally.lines = tally.lines.saturating_add(1);
-    tally.is_addressed = true;
+    tally.seen.add(true);
     tally.selected = tally.selected.saturating_add(u64::from(is_selected));
     match output.put_if(whole, is_selected) {
         Ok(()) => Ok(is_selected),
@@ -182,25 +179,15 @@ fn filter_judged<W: Write>(
     if filter.refuses(&verdict) {
         return Err(refusal_of(&verdict));
     }
-    tally.lines = tally.lines.saturating_add(1);
-    tally.is_addressed = verdict.is_addressed_or(tally.is_addressed);
+    tally.seen.add(verdict.is_addressed());
     if !filter.selects(&verdict) {
         return Ok(false);
     }
     tally.selected = tally.selected.saturating_add(1);
-    match print_selected(filter, tally.lines, &verdict, line, whole, end, output) {
+    match print_selected(filter, tally.seen.lines, &verdict, line, whole, end, output) {
         Ok(()) => Ok(true),
         Err(_) => Err(LogFault::Write),
     }
-}
-
-// A number of lines, which 64 bits count: so that it is known of those before a log.
-#[inline(always)]
-fn counted(lines: u64) -> u64
-    ensures same { result ≡ lines }
-    ensures fits { lines ≤ 2 ^ 64 - 1 }
-{
-    lines
 }
 
 // Why a line of this verdict is refused.

@@ -18,7 +18,8 @@ use line_addresses::Text;
 use lines::fault::RunFault;
 use lines::output::Output;
 use lists::{OpenLists, open_list};
-use log_programs::telling::tell_lacking;
+use log_programs::log_stats::LogStats;
+use log_programs::telling::{is_missed, tell_lacking, tell_seen};
 use program::ending::{FAILED, end};
 use program::log_fault::stop;
 use program::log_reader::LogReader;
@@ -48,8 +49,7 @@ pub(crate) fn filter_logs<'a, L: OpenLists, W: Write, E: Write>(
 {
     let mut tally = Tally {
         selected: 0,
-        lines: 0,
-        is_addressed: false,
+        seen: LogStats::new(),
     };
     let counts = filter.counts();
     let is_silent = filter.is_silent();
@@ -63,8 +63,9 @@ pub(crate) fn filter_logs<'a, L: OpenLists, W: Write, E: Write>(
     }
 }
 
-// Filters the logs of these names up to the first that is enough, and returns whether one of them could not be opened, which is reported. If a fault ends the filtering of one
-// that was opened, it is reported, and there is no answer.
+// Filters the logs of these names up to the first that is enough, and returns whether one of them could not be opened, or
+// a line of one is missed, which is reported. If a fault ends the filtering of one that was opened, it is reported, and
+// there is no answer.
 fn filter_each<'a, L: OpenLists, W: Write, E: Write>(
     filter: &mut Filter<'a>,
     tally: &mut Tally,
@@ -112,7 +113,7 @@ fn either(first: bool, second: bool) -> bool
     first || second
 }
 
-// Opens the log of this name and filters it, and returns whether it could not be opened, as
+// Opens the log of this name and filters it, and returns whether it could not be opened, or a line of it is missed, as
 // `filter_each` does.
 fn filter_one<'a, L: OpenLists, W: Write, E: Write>(
     filter: &mut Filter<'a>,
@@ -131,8 +132,6 @@ fn filter_one<'a, L: OpenLists, W: Write, E: Write>(
         (stand output.old tally.old) (stand output.new tally.new) errors.old errors.new) }
     ensures filter { filter.new ≡ filter.old }
 {
-    tally.lines = 0;
-    tally.is_addressed = false;
     let mut log = match open_list(lists, name) {
         Ok(log) => log,
         Err(cause) => {
@@ -146,21 +145,17 @@ fn filter_one<'a, L: OpenLists, W: Write, E: Write>(
     let end = filter_log(filter, &mut lines, &mut log, output, tally);
     filter.name = before;
     lists.close(name, log);
+    let seen = tally.seen;
+    tell_seen(PROGRAM, name, filter.bad, &seen, errors);
     match end {
         Ok(Reached::End) => {
-            tell_lacking(
-                PROGRAM,
-                &filter.area,
-                name,
-                tally.lines,
-                tally.is_addressed,
-                errors,
-            );
-            Some(false)
+            let (lines, is_addressed) = (seen.lines, seen.is_addressed);
+            tell_lacking(PROGRAM, &filter.area, name, lines, is_addressed, errors);
+            Some(is_missed(filter.bad, &seen))
         }
-        Ok(Reached::Last) => Some(false),
+        Ok(Reached::Last) => Some(is_missed(filter.bad, &seen)),
         Err(fault) => {
-            stop(name, fault, tally.lines, output, errors);
+            stop(name, fault, seen.lines, output, errors);
             None
         }
     }
@@ -190,8 +185,8 @@ fn write_number<W: Write>(number: u64, output: &mut Output<'_, W>) -> Result<(),
     put_both(number_text(number).as_str().as_bytes(), b"\n", output)
 }
 
-// The exit status by whether the selected lines end the run, whether a log could not be opened, and
-// how many lines were selected.
+// The exit status by whether the selected lines end the run, whether a log or a line was missed, and how many lines were
+// selected.
 fn status(is_enough: bool, missed: bool, selected: u64) -> u8
     ensures { result ≡ status_by is_enough missed selected }
 {

@@ -1,8 +1,6 @@
 //! The options of the command line.
-ghost use Rattle.std.specs.Prelude.{◌≡◌};
-ghost use Rattle.cidr_filter.specs.Options.{IsOptions, bad_in};
+ghost use Rattle.cidr_filter.specs.Options.{IsOptions};
 
-use crate::filter::WithoutAddress;
 use log_programs::rows::{AFTER, ANYWHERE, FIELD, LIST, SEPARATOR, WORDS, log_pairs, log_rows};
 use options::table::{Kind, Pair, Row, Table, letter, long, pair};
 
@@ -47,7 +45,7 @@ const ROWS: [Row; 21] = log_rows![
     letter!(b'e', Text, "is no network or range"),
     letter!(b'm', Number, "is no number of lines"),
     long!("--longest", Flag, false, ""),
-    long!("--bad", Rule, true, "is not drop, keep or stop"),
+    long!("--bad", Rule, true, "is not drop, keep, stop or report"),
     letter!(b'v', Flag, ""),
     letter!(b'c', Flag, ""),
     letter!(b'o', Flag, ""),
@@ -81,16 +79,5 @@ pub(crate) fn table() -> Table<'static>
         pairs: &PAIRS,
         needs: &[LIST, TEXT],
         lacking: "neither -f nor -e is given",
-    }
-}
-
-/// What becomes of a line without an address, by a value of `--bad`, which is empty if there is none.
-pub(crate) fn bad_in(value: &str) -> WithoutAddress
-    ensures { result ≡ bad_in value.now }
-{
-    match value {
-        "keep" => WithoutAddress::Keep,
-        "stop" => WithoutAddress::Stop,
-        _ => WithoutAddress::Drop,
     }
 }

@@ -12,7 +12,7 @@ use crate::logs::filter_logs;
 use crate::matcher::Matcher;
 use crate::reading::read_listed;
 use crate::rows::{
-    BAD, COUNTS, INVERTS, LONGEST, MOST, NAMED, NAMES, NUMBERED, ONLY, QUIET, bad_in, table,
+    BAD, COUNTS, INVERTS, LONGEST, MOST, NAMED, NAMES, NUMBERED, ONLY, QUIET, table,
 };
 use crate::telling::{InOptions, names_of};
 use line_addresses::Text;
@@ -20,6 +20,7 @@ use lines::output::Output;
 use lists::OpenLists;
 use log_programs::areas::area_of;
 use log_programs::rows::MAPPED;
+use log_programs::without_address::bad_in;
 use options::asking::{About, asked};
 use options::given::{inputs_of, is_given, value_of};
 use options::items::Item;

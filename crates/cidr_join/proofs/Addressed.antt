@@ -1,31 +1,54 @@
--- Lines that have an address, and logs in which none does.
-use Rattle.std.proofs.Common.{◌≡◌, ℕ, ◌+◌, ◌||◌, Bool, false, List, [], ◌∷◌, ◌++◌, refl, sym, ap, ◌∙◌}
-use Rattle.std.proofs.lemmas.List.Folds.{list_any-append}
-use Rattle.program.specs.LogLines.{LogLine, content}
-use Rattle.program.proofs.Counts.{counts_more, counts_none}
-use Rattle.cidr_join.specs.Addressed.{is_addressed, any_addressed}
-use Rattle.cidr_join.specs.Stands.{Sees}
+-- The address of a line, and what is seen of lines.
+use Rattle.std.proofs.Common.{◌≡◌, ◌<◌, ◌≤◌, ◌||◌, Bool, true, false, List, [], ◌∷◌, ◌++◌, length, refl, sym, ap, ◌∙◌, true≢false}
+use Rattle.std.specs.Prelude.{Option, None, Some, if◌then◌else◌}
+use Rattle.ipnetwork_addr.specs.declared.ip.IpAddr.{IpAddr}
+use Rattle.log_programs.specs.LogStats.{is_long, with_line, with_long}
+use Rattle.log_programs.specs.WithoutAddress.{is_stopped}
+use Rattle.log_programs.specs.declared.log_stats.LogStats.{LogStats}
+use Rattle.log_programs.specs.declared.without_address.WithoutAddress.{WithoutAddress}
+use Rattle.log_programs.proofs.LogStats.{line_seen, long_seen, within_limit, past_limit}
+use Rattle.program.specs.LogLines.{LogLine, content, printed}
+use Rattle.cidr_join.specs.Addressed.{is_addressed, seen_of}
+use Rattle.cidr_join.specs.Joins.{address_in, asked_in, is_left_out, is_refused, output_of, shown_in}
+use Rattle.cidr_join.specs.Private.Progress.{shown}
+use Rattle.cidr_join.specs.declared.found.Found.{Found}
 use Rattle.cidr_join.specs.declared.join.Join.{Join}
-use Rattle.cidr_join.specs.declared.log_stats.LogStats.{LogStats}
-use Rattle.log_programs.proofs.Failing.{or_none, or_assoc}
 
--- ---- what was seen
+module _ (join : Join) (line : LogLine) where
+  asked_if : (long : Bool) → is_long line ≡ long → asked_in join line ≡ (if long then None else address_in join (content line))
+  asked_if long e = ap (λ (l : Bool). if l then None else address_in join (content line)) e
 
-abbrev pub nothing_seen : LogStats
-nothing_seen = record { lines = 0; is_addressed = false }
+  shown_if : (found : Found) (long : Bool) → is_long line ≡ long
+      → shown_in join found line ≡ (if long || is_left_out join.bad (if long then None else address_in join (content line)) then [] else output_of join found line)
+  shown_if found long e = ap (λ (l : Bool). if l || is_left_out join.bad (if l then None else address_in join (content line)) then [] else output_of join found line) e
 
-pub sees_nothing : (seen : LogStats) → Sees seen seen 0 false
-sees_nothing seen = (counts_none seen.lines seen.lines refl, or_none seen.is_addressed seen.is_addressed refl)
+  -- one within the limit
+  module _ (within : length (content line) ≤ 1048576) where
+    pub asked_within : asked_in join line ≡ address_in join (content line)
+    asked_within = asked_if false (within_limit line within)
 
-pub sees_more : (old mid new : LogStats) (m n : ℕ) (a b : Bool) → Sees old mid m a → Sees mid new n b → Sees old new (m + n) (a || b)
-sees_more old mid new m n a b p q = (
-  counts_more old.lines mid.lines new.lines m n p.0 q.0,
-  q.1 ∙ ap (λ (x : Bool). x || b) p.1 ∙ or_assoc old.is_addressed a b,
-)
+    pub shown_within : (found : Found) → shown_in join found line ≡ shown join found (content line) (printed line)
+    shown_within found = shown_if found false (within_limit line within)
 
--- a line more
-pub any_more : (join : Join) (first : List LogLine) (next : LogLine) (line : List ℕ) → content next ≡ line
-    → (any_addressed join first || is_addressed join line) ≡ any_addressed join (first ++ next ∷ [])
-any_more join first next line same =
-    ap (λ (b : Bool). any_addressed join first || b) (or_none (is_addressed join (content next)) (is_addressed join line) (ap (is_addressed join) (sym same)))
-    ∙ sym (list_any-append (λ line. is_addressed join (content line)) first (next ∷ []))
+    pub line_adds : (first : List LogLine) (mid new : LogStats) → mid ≡ seen_of join first → new ≡ with_line mid (is_addressed join (content line)) → new ≡ seen_of join (first ++ line ∷ [])
+    line_adds first mid new was adds =
+        adds ∙ ap (λ (s : LogStats). with_line s (is_addressed join (content line))) was ∙ line_seen (is_addressed join) first line (is_addressed join (content line)) (within_limit line within) refl
+
+  -- one that is too long
+  module _ (long : 1048576 < length (content line)) where
+    pub asked_long : asked_in join line ≡ None
+    asked_long = asked_if true (past_limit line long)
+
+    pub shown_long : (found : Found) → shown_in join found line ≡ []
+    shown_long found = shown_if found true (past_limit line long)
+
+    pub refused_long : is_stopped join.bad ≡ false → is_refused join.bad (asked_in join line) ≡ false
+    refused_long goes = ap (is_refused join.bad) asked_long ∙ goes
+
+    pub long_adds : (first : List LogLine) (mid new : LogStats) → mid ≡ seen_of join first → new ≡ with_long mid → new ≡ seen_of join (first ++ line ∷ [])
+    long_adds first mid new was adds = adds ∙ ap with_long was ∙ long_seen (is_addressed join) first line (past_limit line long)
+
+-- only a line without an address is refused
+pub refused_none : (bad : WithoutAddress) (address : Option IpAddr) → is_refused bad address ≡ true → (address ≡ None) × (is_stopped bad ≡ true)
+refused_none bad None e = (refl, e)
+refused_none bad (Some address) e = absurd (true≢false (sym e))

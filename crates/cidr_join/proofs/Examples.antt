@@ -1,14 +1,19 @@
 -- Definitions at values at which a misreading of them would show.
 use Rattle.std.proofs.Common.{◌≡◌, ℕ, ◌^◌, ◌+◌, ◌∷◌, [], map, Bool, true, false, refl}
-use Rattle.std.specs.Prelude.{◌++◌, decimal, codes, not, filter, List, None, Some}
+use Rattle.std.specs.Prelude.{◌++◌, decimal, codes, not, filter, length, nat_lt, List, None, Some}
 use Rattle.std.specs.Fmt.{digits}
 use Rattle.std.specs.List.{range_with_len}
 use Rattle.ipnetwork_addr.specs.declared.ip.IpAddr.TheVariants as addresses
 use Rattle.ipnetwork.specs.declared.ip_network.IpNetwork.TheVariants as families
 use Rattle.cidr_join.specs.Addressed.{lacking_by}
+use Rattle.program.specs.LogLines.{ended}
+use Rattle.log_programs.specs.LogStats.{place_of, stats_of}
+use Rattle.log_programs.specs.Seen.{seen_text}
+use Rattle.log_programs.specs.declared.without_address.WithoutAddress.{WithoutAddress}
+use Rattle.log_programs.specs.declared.without_address.WithoutAddress.TheVariants as without
 use Rattle.cidr_join.specs.Entries.{is_blank, is_word, cause_text}
 use Rattle.cidr_join.specs.Groups.{block_in}
-use Rattle.cidr_join.specs.Joins.{mark_of, shown_of}
+use Rattle.cidr_join.specs.Joins.{is_left_out, is_refused, mark_of, shown_of}
 use Rattle.cidr_join.specs.Options.{entries, pairs}
 use Rattle.cidr_join.specs.Tallies.{row_text}
 use Rattle.options.specs.Faults.{about, together, fault_by}
@@ -39,6 +44,32 @@ none_anywhere_or_after_a_text = refl
 -- a log without lines, and one of whose lines one has an address, are not told
 pub no_lines_or_one_address : map (λ (log : ℕ × Bool). lacking_by areas.Anywhere (codes "log") log.0 log.1) ((0, false) ∷ (2, true) ∷ []) ≡ [] ∷ [] ∷ []
 no_lines_or_one_address = refl
+
+-- ---- what is seen of lines
+
+-- the first line that is too long is told, but where such lines are dropped, and the numbers where they are asked for
+pub what_is_told : map (λ (bad : WithoutAddress). seen_text (codes "cidr_join") (codes "log") bad (record { lines = 9; is_addressed = true; bare = 2; long = 1; first_long = 7 }))
+    (without.Unsaid ∷ without.Drop ∷ without.Stop ∷ without.Report ∷ [])
+    ≡ codes "cidr_join: log:7: line too long\n" ∷ [] ∷ codes "cidr_join: log:7: line too long\n"
+    ∷ codes "cidr_join: log:7: line too long\ncidr_join: log: lines without an address: 2, too long: 1\n" ∷ []
+unfolding digits
+what_is_told = refl
+
+pub nothing_told_of_no_lines : seen_text (codes "cidr_join") (codes "log") without.Report (stats_of (λ line. true) []) ≡ []
+nothing_told_of_no_lines = refl
+
+-- of two lines one has something that counts as an address
+pub two_lines_seen : stats_of (λ line. nat_lt 1 (length line)) (ended (codes "ab") ∷ ended (codes "c\r") ∷ []) ≡ record { lines = 2; is_addressed = true; bare = 1; long = 0; first_long = 0 }
+two_lines_seen = refl
+
+-- the first of three lines, the last, and none
+pub first_that_is_long : map (λ (before : ℕ). place_of before 3) (0 ∷ 2 ∷ 3 ∷ []) ≡ 1 ∷ 3 ∷ 0 ∷ []
+first_that_is_long = refl
+
+-- which lines without an address end the run, and which are left out
+pub lines_without : map {B = Bool × Bool} (λ (bad : WithoutAddress). (is_refused bad None, is_left_out bad None)) (without.Unsaid ∷ without.Drop ∷ without.Keep ∷ without.Stop ∷ without.Report ∷ [])
+    ≡ (false, false) ∷ (false, true) ∷ (false, false) ∷ (true, false) ∷ (false, false) ∷ []
+lines_without = refl
 
 -- ---- the words of a command line
 

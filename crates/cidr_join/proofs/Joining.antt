@@ -1,59 +1,40 @@
 -- How a log is joined, line by line.
-use Rattle.std.proofs.Common.{◌≡◌, ℕ, ◌+◌, ◌≤◌, ◌||◌, Bool, false, List, [], ◌∷◌, ◌++◌, length, refl, sym, ap, ◌∙◌, subst, arith, append-nil, length-append}
-use Rattle.std.specs.Prelude.{Option}
+use Rattle.std.proofs.Common.{◌≡◌, ℕ, ◌<◌, ◌≤◌, Bool, true, false, List, [], ◌∷◌, ◌++◌, length, refl, sym, ap, ◌∙◌, subst, arith, append-nil, length-append}
+use Rattle.std.specs.Prelude.{Option, None, Err}
+use Rattle.ipnetwork_addr.specs.declared.ip.IpAddr.{IpAddr}
 use Rattle.lines.specs.Outputs.{Written, Puts, AppendsBeginning, Prints, FailsIn}
 use Rattle.lines.specs.declared.line_end.LineEnd.{LineEnd}
 use Rattle.lines.specs.declared.line_end.LineEnd.TheVariants.{LineFeed, ReturnAndLineFeed, EndOfInput}
 use Rattle.lines.proofs.Putting.{puts_nothing, puts_more, begins_after_puts}
 use Rattle.program.specs.LogLines.{LogLine, content, printed, feed_behind, log_line}
-use Rattle.program.specs.LogReaders.{GivesNext, Breaks, line_of, whole_of}
-use Rattle.program.specs.LogReadings.{ReadsSoFar}
+use Rattle.program.specs.LogReaders.{GivesNext, Breaks, line_of, whole_of, hurries_of}
+use Rattle.program.specs.LogReadings.{ReadsSoFar, ReadsToLine}
 use Rattle.program.specs.declared.log_fault.LogFault.{LogFault}
 use Rattle.program.specs.declared.log_fault.LogFault.TheVariants as faults
 use Rattle.program.specs.declared.log_reader.LogReader.{LogReader}
 use Rattle.program.specs.declared.log_reader.NextLogLine.TheVariants.{Line, TooLong, End}
 use Rattle.program.proofs.LogReadings as readings
-use Rattle.cidr_join.specs.Addressed.{is_addressed, any_addressed}
-use Rattle.cidr_join.specs.Joins.{address_in, Finds, output_of, Joins}
+use Rattle.program.specs.LogFaults.{ended_by_read}
+use Rattle.cidr_join.specs.Addressed.{is_addressed}
+use Rattle.cidr_join.specs.Joins.{address_in, asked_in, Finds, is_refused, shown_in, Joins}
 use Rattle.cidr_join.specs.Logs.{EndsRunBy}
-use Rattle.cidr_join.specs.Stands.{Stand, stand, Sees, Goes}
+use Rattle.cidr_join.specs.Stands.{Stand, stand}
 use Rattle.cidr_join.specs.Stops.{JoinsLines, WritesBeginning, Ends, Stops}
-use Rattle.cidr_join.specs.Private.Progress.{JoinsLine, LineStops}
+use Rattle.cidr_join.specs.Private.Progress.{shown, JoinsLine, LineStops}
 use Rattle.cidr_join.specs.declared.found.Found.{Found}
 use Rattle.cidr_join.specs.declared.join.Join.{Join}
-use Rattle.cidr_join.specs.declared.log_stats.LogStats.{LogStats}
-use Rattle.cidr_join.proofs.Addressed.{sees_nothing, sees_more, any_more}
-use Rattle.log_programs.proofs.Failing.{none_or}
+use Rattle.cidr_join.specs.declared.found.Found.TheVariants as founds
+use Rattle.log_programs.specs.LogStats.{nothing, with_line, with_long}
+use Rattle.log_programs.specs.WithoutAddress.{is_stopped}
+use Rattle.log_programs.specs.declared.log_stats.LogStats.{LogStats}
+use Rattle.cidr_join.proofs.Addressed.{asked_within, shown_within, line_adds, asked_long, shown_long, refused_long, long_adds}
 use Rattle.cidr_join.proofs.LogParts.{both}
-
--- ---- stands
-
-goes_on : (old mid new : Stand) (first second : List ℕ) (m n : ℕ) (a b : Bool)
-    → Goes old mid first m a → Goes mid new second n b
-    → Goes old new (first ++ second) (m + n) (a || b)
-goes_on old mid new first second m n a b p q = (
-  puts_more old.holds mid.holds new.holds old.waits mid.waits new.waits first second p.0 q.0,
-  sees_more old.seen mid.seen new.seen m n a b p.1 q.1,
-)
-
--- behind what was put nothing was put, and no line seen
-goes_still : (old mid new : Stand) (added : List ℕ) (lines : ℕ) (addressed : Bool)
-    → Goes old mid added lines addressed → Goes mid new [] 0 false
-    → Goes old new added lines addressed
-goes_still old mid new added lines addressed p q =
-    let more = goes_on old mid new added [] lines 0 addressed false p q in
-    let same : lines + 0 ≡ lines = omega arith in (
-      subst (Puts old.holds old.waits new.holds new.waits) (append-nil added) more.0,
-      subst (λ (b : Bool). Sees old.seen new.seen lines b)
-          (none_or addressed (addressed || false) refl)
-          (subst (λ (n : ℕ). Sees old.seen new.seen n (addressed || false)) same more.1),
-    )
 
 -- ---- lines
 
 module _ (join : Join) (old : Stand) where
-  pub no_lines : JoinsLines join old old []
-  no_lines = record { added = []; joins = refl; goes = (puts_nothing old.holds old.waits, sees_nothing old.seen) }
+  pub no_lines : (new : Stand) → Puts old.holds old.waits new.holds new.waits [] → new.seen ≡ nothing → JoinsLines join old new []
+  no_lines new puts none = record { added = []; joins = refl; puts = puts; seen = none }
 
   -- what waited was written
   lines_still : {W : Type 0} (mid new : Written W) (seen : LogStats) (lines : List LogLine) → Prints mid new []
@@ -61,7 +42,8 @@ module _ (join : Join) (old : Stand) where
   lines_still mid new seen lines puts d = record {
     added = d.added;
     joins = d.joins;
-    goes = goes_still old (stand mid seen) (stand new seen) d.added (length lines) (any_addressed join lines) d.goes (puts, sees_nothing seen);
+    puts = subst (Puts old.holds old.waits new.holds new.waits) (append-nil d.added) (puts_more old.holds mid.holds new.holds old.waits mid.waits new.waits d.added [] d.puts puts);
+    seen = d.seen;
   }
 
   -- or the writer failed at it
@@ -71,38 +53,66 @@ module _ (join : Join) (old : Stand) where
     added = d.added;
     joins = d.joins;
     beginning = subst (λ t. AppendsBeginning old.holds new.holds (old.waits ++ t)) (append-nil d.added)
-        (begins_after_puts old.holds mid.holds new.holds old.waits mid.waits d.added [] d.goes.0 took);
+        (begins_after_puts old.holds mid.holds new.holds old.waits mid.waits d.added [] d.puts took);
+    seen = d.seen;
   }
 
-  module _ (mid new : Stand) (first : List LogLine) (next : LogLine) (d : JoinsLines join old mid first) (short : length (content next) ≤ 1048576) where
-    joins_more : (found : Found) → Finds join (address_in join (content next)) found → Joins join (first ++ next ∷ []) (d.added ++ output_of join found next)
-    joins_more found finds =
-        let added = output_of join found next in
-        both join first (next ∷ []) d.added added d.joins (found, [], short, finds, refl, sym (append-nil added))
+  module _ (mid new : Stand) (first : List LogLine) (next : LogLine) (d : JoinsLines join old mid first) where
+    joins_more : (found : Found) (added : List ℕ) → is_refused join.bad (asked_in join next) ≡ false → Finds join (asked_in join next) found → shown_in join found next ≡ added
+        → Joins join (first ++ next ∷ []) (d.added ++ added)
+    joins_more found added passes finds shows =
+        both join first (next ∷ []) d.added added d.joins (found, [], passes, finds, refl, sym shows ∙ sym (append-nil (shown_in join found next)))
 
-    -- one more
-    line_more : JoinsLine join (content next) (printed next) mid new → JoinsLines join old new (first ++ next ∷ [])
-    line_more h =
-        let added = output_of join h.0 next in
-        record {
-          added = d.added ++ added;
-          joins = joins_more h.0 h.1;
-          goes = subst (λ (n : ℕ). Goes old new (d.added ++ added) n (any_addressed join (first ++ next ∷ [])))
-              (sym (length-append first (next ∷ [])))
-              (subst (λ (b : Bool). Goes old new (d.added ++ added) (length first + 1) b)
-              (any_more join first next (content next) refl)
-              (goes_on old mid new d.added added (length first) 1 (any_addressed join first)
-              (is_addressed join (content next)) d.goes h.2));
-        }
+    puts_on : (added : List ℕ) → Puts mid.holds mid.waits new.holds new.waits added → Puts old.holds old.waits new.holds new.waits (d.added ++ added)
+    puts_on added puts = puts_more old.holds mid.holds new.holds old.waits mid.waits new.waits d.added added d.puts puts
 
-    -- the writer failed at one more
-    line_unwritten : (found : Found) → Finds join (address_in join (content next)) found
-        → AppendsBeginning mid.holds new.holds (mid.waits ++ output_of join found next) → WritesBeginning join old new (first ++ next ∷ [])
-    line_unwritten found finds took = record {
-      added = d.added ++ output_of join found next;
-      joins = joins_more found finds;
-      beginning = begins_after_puts old.holds mid.holds new.holds old.waits mid.waits d.added (output_of join found next) d.goes.0 took;
+    -- one more that is too long
+    long_more : 1048576 < length (content next) → is_stopped join.bad ≡ false → Puts mid.holds mid.waits new.holds new.waits [] → new.seen ≡ with_long mid.seen
+        → JoinsLines join old new (first ++ next ∷ [])
+    long_more long goes puts adds = record {
+      added = d.added ++ [];
+      joins = joins_more founds.Nothing [] (refused_long join next long goes) (subst (λ (a : Option IpAddr). Finds join a founds.Nothing) (sym (asked_long join next long)) refl) (shown_long join next long founds.Nothing);
+      puts = puts_on [] puts;
+      seen = long_adds join next long first mid.seen new.seen d.seen adds;
     }
+
+    module _ (short : length (content next) ≤ 1048576) (found : Found) (finds : Finds join (address_in join (content next)) found) (passes : is_refused join.bad (address_in join (content next)) ≡ false)
+        (adds : new.seen ≡ with_line mid.seen (is_addressed join (content next))) where
+      asks : asked_in join next ≡ address_in join (content next)
+      asks = asked_within join next short
+
+      joins_it : Joins join (first ++ next ∷ []) (d.added ++ shown join found (content next) (printed next))
+      joins_it =
+          joins_more found (shown join found (content next) (printed next)) (ap (is_refused join.bad) asks ∙ passes) (subst (λ (a : Option IpAddr). Finds join a found) (sym asks) finds)
+          (shown_within join next short found)
+
+      -- one more
+      line_more : Puts mid.holds mid.waits new.holds new.waits (shown join found (content next) (printed next)) → JoinsLines join old new (first ++ next ∷ [])
+      line_more puts = record {
+        added = d.added ++ shown join found (content next) (printed next);
+        joins = joins_it;
+        puts = puts_on (shown join found (content next) (printed next)) puts;
+        seen = line_adds join next short first mid.seen new.seen d.seen adds;
+      }
+
+      -- the writer failed at one more
+      line_unwritten : AppendsBeginning mid.holds new.holds (mid.waits ++ shown join found (content next) (printed next)) → WritesBeginning join old new (first ++ next ∷ [])
+      line_unwritten took = record {
+        added = d.added ++ shown join found (content next) (printed next);
+        joins = joins_it;
+        beginning = begins_after_puts old.holds mid.holds new.holds old.waits mid.waits d.added (shown join found (content next) (printed next)) d.puts took;
+        seen = line_adds join next short first mid.seen new.seen d.seen adds;
+      }
+
+-- no read failed at a line
+pub no_read_at_line : (T : Type 0) (join : Join) (line text : List ℕ) (write_failed : Bool) (old new : Stand) (fault : LogFault) → LineStops join line text write_failed old new fault
+    → ended_by_read {T = T} (Err fault) ≡ false
+no_read_at_line T join line text write_failed old new (faults.Open cause) h = absurd h
+no_read_at_line T join line text write_failed old new faults.Read h = absurd h
+no_read_at_line T join line text write_failed old new faults.Write h = refl
+no_read_at_line T join line text write_failed old new faults.Address h = refl
+no_read_at_line T join line text write_failed old new faults.Length h = absurd h
+no_read_at_line T join line text write_failed old new faults.Endless h = absurd h
 
 -- ---- the next line of a log
 
@@ -137,29 +147,46 @@ module _ {W : Type 0} (join : Join) (was now : LogReader) (remained before after
       pub line_joined : (new : Stand) → JoinsLine join line (whole ++ feed_behind end) (stand between seen) new
           → ReadsSoFar (JoinsLines join old new) now remained after
       line_joined new h =
+          let next = log_line (line_of now) end in
+          let j : JoinsLine join (content next) (printed next) (stand between seen) new =
+          subst (λ (t : List ℕ). JoinsLine join (content next) t (stand between seen) new) text
+          (subst (λ (l : List ℕ). JoinsLine join l (whole ++ feed_behind end) (stand between seen) new) same h) in
           readings.after_line _ (JoinsLines join old new) was now remained before after s end given
-          (line_more join old (stand between seen) new s.first (log_line (line_of now) end) still short
-          (subst (λ (t : List ℕ). JoinsLine join (content (log_line (line_of now) end)) t (stand between seen) new) text
-          (subst (λ (l : List ℕ). JoinsLine join l (whole ++ feed_behind end) (stand between seen) new) same h)))
+          (line_more join old (stand between seen) new s.first next still short j.0 j.1 j.2 j.4 j.3)
 
-      pub line_stops : (new : Stand) (read_failed write_failed : Bool) (fault : LogFault) → fault ≡ faults.Write
-          → LineStops join line (whole ++ feed_behind end) write_failed (stand between seen) new
+      pub line_stops : (new : Stand) (read_failed write_failed : Bool) (fault : LogFault)
+          → LineStops join line (whole ++ feed_behind end) write_failed (stand between seen) new fault
           → Stops join remained after read_failed write_failed old new fault
-      line_stops new read_failed write_failed fault failed h =
-          let lost : LineStops join (content (log_line (line_of now) end)) (printed (log_line (line_of now) end)) write_failed (stand between seen) new =
-          subst (λ (t : List ℕ). LineStops join (content (log_line (line_of now) end)) t write_failed (stand between seen) new) text
-          (subst (λ (l : List ℕ). LineStops join l (whole ++ feed_behind end) write_failed (stand between seen) new) same h) in
-          subst (λ (f : LogFault). Stops join remained after read_failed write_failed old new f) (sym failed) (
+      line_stops new read_failed write_failed (faults.Open cause) h = absurd h
+      line_stops new read_failed write_failed faults.Read h = absurd h
+      line_stops new read_failed write_failed faults.Write h =
+          let next = log_line (line_of now) end in
+          let lost : LineStops join (content next) (printed next) write_failed (stand between seen) new faults.Write =
+          subst (λ (t : List ℕ). LineStops join (content next) t write_failed (stand between seen) new faults.Write) text
+          (subst (λ (l : List ℕ). LineStops join l (whole ++ feed_behind end) write_failed (stand between seen) new faults.Write) same h) in (
             lost.0,
             readings.line_stops _ (WritesBeginning join old new) was now remained before after s end given
-                (line_unwritten join old (stand between seen) new s.first (log_line (line_of now) end) still short lost.1 lost.2 lost.3),
+                (line_unwritten join old (stand between seen) new s.first next still short lost.1 lost.2 lost.3 lost.5 lost.4),
           )
+      line_stops new read_failed write_failed faults.Address h =
+          let none = subst (λ (l : List ℕ). address_in join l ≡ None) same h.0 in
+          subst (λ (n : Stand). ReadsToLine (JoinsLines join old n) (EndsRunBy join faults.Address) remained after) (sym h.2)
+          (readings.line_ends _ (JoinsLines join old (stand between seen)) was now remained before after s (EndsRunBy join faults.Address) (log_line (line_of now) end) given.next (short, none, h.1) still)
+      line_stops new read_failed write_failed faults.Length h = absurd h
+      line_stops new read_failed write_failed faults.Endless h = absurd h
 
     -- one that is too long
-    pub long_line_stops : (read_failed write_failed : Bool) → GivesNext now remained after s.first TooLong
-        → Stops join remained after read_failed write_failed old (stand between seen) faults.Length
-    long_line_stops read_failed write_failed given =
-        readings.line_ends _ (JoinsLines join old (stand between seen)) was now remained before after s (EndsRunBy faults.Length) given.line given.next given.long still
+    module _ (given : GivesNext now remained after s.first TooLong) where
+      pub long_line_stops : is_stopped join.bad ≡ true → (read_failed write_failed : Bool) → Stops join remained after read_failed write_failed old (stand between seen) faults.Length
+      long_line_stops stops read_failed write_failed =
+          readings.line_ends _ (JoinsLines join old (stand between seen)) was now remained before after s (EndsRunBy join faults.Length) given.line given.next (given.long, stops) still
+
+      pub long_line_passed : is_stopped join.bad ≡ false → hurries_of now ≡ false → (among : LogStats) → among ≡ with_long seen → ReadsSoFar (JoinsLines join old (stand between among)) now remained after
+      long_line_passed goes stays among adds = record {
+        first = s.first ++ given.line ∷ [];
+        hands = given.hands stays;
+        is_done = long_more join old (stand between seen) (stand between among) s.first given.line still given.long goes (puts_nothing between.holds between.waits) adds;
+      }
 
     -- none
     pub log_ends : GivesNext now remained after s.first End → Ends join remained after old (stand between seen)
@@ -168,6 +195,6 @@ module _ {W : Type 0} (join : Join) (was now : LogReader) (remained before after
   pub breaks : (read_failed : Bool) (fault : LogFault) → Breaks remained after read_failed mid between s.first fault
       → Stops join remained after read_failed between.failed old (stand between seen) fault
   breaks read_failed fault h =
-      readings.breaks _ (JoinsLines join old (stand between seen)) was now remained before after s EndsRunBy (WritesBeginning join old (stand between seen)) mid between
+      readings.breaks _ (JoinsLines join old (stand between seen)) was now remained before after s (EndsRunBy join) (WritesBeginning join old (stand between seen)) mid between
       (λ put. lines_still join old mid between seen s.first put s.is_done) (λ took. lines_unwritten join old mid between seen s.first took s.is_done)
       read_failed fault h

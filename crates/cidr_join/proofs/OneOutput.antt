@@ -9,7 +9,7 @@ use Rattle.ipnetwork.specs.declared.ip_network.IpNetwork.TheVariants as networks
 use Rattle.ipnetwork_family.specs.Network.{Network, HostBitsAreZero}
 use Rattle.ipnetwork_table.specs.Laws.{BlocksOfAnyWidthThatMeet}
 use Rattle.ipnetwork_table.specs.Table.{IsLongest, NoneHolds}
-use Rattle.cidr_join.specs.Joins.{FindsBy, Finds, output_of, Joins}
+use Rattle.cidr_join.specs.Joins.{FindsBy, Finds, shown_in, Joins}
 use Rattle.cidr_join.specs.Laws.{LogsHaveOneOutput}
 use Rattle.program.specs.LogLines.{LogLine, log_lines}
 use Rattle.cidr_join.specs.Routes.{Values, IsLongestRoute, NoRouteHolds}
@@ -96,7 +96,7 @@ one_of_lines meet join [] a b p q = p ∙ sym q
 one_of_lines meet join (line ∷ lines) a b p q =
     let same : p.0 ≡ q.0 = one_found meet join _ p.0 q.0 p.3 q.3 in
     let others = one_of_lines meet join lines p.1 q.1 p.4 q.4 in
-    p.5 ∙ ap (λ (f : Found). output_of join f line ++ p.1) same ∙ ap (λ t. output_of join q.0 line ++ t) others ∙ sym q.5
+    p.5 ∙ ap (λ (f : Found). shown_in join f line ++ p.1) same ∙ ap (λ t. shown_in join q.0 line ++ t) others ∙ sym q.5
 
 pub one_output : BlocksOfAnyWidthThatMeet → LogsHaveOneOutput
 one_output meet join log a b p q = one_of_lines meet join (log_lines log) a b p q

@@ -5,24 +5,24 @@ use Rattle.std.specs.List.{slice_split}
 use Rattle.std.specs.String.{string_bytes}
 use Rattle.std.specs.Io.KnownBytes.{Appends}
 use Rattle.lines.specs.Outputs.{Written, AppendsBeginning, FailsIn}
-use Rattle.program.proofs.Counts.{counts_from_none}
 use Rattle.program.proofs.LogNames.{some_first, names_apart, names_behind}
 use Rattle.program.proofs.LogStops.{told_log, written_behind, failed_behind, wrote_behind, wrote_same}
-use Rattle.program.proofs.Reported.{tells_more, tells_same}
+use Rattle.program.proofs.Reported.{tells_more, tells_nothing, tells_same}
 use Rattle.program.specs.Endings.{Ending, ending, Refuses, HasTold, HasWritten, status_of, end_text}
 use Rattle.program.specs.LogFaults.{log_fault_text, IfWrite, Wrote, HandsOn, StopsBy}
 use Rattle.program.specs.Messages.{Reports}
 use Rattle.lists.specs.Bytes.{IsAllOf, BytesStop}
 use Rattle.lists.specs.KnownLists.{KnownLists}
 use Rattle.lists.specs.declared.bytes.BytesFault.{BytesFault}
+use Rattle.cidr_join.specs.Addressed.{seen_of, seen_by}
 use Rattle.cidr_join.specs.Joins.{Joins}
 use Rattle.program.specs.LogLines.{LogLine}
 use Rattle.cidr_join.specs.Logs.{EndsRunBy}
 use Rattle.program.specs.Logs.{HaltsBy}
 use Rattle.cidr_join.specs.Routes.{Values, no_networks}
 use Rattle.cidr_join.specs.Runs.{StopsAtLog, JoinsAll, EndsLogs, EndsAsked, EndsFinding, EndsGrouping, EndsJoining, EndsFiles, answers_of, join_of, list_name, lengths_of}
-use Rattle.cidr_join.specs.TallyRuns.{EndsTally}
-use Rattle.cidr_join.specs.Stands.{stand}
+use Rattle.cidr_join.specs.TallyRuns.{EndsTally, status_by}
+use Rattle.cidr_join.specs.Stands.{stand, begun}
 use Rattle.cidr_join.specs.Stops.{JoinsLines, WritesBeginning}
 use Rattle.cidr_join.specs.Takes.{TakesLines}
 use Rattle.cidr_join.specs.Reported.{bytes_fault_text}
@@ -37,38 +37,69 @@ use Rattle.program.specs.declared.log_fault.LogFault.{LogFault}
 use Rattle.program.specs.declared.log_fault.LogFault.TheVariants as faults
 use Rattle.cidr_join.specs.declared.routes.Networks.{Networks}
 use Rattle.cidr_join.specs.declared.routes.Routes.{Routes}
-use Rattle.cidr_join.specs.declared.log_stats.LogStats.{LogStats}
+use Rattle.log_programs.specs.LogStats.{nothing}
+use Rattle.log_programs.specs.Seen.{seen_text}
+use Rattle.log_programs.specs.declared.log_stats.LogStats.{LogStats}
+use Rattle.log_programs.specs.declared.without_address.WithoutAddress.{WithoutAddress}
+use Rattle.log_programs.specs.declared.without_address.WithoutAddress.TheVariants as without
 use Rattle.cidr_join.proofs.LogsInTurn.{logs_both}
 use Rattle.cidr_join.proofs.TallyRows.{written_all, failed_all, ends_with}
 
 -- ---- a log that stops
 
-module _ {W E : Type 0} (join : Join) (known : KnownLists) (name : List ℕ) (end : Ending W E) (two : end.status ≡ 2) (mid : Written W) (old new : LogStats) (zero : old.lines ≡ 0) (lines : List LogLine) where
+-- of no lines nothing is told
+pub nothing_told : {E : Type 0} (join : Join) (name : List ℕ) (errors : Written E) → Reports errors errors (seen_by join name nothing)
+nothing_told join name errors = tells_same errors errors [] (seen_by join name nothing) (sym (none join.bad)) (tells_nothing errors) where
+  none : (bad : WithoutAddress) → seen_text (codes "cidr_join") name bad nothing ≡ []
+  none without.Unsaid = refl
+  none without.Drop = refl
+  none without.Keep = refl
+  none without.Stop = refl
+  none without.Report = refl
+
+module _ {W E : Type 0} (join : Join) (known : KnownLists) (name : List ℕ) (end : Ending W E) (two : end.status ≡ 2) (mid : Written W) (between : Written E) (old new : LogStats) (lines : List LogLine)
+    (tells : Reports end.errors between (seen_by join name new)) where
   -- the first lines of a log were joined, and then it stopped
-  at_log : (fault : LogFault) (added : List ℕ) → Joins join lines added → HaltsBy EndsRunBy known name lines fault → Wrote fault end ([] ++ added)
-      → HasTold end (log_fault_text name (length lines) fault) → StopsAtLog join known (name ∷ []) end
-  at_log fault added joins halts wrote told =
-      record { before = []; name = name; behind = []; output = []; texts = []; lines = lines; added = added; fault = fault; logs = refl; joins = (refl, refl); first = joins; halts = halts; wrote = wrote; told = told; status = two }
+  at_log : (fault : LogFault) (added : List ℕ) → Joins join lines added → new ≡ seen_of join lines → HaltsBy (EndsRunBy join) known name lines fault → Wrote fault end ([] ++ added)
+      → Reports between end.errors_after (log_fault_text name new.lines fault) → StopsAtLog join known (name ∷ []) end
+  at_log fault added joins seen halts wrote told = record {
+    before = [];
+    name = name;
+    behind = [];
+    output = [];
+    texts = [];
+    missed = false;
+    lines = lines;
+    added = added;
+    fault = fault;
+    logs = refl;
+    joins = (refl, refl, refl);
+    first = joins;
+    halts = halts;
+    wrote = wrote;
+    told = tells_same end.errors end.errors_after _ _ (ap (λ (s : LogStats). seen_by join name s ++ log_fault_text name (length lines) fault) seen)
+        (tells_more end.errors between end.errors_after (seen_by join name new) (log_fault_text name (length lines) fault) tells
+        (tells_same between end.errors_after _ _ (told_log name new.lines (length lines) fault (ap (λ (s : LogStats). s.lines) seen)) told));
+    status = two;
+  }
 
   -- their output was put, and then what waited was written or not
-  handed : (fault : LogFault) → HaltsBy EndsRunBy known name lines fault → ((text : List ℕ) → HasWritten end text → Wrote fault end text)
-      → JoinsLines join (stand end.output old) (stand mid new) lines → HandsOn name new.lines fault (record end { output = mid }) → StopsAtLog join known (name ∷ []) end
-  handed fault halts wrote d (inl h) =
-      at_log fault d.added d.joins halts (wrote ([] ++ d.added) (written_behind end mid d.added d.goes.0 h.0))
-      (tells_same end.errors end.errors_after _ _ (told_log name new.lines (length lines) fault (counts_from_none old.lines new.lines _ zero d.goes.1.0)) h.1)
+  handed : (fault : LogFault) → HaltsBy (EndsRunBy join) known name lines fault → ((text : List ℕ) → HasWritten end text → Wrote fault end text)
+      → JoinsLines join (begun (stand end.output old)) (stand mid new) lines → HandsOn name new.lines fault (record end { output = mid; errors = between }) → StopsAtLog join known (name ∷ []) end
+  handed fault halts wrote d (inl h) = at_log fault d.added d.joins d.seen halts (wrote ([] ++ d.added) (written_behind end mid d.added d.puts h.0)) h.1
   handed fault halts wrote d (inr h) =
-      at_log faults.Write d.added d.joins (some_first EndsRunBy known name lines fault halts) (failed_behind end mid d.added d.goes.0 h.0) h.1
+      at_log faults.Write d.added d.joins d.seen (some_first (EndsRunBy join) known name lines fault halts) (failed_behind end mid d.added d.puts h.0) h.1
 
   -- the writer had failed
-  had_failed : HaltsBy EndsRunBy known name lines faults.Write → IsTrue mid.failed × WritesBeginning join (stand end.output old) (stand mid new) lines
-      → (end.output_after ≡ mid) × HasTold (record end { output = mid }) (codes "write error\n") → StopsAtLog join known (name ∷ []) end
+  had_failed : HaltsBy (EndsRunBy join) known name lines faults.Write → IsTrue mid.failed × WritesBeginning join (begun (stand end.output old)) (stand mid new) lines
+      → (end.output_after ≡ mid) × HasTold (record end { output = mid; errors = between }) (codes "write error\n") → StopsAtLog join known (name ∷ []) end
   had_failed halts d stops =
-      at_log faults.Write d.1.added d.1.joins halts
+      at_log faults.Write d.1.added d.1.joins d.1.seen halts
       (subst (λ (o : Written W). (o.failed ≡ true) × FailsIn end.output o d.1.added) (sym stops.0) (d.0, d.1.beginning)) stops.1
 
-  pub name_stops : (fault : LogFault) → HaltsBy EndsRunBy known name lines fault
-      → IfWrite fault (IsTrue mid.failed × WritesBeginning join (stand end.output old) (stand mid new) lines) (JoinsLines join (stand end.output old) (stand mid new) lines)
-      → StopsBy name new.lines fault (record end { output = mid }) → StopsAtLog join known (name ∷ []) end
+  pub name_stops : (fault : LogFault) → HaltsBy (EndsRunBy join) known name lines fault
+      → IfWrite fault (IsTrue mid.failed × WritesBeginning join (begun (stand end.output old)) (stand mid new) lines) (JoinsLines join (begun (stand end.output old)) (stand mid new) lines)
+      → StopsBy name new.lines fault (record end { output = mid; errors = between }) → StopsAtLog join known (name ∷ []) end
   name_stops (faults.Open cause) halts d stops = handed (faults.Open cause) halts (λ text h. h) d stops
   name_stops faults.Read halts d stops = handed faults.Read halts (λ text h. h) d stops
   name_stops faults.Write halts d stops = had_failed halts d stops
@@ -80,12 +111,12 @@ module _ {W E : Type 0} (join : Join) (known : KnownLists) (name : List ℕ) (en
 
 module _ {Z W E : Type 0} (join : Join) (known : KnownLists) (files : List (String Z)) where
   -- the one at a place stopped, behind others that were joined
-  pub one_stops : (i : ℕ) (name : List ℕ) (output mid after : Written W) (errors between told : Written E)
+  pub one_stops : (i : ℕ) (name : List ℕ) (missed : Bool) (output mid after : Written W) (errors between told : Written E)
       → map string_bytes (take (i + 1) files) ≡ map string_bytes (take i files) ++ name ∷ []
-      → JoinsNames join known (map string_bytes (take i files)) output mid errors between
+      → JoinsNames join known (map string_bytes (take i files)) missed output mid errors between
       → StopsAtLog join known (name ∷ []) (ending mid after between told 2)
       → StopsAtLog join known (map string_bytes files) (ending output after errors told 2)
-  one_stops i name output mid after errors between told more f s =
+  one_stops i name missed output mid after errors between told more f s =
       let end : Ending W E = ending output after errors told 2 in
       let done = map string_bytes (take i files) in
       let rest = map string_bytes (drop (i + 1) files) in
@@ -95,32 +126,35 @@ module _ {Z W E : Type 0} (join : Join) (known : KnownLists) (files : List (Stri
         behind = s.behind ++ rest;
         output = f.all ++ s.output;
         texts = f.text ++ s.texts;
+        missed = missed || s.missed;
         lines = s.lines;
         added = s.added;
         fault = s.fault;
         logs = names_behind done (name ∷ []) rest (map string_bytes files) s.before s.behind s.name (names_apart files i name more) s.logs;
-        joins = logs_both (Joins join) join known done s.before f.all s.output f.text s.texts f.reads s.joins;
+        joins = logs_both (Joins join) join known done s.before f.all s.output f.text s.texts missed s.missed f.reads s.joins;
         first = s.first;
         halts = s.halts;
         wrote = wrote_same s.fault end _ _ (sym (append_assoc f.all s.output s.added)) (wrote_behind s.fault end mid between f.all (s.output ++ s.added) f.is_done s.wrote);
-        told = tells_same errors told _ _ (sym (append_assoc f.text s.texts (log_fault_text s.name (length s.lines) s.fault)))
-            (tells_more errors between told f.text (s.texts ++ log_fault_text s.name (length s.lines) s.fault) f.tells s.told);
+        told =
+            let stop = seen_by join s.name (seen_of join s.lines) ++ log_fault_text s.name (length s.lines) s.fault in
+            tells_same errors told _ _ (sym (append_assoc f.text s.texts stop)) (tells_more errors between told f.text (s.texts ++ stop) f.tells s.told);
         status = s.status;
       }
 
 -- all were joined
-pub all_by : {W E T F : Type 0} (join : Join) (known : KnownLists) (names : List (List ℕ))
+pub all_by : {W E T F : Type 0} (join : Join) (known : KnownLists) (names : List (List ℕ)) (missed : Bool)
     (end : Ending W E) (mid : Written W) (between : Written E) (written : Result T F)
-    → JoinsNames join known names end.output mid end.errors between
+    → JoinsNames join known names missed end.output mid end.errors between
     → OnOk written (Appends mid.holds end.output_after.holds mid.waits)
     → OnErr written (AppendsBeginning mid.holds end.output_after.holds mid.waits)
-    → end.output_after.failed ≡ (mid.failed || is_err written) → end.status ≡ status_of written 0
+    → end.output_after.failed ≡ (mid.failed || is_err written) → end.status ≡ status_of written (status_by missed)
     → Reports between end.errors_after (end_text written) → JoinsAll join known names end
-all_by {W} join known names end mid between written f ok err failed two tells = record {
+all_by {W} join known names missed end mid between written f ok err failed two tells = record {
   output = f.all;
   texts = f.text;
+  missed = missed;
   joins = f.reads;
-  ends = ends_with written end f.all mid.failed between f.text (written_all written end.output mid end.output_after f.all f.is_done ok)
+  ends = ends_with written end f.all mid.failed between f.text missed (written_all written end.output mid end.output_after f.all f.is_done ok)
       (failed_all written end.output mid end.output_after f.all f.is_done err) failed two f.tells tells;
 }
 

@@ -4,23 +4,23 @@ use Rattle.std.specs.List.{count_by}
 use Rattle.std.specs.Str.{bytes_eq}
 use Rattle.std.proofs.lemmas.List.Sums.{sum_by-append}
 use Rattle.ipnetwork_table.specs.Laws.{BlocksOfAnyWidthThatMeet}
-use Rattle.cidr_join.specs.Joins.{mark_of}
+use Rattle.cidr_join.specs.Joins.{asked_in}
 use Rattle.cidr_join.specs.Laws.{TalliesOfPartsAddUp}
 use Rattle.program.specs.LogLines.{LogLine, log_lines}
-use Rattle.cidr_join.specs.TallyRuns.{Marks}
+use Rattle.cidr_join.specs.TallyRuns.{Marks, counted_for}
 use Rattle.cidr_join.specs.declared.found.Found.{Found}
 use Rattle.cidr_join.specs.declared.join.Join.{Join}
 use Rattle.program.proofs.LogLines.{lines_two}
 use Rattle.cidr_join.proofs.OneOutput.{one_found}
 use Rattle.cidr_join.proofs.TallyLines.{marks_both}
 
--- before lines stands one text each
+-- for lines the same is counted
 one_marks : BlocksOfAnyWidthThatMeet → (join : Join) (lines : List LogLine) (a b : List (List ℕ)) → Marks join lines a → Marks join lines b → a ≡ b
 one_marks meet join [] a b p q = p ∙ sym q
 one_marks meet join (line ∷ lines) a b p q =
     let same : p.0 ≡ q.0 = one_found meet join _ p.0 q.0 p.3 q.3 in
     let others = one_marks meet join lines p.1 q.1 p.4 q.4 in
-    p.5 ∙ ap (λ (f : Found). mark_of f ∷ p.1) same ∙ ap (λ ms. mark_of q.0 ∷ ms) others ∙ sym q.5
+    p.5 ∙ ap (λ (f : Found). counted_for join (asked_in join line) f ++ p.1) same ∙ ap (λ ms. counted_for join (asked_in join line) q.0 ++ ms) others ∙ sym q.5
 
 pub parts_add_up : BlocksOfAnyWidthThatMeet → TalliesOfPartsAddUp
 parts_add_up meet join first second a b whole p q r text =

@@ -8,7 +8,7 @@ use Rattle.lines.proofs.Putting.{begins_within, begins_after_puts}
 use Rattle.program.specs.Endings.{Ending, status_of, end_text}
 use Rattle.program.specs.Messages.{Reports}
 use Rattle.cidr_join.specs.Tallies.{Row, row_text, rows_text}
-use Rattle.cidr_join.specs.TallyRuns.{EndsWith}
+use Rattle.cidr_join.specs.TallyRuns.{EndsWith, status_by}
 use Rattle.program.proofs.Reported.{tells_more, tells_same}
 use Rattle.program.proofs.LogReading.{failed_now}
 use Rattle.program.proofs.LogStops.{puts_then_all}
@@ -63,10 +63,10 @@ failed_all (Err fault) old mid new text p h =
     subst (λ (t : List ℕ). FailsIn old new t) (append-nil text) (begins_after_puts _ _ _ _ _ text [] p (subst (AppendsBeginning mid.holds new.holds) (sym (append-nil mid.waits)) h))
 
 -- how a run ends that writes a text
-pub ends_with : {W E T F : Type 0} (written : Result T F) (end : Ending W E) (text : List ℕ) (was : Bool) (between : Written E) (told : List ℕ) → OnOk written (Writes end.output end.output_after text)
-    → OnErr written (FailsIn end.output end.output_after text) → end.output_after.failed ≡ (was || is_err written) → end.status ≡ status_of written 0
-    → Reports end.errors between told → Reports between end.errors_after (end_text written) → EndsWith text told end
-ends_with (Ok done) end text was between told ok err failed two before tells =
+pub ends_with : {W E T F : Type 0} (written : Result T F) (end : Ending W E) (text : List ℕ) (was : Bool) (between : Written E) (told : List ℕ) (missed : Bool) → OnOk written (Writes end.output end.output_after text)
+    → OnErr written (FailsIn end.output end.output_after text) → end.output_after.failed ≡ (was || is_err written) → end.status ≡ status_of written (status_by missed)
+    → Reports end.errors between told → Reports between end.errors_after (end_text written) → EndsWith text told missed end
+ends_with (Ok done) end text was between told missed ok err failed two before tells =
     inl (ok, tells_same end.errors end.errors_after (told ++ []) told (append-nil told) (tells_more end.errors between end.errors_after told [] before tells), two)
-ends_with (Err fault) end text was between told ok err failed two before tells =
+ends_with (Err fault) end text was between told missed ok err failed two before tells =
     inr ((failed_now end.output_after.failed was failed, err), tells_more end.errors between end.errors_after told (codes "write error\n") before tells, two)

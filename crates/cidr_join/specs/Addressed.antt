@@ -1,9 +1,11 @@
--- Logs in which no line has an address, and what is reported of them.
-use Rattle.std.specs.Prelude.{ℕ, Bool, List, length, codes}
-use Rattle.std.specs.List.{list_any}
+-- What is seen of the lines of logs, and what is reported of it.
+use Rattle.std.specs.Prelude.{ℕ, Bool, List, ◌++◌, codes}
 use Rattle.std.specs.Option.{is_some}
-use Rattle.program.specs.LogLines.{LogLine, content}
+use Rattle.program.specs.LogLines.{LogLine}
 use Rattle.log_programs.specs.Lacking.{lacking_told}
+use Rattle.log_programs.specs.LogStats.{stats_of}
+use Rattle.log_programs.specs.Seen.{seen_text}
+use Rattle.log_programs.specs.declared.log_stats.LogStats.{LogStats}
 use Rattle.cidr_join.specs.Joins.{address_in}
 use Rattle.cidr_join.specs.declared.join.Join.{Join}
 use Rattle.line_addresses.specs.declared.area.Area.{Area}
@@ -12,13 +14,17 @@ use Rattle.line_addresses.specs.declared.area.Area.{Area}
 abbrev pub is_addressed : Join → List ℕ → Bool
 is_addressed join line = is_some (address_in join line)
 
--- whether one of these lines has one
-abbrev pub any_addressed : Join → List LogLine → Bool
-any_addressed join lines = list_any (λ line. is_addressed join (content line)) lines
+-- what is seen of these lines
+abbrev pub seen_of : Join → List LogLine → LogStats
+seen_of join lines = stats_of (is_addressed join) lines
 
 -- what is reported of a log of this name with lines, as many as this, if none has one
 abbrev pub lacking_by : Area → List ℕ → ℕ → Bool → List ℕ
 lacking_by area name lines addressed = lacking_told (codes "cidr_join") area name lines addressed
 
-abbrev pub lacking_text : Join → List ℕ → List LogLine → List ℕ
-lacking_text join name lines = lacking_by join.area name (length lines) (any_addressed join lines)
+-- what is reported of one of which this was seen, and, if its end was reached, that behind it
+abbrev pub seen_by : Join → List ℕ → LogStats → List ℕ
+seen_by join name seen = seen_text (codes "cidr_join") name join.bad seen
+
+abbrev pub ended_by : Join → List ℕ → LogStats → List ℕ
+ended_by join name seen = seen_by join name seen ++ lacking_by join.area name seen.lines seen.is_addressed

@@ -1,11 +1,14 @@
 -- What is printed of the lines of a log.
-use Rattle.std.specs.Prelude.{◌≡◌, ℕ, ◌≤◌, Bool, List, [], ◌∷◌, ◌++◌, Option, None, Some, length, drop, codes}
+use Rattle.std.specs.Prelude.{◌≡◌, ℕ, ◌||◌, Bool, false, List, [], ◌∷◌, ◌++◌, Option, None, Some, length, drop, codes}
 use Rattle.std.specs.Prelude.{option_map, if◌then◌else◌}
 use Rattle.ipnetwork_addr.specs.declared.ip.IpAddr.{IpAddr}
 use Rattle.ipnetwork.specs.IpNetworkText.{ip_network_text}
 use Rattle.ipnetwork.specs.declared.ip_network.IpNetwork.{IpNetwork}
 use Rattle.line_addresses.specs.Mapped.{unmapped}
 use Rattle.log_programs.specs.Finding.{found_in}
+use Rattle.log_programs.specs.LogStats.{is_long}
+use Rattle.log_programs.specs.WithoutAddress.{is_dropped, is_stopped}
+use Rattle.log_programs.specs.declared.without_address.WithoutAddress.{WithoutAddress}
 use Rattle.program.specs.LogLines.{LogLine, content, printed}
 use Rattle.cidr_join.specs.Groups.{block_in}
 use Rattle.cidr_join.specs.Routes.{IsLongestRoute, NoRouteHolds}
@@ -56,9 +59,27 @@ shown_of last mark line text = if last then line ++ 9 ∷ (mark ++ drop (length 
 abbrev pub output_of : Join → Found → LogLine → List ℕ
 output_of join found line = shown_of join.last (mark_of found) (content line) (printed line)
 
--- this is written for these lines, each of which has at most 1,048,576 bytes without its end
+-- the address of a line of a log: one of more than 1,048,576 bytes, not counting its end, has none
+abbrev pub asked_in : Join → LogLine → Option IpAddr
+asked_in join line = if is_long line then None else address_in join (content line)
+
+-- a line without an address ends the run, or is left out, if the option says so
+abbrev pub is_refused : WithoutAddress → Option IpAddr → Bool
+is_refused bad None = is_stopped bad
+is_refused bad (Some address) = false
+
+abbrev pub is_left_out : WithoutAddress → Option IpAddr → Bool
+is_left_out bad None = is_dropped bad
+is_left_out bad (Some address) = false
+
+-- what is written for a line of which this was found: nothing, if it is left out or too long
+abbrev pub shown_in : Join → Found → LogLine → List ℕ
+shown_in join found line = if is_long line || is_left_out join.bad (asked_in join line) then []
+    else output_of join found line
+
+-- this is written for these lines, none of which ends the run
 abbrev pub Joins : Join → List LogLine → List ℕ → Type 0
 Joins join [] output = output ≡ []
-Joins join (line ∷ lines) output = (found : Found) × (others : List ℕ) × (length (content line) ≤ 1048576)
-    × Finds join (address_in join (content line)) found × Joins join lines others
-    × (output ≡ output_of join found line ++ others)
+Joins join (line ∷ lines) output = (found : Found) × (others : List ℕ)
+    × (is_refused join.bad (asked_in join line) ≡ false) × Finds join (asked_in join line) found
+    × Joins join lines others × (output ≡ shown_in join found line ++ others)

@@ -1,11 +1,12 @@
 -- The options of the command line.
-use Rattle.std.specs.Prelude.{ℕ, false, List, [], ◌∷◌, ◌++◌, codes}
+use Rattle.std.specs.Prelude.{ℕ, true, false, List, [], ◌∷◌, ◌++◌, codes}
 use Rattle.log_programs.specs.Rows as rows
 use Rattle.options.specs.Table.{Entry, IsTable, long_flag, long}
 use Rattle.options.specs.declared.table.Kind.TheVariants as kinds
 use Rattle.options.specs.declared.table.Table.{Table}
 
--- the rows of the options that this program alone has: `--last`, `--last-wins`, `--network`, `--tally` and `--group`
+-- the rows of the options that this program alone has: `--last`, `--last-wins`, `--network`, `--tally`, `--group` and
+-- `--bad`
 abbrev pub last : ℕ
 last = 9
 
@@ -21,12 +22,16 @@ tally = 12
 abbrev pub group : ℕ
 group = 13
 
+abbrev pub bad : ℕ
+bad = 14
+
 -- the options, in the order of their rows
 abbrev pub entries : List Entry
 entries = rows.shared
     ++ long_flag (codes "--last") ∷ long_flag (codes "--last-wins") ∷ long_flag (codes "--network")
     ∷ long_flag (codes "--tally")
-    ∷ long (codes "--group") kinds.Lengths false (codes "is not N,M with N up to 32 and M up to 128") ∷ []
+    ∷ long (codes "--group") kinds.Lengths false (codes "is not N,M with N up to 32 and M up to 128")
+    ∷ long (codes "--bad") kinds.Rule true (codes "is not drop, keep, stop or report") ∷ []
 
 -- which of them do not go together: those that say where addresses are looked for, `--tally` with `--last`, a second
 -- `-f`, and `--group` with `-f` or what says something of its list. Of several such pairs the first is told

@@ -7,6 +7,7 @@ use Rattle.lists.specs.KnownLists.{KnownLists}
 use Rattle.program.specs.Endings.{Ending, Refuses, HasTold}
 use Rattle.log_programs.specs.Areas.{area_of}
 use Rattle.log_programs.specs.Rows as rows
+use Rattle.log_programs.specs.WithoutAddress.{bad_in}
 use Rattle.options.specs.Given.{is_given, value_of, inputs_of}
 use Rattle.options.specs.Runs as runs
 use Rattle.options.specs.Values.{lengths_in}
@@ -14,6 +15,7 @@ use Rattle.options.specs.declared.items.Item.{Item}
 use Rattle.options.specs.declared.table.Table.{Table}
 use Rattle.cidr_join.specs.Options as own
 use Rattle.cidr_join.specs.Options.{IsOptions}
+use Rattle.cidr_join.specs.Addressed.{seen_of, seen_by}
 use Rattle.cidr_join.specs.Joins.{Joins}
 use Rattle.program.specs.LogLines.{LogLine}
 use Rattle.cidr_join.specs.Logs.{JoinsLogs, EndsRunBy}
@@ -34,7 +36,8 @@ use Rattle.cidr_join.specs.declared.routes.Networks.{Networks}
 use Rattle.cidr_join.specs.declared.routes.Routes.{Routes}
 
 -- a log was not joined to its end, and ended the run: those before it were joined, and its first lines; their outputs
--- were written, the cause was reported after what there is to report of those before it, and the status is 2
+-- were written, the cause was reported after what there is to report of those before it and of what was seen of these
+-- lines, and the status is 2
 pub record StopsAtLog {W E : Type 0} (join : Join) (known : KnownLists) (names : List (List ℕ))
     (end : Ending W E) : Type 0 where
   pub before : List (List ℕ)
@@ -42,15 +45,16 @@ pub record StopsAtLog {W E : Type 0} (join : Join) (known : KnownLists) (names :
   pub behind : List (List ℕ)
   pub output : List ℕ
   pub texts : List ℕ
+  pub missed : Bool
   pub lines : List LogLine
   pub added : List ℕ
   pub fault : LogFault
   pub logs : names ≡ before ++ name ∷ behind
-  pub joins : JoinsLogs join known before output texts
+  pub joins : JoinsLogs join known before output texts missed
   pub first : Joins join lines added
-  pub halts : HaltsBy EndsRunBy known name lines fault
+  pub halts : HaltsBy (EndsRunBy join) known name lines fault
   pub wrote : Wrote fault end (output ++ added)
-  pub told : HasTold end (texts ++ log_fault_text name (length lines) fault)
+  pub told : HasTold end (texts ++ (seen_by join name (seen_of join lines) ++ log_fault_text name (length lines) fault))
   pub status : end.status ≡ 2
 
 -- all logs were joined to their ends
@@ -58,10 +62,11 @@ pub record JoinsAll {W E : Type 0} (join : Join) (known : KnownLists) (names : L
     (end : Ending W E) : Type 0 where
   pub output : List ℕ
   pub texts : List ℕ
-  pub joins : JoinsLogs join known names output texts
-  -- their output was written, what there is to report of them was reported, and the status is 0; or the writer failed,
-  -- and that was reported after it
-  pub ends : EndsWith output texts end
+  pub missed : Bool
+  pub joins : JoinsLogs join known names output texts missed
+  -- their output was written, what there is to report of them was reported, and the status is 0, or 2 if a line is
+  -- missed; or the writer failed, and that was reported after it
+  pub ends : EndsWith output texts missed end
 
 -- the logs were joined, in turn
 abbrev pub EndsLogs : {W E : Type 0} → Join → KnownLists → List (List ℕ) → Ending W E → Type 0
@@ -86,6 +91,7 @@ join_of items by = record {
   area = area_of items;
   mapped = is_given items rows.mapped;
   last = is_given items own.last;
+  bad = bad_in (value_of items own.bad);
 }
 
 -- what it asks for of the logs: that what the list gives their lines is counted, or that they are joined to the list

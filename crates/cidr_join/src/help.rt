@@ -30,6 +30,12 @@ Prints each line of logs behind the value that a list gives its address.
     --group N,M     no list: before a line print the block of length N that has its address, or of
                     length M if that is of IPv6: --group 24,64. Not with -f, --network or
                     --last-wins
+    --bad drop      a line without an address is not printed and not counted, and nothing is told
+                    of lines that are too long
+    --bad keep      it is printed behind a minus sign (so it is without this option)
+    --bad stop      it ends the program, and so does one that is too long
+    --bad report    it is printed behind a minus sign; told is of each FILE how many there are, and
+                    how many are too long
     --quiet         as the first word: do not show on a terminal how much was read
     --help          print this text
     --version       print the version
@@ -37,14 +43,15 @@ Prints each line of logs behind the value that a list gives its address.
 Before each line the program prints the value of the longest network of the list that has the
 address of the line, and a tab; a minus sign if no network has it, or the line has no address.
 Options may stand behind FILEs; what follows a -- are FILEs. Options of one letter may be one word,
-with the value of the last behind it: -wk1, -flist. A FILE is a name, or - for standard input, as is
-no FILE at all. A line is printed as it was; a last line without a line feed gets one. A line has at
-most 1,048,576 bytes; a longer one ends the program. A line of the list has at most 1,024 bytes, and
-the list 1,073,741,824. A FILE with lines of which none has an address where it is looked for is
+with the value of the last behind it: -wk1, -flist; and so may --bad=keep. A FILE is a name, or -
+for standard input, as is no FILE at all. A line is printed as it was; a last line without a line
+feed gets one. A line has at most 1,048,576 bytes; a longer one is not printed and counts as one
+without an address, and the first of a FILE is reported. A line of the list has at most 1,024 bytes,
+and the list 1,073,741,824. A FILE with lines of which none has an address where it is looked for is
 reported.
 
-Status: 0, or 2 on wrong usage, a refused line, a file that cannot be read, a failed write or out
-of memory.
+Status: 0, or 2 on wrong usage, a refused line, one that is too long without --bad drop, a file that
+cannot be read, a failed write or out of memory.
 
 Examples:
     cidr_join -f teams.txt access.log
@@ -63,4 +70,5 @@ pub(crate) const PROGRAM: &str = "cidr_join";
 /// How the program is used: what is reported for arguments that are not a command, after what is wrong with them.
 pub(crate) const USAGE: &str =
     "usage: cidr_join [-a | --after TEXT | [-k N] [-d CHAR | -w]] [--mapped] \
-     [--last | --tally] (-f LIST [--network] [--last-wins] | --group N,M) [FILE..]; try --help\n";
+     [--bad drop|keep|stop|report] [--last | --tally] \
+     (-f LIST [--network] [--last-wins] | --group N,M) [FILE..]; try --help\n";

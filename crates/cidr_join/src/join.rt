@@ -1,12 +1,13 @@
 //! What a line is to the list.
 ghost use Rattle.std.specs.Prelude.{◌≡◌, None, Some};
-ghost use Rattle.cidr_join.specs.Joins.{Finds, address_in};
+ghost use Rattle.cidr_join.specs.Joins.{Finds, address_in, is_left_out, is_refused};
 
 use crate::answers::Answers;
 use crate::found::Found;
 use ipnetwork::IpAddr;
 use line_addresses::{Area, unmapped};
 use log_programs::finding::found_in;
+use log_programs::without_address::WithoutAddress;
 
 /// What decides what is printed of a line.
 #[derive(Drop)]
@@ -18,6 +19,7 @@ pub struct Join<'a> {
     pub(crate) mapped: bool,
     /// Whether that stands behind the line, and not before it.
     pub(crate) last: bool,
+    pub(crate) bad: WithoutAddress,
 }
 
 impl<'a> Join<'a> {
@@ -28,6 +30,28 @@ impl<'a> Join<'a> {
         match address {
             Some(address) => self.answers.find(address),
             None => Found::Nothing,
+        }
+    }
+
+    /// Whether a line with this address, or without one, ends the run.
+    #[inline(always)]
+    pub(crate) fn refuses(&self, address: Option<IpAddr>) -> bool
+        ensures { result ≡ is_refused self.now.bad address }
+    {
+        match address {
+            Some(_) => false,
+            None => self.bad.is_stopped(),
+        }
+    }
+
+    /// Whether a line with this address, or without one, is left out.
+    #[inline(always)]
+    pub(crate) fn leaves_out(&self, address: Option<IpAddr>) -> bool
+        ensures { result ≡ is_left_out self.now.bad address }
+    {
+        match address {
+            Some(_) => false,
+            None => self.bad.is_dropped(),
         }
     }
 

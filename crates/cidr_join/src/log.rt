@@ -1,7 +1,7 @@
 //! Joins the lines of a log to a list.
 ghost use Rattle.std.specs.Prelude.{◌≡◌, ◌||◌, ◌≤◌, ◌++◌, length, OnOk, IfErr};
 ghost use Rattle.lines.specs.Watched.{device_of, has_failed};
-ghost use Rattle.cidr_join.specs.Stands.{stand};
+ghost use Rattle.cidr_join.specs.Stands.{stand, begun};
 ghost use Rattle.cidr_join.specs.Stops.{Ends, Stops};
 ghost use Rattle.cidr_join.specs.Private.Progress.{JoinsLine, LineStops};
 ghost use Rattle.log_programs.specs.LogEnds.{EndsOrStops};
@@ -9,19 +9,19 @@ ghost use Rattle.program.specs.LogFaults.{ended_by_write};
 ghost use Rattle.program.specs.LogLines.{feed_behind};
 
 use crate::join::Join;
-use crate::log_stats::LogStats;
 use crate::printing::print_line;
 use lines::line_end::LineEnd;
 use lines::output::Output;
 use lines::watched::Watched;
+use log_programs::log_stats::LogStats;
 use program::log_fault::LogFault;
 use program::log_reader::{LogReader, NextLogLine};
 use std::io::{Read, Write};
 
-/// Writes each line of a log with the value of its address, and counts it.
+/// Writes each line of a log with the value of its address, and counts what is seen of them, from the first on.
 ///
 /// What is written for the lines that a read completes is written before the next read. After a failed read nothing is
-/// written. A line that is too long ends the run even if its end was not read.
+/// written. If a line that is too long ends the run, it does so even if its end was not read.
 pub fn join_log<R: Read, W: Write>(
     join: &Join<'_>,
     buffer: &mut [u8],
@@ -33,9 +33,11 @@ pub fn join_log<R: Read, W: Write>(
     ensures { EndsOrStops (λ _. Ends join.now) (Stops join.now) result
         (R.remaining (device_of reader.old)) (R.remaining (device_of reader.new))
         (has_failed reader.old) (has_failed reader.new) output.old output.new
-        (stand output.old seen.old) (stand output.new seen.new) }
+        (begun (stand output.old seen.old)) (stand output.new seen.new) }
 {
-    let mut log = LogReader::new(buffer, true);
+    *seen = LogStats::new();
+    let stops = join.bad.is_stopped();
+    let mut log = LogReader::new(buffer, stops);
     'lines: loop {
         match log.next(reader, output) {
             Ok(NextLogLine::Line(end)) => {
@@ -45,7 +47,12 @@ pub fn join_log<R: Read, W: Write>(
                     return Err(fault);
                 }
             }
-            Ok(NextLogLine::TooLong) => return Err(LogFault::Length),
+            Ok(NextLogLine::TooLong) => {
+                if stops {
+                    return Err(LogFault::Length);
+                }
+                seen.add_long();
+            }
             Ok(NextLogLine::End) => return Ok(()),
             Err(fault) => return Err(fault),
         }
@@ -65,14 +72,18 @@ fn join_line<W: Write>(
     requires { length line.now ≤ length whole.now }
     ensures ok { OnOk result (JoinsLine join.now line.now (whole.now ++ feed_behind end)
         (stand output.old seen.old) (stand output.new seen.new)) }
-    ensures err { IfErr result (λ fault. (fault ≡ LogFault.Write)
-        × LineStops join.now line.now (whole.now ++ feed_behind end)
-        output.new.failed
-        (stand output.old seen.old) (stand output.new seen.new)) }
+    ensures err { IfErr result (LineStops join.now line.now (whole.now ++ feed_behind end)
+        output.new.failed (stand output.old seen.old) (stand output.new seen.new)) }
     ensures writer_failed { output.new.failed ≡ (output.old.failed || ended_by_write result) }
 {
     let address = join.address_in(line);
+    if join.refuses(address) {
+        return Err(LogFault::Address);
+    }
     seen.add(address.is_some());
+    if join.leaves_out(address) {
+        return Ok(());
+    }
     let found = join.find(address);
     match print_line(join, &found, line, whole, end, output) {
         Ok(()) => Ok(()),

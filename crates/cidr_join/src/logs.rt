@@ -1,21 +1,24 @@
 //! Joins the logs of a run in turn.
-ghost use Rattle.std.specs.Prelude.{◌≡◌, ◌≤◌, ◌∷◌, [], true, false, length, map};
+ghost use Rattle.std.specs.Prelude.{◌≤◌, ◌∷◌, [], length, map, MatchOption};
 ghost use Rattle.std.specs.String.{string_bytes};
 ghost use Rattle.program.specs.Endings.{ending};
 ghost use Rattle.cidr_join.specs.Runs.{StopsAtLog};
 ghost use Rattle.cidr_join.specs.Private.Runs.{JoinsNames};
 
+use crate::help::PROGRAM;
 use crate::join::Join;
 use crate::log::join_log;
-use crate::log_stats::LogStats;
+use crate::missing::either;
 use crate::telling::tell_unaddressed;
 use lines::output::Output;
 use lists::{OpenLists, open_list};
+use log_programs::log_stats::LogStats;
+use log_programs::telling::{is_missed, tell_seen};
 use program::log_fault::{LogFault, stop};
 use std::io::Write;
 
-/// Joins the logs of these names in their order, and returns whether all came to their ends. If not, the cause is
-/// reported. So is each log in which no line has an address.
+/// Joins the logs of these names in their order, and returns whether a line of one is missed. If one does not come to its
+/// end, the cause is reported, and there is no answer. What was seen of the lines is reported of each.
 pub(crate) fn join_logs<L: OpenLists, W: Write, E: Write>(
     join: &Join<'_>,
     lists: &L,
@@ -23,25 +26,26 @@ pub(crate) fn join_logs<L: OpenLists, W: Write, E: Write>(
     buffer: &mut [u8],
     output: &mut Output<'_, W>,
     errors: &mut Output<'_, E>,
-) -> bool
+) -> Option<bool>
     requires { 1048578 ≤ length buffer.old }
-    ensures all { result ≡ true → JoinsNames join.now (L.known lists.now) (map string_bytes files.now)
-        output.old output.new errors.old errors.new }
-    ensures stopped { result ≡ false
-        → StopsAtLog join.now (L.known lists.now) (map string_bytes files.now)
-        (ending output.old output.new errors.old errors.new 2) }
+    ensures { MatchOption result
+        (StopsAtLog join.now (L.known lists.now) (map string_bytes files.now)
+        (ending output.old output.new errors.old errors.new 2))
+        (λ missed. JoinsNames join.now (L.known lists.now) (map string_bytes files.now) missed
+        output.old output.new errors.old errors.new) }
 {
+    let mut missed = false;
     for file in files {
         let name = file.as_str();
-        if !join_one(join, lists, name, buffer, output, errors) {
-            return false;
-        }
+        let Some(more) = join_one(join, lists, name, buffer, output, errors) else {
+            return None;
+        };
+        missed = either(missed, more);
     }
-    true
+    Some(missed)
 }
 
-// Opens the log of this name and joins its lines, and returns whether it came to its end. If not,
-// the cause is reported, and else it is if no line has an address.
+// Opens the log of this name and joins its lines, and returns whether one is missed, as `join_logs` does.
 fn join_one<L: OpenLists, W: Write, E: Write>(
     join: &Join<'_>,
     lists: &L,
@@ -49,35 +53,33 @@ fn join_one<L: OpenLists, W: Write, E: Write>(
     buffer: &mut [u8],
     output: &mut Output<'_, W>,
     errors: &mut Output<'_, E>,
-) -> bool
+) -> Option<bool>
     requires { 1048578 ≤ length buffer.old }
-    ensures all { result ≡ true → JoinsNames join.now (L.known lists.now) (name.now ∷ [])
-        output.old output.new errors.old errors.new }
-    ensures stopped { result ≡ false
-        → StopsAtLog join.now (L.known lists.now) (name.now ∷ [])
-        (ending output.old output.new errors.old errors.new 2) }
+    ensures { MatchOption result
+        (StopsAtLog join.now (L.known lists.now) (name.now ∷ [])
+        (ending output.old output.new errors.old errors.new 2))
+        (λ missed. JoinsNames join.now (L.known lists.now) (name.now ∷ []) missed
+        output.old output.new errors.old errors.new) }
 {
     let mut log = match open_list(lists, name) {
         Ok(log) => log,
         Err(cause) => {
             stop(name, LogFault::Open(cause), 0, output, errors);
-            return false;
+            return None;
         }
     };
-    let mut seen = LogStats {
-        lines: 0,
-        is_addressed: false,
-    };
+    let mut seen = LogStats::new();
     let end = join_log(join, buffer, &mut log, output, &mut seen);
     lists.close(name, log);
+    tell_seen(PROGRAM, name, join.bad, &seen, errors);
     match end {
         Ok(()) => {
             tell_unaddressed(join, name, &seen, errors);
-            true
+            Some(is_missed(join.bad, &seen))
         }
         Err(fault) => {
             stop(name, fault, seen.lines, output, errors);
-            false
+            None
         }
     }
 }

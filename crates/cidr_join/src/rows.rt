@@ -19,8 +19,11 @@ pub(crate) const TALLY: usize = 12;
 /// The row of `--group`.
 pub(crate) const GROUP: usize = 13;
 
+/// The row of `--bad`.
+pub(crate) const BAD: usize = 14;
+
 // The options.
-const ROWS: [Row; 14] = log_rows![
+const ROWS: [Row; 15] = log_rows![
     long!("--last", Flag, false, ""),
     long!("--last-wins", Flag, false, ""),
     long!("--network", Flag, false, ""),
@@ -31,6 +34,7 @@ const ROWS: [Row; 14] = log_rows![
         false,
         "is not N,M with N up to 32 and M up to 128"
     ),
+    long!("--bad", Rule, true, "is not drop, keep, stop or report"),
 ];
 
 // Which do not go together, and that `-f` is given once at the most.

@@ -11,14 +11,16 @@ use crate::join::Join;
 use crate::lengths::Lengths;
 use crate::list::networks_of;
 use crate::logs::join_logs;
+use crate::missing::status;
 use crate::routes::Routes;
-use crate::rows::{GROUP, LAST, LAST_WINS, NETWORK, TALLY, table};
+use crate::rows::{BAD, GROUP, LAST, LAST_WINS, NETWORK, TALLY, table};
 use crate::tally_logs::tally_logs;
 use crate::telling::{tell_bytes_fault, tell_take_fault};
 use lines::output::Output;
 use lists::{OpenLists, read_bytes};
 use log_programs::areas::area_of;
 use log_programs::rows::{LIST, MAPPED};
+use log_programs::without_address::bad_in;
 use options::asking::{About, asked};
 use options::given::{inputs_of, is_given, value_of};
 use options::items::Item;
@@ -182,11 +184,11 @@ fn join_by<'a, L: OpenLists, W: Write, E: Write>(
     if is_given(items, TALLY) {
         return tally_logs(alloc, &join, lists, buffer, files, output, errors);
     }
-    if !join_logs(&join, lists, files, buffer, output, errors) {
+    let Some(missed) = join_logs(&join, lists, files, buffer, output, errors) else {
         return FAILED;
-    }
+    };
     let written = output.finish();
-    end(written, 0, errors)
+    end(written, status(missed), errors)
 }
 
 // What is asked for of lines, where this is printed of addresses.
@@ -198,5 +200,6 @@ fn join_of<'a>(items: &[Item<'a>], answers: Answers<'a>) -> Join<'a>
         area: area_of(items),
         mapped: is_given(items, MAPPED),
         last: is_given(items, LAST),
+        bad: bad_in(value_of(items, BAD)),
     }
 }

@@ -1,17 +1,19 @@
 //! Counts what a list gives the lines of a log.
-ghost use Rattle.std.specs.Prelude.{◌≡◌, ◌||◌, ◌≤◌, length, OnOk, IfErr};
+ghost use Rattle.std.specs.Prelude.{◌≡◌, ◌||◌, ◌&&◌, ◌≤◌, not, length, OnOk, IfErr};
+ghost use Rattle.log_programs.specs.WithoutAddress.{is_dropped};
 ghost use Rattle.lines.specs.Watched.{device_of, has_failed};
 ghost use Rattle.cidr_join.specs.Private.Numbering.{IsNumbering};
-ghost use Rattle.cidr_join.specs.Private.TallyProgress.{CountsLine, CountsLines, StopsCounting, ended_by_read, tally_fault};
+ghost use Rattle.cidr_join.specs.Private.TallyProgress.{CountsAddress, CountsLine, CountsLines, LineNotCounted, StopsCounting, ended_by_read, tally_fault};
 ghost use Rattle.program.specs.LogReadings.{ReadsAll};
 
 use crate::counts::Counts;
 use crate::found::Found;
 use crate::join::Join;
-use crate::log_stats::LogStats;
 use crate::value_ids::ValueIds;
+use ipnetwork::IpAddr;
 use lines::output::Output;
 use lines::watched::Watched;
+use log_programs::log_stats::LogStats;
 use program::log_fault::LogFault;
 use program::log_reader::{LogReader, NextLogLine};
 use std::alloc::{AllocError, Global};
@@ -28,7 +30,8 @@ pub enum TallyFault {
 
 /// Counts for each line of a log what the list gives its address, and the line.
 ///
-/// A line that is too long ends the run even if its end was not read.
+/// A line that is too long is counted as one without an address. If it ends the run, it does so even if its end was not
+/// read. What is seen of the lines is counted from the first on.
 pub(crate) fn tally_log<R: Read>(
     alloc: Global,
     join: &Join<'_>,
@@ -41,13 +44,12 @@ pub(crate) fn tally_log<R: Read>(
     requires room { 1048578 ≤ length buffer.old }
     requires numbered { IsNumbering join.now.answers numbered.now }
     ensures ok { OnOk result
-        (ReadsAll (CountsLines numbered.now.founds.items join.now counts.old counts.new
-        seen.old seen.new)
+        (ReadsAll (CountsLines numbered.now.founds.items join.now counts.old counts.new seen.new)
         (R.remaining (device_of reader.old))
         (R.remaining (device_of reader.new))) }
     ensures err { IfErr result
-        (StopsCounting (CountsLines numbered.now.founds.items join.now counts.old counts.new
-        seen.old seen.new)
+        (StopsCounting join.now
+        (CountsLines numbered.now.founds.items join.now counts.old counts.new seen.new)
         (R.remaining (device_of reader.old))
         (R.remaining (device_of reader.new))
         (has_failed reader.new)) }
@@ -57,16 +59,26 @@ pub(crate) fn tally_log<R: Read>(
     // Nothing is put into it, so that nothing is written before a read.
     let mut slice = [0; 1];
     let mut nothing = Output::new(Vec::new(alloc), &mut slice);
-    let mut log = LogReader::new(buffer, true);
+    *seen = LogStats::new();
+    let stops = join.bad.is_stopped();
+    let mut log = LogReader::new(buffer, stops);
     'lines: loop {
         match log.next(reader, &mut nothing) {
             Ok(NextLogLine::Line(_)) => {
                 let line = log.line();
-                if let Err(_) = count_line(alloc, join, numbered, line, counts, seen) {
+                if let Err(fault) = count_line(alloc, join, numbered, line, counts, seen) {
+                    return Err(fault);
+                }
+            }
+            Ok(NextLogLine::TooLong) => {
+                if stops {
+                    return Err(TallyFault::Log(LogFault::Length));
+                }
+                seen.add_long();
+                if let Err(_) = count_address(alloc, join, numbered, None, counts) {
                     return Err(TallyFault::OutOfMemory);
                 }
             }
-            Ok(NextLogLine::TooLong) => return Err(TallyFault::Log(LogFault::Length)),
             Ok(NextLogLine::End) => return Ok(()),
             Err(fault) => return Err(tally_fault(fault)),
         }
@@ -95,14 +107,40 @@ fn count_line(
     line: &[u8],
     counts: &mut Counts,
     seen: &mut LogStats,
-) -> Result<(), AllocError>
+) -> Result<(), TallyFault>
     requires { IsNumbering join.now.answers numbered.now }
-    ensures { OnOk result
+    ensures ok { OnOk result
         (CountsLine numbered.now.founds.items join.now line.now counts.old counts.new
+        seen.old seen.new) }
+    ensures err { IfErr result (LineNotCounted join.now line.now counts.old counts.new
         seen.old seen.new) }
 {
     let address = join.address_in(line);
+    if join.refuses(address) {
+        return Err(TallyFault::Log(LogFault::Address));
+    }
     seen.add(address.is_some());
+    match count_address(alloc, join, numbered, address, counts) {
+        Ok(()) => Ok(()),
+        Err(_) => Err(TallyFault::OutOfMemory),
+    }
+}
+
+// Counts what is printed of an address, or where there is none, unless lines without one are left out.
+fn count_address(
+    alloc: Global,
+    join: &Join<'_>,
+    numbered: &ValueIds<'_>,
+    address: Option<IpAddr>,
+    counts: &mut Counts,
+) -> Result<(), AllocError>
+    requires { IsNumbering join.now.answers numbered.now }
+    ensures { OnOk result
+        (CountsAddress numbered.now.founds.items join.now address counts.old counts.new) }
+{
+    if is_left_out(join, address.is_some()) {
+        return Ok(());
+    }
     if let Some(number) = numbered.number_of(address) {
         counts.count_number(number);
         return Ok(());
@@ -114,4 +152,12 @@ fn count_line(
         Found::Value(value) => counts.count_text(alloc, value.bytes()),
         Found::Nothing => counts.count_text(alloc, b"-"),
     }
+}
+
+// Whether a line is left out, which has an address or has none.
+#[inline(always)]
+fn is_left_out(join: &Join<'_>, is_addressed: bool) -> bool
+    ensures { result ≡ (not is_addressed && is_dropped join.now.bad) }
+{
+    !is_addressed && join.bad.is_dropped()
 }

@@ -1,5 +1,5 @@
 //! Counts what a list gives the lines of the logs of a run, and prints the counts.
-ghost use Rattle.std.specs.Prelude.{◌≡◌, ◌≤◌, ◌++◌, ◌∷◌, ◌||◌, [], true, false, length, map, OnOk, OnErr, is_err};
+ghost use Rattle.std.specs.Prelude.{◌≡◌, ◌≤◌, ◌++◌, ◌∷◌, ◌||◌, [], length, map, MatchOption, OnOk, OnErr, is_err};
 ghost use Rattle.lines.specs.Outputs.{FailsIn, Writes};
 ghost use Rattle.program.specs.Endings.{ending};
 ghost use Rattle.program.specs.Messages.{Reports};
@@ -12,8 +12,9 @@ ghost use Rattle.cidr_join.specs.Private.TallyProgress.{CountsNames, TellsStop, 
 ghost use Rattle.program.specs.Putting.{PutsOrFails};
 
 use crate::counts::Counts;
+use crate::help::PROGRAM;
 use crate::join::Join;
-use crate::log_stats::LogStats;
+use crate::missing::{either, status};
 use crate::tally::Row;
 use crate::tally_log::{TallyFault, tally_log};
 use crate::telling::tell_unaddressed;
@@ -21,6 +22,9 @@ use crate::value_ids::ValueIds;
 use lines::fault::RunFault;
 use lines::output::Output;
 use lists::{OpenLists, open_list};
+use log_programs::log_stats::LogStats;
+use log_programs::telling::{is_missed, tell_seen};
+use log_programs::without_address::WithoutAddress;
 use program::ending::{FAILED, end};
 use program::log_fault::{LogFault, tell_log_fault};
 use program::memory::refuse_memory;
@@ -50,7 +54,7 @@ pub(crate) fn tally_logs<L: OpenLists, W: Write, E: Write>(
     let Ok(mut counts) = Counts::new(alloc, founds.len()) else {
         return refuse_memory(errors);
     };
-    if !tally_each(
+    let Some(missed) = tally_each(
         alloc,
         join,
         &numbered,
@@ -59,18 +63,18 @@ pub(crate) fn tally_logs<L: OpenLists, W: Write, E: Write>(
         buffer,
         &mut counts,
         errors,
-    ) {
+    ) else {
         return FAILED;
-    }
+    };
     let Ok(rows) = counts.into_rows(alloc, founds) else {
         return refuse_memory(errors);
     };
     let written = write_rows(rows.as_slice(), output);
-    end(written, 0, errors)
+    end(written, status(missed), errors)
 }
 
-// Counts the lines of the logs of these names, and returns whether all came to their ends. If not, the cause is
-// reported. So is each log in which no line has an address.
+// Counts the lines of the logs of these names, and returns whether one is missed. If a log does not come to its end, the
+// cause is reported, and there is no answer. What was seen of the lines is reported of each.
 fn tally_each<L: OpenLists, E: Write>(
     alloc: Global,
     join: &Join<'_>,
@@ -80,25 +84,27 @@ fn tally_each<L: OpenLists, E: Write>(
     buffer: &mut [u8],
     counts: &mut Counts,
     errors: &mut Output<'_, E>,
-) -> bool
+) -> Option<bool>
     requires room { 1048578 ≤ length buffer.old }
     requires numbered { IsNumbering join.now.answers numbered.now }
-    ensures all { result ≡ true → CountsNames numbered.now.founds.items join.now
-        (L.known lists.now) (map string_bytes files.now) counts.old counts.new errors.old errors.new }
-    ensures stopped { result ≡ false
-        → TellsStop join.now (L.known lists.now) (map string_bytes files.now) errors.old errors.new }
+    ensures { MatchOption result
+        (TellsStop join.now (L.known lists.now) (map string_bytes files.now) errors.old errors.new)
+        (λ missed. CountsNames numbered.now.founds.items join.now (L.known lists.now)
+        (map string_bytes files.now) missed counts.old counts.new errors.old errors.new) }
 {
+    let mut missed = false;
     for file in files {
         let name = file.as_str();
-        if !tally_one(alloc, join, numbered, lists, name, buffer, counts, errors) {
-            return false;
-        }
+        let Some(more) = tally_one(alloc, join, numbered, lists, name, buffer, counts, errors)
+        else {
+            return None;
+        };
+        missed = either(missed, more);
     }
-    true
+    Some(missed)
 }
 
-// Opens the log of this name and counts its lines, and returns whether it came to its end. If not, the cause is
-// reported, and else it is if no line has an address.
+// Opens the log of this name and counts its lines, and returns whether one is missed, as `tally_each` does.
 fn tally_one<L: OpenLists, E: Write>(
     alloc: Global,
     join: &Join<'_>,
@@ -108,46 +114,53 @@ fn tally_one<L: OpenLists, E: Write>(
     buffer: &mut [u8],
     counts: &mut Counts,
     errors: &mut Output<'_, E>,
-) -> bool
+) -> Option<bool>
     requires numbered { IsNumbering join.now.answers numbered.now }
     requires room { 1048578 ≤ length buffer.old }
-    ensures all { result ≡ true → CountsNames numbered.now.founds.items join.now
-        (L.known lists.now) (name.now ∷ []) counts.old counts.new errors.old errors.new }
-    ensures stopped { result ≡ false
-        → TellsStop join.now (L.known lists.now) (name.now ∷ []) errors.old errors.new }
+    ensures { MatchOption result
+        (TellsStop join.now (L.known lists.now) (name.now ∷ []) errors.old errors.new)
+        (λ missed. CountsNames numbered.now.founds.items join.now (L.known lists.now)
+        (name.now ∷ []) missed counts.old counts.new errors.old errors.new) }
 {
     let mut log = match open_list(lists, name) {
         Ok(log) => log,
         Err(cause) => {
             let fault = TallyFault::Log(LogFault::Open(cause));
-            tell_stop(name, fault, 0, errors);
-            return false;
+            tell_stop(join.bad, name, fault, &LogStats::new(), errors);
+            return None;
         }
     };
-    let mut seen = LogStats {
-        lines: 0,
-        is_addressed: false,
-    };
+    let mut seen = LogStats::new();
     let end = tally_log(alloc, join, numbered, buffer, &mut log, counts, &mut seen);
     lists.close(name, log);
     match end {
         Err(fault) => {
-            tell_stop(name, fault, seen.lines, errors);
-            false
+            tell_stop(join.bad, name, fault, &seen, errors);
+            None
         }
         Ok(()) => {
+            tell_seen(PROGRAM, name, join.bad, &seen, errors);
             tell_unaddressed(join, name, &seen, errors);
-            true
+            Some(is_missed(join.bad, &seen))
         }
     }
 }
 
-// Reports why the lines of a log were not counted to its end, after this many of them.
-fn tell_stop<E: Write>(name: &str, fault: TallyFault, lines: u64, errors: &mut Output<'_, E>)
-    ensures { Reports errors.old errors.new (tally_fault_text name.now lines fault) }
+// Reports why the lines of a log were not counted to its end, after what there is to report of those that were.
+fn tell_stop<E: Write>(
+    bad: WithoutAddress,
+    name: &str,
+    fault: TallyFault,
+    seen: &LogStats,
+    errors: &mut Output<'_, E>,
+)
+    ensures { Reports errors.old errors.new (tally_fault_text bad name.now seen.now fault) }
 {
     match fault {
-        TallyFault::Log(fault) => tell_log_fault(name, fault, lines, errors),
+        TallyFault::Log(fault) => {
+            tell_seen(PROGRAM, name, bad, seen, errors);
+            tell_log_fault(name, fault, seen.lines, errors);
+        }
         TallyFault::OutOfMemory => tell("out of memory\n", errors),
     }
 }

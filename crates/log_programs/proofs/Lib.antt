@@ -2,3 +2,4 @@ pub mod Failing
 pub mod Handed
 pub mod Lacking
 pub mod LogEnds
+pub mod LogStats

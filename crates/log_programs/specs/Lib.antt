@@ -2,5 +2,8 @@
 pub mod Finding
 pub mod Lacking
 pub mod LogEnds
+pub mod LogStats
+pub mod Seen
+pub mod WithoutAddress
 pub mod Areas
 pub mod Rows

@@ -1,8 +1,12 @@
-//! What is reported of logs without addresses. If a write fails, nothing else changes.
-ghost use Rattle.std.specs.Prelude.{◌≡◌, ◌++◌, ◌&&◌, not, nat_lt, codes, decimal};
+//! What is reported of logs without addresses, and of lines that are too long. If a write fails, nothing else changes.
+ghost use Rattle.std.specs.Prelude.{◌≡◌, ◌++◌, ◌&&◌, [], not, nat_lt, codes, decimal, if◌then◌else◌};
 ghost use Rattle.program.specs.Messages.{Reports};
 ghost use Rattle.log_programs.specs.Lacking.{lacking_told, no_address_text, area_text};
+ghost use Rattle.log_programs.specs.Seen.{counts_text, is_missed, long_text, seen_text};
+ghost use Rattle.log_programs.specs.WithoutAddress.{is_reported};
 
+use crate::log_stats::LogStats;
+use crate::without_address::WithoutAddress;
 use line_addresses::{Area, Text};
 use lines::output::Output;
 use program::messages::{tell, tell_number};
@@ -91,4 +95,112 @@ fn tell_bytes<E: Write>(bytes: &[u8], errors: &mut Output<'_, E>)
     ensures { Reports errors.old errors.new bytes.now }
 {
     let _ = errors.put(bytes);
+}
+
+/// Whether a line is missed: one is too long, and such lines are not dropped.
+///
+/// ```
+/// use log_programs::log_stats::LogStats;
+/// use log_programs::telling::is_missed;
+/// use log_programs::without_address::WithoutAddress;
+///
+/// let mut seen = LogStats::new();
+/// seen.add_long();
+/// assert!(rt; is_missed(WithoutAddress::Keep, &seen) && !is_missed(WithoutAddress::Drop, &seen));
+/// ```
+pub fn is_missed(bad: WithoutAddress, seen: &LogStats) -> bool
+    ensures { result ≡ is_missed bad seen.now }
+{
+    !bad.is_dropped() && seen.first_long != 0
+}
+
+/// Reports in the name of a program the first line of the log of this name that is too long, unless such lines are dropped,
+/// and, if that is asked for, how many lines have no
+/// address and how many are too long, of a log that has lines.
+///
+/// ```
+/// use log_programs::log_stats::LogStats;
+/// use log_programs::telling::tell_seen;
+/// use log_programs::without_address::WithoutAddress;
+///
+/// let (mut slice, mut room) = ([0; 64], [b'.'; 64]);
+/// let mut errors = lines::output::Output::new(room.as_mut_slice(), &mut slice);
+/// let mut seen = LogStats::new();
+/// seen.add_long();
+/// tell_seen("cidr_join", "log", WithoutAddress::Unsaid, &seen, &mut errors);
+/// assert_eq!(rt; errors.finish(), Ok(()));
+/// drop(errors);
+/// assert!(rt; room.starts_with(b"cidr_join: log:1: line too long\n."));
+/// ```
+pub fn tell_seen<E: Write>(
+    program: &str,
+    name: &str,
+    bad: WithoutAddress,
+    seen: &LogStats,
+    errors: &mut Output<'_, E>,
+)
+    ensures { Reports errors.old errors.new (seen_text program.now name.now bad seen.now) }
+{
+    tell_missed(program, name, is_missed(bad, seen), seen.first_long, errors);
+    tell_asked(program, name, is_asked(bad, seen.lines), seen, errors);
+}
+
+// Whether it is told of so many lines how many have no address.
+fn is_asked(bad: WithoutAddress, lines: u64) -> bool
+    ensures { result ≡ (is_reported bad && nat_lt 0 lines) }
+{
+    bad.is_reported() && lines > 0
+}
+
+// Reports that the line of this number is too long, if a line is missed.
+fn tell_missed<E: Write>(
+    program: &str,
+    name: &str,
+    is_missed: bool,
+    number: u64,
+    errors: &mut Output<'_, E>,
+)
+    ensures { Reports errors.old errors.new
+        (if is_missed then long_text program.now name.now number else []) }
+{
+    if is_missed {
+        tell_head(program, name, errors);
+        tell(":", errors);
+        tell_number(number, errors);
+        tell(": line too long\n", errors);
+    } else {
+        tell("", errors);
+    }
+}
+
+// Reports how many lines have no address, and how many are too long, if that is asked for.
+fn tell_asked<E: Write>(
+    program: &str,
+    name: &str,
+    is_asked: bool,
+    seen: &LogStats,
+    errors: &mut Output<'_, E>,
+)
+    ensures { Reports errors.old errors.new
+        (if is_asked then counts_text program.now name.now seen.now else []) }
+{
+    if is_asked {
+        tell_head(program, name, errors);
+        tell(": lines without an address: ", errors);
+        tell_number(seen.bare, errors);
+        tell(", too long: ", errors);
+        tell_number(seen.long, errors);
+        tell("\n", errors);
+    } else {
+        tell("", errors);
+    }
+}
+
+// Reports the name of the program and that of a log.
+fn tell_head<E: Write>(program: &str, name: &str, errors: &mut Output<'_, E>)
+    ensures { Reports errors.old errors.new (program.now ++ codes ": " ++ name.now) }
+{
+    tell(program, errors);
+    tell(": ", errors);
+    tell(name, errors);
 }

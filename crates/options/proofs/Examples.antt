@@ -41,5 +41,5 @@ pub lengths : map lengths_in (codes "24,064" ∷ codes "32,128" ∷ codes "33,0"
     ≡ Some (24, 64) ∷ Some (32, 128) ∷ None ∷ None ∷ None ∷ None ∷ None ∷ []
 lengths = refl
 
-pub rules : map (is_right kinds.Rule) (codes "drop" ∷ codes "keep" ∷ codes "stop" ∷ codes "Stop" ∷ [] ∷ []) ≡ true ∷ true ∷ true ∷ false ∷ false ∷ []
+pub rules : map (is_right kinds.Rule) (codes "drop" ∷ codes "keep" ∷ codes "stop" ∷ codes "report" ∷ codes "Stop" ∷ [] ∷ []) ≡ true ∷ true ∷ true ∷ true ∷ false ∷ false ∷ []
 rules = refl

@@ -42,7 +42,7 @@ is_right kinds.Number value = is_number value
 is_right kinds.Field value = is_field value
 is_right kinds.Separator value = is_separator value
 is_right kinds.Rule value = bytes_eq value (codes "drop") || bytes_eq value (codes "keep")
-    || bytes_eq value (codes "stop")
+    || bytes_eq value (codes "stop") || bytes_eq value (codes "report")
 is_right kinds.Lengths value = is_some (lengths_in value)
 
 -- a number, of which one above the greatest of 64 bits counts as that

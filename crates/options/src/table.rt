@@ -25,7 +25,7 @@ pub enum Kind {
     Field,
     /// A byte of ASCII other than LF, CR and NUL.
     Separator,
-    /// `drop`, `keep` or `stop`.
+    /// `drop`, `keep`, `stop` or `report`.
     Rule,
     /// Two lengths, of at most 32 and of at most 128, with a comma between them.
     Lengths,
@@ -197,7 +197,7 @@ macro_rules! letter {
 /// ```
 /// use options::table::{Kind, Row, long};
 ///
-/// const RULE: Row = long!("--bad", Rule, true, "is not drop, keep or stop");
+/// const RULE: Row = long!("--bad", Rule, true, "is not drop, keep, stop or report");
 /// assert!(rt; RULE.joins);
 /// ```
 #[macro_export]

@@ -1,5 +1,5 @@
 -- Logs by their names, one after the other, and what was read of one.
-use Rattle.std.proofs.Common.{◌≡◌, ◌==◌, ◌+◌, ◌<◌, ◌++◌, ◌∷◌, ◌∙◌, [], ℕ, List, Bool, true, false, cond, refl, sym, ap, arith, length, map, take, drop, take-append-drop, get_or, append_assoc, append-nil}
+use Rattle.std.proofs.Common.{◌≡◌, ◌==◌, ◌+◌, ◌<◌, ◌++◌, ◌∷◌, ◌∙◌, [], ℕ, List, Bool, true, false, cond, refl, sym, ap, length, map, take, drop, take-append-drop, get_or, append_assoc, append-nil}
 use Rattle.std.specs.Prelude.{Option, None, Some, String, filter}
 use Rattle.std.specs.String.{string_bytes}
 use Rattle.std.specs.List.{slice_split}

@@ -8,18 +8,8 @@ use cidr_programs::line_addresses::{
     Area, Text, address_of, field_of, following, next_address, unmapped, word_of,
 };
 use cidr_programs::log_programs::finding::found_in;
+use cidr_programs::log_programs::without_address::WithoutAddress;
 use cidr_programs::program::log_reader::LINE_MAX;
-
-/// What becomes of a line without an address.
-#[derive(Clone, Copy, Debug, PartialEq, Eq)]
-pub enum WithoutAddress {
-    /// It is not selected.
-    Drop,
-    /// It is selected.
-    Keep,
-    /// It ends the run.
-    Stop,
-}
 
 /// What a line is to a list.
 #[derive(Clone, Copy, Debug, PartialEq, Eq)]
@@ -36,14 +26,10 @@ pub enum Verdict {
 }
 
 impl Verdict {
-    /// Whether a line of this verdict has an address where it is looked for, or one before it has.
-    pub(crate) fn is_addressed_or(&self, before: bool) -> bool
+    /// Whether a line of this verdict has an address where it is looked for. A line that is too long has none.
+    #[inline(always)]
+    pub(crate) fn is_addressed(&self) -> bool
     {
-        before || self.is_addressed()
-    }
-
-    // Whether a line of this verdict has one. A line that is too long has none.
-    fn is_addressed(&self) -> bool {
         match *self {
             Verdict::Inside(_) => true,
             Verdict::Outside => true,
@@ -257,8 +243,8 @@ impl Filter<'_> {
         match *verdict {
             Verdict::Inside(_) => false,
             Verdict::Outside => false,
-            Verdict::NoAddress => self.bad == WithoutAddress::Stop,
-            Verdict::TooLong => self.bad != WithoutAddress::Drop,
+            Verdict::NoAddress => self.bad.is_stopped(),
+            Verdict::TooLong => self.bad.is_stopped(),
         }
     }
 }

@@ -9,6 +9,7 @@ use crate::recent::Recent;
 use cidr_programs::lines::line_end::LineEnd;
 use cidr_programs::lines::output::Output;
 use cidr_programs::lines::watched::Watched;
+use cidr_programs::log_programs::log_stats::LogStats;
 use cidr_programs::program::log_fault::LogFault;
 use cidr_programs::program::log_reader::{LogReader, NextLogLine};
 use fosibegan::plain_std::io::{Read, Write};
@@ -22,23 +23,21 @@ pub enum Reached {
     Last,
 }
 
-/// How many lines were selected.
+/// How many lines were selected, and what was seen of those of a log.
 #[derive(Clone, Copy, Debug, PartialEq, Eq)]
 pub struct Tally {
     /// How many lines of all logs were selected.
     pub selected: u64,
-    /// How many lines of this log came before the one that is read.
-    pub lines: u64,
-    /// Whether one of these has an address where it is looked for.
-    pub is_addressed: bool,
+    /// What was seen of the lines of this log.
+    pub seen: LogStats,
 }
 
 /// Filters the lines of a log, up to the last that may be selected: those that are selected are
 /// written, or only counted. No line behind that is asked for, so that no read is made for it.
 ///
 /// What is selected of the lines that a read completes is written before the next read. After a
-/// failed read nothing is written. A line that is too long ends the run even if its end was not
-/// read.
+/// failed read nothing is written. If a line that is too long ends the run, it does so even if its
+/// end was not read. What is seen of the lines is counted from the first on.
 pub(crate) fn filter_log<R: Read, W: Write>(
     filter: &Filter,
     log: &mut LogReader<'_>,
@@ -46,7 +45,7 @@ pub(crate) fn filter_log<R: Read, W: Write>(
     output: &mut Output<'_, W>,
     tally: &mut Tally,
 ) -> Result<Reached, LogFault> {
-    let _ = counted(tally.lines);
+    tally.seen = LogStats::new();
     let refuses_long_lines = filter.refuses(&Verdict::TooLong);
     let mut left = filter.most;
     let mut recent = Recent::new(tally.selected);
@@ -63,7 +62,7 @@ pub(crate) fn filter_log<R: Read, W: Write>(
                 match filter_line(filter, line, whole, end, is_copied, output, tally) {
                     Ok(is_selected) => {
                         left = fewer(left, is_selected);
-                        recent.note(tally.lines, tally.selected);
+                        recent.note(tally.seen.lines, tally.selected);
                     }
                     Err(fault) => return Err(fault),
                 }
@@ -75,7 +74,7 @@ pub(crate) fn filter_log<R: Read, W: Write>(
                 if refuses_long_lines {
                     return Err(LogFault::Length);
                 }
-                tally.lines = tally.lines.saturating_add(1);
+                tally.seen.add_long();
             }
             Ok(NextLogLine::End) => return Ok(Reached::End),
             Err(fault) => return Err(fault),
@@ -110,8 +109,7 @@ fn pass_line<W: Write>(
     output: &mut Output<'_, W>,
     tally: &mut Tally,
 ) -> Result<bool, LogFault> {
-    tally.lines = tally.lines.saturating_add(1);
-    tally.is_addressed = true;
+    tally.seen.add(true);
     tally.selected = tally.selected.saturating_add(u64::from(is_selected));
     match output.put_if(whole, is_selected) {
         Ok(()) => Ok(is_selected),
@@ -141,22 +139,15 @@ fn filter_judged<W: Write>(
     if filter.refuses(&verdict) {
         return Err(refusal_of(&verdict));
     }
-    tally.lines = tally.lines.saturating_add(1);
-    tally.is_addressed = verdict.is_addressed_or(tally.is_addressed);
+    tally.seen.add(verdict.is_addressed());
     if !filter.selects(&verdict) {
         return Ok(false);
     }
     tally.selected = tally.selected.saturating_add(1);
-    match print_selected(filter, tally.lines, &verdict, line, whole, end, output) {
+    match print_selected(filter, tally.seen.lines, &verdict, line, whole, end, output) {
         Ok(()) => Ok(true),
         Err(_) => Err(LogFault::Write),
     }
-}
-
-// A number of lines, which 64 bits count: so that it is known of those before a log.
-#[inline(always)]
-fn counted(lines: u64) -> u64 {
-    lines
 }
 
 // Why a line of this verdict is refused.

@@ -9,15 +9,14 @@ use crate::help::{HELP, PROGRAM, USAGE, VERSION};
 use crate::logs::filter_logs;
 use crate::matcher::Matcher;
 use crate::reading::read_listed;
-use crate::rows::{
-    BAD, COUNTS, INVERTS, LONGEST, MOST, NAMED, NAMES, NUMBERED, ONLY, QUIET, bad_in, table,
-};
+use crate::rows::{BAD, COUNTS, INVERTS, LONGEST, MOST, NAMED, NAMES, NUMBERED, ONLY, QUIET, table};
 use crate::telling::{InOptions, names_of};
 use cidr_programs::line_addresses::Text;
 use cidr_programs::lines::output::Output;
 use cidr_programs::lists::OpenLists;
 use cidr_programs::log_programs::areas::area_of;
 use cidr_programs::log_programs::rows::MAPPED;
+use cidr_programs::log_programs::without_address::bad_in;
 use cidr_programs::options::asking::{About, asked};
 use cidr_programs::options::given::{inputs_of, is_given, value_of};
 use cidr_programs::options::items::Item;

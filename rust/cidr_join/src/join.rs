@@ -7,6 +7,7 @@ use crate::found::Found;
 use fosibegan::ipnetwork::IpAddr;
 use cidr_programs::line_addresses::{Area, unmapped};
 use cidr_programs::log_programs::finding::found_in;
+use cidr_programs::log_programs::without_address::WithoutAddress;
 
 /// What decides what is printed of a line.
 pub struct Join<'a> {
@@ -17,6 +18,7 @@ pub struct Join<'a> {
     pub(crate) mapped: bool,
     /// Whether that stands behind the line, and not before it.
     pub(crate) last: bool,
+    pub(crate) bad: WithoutAddress,
 }
 
 impl<'a> Join<'a> {
@@ -25,6 +27,24 @@ impl<'a> Join<'a> {
         match address {
             Some(address) => self.answers.find(address),
             None => Found::Nothing,
+        }
+    }
+
+    /// Whether a line with this address, or without one, ends the run.
+    #[inline(always)]
+    pub(crate) fn refuses(&self, address: Option<IpAddr>) -> bool {
+        match address {
+            Some(_) => false,
+            None => self.bad.is_stopped(),
+        }
+    }
+
+    /// Whether a line with this address, or without one, is left out.
+    #[inline(always)]
+    pub(crate) fn leaves_out(&self, address: Option<IpAddr>) -> bool {
+        match address {
+            Some(_) => false,
+            None => self.bad.is_dropped(),
         }
     }
 

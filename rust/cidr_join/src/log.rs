@@ -3,19 +3,19 @@
 //! Joins the lines of a log to a list.
 
 use crate::join::Join;
-use crate::log_stats::LogStats;
 use crate::printing::print_line;
 use cidr_programs::lines::line_end::LineEnd;
 use cidr_programs::lines::output::Output;
 use cidr_programs::lines::watched::Watched;
+use cidr_programs::log_programs::log_stats::LogStats;
 use cidr_programs::program::log_fault::LogFault;
 use cidr_programs::program::log_reader::{LogReader, NextLogLine};
 use fosibegan::plain_std::io::{Read, Write};
 
-/// Writes each line of a log with the value of its address, and counts it.
+/// Writes each line of a log with the value of its address, and counts what is seen of them, from the first on.
 ///
 /// What is written for the lines that a read completes is written before the next read. After a failed read nothing is
-/// written. A line that is too long ends the run even if its end was not read.
+/// written. If a line that is too long ends the run, it does so even if its end was not read.
 pub(crate) fn join_log<R: Read, W: Write>(
     join: &Join<'_>,
     buffer: &mut [u8],
@@ -23,7 +23,9 @@ pub(crate) fn join_log<R: Read, W: Write>(
     output: &mut Output<'_, W>,
     seen: &mut LogStats,
 ) -> Result<(), LogFault> {
-    let mut log = LogReader::new(buffer, true);
+    *seen = LogStats::new();
+    let stops = join.bad.is_stopped();
+    let mut log = LogReader::new(buffer, stops);
     'lines: loop {
         match log.next(reader, output) {
             Ok(NextLogLine::Line(end)) => {
@@ -33,7 +35,12 @@ pub(crate) fn join_log<R: Read, W: Write>(
                     return Err(fault);
                 }
             }
-            Ok(NextLogLine::TooLong) => return Err(LogFault::Length),
+            Ok(NextLogLine::TooLong) => {
+                if stops {
+                    return Err(LogFault::Length);
+                }
+                seen.add_long();
+            }
             Ok(NextLogLine::End) => return Ok(()),
             Err(fault) => return Err(fault),
         }
@@ -51,7 +58,13 @@ fn join_line<W: Write>(
     seen: &mut LogStats,
 ) -> Result<(), LogFault> {
     let address = join.address_in(line);
+    if join.refuses(address) {
+        return Err(LogFault::Address);
+    }
     seen.add(address.is_some());
+    if join.leaves_out(address) {
+        return Ok(());
+    }
     let found = join.find(address);
     match print_line(join, &found, line, whole, end, output) {
         Ok(()) => Ok(()),

@@ -3,17 +3,20 @@
 //! Joins the logs of a run in turn.
 
 use fosibegan::plain_std::string::String;
+use crate::help::PROGRAM;
 use crate::join::Join;
 use crate::log::join_log;
-use crate::log_stats::LogStats;
+use crate::missing::either;
 use crate::telling::tell_unaddressed;
 use cidr_programs::lines::output::Output;
 use cidr_programs::lists::{OpenLists, open_list};
+use cidr_programs::log_programs::log_stats::LogStats;
+use cidr_programs::log_programs::telling::{is_missed, tell_seen};
 use cidr_programs::program::log_fault::{LogFault, stop};
 use fosibegan::plain_std::io::Write;
 
-/// Joins the logs of these names in their order, and returns whether all came to their ends. If not, the cause is
-/// reported. So is each log in which no line has an address.
+/// Joins the logs of these names in their order, and returns whether a line of one is missed. If one does not come to its
+/// end, the cause is reported, and there is no answer. What was seen of the lines is reported of each.
 pub(crate) fn join_logs<L: OpenLists, W: Write, E: Write>(
     join: &Join<'_>,
     lists: &L,
@@ -21,18 +24,19 @@ pub(crate) fn join_logs<L: OpenLists, W: Write, E: Write>(
     buffer: &mut [u8],
     output: &mut Output<'_, W>,
     errors: &mut Output<'_, E>,
-) -> bool {
+) -> Option<bool> {
+    let mut missed = false;
     for file in files {
         let name = file.as_str();
-        if !join_one(join, lists, name, buffer, output, errors) {
-            return false;
-        }
+        let Some(more) = join_one(join, lists, name, buffer, output, errors) else {
+            return None;
+        };
+        missed = either(missed, more);
     }
-    true
+    Some(missed)
 }
 
-// Opens the log of this name and joins its lines, and returns whether it came to its end. If not,
-// the cause is reported, and else it is if no line has an address.
+// Opens the log of this name and joins its lines, and returns whether one is missed, as `join_logs` does.
 fn join_one<L: OpenLists, W: Write, E: Write>(
     join: &Join<'_>,
     lists: &L,
@@ -40,28 +44,26 @@ fn join_one<L: OpenLists, W: Write, E: Write>(
     buffer: &mut [u8],
     output: &mut Output<'_, W>,
     errors: &mut Output<'_, E>,
-) -> bool {
+) -> Option<bool> {
     let mut log = match open_list(lists, name) {
         Ok(log) => log,
         Err(cause) => {
             stop(name, LogFault::Open(cause), 0, output, errors);
-            return false;
+            return None;
         }
     };
-    let mut seen = LogStats {
-        lines: 0,
-        is_addressed: false,
-    };
+    let mut seen = LogStats::new();
     let end = join_log(join, buffer, &mut log, output, &mut seen);
     lists.close(name, log);
+    tell_seen(PROGRAM, name, join.bad, &seen, errors);
     match end {
         Ok(()) => {
             tell_unaddressed(join, name, &seen, errors);
-            true
+            Some(is_missed(join.bad, &seen))
         }
         Err(fault) => {
             stop(name, fault, seen.lines, output, errors);
-            false
+            None
         }
     }
 }

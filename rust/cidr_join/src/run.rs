@@ -10,14 +10,16 @@ use crate::join::Join;
 use crate::lengths::Lengths;
 use crate::list::networks_of;
 use crate::logs::join_logs;
+use crate::missing::status;
 use crate::routes::Routes;
-use crate::rows::{GROUP, LAST, LAST_WINS, NETWORK, TALLY, table};
+use crate::rows::{BAD, GROUP, LAST, LAST_WINS, NETWORK, TALLY, table};
 use crate::tally_logs::tally_logs;
 use crate::telling::{tell_bytes_fault, tell_take_fault};
 use cidr_programs::lines::output::Output;
 use cidr_programs::lists::{OpenLists, read_bytes};
 use cidr_programs::log_programs::areas::area_of;
 use cidr_programs::log_programs::rows::{LIST, MAPPED};
+use cidr_programs::log_programs::without_address::bad_in;
 use cidr_programs::options::asking::{About, asked};
 use cidr_programs::options::given::{inputs_of, is_given, value_of};
 use cidr_programs::options::items::Item;
@@ -160,11 +162,11 @@ fn join_by<'a, L: OpenLists, W: Write, E: Write>(
     if is_given(items, TALLY) {
         return tally_logs(alloc, &join, lists, buffer, files, output, errors);
     }
-    if !join_logs(&join, lists, files, buffer, output, errors) {
+    let Some(missed) = join_logs(&join, lists, files, buffer, output, errors) else {
         return FAILED;
-    }
+    };
     let written = output.finish();
-    end(written, 0, errors)
+    end(written, status(missed), errors)
 }
 
 // What is asked for of lines, where this is printed of addresses.
@@ -175,5 +177,6 @@ fn join_of<'a>(items: &[Item<'a>], answers: Answers<'a>) -> Join<'a>
         area: area_of(items),
         mapped: is_given(items, MAPPED),
         last: is_given(items, LAST),
+        bad: bad_in(value_of(items, BAD)),
     }
 }

@@ -6,10 +6,11 @@ use fosibegan::plain_std::vec::Vec;
 use crate::counts::Counts;
 use crate::found::Found;
 use crate::join::Join;
-use crate::log_stats::LogStats;
 use crate::value_ids::ValueIds;
+use fosibegan::ipnetwork::IpAddr;
 use cidr_programs::lines::output::Output;
 use cidr_programs::lines::watched::Watched;
+use cidr_programs::log_programs::log_stats::LogStats;
 use cidr_programs::program::log_fault::LogFault;
 use cidr_programs::program::log_reader::{LogReader, NextLogLine};
 use fosibegan::plain_std::alloc::{AllocError, Global};
@@ -26,7 +27,8 @@ pub enum TallyFault {
 
 /// Counts for each line of a log what the list gives its address, and the line.
 ///
-/// A line that is too long ends the run even if its end was not read.
+/// A line that is too long is counted as one without an address. If it ends the run, it does so even if its end was not
+/// read. What is seen of the lines is counted from the first on.
 pub(crate) fn tally_log<R: Read>(
     alloc: Global,
     join: &Join<'_>,
@@ -39,16 +41,26 @@ pub(crate) fn tally_log<R: Read>(
     // Nothing is put into it, so that nothing is written before a read.
     let mut slice = [0; 1];
     let mut nothing = Output::new(Vec::new(alloc), &mut slice);
-    let mut log = LogReader::new(buffer, true);
+    *seen = LogStats::new();
+    let stops = join.bad.is_stopped();
+    let mut log = LogReader::new(buffer, stops);
     'lines: loop {
         match log.next(reader, &mut nothing) {
             Ok(NextLogLine::Line(_)) => {
                 let line = log.line();
-                if let Err(_) = count_line(alloc, join, numbered, line, counts, seen) {
+                if let Err(fault) = count_line(alloc, join, numbered, line, counts, seen) {
+                    return Err(fault);
+                }
+            }
+            Ok(NextLogLine::TooLong) => {
+                if stops {
+                    return Err(TallyFault::Log(LogFault::Length));
+                }
+                seen.add_long();
+                if let Err(_) = count_address(alloc, join, numbered, None, counts) {
                     return Err(TallyFault::OutOfMemory);
                 }
             }
-            Ok(NextLogLine::TooLong) => return Err(TallyFault::Log(LogFault::Length)),
             Ok(NextLogLine::End) => return Ok(()),
             Err(fault) => return Err(tally_fault(fault)),
         }
@@ -75,9 +87,30 @@ fn count_line(
     line: &[u8],
     counts: &mut Counts,
     seen: &mut LogStats,
-) -> Result<(), AllocError> {
+) -> Result<(), TallyFault> {
     let address = join.address_in(line);
+    if join.refuses(address) {
+        return Err(TallyFault::Log(LogFault::Address));
+    }
     seen.add(address.is_some());
+    match count_address(alloc, join, numbered, address, counts) {
+        Ok(()) => Ok(()),
+        Err(_) => Err(TallyFault::OutOfMemory),
+    }
+}
+
+// Counts what is printed of an address, or where there is none, unless lines without one are left out.
+fn count_address(
+    alloc: Global,
+    join: &Join<'_>,
+    numbered: &ValueIds<'_>,
+    address: Option<IpAddr>,
+    counts: &mut Counts,
+) -> Result<(), AllocError>
+{
+    if is_left_out(join, address.is_some()) {
+        return Ok(());
+    }
     if let Some(number) = numbered.number_of(address) {
         counts.count_number(number);
         return Ok(());
@@ -89,4 +122,10 @@ fn count_line(
         Found::Value(value) => counts.count_text(alloc, value.bytes()),
         Found::Nothing => counts.count_text(alloc, b"-"),
     }
+}
+
+// Whether a line is left out, which has an address or has none.
+#[inline(always)]
+fn is_left_out(join: &Join<'_>, is_addressed: bool) -> bool {
+    !is_addressed && join.bad.is_dropped()
 }

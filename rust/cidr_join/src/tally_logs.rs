@@ -4,8 +4,9 @@
 
 use fosibegan::plain_std::string::String;
 use crate::counts::Counts;
+use crate::help::PROGRAM;
 use crate::join::Join;
-use crate::log_stats::LogStats;
+use crate::missing::{either, status};
 use crate::tally::Row;
 use crate::tally_log::{TallyFault, tally_log};
 use crate::telling::tell_unaddressed;
@@ -13,6 +14,9 @@ use crate::value_ids::ValueIds;
 use cidr_programs::lines::fault::RunFault;
 use cidr_programs::lines::output::Output;
 use cidr_programs::lists::{OpenLists, open_list};
+use cidr_programs::log_programs::log_stats::LogStats;
+use cidr_programs::log_programs::telling::{is_missed, tell_seen};
+use cidr_programs::log_programs::without_address::WithoutAddress;
 use cidr_programs::program::ending::{FAILED, end};
 use cidr_programs::program::log_fault::{LogFault, tell_log_fault};
 use cidr_programs::program::memory::refuse_memory;
@@ -38,7 +42,7 @@ pub(crate) fn tally_logs<L: OpenLists, W: Write, E: Write>(
     let Ok(mut counts) = Counts::new(alloc, founds.len()) else {
         return refuse_memory(errors);
     };
-    if !tally_each(
+    let Some(missed) = tally_each(
         alloc,
         join,
         &numbered,
@@ -47,18 +51,18 @@ pub(crate) fn tally_logs<L: OpenLists, W: Write, E: Write>(
         buffer,
         &mut counts,
         errors,
-    ) {
+    ) else {
         return FAILED;
-    }
+    };
     let Ok(rows) = counts.into_rows(alloc, founds) else {
         return refuse_memory(errors);
     };
     let written = write_rows(rows.as_slice(), output);
-    end(written, 0, errors)
+    end(written, status(missed), errors)
 }
 
-// Counts the lines of the logs of these names, and returns whether all came to their ends. If not, the cause is
-// reported. So is each log in which no line has an address.
+// Counts the lines of the logs of these names, and returns whether one is missed. If a log does not come to its end, the
+// cause is reported, and there is no answer. What was seen of the lines is reported of each.
 fn tally_each<L: OpenLists, E: Write>(
     alloc: Global,
     join: &Join<'_>,
@@ -68,18 +72,20 @@ fn tally_each<L: OpenLists, E: Write>(
     buffer: &mut [u8],
     counts: &mut Counts,
     errors: &mut Output<'_, E>,
-) -> bool {
+) -> Option<bool> {
+    let mut missed = false;
     for file in files {
         let name = file.as_str();
-        if !tally_one(alloc, join, numbered, lists, name, buffer, counts, errors) {
-            return false;
-        }
+        let Some(more) = tally_one(alloc, join, numbered, lists, name, buffer, counts, errors)
+        else {
+            return None;
+        };
+        missed = either(missed, more);
     }
-    true
+    Some(missed)
 }
 
-// Opens the log of this name and counts its lines, and returns whether it came to its end. If not, the cause is
-// reported, and else it is if no line has an address.
+// Opens the log of this name and counts its lines, and returns whether one is missed, as `tally_each` does.
 fn tally_one<L: OpenLists, E: Write>(
     alloc: Global,
     join: &Join<'_>,
@@ -89,37 +95,44 @@ fn tally_one<L: OpenLists, E: Write>(
     buffer: &mut [u8],
     counts: &mut Counts,
     errors: &mut Output<'_, E>,
-) -> bool {
+) -> Option<bool> {
     let mut log = match open_list(lists, name) {
         Ok(log) => log,
         Err(cause) => {
             let fault = TallyFault::Log(LogFault::Open(cause));
-            tell_stop(name, fault, 0, errors);
-            return false;
+            tell_stop(join.bad, name, fault, &LogStats::new(), errors);
+            return None;
         }
     };
-    let mut seen = LogStats {
-        lines: 0,
-        is_addressed: false,
-    };
+    let mut seen = LogStats::new();
     let end = tally_log(alloc, join, numbered, buffer, &mut log, counts, &mut seen);
     lists.close(name, log);
     match end {
         Err(fault) => {
-            tell_stop(name, fault, seen.lines, errors);
-            false
+            tell_stop(join.bad, name, fault, &seen, errors);
+            None
         }
         Ok(()) => {
+            tell_seen(PROGRAM, name, join.bad, &seen, errors);
             tell_unaddressed(join, name, &seen, errors);
-            true
+            Some(is_missed(join.bad, &seen))
         }
     }
 }
 
-// Reports why the lines of a log were not counted to its end, after this many of them.
-fn tell_stop<E: Write>(name: &str, fault: TallyFault, lines: u64, errors: &mut Output<'_, E>) {
+// Reports why the lines of a log were not counted to its end, after what there is to report of those that were.
+fn tell_stop<E: Write>(
+    bad: WithoutAddress,
+    name: &str,
+    fault: TallyFault,
+    seen: &LogStats,
+    errors: &mut Output<'_, E>,
+) {
     match fault {
-        TallyFault::Log(fault) => tell_log_fault(name, fault, lines, errors),
+        TallyFault::Log(fault) => {
+            tell_seen(PROGRAM, name, bad, seen, errors);
+            tell_log_fault(name, fault, seen.lines, errors);
+        }
         TallyFault::OutOfMemory => tell("out of memory\n", errors),
     }
 }

@@ -5,10 +5,10 @@
 use crate::help::PROGRAM;
 use crate::join::Join;
 use crate::list::TakeFault;
-use crate::log_stats::LogStats;
 use crate::routes::RouteFault;
 use cidr_programs::lines::output::Output;
 use cidr_programs::lists::BytesFault;
+use cidr_programs::log_programs::log_stats::LogStats;
 use cidr_programs::log_programs::telling::tell_lacking;
 use cidr_programs::program::log_fault::{tell_line, tell_of};
 use cidr_programs::program::messages::tell;

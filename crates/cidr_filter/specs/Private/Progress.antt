@@ -2,7 +2,7 @@
 use Rattle.std.specs.Prelude.{◌≡◌, ℕ, Bool, true, false, ◌||◌, IsTrue, List, [], ◌++◌, Option, Result, IfOk, IfErr}
 use Rattle.std.specs.Prelude.{if◌then◌else◌}
 use Rattle.lines.specs.Outputs.{Written, AppendsBeginning}
-use Rattle.program.specs.Counts.{Counts}
+use Rattle.log_programs.specs.LogStats.{with_line}
 use Rattle.program.specs.LogFaults.{ended_by_write}
 use Rattle.cidr_filter.specs.Addressed.{is_addressed_by}
 use Rattle.cidr_filter.specs.Filters.{IsVerdict, is_refused, is_selected, head_of, shown_of, one_if}
@@ -27,8 +27,8 @@ shown filter number verdict line text =
 abbrev pub FiltersLine : Filter → List ℕ → List ℕ → Bool → Stand → Stand → Type 0
 FiltersLine filter line text selected old new = (verdict : Verdict) × IsVerdict filter line verdict
     × (is_refused filter verdict ≡ false)
-    × Goes old new (shown filter new.lines verdict line text) (one_if (is_selected filter verdict)) 1
-    × (new.addressed ≡ (old.addressed || is_addressed_by verdict))
+    × Goes old new (shown filter new.seen.lines verdict line text) (one_if (is_selected filter verdict))
+    × (new.seen ≡ with_line old.seen (is_addressed_by verdict))
     × (selected ≡ is_selected filter verdict)
 
 -- a line, given without its end, ends the run
@@ -42,8 +42,8 @@ LineStops filter line text write_failed old new (faults.Open cause) = ⊥
 LineStops filter line text write_failed old new faults.Read = ⊥
 LineStops filter line text write_failed old new faults.Write =
     IsTrue write_failed × (verdict : Verdict) × IsVerdict filter line verdict × (is_refused filter verdict ≡ false)
-    × AppendsBeginning old.holds new.holds (old.waits ++ shown filter new.lines verdict line text)
-    × Counts old.lines new.lines 1
+    × AppendsBeginning old.holds new.holds (old.waits ++ shown filter new.seen.lines verdict line text)
+    × (new.seen ≡ with_line old.seen (is_addressed_by verdict))
 LineStops filter line text write_failed old new faults.Address =
     RefusesLine filter line old new verdicts.NoAddress
 LineStops filter line text write_failed old new faults.Length =

@@ -1,5 +1,5 @@
 -- How the logs of a run are read, step by step.
-use Rattle.std.specs.Prelude.{ℕ, List}
+use Rattle.std.specs.Prelude.{ℕ, Bool, List}
 use Rattle.lines.specs.Outputs.{Written, Prints}
 use Rattle.lists.specs.KnownLists.{KnownLists}
 use Rattle.program.specs.LogLines.{LogLine}
@@ -11,15 +11,15 @@ use Rattle.cidr_join.specs.declared.join.Join.{Join}
 -- the logs of these names were read to their ends, in turn: with all that is given by their lines it was done, and what
 -- there is to report of them was reported
 pub record ReadsNames {A E : Type 0} (Gives : List LogLine → List A → Type 0) (Done : List A → Type 0) (join : Join)
-    (known : KnownLists) (names : List (List ℕ)) (errors told : Written E) : Type 0 where
+    (known : KnownLists) (names : List (List ℕ)) (missed : Bool) (errors told : Written E) : Type 0 where
   pub all : List A
   pub text : List ℕ
-  pub reads : ReadsLogs Gives join known names all text
+  pub reads : ReadsLogs Gives join known names all text missed
   pub is_done : Done all
   pub tells : Reports errors told text
 
 -- they were joined
-abbrev pub JoinsNames : {W E : Type 0} → Join → KnownLists → List (List ℕ) → Written W → Written W → Written E
+abbrev pub JoinsNames : {W E : Type 0} → Join → KnownLists → List (List ℕ) → Bool → Written W → Written W → Written E
     → Written E → Type 0
-JoinsNames join known names old new errors told =
-    ReadsNames (Joins join) (λ output. Prints old new output) join known names errors told
+JoinsNames join known names missed old new errors told =
+    ReadsNames (Joins join) (λ output. Prints old new output) join known names missed errors told

@@ -1,7 +1,9 @@
 // Written by scripts/plain out of crates/log_programs/src/telling.rt
 
-//! What is reported of logs without addresses. If a write fails, nothing else changes.
+//! What is reported of logs without addresses, and of lines that are too long. If a write fails, nothing else changes.
 
+use crate::log_programs::log_stats::LogStats;
+use crate::log_programs::without_address::WithoutAddress;
 use crate::line_addresses::{Area, Text};
 use crate::lines::output::Output;
 use crate::program::messages::{tell, tell_number};
@@ -77,4 +79,100 @@ fn tell_after<E: Write>(text: &Text<'_>, errors: &mut Output<'_, E>) {
 // Writes bytes to the error writer, as `tell` writes a text.
 fn tell_bytes<E: Write>(bytes: &[u8], errors: &mut Output<'_, E>) {
     let _ = errors.put(bytes);
+}
+
+/// Whether a line is missed: one is too long, and such lines are not dropped.
+///
+/// ```
+/// # use cidr_programs::in_examples::*;
+/// use cidr_programs::log_programs::log_stats::LogStats;
+/// use cidr_programs::log_programs::telling::is_missed;
+/// use cidr_programs::log_programs::without_address::WithoutAddress;
+///
+/// let mut seen = LogStats::new();
+/// seen.add_long();
+/// assert!(is_missed(WithoutAddress::Keep, &seen) && !is_missed(WithoutAddress::Drop, &seen));
+/// ```
+pub fn is_missed(bad: WithoutAddress, seen: &LogStats) -> bool {
+    !bad.is_dropped() && seen.first_long != 0
+}
+
+/// Reports in the name of a program the first line of the log of this name that is too long, unless such lines are dropped,
+/// and, if that is asked for, how many lines have no
+/// address and how many are too long, of a log that has lines.
+///
+/// ```
+/// # use cidr_programs::in_examples::*;
+/// use cidr_programs::log_programs::log_stats::LogStats;
+/// use cidr_programs::log_programs::telling::tell_seen;
+/// use cidr_programs::log_programs::without_address::WithoutAddress;
+///
+/// let (mut slice, mut room) = ([0; 64], [b'.'; 64]);
+/// let mut errors = cidr_programs::lines::output::Output::new(room.as_mut_slice(), &mut slice);
+/// let mut seen = LogStats::new();
+/// seen.add_long();
+/// tell_seen("cidr_join", "log", WithoutAddress::Unsaid, &seen, &mut errors);
+/// assert_eq!(errors.finish(), Ok(()));
+/// drop(errors);
+/// assert!(room.starts_with(b"cidr_join: log:1: line too long\n."));
+/// ```
+pub fn tell_seen<E: Write>(
+    program: &str,
+    name: &str,
+    bad: WithoutAddress,
+    seen: &LogStats,
+    errors: &mut Output<'_, E>,
+) {
+    tell_missed(program, name, is_missed(bad, seen), seen.first_long, errors);
+    tell_asked(program, name, is_asked(bad, seen.lines), seen, errors);
+}
+
+// Whether it is told of so many lines how many have no address.
+fn is_asked(bad: WithoutAddress, lines: u64) -> bool {
+    bad.is_reported() && lines > 0
+}
+
+// Reports that the line of this number is too long, if a line is missed.
+fn tell_missed<E: Write>(
+    program: &str,
+    name: &str,
+    is_missed: bool,
+    number: u64,
+    errors: &mut Output<'_, E>,
+) {
+    if is_missed {
+        tell_head(program, name, errors);
+        tell(":", errors);
+        tell_number(number, errors);
+        tell(": line too long\n", errors);
+    } else {
+        tell("", errors);
+    }
+}
+
+// Reports how many lines have no address, and how many are too long, if that is asked for.
+fn tell_asked<E: Write>(
+    program: &str,
+    name: &str,
+    is_asked: bool,
+    seen: &LogStats,
+    errors: &mut Output<'_, E>,
+) {
+    if is_asked {
+        tell_head(program, name, errors);
+        tell(": lines without an address: ", errors);
+        tell_number(seen.bare, errors);
+        tell(", too long: ", errors);
+        tell_number(seen.long, errors);
+        tell("\n", errors);
+    } else {
+        tell("", errors);
+    }
+}
+
+// Reports the name of the program and that of a log.
+fn tell_head<E: Write>(program: &str, name: &str, errors: &mut Output<'_, E>) {
+    tell(program, errors);
+    tell(": ", errors);
+    tell(name, errors);
 }

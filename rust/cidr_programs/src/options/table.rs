@@ -26,7 +26,7 @@ pub enum Kind {
     Field,
     /// A byte of ASCII other than LF, CR and NUL.
     Separator,
-    /// `drop`, `keep` or `stop`.
+    /// `drop`, `keep`, `stop` or `report`.
     Rule,
     /// Two lengths, of at most 32 and of at most 128, with a comma between them.
     Lengths,
@@ -194,7 +194,7 @@ macro_rules! letter {
 /// # use cidr_programs::in_examples::*;
 /// use cidr_programs::options::table::{Kind, Row, long};
 ///
-/// const RULE: Row = long!("--bad", Rule, true, "is not drop, keep or stop");
+/// const RULE: Row = long!("--bad", Rule, true, "is not drop, keep, stop or report");
 /// assert!(RULE.joins);
 /// ```
 #[macro_export]

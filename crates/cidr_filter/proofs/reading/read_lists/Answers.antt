@@ -1,4 +1,4 @@
-use Rattle.std.proofs.Common.{◌≡◌, ◌+◌, ◌∷◌, ◌∙◌, ◌<◌, ◌≤◌, ℕ, suc, List, inl, inr, refl, sym, ap, subst, arith, length, get_or, drop, drop-cons}
+use Rattle.std.proofs.Common.{◌≡◌, ◌+◌, ◌∷◌, ◌∙◌, ◌<◌, ℕ, suc, List, inl, inr, refl, sym, ap, subst, arith, length, get_or, drop, drop-cons}
 use Rattle.std.proofs.lemmas.List.{drop_all}
 use Rattle.std.proofs.lemmas.Result.{err_from_is_err_and}
 use Rattle.options.specs.declared.items.Item.{Item}

@@ -6,5 +6,5 @@ use Rattle.cidr_join.proofs.logs.join_logs.Given as goal
 abbrev pub invariant-loop-file : goal.invariant-loop-file
 invariant-loop-file g l = record {
   room : 1048578 ≤ length l.buffer;
-  names : JoinsNames l.join (g.L.OpenLists.known l.lists) (map string_bytes (take l.file-index l.files)) l.initial.output l.output l.initial.errors l.errors;
+  names : JoinsNames l.join (g.L.OpenLists.known l.lists) (map string_bytes (take l.file-index l.files)) l.missed l.initial.output l.output l.initial.errors l.errors;
 }

@@ -1,4 +1,4 @@
-use Rattle.std.proofs.Common.{[], List, map, length, inl, inr, refl, sym, ap, subst, codes}
+use Rattle.std.proofs.Common.{[], false, List, map, length, inl, inr, refl, sym, ap, subst, codes}
 use Rattle.program.specs.Endings.{ending}
 use Rattle.std.specs.String.{string_bytes}
 use Rattle.cidr_join.specs.Tallies.{rows_text}
@@ -11,37 +11,38 @@ use Rattle.cidr_join.proofs.tally_logs.tally_logs.Goals as goal
 
 pub returns-in_default : goal.returns-in_default
 returns-in_default g c =
-    inl (codes "out of memory\n", inr (ran_out c.args.join.now (g.L.OpenLists.known c.args.lists.now) [] (map string_bytes c.args.files.now) [] [] (refl, refl)), ((refl, c.refuse_memory.ensures.status), c.refuse_memory.ensures.told))
+    inl (codes "out of memory\n", inr (ran_out c.args.join.now (g.L.OpenLists.known c.args.lists.now) [] (map string_bytes c.args.files.now) [] [] false (refl, refl, refl)), ((refl, c.refuse_memory.ensures.status), c.refuse_memory.ensures.told))
 
 pub returns-in_default-new : goal.returns-in_default-new
 returns-in_default-new g c =
-    inl (codes "out of memory\n", inr (ran_out c.args.join.now (g.L.OpenLists.known c.args.lists.now) [] (map string_bytes c.args.files.now) [] [] (refl, refl)), ((refl, c.refuse_memory-in_default-new.ensures.status), c.refuse_memory-in_default-new.ensures.told))
+    inl (codes "out of memory\n", inr (ran_out c.args.join.now (g.L.OpenLists.known c.args.lists.now) [] (map string_bytes c.args.files.now) [] [] false (refl, refl, refl)), ((refl, c.refuse_memory-in_default-new.ensures.status), c.refuse_memory-in_default-new.ensures.told))
 
-pub returns-then-not-tally_each : goal.returns-then-not-tally_each
-returns-then-not-tally_each g c =
-    let stops = c.tally_each.ensures.stopped c.if-not-tally_each.true in
+pub returns-in_default-tally_each : goal.returns-in_default-tally_each
+returns-in_default-tally_each g c =
+    let stops = c.in_default-tally_each.ensures in
     inl (stops.0, stops.1, ((refl, refl), stops.2))
 
 pub returns-in_default-into_rows : goal.returns-in_default-into_rows
 returns-in_default-into_rows g c =
-    let all = c.tally_each.ensures.all c.if-not-tally_each.false in
-    let stops = rows_lack c.args.join.now (g.L.OpenLists.known c.args.lists.now) c.args.files.now c.in-Ok.numbered.founds.items c.in-Ok-new.counts c.tally_each.new.counts c.args.errors.now c.tally_each.new.errors c.refuse_memory-in_default-into_rows.new.errors all c.refuse_memory-in_default-into_rows.ensures.told in
+    let all = c.in-Some.ensures in
+    let stops = rows_lack c.args.join.now (g.L.OpenLists.known c.args.lists.now) c.args.files.now c.in-Ok.numbered.founds.items c.in-Some.missed c.in-Ok-new.counts c.tally_each.new.counts c.args.errors.now c.tally_each.new.errors c.refuse_memory-in_default-into_rows.new.errors all c.refuse_memory-in_default-into_rows.ensures.told in
     inl (stops.0, stops.1, ((refl, c.refuse_memory-in_default-into_rows.ensures.status), stops.2))
 
 pub returns : goal.returns
 returns g c =
-    let counts = c.tally_each.ensures.all c.if-not-tally_each.false in
+    let counts = c.in-Some.ensures in
     let rows = c.in-Ok-into_rows.rows.items in
     inr (
       counts.all,
       counts.text,
+      c.in-Some.missed,
       map row_of rows,
       counts.reads,
       c.in-Ok-into_rows.ensures counts.all
           (subst (λ (f : List Found). IsCounted f counts.all c.tally_each.new.counts) (sym c.founds-founds.ensures)
           (counts.is_done [] (c.in-Ok-new.ensures c.in-Ok.numbered.founds.items (ap length c.founds-founds.ensures)))),
       ends_with c.write_rows-written.result (ending c.args.output.now c.write_rows-written.new.output c.args.errors.now c.end.new.errors c.end.result)
-          (rows_text (map row_of rows)) c.args.output.now.failed c.tally_each.new.errors counts.text (rw c.as_slice.ensures.value at c.write_rows-written.ensures.ok)
-          (rw c.as_slice.ensures.value at c.write_rows-written.ensures.beginning) c.write_rows-written.ensures.failed c.end.ensures.status
+          (rows_text (map row_of rows)) c.args.output.now.failed c.tally_each.new.errors counts.text c.in-Some.missed (rw c.as_slice.ensures.value at c.write_rows-written.ensures.ok)
+          (rw c.as_slice.ensures.value at c.write_rows-written.ensures.beginning) c.write_rows-written.ensures.failed (rw c.status.ensures at c.end.ensures.status)
           counts.tells c.end.ensures.told,
     )

@@ -1,0 +1,19 @@
+//! Whether a line of the logs is missed.
+ghost use Rattle.std.specs.Prelude.{◌≡◌, ◌||◌};
+ghost use Rattle.cidr_join.specs.TallyRuns.{status_by};
+
+use program::ending::FAILED;
+
+/// Whether one of two is so.
+pub(crate) fn either(first: bool, second: bool) -> bool
+    ensures { result ≡ (first || second) }
+{
+    first || second
+}
+
+/// The exit status by whether a line was missed.
+pub(crate) fn status(missed: bool) -> u8
+    ensures { result ≡ status_by missed }
+{
+    if missed { FAILED } else { 0 }
+}
