@@ -15,7 +15,7 @@ _cidr_merge() {
     elif [[ "${COMP_WORDS[at]}" == @(check|overlaps|find) ]]; then
         :
     elif [[ "$word" == -* ]]; then
-        COMPREPLY=($(compgen -W "--ranges --count --format --skip-bad --json --strict -- -" -- "$word"))
+        COMPREPLY=($(compgen -W "--ranges --count --format --set --table --skip-bad --json --strict -- -" -- "$word"))
     fi
 }
 complete -o default -F _cidr_merge cidr_merge

@@ -8,6 +8,8 @@ complete -c cidr_merge -n "not __fish_seen_subcommand_from $commands" -l version
 complete -c cidr_merge -n "__fish_seen_subcommand_from $operations" -l ranges -d "Print ranges"
 complete -c cidr_merge -n "__fish_seen_subcommand_from $operations" -l count -d "Print how many addresses"
 complete -c cidr_merge -n "__fish_seen_subcommand_from $operations" -l format -x -a "plain range netmask wildcard csv nft ipset json addresses" -d "Print as another program reads it"
+complete -c cidr_merge -n "__fish_seen_subcommand_from $operations" -l set -x -d "The beginning of the names of sets"
+complete -c cidr_merge -n "__fish_seen_subcommand_from $operations" -l table -x -d "The table of nftables"
 complete -c cidr_merge -n "__fish_seen_subcommand_from $operations split" -l json -d "Read documents of JSON"
 complete -c cidr_merge -n "__fish_seen_subcommand_from $operations split" -l strict -d "Refuse strings that are no entries"
 complete -c cidr_merge -n "__fish_seen_subcommand_from check" -l strict -d "Tell host bits and repeated entries too"

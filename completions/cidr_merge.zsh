@@ -22,6 +22,7 @@ elif [[ $words[2] == (overlaps|find) ]]; then
 else
     _arguments '*--ranges[print ranges]' '*--count[print how many addresses]' \
         '--format=[print as another program reads it]:form:(plain range netmask wildcard csv nft ipset json addresses)' \
+        '--set=[the beginning of the names of sets]:name:' '--table=[the table of nftables]:name:' \
         '*--skip-bad[pass over refused lines]' '*--json[read documents of JSON]' \
         '*--strict[refuse strings that are no entries]' '*:list:_files'
 fi

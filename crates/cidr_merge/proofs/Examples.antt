@@ -167,7 +167,7 @@ pub no_files : (files_among tasks.Find 2 (codes "-" ∷ [] ∷ codes "-" ∷ [])
 no_files = (refl, refl)
 
 -- of `--ranges`, `--skip-bad`, `--strict`, `--prefix` and `--help` each task takes its own
-pub options_of_tasks : map (λ task. map (takes task) (0 ∷ 3 ∷ 5 ∷ 6 ∷ 7 ∷ [])) (tasks.Merge Differ ∷ tasks.List ∷ tasks.Split ∷ tasks.Check ∷ tasks.Overlaps ∷ tasks.Find ∷ [])
+pub options_of_tasks : map (λ task. map (takes task) (0 ∷ 3 ∷ 5 ∷ 8 ∷ 9 ∷ [])) (tasks.Merge Differ ∷ tasks.List ∷ tasks.Split ∷ tasks.Check ∷ tasks.Overlaps ∷ tasks.Find ∷ [])
     ≡ (true ∷ true ∷ true ∷ false ∷ false ∷ []) ∷ (true ∷ true ∷ true ∷ false ∷ false ∷ []) ∷ (false ∷ true ∷ true ∷ true ∷ false ∷ [])
     ∷ (false ∷ false ∷ true ∷ false ∷ false ∷ []) ∷ (false ∷ false ∷ false ∷ false ∷ false ∷ []) ∷ (false ∷ false ∷ false ∷ false ∷ false ∷ []) ∷ []
 options_of_tasks = refl
@@ -176,7 +176,7 @@ options_of_tasks = refl
 pub ways_to_print : map (λ items. is_some (pair_fault items (pairs_of pairs)))
     ((says.Flag 0 ∷ says.Flag 1 ∷ []) ∷ (says.Flag 1 ∷ says.Flag 1 ∷ []) ∷ (says.Value 2 (codes "csv") ∷ []) ∷ (says.Value 2 (codes "csv") ∷ says.Lacks 2 ∷ [])
     ∷ (says.Value 2 (codes "csv") ∷ says.Flag 1 ∷ []) ∷ (says.Value 2 (codes "csv") ∷ says.Flag 0 ∷ [])
-    ∷ (says.Value 6 (codes "8") ∷ says.Joined 6 (codes "9") (codes "--prefix=9") ∷ []) ∷ []) ≡ true ∷ false ∷ false ∷ true ∷ true ∷ true ∷ true ∷ []
+    ∷ (says.Value 8 (codes "8") ∷ says.Joined 8 (codes "9") (codes "--prefix=9") ∷ []) ∷ []) ≡ true ∷ false ∷ false ∷ true ∷ true ∷ true ∷ true ∷ []
 ways_to_print = refl
 
 pub forms_said : map (form_of Blocks) ((says.Flag 3 ∷ says.Flag 1 ∷ []) ∷ (says.Flag 3 ∷ says.Value 2 (codes "csv") ∷ []) ∷ [] ∷ (says.Flag 0 ∷ []) ∷ [])

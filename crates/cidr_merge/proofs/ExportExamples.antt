@@ -1,8 +1,9 @@
 -- Whole exports of small lists. Each of these computes.
-use Rattle.std.proofs.Common.{◌≡◌, [], ◌∷◌, ◌++◌, refl, codes}
+use Rattle.std.proofs.Common.{◌≡◌, ℕ, List, [], ◌∷◌, ◌++◌, true, false, map, refl, codes}
 use Rattle.std.specs.Fmt.{digits}
 use Rattle.ipnetwork_family.specs.Network.{Network, count_up}
 use Rattle.cidr_merge.specs.Exports.{export_text}
+use Rattle.cidr_merge.specs.SetNames.{Names, usual_names, is_set_name}
 use Rattle.cidr_merge.specs.declared.exports.Export.TheVariants.{Netmask, Wildcard, Csv, Nft, Ipset}
 use Rattle.cidr_merge.specs.declared.exports.Export.TheVariants.{Json, Addresses}
 use Rattle.cidr_merge.proofs.Examples.{ten}
@@ -14,26 +15,29 @@ one = record { address = 3221225991; prefix = 32 }
 abbrev half : Network
 half = record { address = 0; prefix = 1 }
 
-pub lines_with_masks : (export_text Netmask (ten ∷ one ∷ []) (half ∷ [])
+pub lines_with_masks : (export_text usual_names Netmask (ten ∷ one ∷ []) (half ∷ [])
     ≡ codes "10.0.0.0 255.0.0.0\n192.0.2.7 255.255.255.255\n::/1\n")
-    × (export_text Wildcard (ten ∷ one ∷ []) []
+    × (export_text usual_names Wildcard (ten ∷ one ∷ []) []
     ≡ codes "10.0.0.0 0.255.255.255\n192.0.2.7 0.0.0.0\n")
 unfolding digits
 lines_with_masks = (refl, refl)
 
-pub values : (export_text Csv [] [] ≡ codes "family,network,first,last\n")
-    × (export_text Csv (ten ∷ []) (half ∷ [])
+pub values : (export_text usual_names Csv [] [] ≡ codes "family,network,first,last\n")
+    × (export_text usual_names Csv (ten ∷ []) (half ∷ [])
     ≡ codes "family,network,first,last\nIPv4,10.0.0.0/8,10.0.0.0,10.255.255.255\nIPv6,::/1,::,7fff:ffff:ffff:ffff:ffff:ffff:ffff:ffff\n")
 unfolding digits
 values = (refl, refl)
 
 -- what `nft -f` reads, and `ipset restore`, with the whole of IPv6
-pub sets : (export_text Nft (ten ∷ one ∷ []) []
-    ≡ codes "add table inet cidr_merge\n"
-    ++ codes "add set inet cidr_merge ipv4 { type ipv4_addr; flags interval; }\nflush set inet cidr_merge ipv4\n"
-    ++ codes "add element inet cidr_merge ipv4 {\n\t10.0.0.0/8,\n\t192.0.2.7/32\n}\n"
-    ++ codes "add set inet cidr_merge ipv6 { type ipv6_addr; flags interval; }\nflush set inet cidr_merge ipv6\n")
-    × (export_text Ipset (ten ∷ []) (record { address = 0; prefix = 0 } ∷ [])
+abbrev blocked : Names
+blocked = record { table = codes "fw"; set = codes "blocked" }
+
+pub sets : (export_text blocked Nft (ten ∷ one ∷ []) []
+    ≡ codes "add table inet fw\n"
+    ++ codes "add set inet fw blocked_ipv4 { type ipv4_addr; flags interval; }\nflush set inet fw blocked_ipv4\n"
+    ++ codes "add element inet fw blocked_ipv4 {\n\t10.0.0.0/8,\n\t192.0.2.7/32\n}\n"
+    ++ codes "add set inet fw blocked_ipv6 { type ipv6_addr; flags interval; }\nflush set inet fw blocked_ipv6\n")
+    × (export_text usual_names Ipset (ten ∷ []) (record { address = 0; prefix = 0 } ∷ [])
     ≡ codes "create cidr_merge_ipv4 hash:net family inet maxelem 4294967295 -exist\n"
     ++ codes "create cidr_merge_ipv4_new hash:net family inet maxelem 4294967295 -exist\n"
     ++ codes "flush cidr_merge_ipv4_new\nadd cidr_merge_ipv4_new 10.0.0.0/8\n"
@@ -45,15 +49,24 @@ pub sets : (export_text Nft (ten ∷ one ∷ []) []
 unfolding digits
 sets = (refl, refl)
 
+-- names of 1 and of 22 bytes, one of 23, and others that are none
+abbrev twenty_two : List ℕ
+twenty_two = codes "abcdefghijklmnopqrstuv"
+
+pub names_of_sets : (map is_set_name (codes "b" ∷ codes "Z-9_.a" ∷ twenty_two ∷ []) ≡ true ∷ true ∷ true ∷ [])
+    × (map is_set_name ([] ∷ codes "9a" ∷ codes "_a" ∷ codes "a b" ∷ codes "a;" ∷ (twenty_two ++ codes "w") ∷ [])
+    ≡ false ∷ false ∷ false ∷ false ∷ false ∷ false ∷ [])
+names_of_sets = (refl, refl)
+
 -- of both families, of one, and of none
-pub arrays : (export_text Json (ten ∷ one ∷ []) (half ∷ [])
+pub arrays : (export_text usual_names Json (ten ∷ one ∷ []) (half ∷ [])
     ≡ codes "[\n\"10.0.0.0/8\",\n\"192.0.2.7/32\",\n\"::/1\"\n]\n")
-    × (export_text Json [] (half ∷ []) ≡ codes "[\n\"::/1\"\n]\n")
-    × (export_text Json [] [] ≡ codes "[\n]\n")
+    × (export_text usual_names Json [] (half ∷ []) ≡ codes "[\n\"::/1\"\n]\n")
+    × (export_text usual_names Json [] [] ≡ codes "[\n]\n")
 unfolding digits
 arrays = (refl, refl, refl)
 
-pub each_address : export_text Addresses (one ∷ record {
+pub each_address : export_text usual_names Addresses (one ∷ record {
   address = 167772160;
   prefix =
       31;

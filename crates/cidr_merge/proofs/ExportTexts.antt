@@ -7,6 +7,7 @@ use Rattle.lines.proofs.Putting.{puts_more, puts_nothing}
 use Rattle.ipnetwork_family.specs.Network.{Network}
 use Rattle.ipnetwork_family.specs.Family.{Family}
 use Rattle.cidr_merge.specs.Exports.{listed, is_any}
+use Rattle.cidr_merge.specs.SetNames.{Names}
 use Rattle.cidr_merge.specs.declared.exports.Export.{Export}
 use Rattle.cidr_merge.specs.declared.exports.Version.{Version}
 
@@ -61,9 +62,9 @@ there_is_none true all e = refl
 there_is_none false all e = sym (ap is_any e)
 
 -- no block is written as nothing
-pub puts_no_block : {w : ℕ} (export : Export) (version : Version) (family : Family w)
+pub puts_no_block : {w : ℕ} (names : Names) (export : Export) (version : Version) (family : Family w)
     (follows : Bool) (all : List Network) (held : Option (List ℕ)) (waits : List ℕ)
-    → all ≡ [] → Puts held waits held waits (listed export version family follows all)
-puts_no_block export version family follows all held waits e =
-    subst (λ blocks. Puts held waits held waits (listed export version family follows blocks))
+    → all ≡ [] → Puts held waits held waits (listed names export version family follows all)
+puts_no_block names export version family follows all held waits e =
+    subst (λ blocks. Puts held waits held waits (listed names export version family follows blocks))
     (sym e) (puts_nothing held waits)

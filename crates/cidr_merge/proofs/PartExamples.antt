@@ -25,7 +25,7 @@ use Rattle.program.specs.Reported.{was_refused, fault_text, in_list, refusals_te
 use Rattle.ipnetwork_addr.specs.declared.ip.IpAddr.{IpAddr}
 use Rattle.lists.specs.declared.named.ReadFault.{ReadFault}
 use Rattle.cidr_merge.specs.Answers.{IsAnswer}
-use Rattle.cidr_merge.specs.CommandLines.{command_of, request_of}
+use Rattle.cidr_merge.specs.CommandLines.{command_of, request_of, sets_of}
 use Rattle.cidr_merge.specs.Endings.{EndsAs, EndsAsked}
 use Rattle.cidr_merge.specs.FindRuns.{sought_fault_text, EndsFind}
 use Rattle.cidr_merge.specs.FindWords.{AreAddresses}
@@ -49,6 +49,7 @@ use Rattle.cidr_merge.specs.declared.command_line.Form.TheVariants.{Blocks}
 use Rattle.cidr_merge.specs.declared.command_line.Inspection.TheVariants.{Check}
 use Rattle.cidr_merge.specs.declared.command_line.Operation.{Operation}
 use Rattle.cidr_merge.specs.declared.command_line.Operation.TheVariants.{Union}
+use Rattle.cidr_merge.specs.SetNames.{Names, usual_names}
 use Rattle.cidr_merge.specs.declared.command_line.Request.{Request}
 use Rattle.cidr_merge.specs.declared.reading.Sets.{Sets}
 use Rattle.cidr_merge.specs.declared.query.QueryFault.{QueryFault}
@@ -104,13 +105,13 @@ what_stops_both_sides known words request fault refused h = h
 -- ---- how a run ends
 
 pub what_a_run_tells : {Z W E : Type 0} (known : KnownLists) (words : List (String Z))
-    (request : Request) (end : Ending W E) → EndsMerging known words request end
+    (sets : Names) (request : Request) (end : Ending W E) → EndsMerging known words sets request end
     → (refused : Refused) × (told : Written E) × Reports end.errors told
     (refusals_text words in_list refused)
     × (StopsReading known words request refused (record end { errors = told })
     ⊎ ((first second : Sets) × ReadsSides known words request first second refused
-    × EndsAnswering request (was_refused refused) first second (record end { errors = told })))
-what_a_run_tells known words request end h = h
+    × EndsAnswering sets request (was_refused refused) first second (record end { errors = told })))
+what_a_run_tells known words sets request end h = h
 
 pub what_a_reading_that_stops_tells : {Z W E : Type 0} (known : KnownLists)
     (words : List (String Z)) (request : Request) (refused : Refused) (end : Ending W E)
@@ -119,26 +120,26 @@ pub what_a_reading_that_stops_tells : {Z W E : Type 0} (known : KnownLists)
     × (end.output_after ≡ end.output) × (end.status ≡ 2) × HasTold end (fault_text words fault)
 what_a_reading_that_stops_tells known words request refused end h = (h.0, h.1, h.2.0, h.2.1, h.3)
 
-pub nothing_for_refused_lines : {W E : Type 0} (request : Request) (first second : Sets)
-    (end : Ending W E) → request.skips_bad ≡ false → EndsAnswering request true first second end
+pub nothing_for_refused_lines : {W E : Type 0} (sets : Names) (request : Request) (first second : Sets)
+    (end : Ending W E) → request.skips_bad ≡ false → EndsAnswering sets request true first second end
     → (end.output_after ≡ end.output) × (end.status ≡ 2)
-nothing_for_refused_lines request first second end keeps (inl h) = (h.1.0, h.1.1)
-nothing_for_refused_lines request first second end keeps (inr h) =
+nothing_for_refused_lines sets request first second end keeps (inl h) = (h.1.0, h.1.1)
+nothing_for_refused_lines sets request first second end keeps (inr h) =
     absurd (let bad : (true && not request.skips_bad) ≡ true = rw keeps in
     let q = sym bad ∙ h.0 in cc)
 
-pub an_answer_or_a_failed_write : {W E : Type 0} (request : Request) (first second : Sets)
-    (end : Ending W E) → EndsAnswering request false first second end
-    → FailsToWrite end ⊎ WritesAnswer request false first second end
-an_answer_or_a_failed_write request first second end (inl h) = absurd (let q = h.0 in cc)
-an_answer_or_a_failed_write request first second end (inr h) = h.1
+pub an_answer_or_a_failed_write : {W E : Type 0} (sets : Names) (request : Request) (first second : Sets)
+    (end : Ending W E) → EndsAnswering sets request false first second end
+    → FailsToWrite end ⊎ WritesAnswer sets request false first second end
+an_answer_or_a_failed_write sets request first second end (inl h) = absurd (let q = h.0 in cc)
+an_answer_or_a_failed_write sets request first second end (inr h) = h.1
 
-pub what_an_answer_is : {W E : Type 0} (request : Request) (skips : Bool) (first second : Sets)
-    (end : Ending W E) → WritesAnswer request skips first second end
-    → ((text : List ℕ) × IsAnswer request.operation request.form first second text
+pub what_an_answer_is : {W E : Type 0} (sets : Names) (request : Request) (skips : Bool) (first second : Sets)
+    (end : Ending W E) → WritesAnswer sets request skips first second end
+    → ((text : List ℕ) × IsAnswer sets request.operation request.form first second text
     × HasWritten end text) × HasTold end []
     × (end.status ≡ answer_status request.operation skips first second)
-what_an_answer_is request skips first second end h = ((h.0, h.1, h.2), h.3, h.4)
+what_an_answer_is sets request skips first second end h = ((h.0, h.1, h.2), h.3, h.4)
 
 pub what_a_failed_writer_is : {W E : Type 0} (end : Ending W E) → FailsToWrite end
     → (end.output_after.failed ≡ true) × HasTold end (codes "write error\n") × (end.status ≡ 2)
@@ -148,21 +149,22 @@ pub what_a_run_does : {Z W E : Type 0} (program help version usage : List ℕ) (
     (words : List (String Z)) (end : Ending W E)
     → text_asked help version words ≡ None → EndsAs program help version usage known words end
     → Refuses (codes "out of memory\n") end
-    ⊎ ((table : Table) × IsOptions table × EndsAsked program usage table.rows.now known (command_of table words) end)
+    ⊎ ((table : Table) × IsOptions table × EndsAsked program usage table.rows.now known (sets_of table words)
+    (command_of table words) end)
 what_a_run_does program help version usage known words end e h =
     otherwise help version words _ end e h
 
 -- by what is asked for, and by what is wrong
 pub what_is_asked_is_done : {W E : Type 0} (program usage : List ℕ) (rows : List Row) (known : KnownLists)
-    (request : Request) (files : List (List ℕ)) (end : Ending W E)
-    → EndsAsked program usage rows known (Ok (commands.Merge request, files)) end
-    → (names : List (String Global)) × (map string_bytes names ≡ files) × EndsMerging known names request end
-what_is_asked_is_done program usage rows known request files end h = h
+    (sets : Names) (request : Request) (files : List (List ℕ)) (end : Ending W E)
+    → EndsAsked program usage rows known sets (Ok (commands.Merge request, files)) end
+    → (names : List (String Global)) × (map string_bytes names ≡ files) × EndsMerging known names sets request end
+what_is_asked_is_done program usage rows known sets request files end h = h
 
 pub what_is_wrong_is_told : {W E : Type 0} (program usage : List ℕ) (rows : List Row) (known : KnownLists)
-    (fault : Fault) (end : Ending W E) → EndsAsked program usage rows known (Err fault) end
+    (sets : Names) (fault : Fault) (end : Ending W E) → EndsAsked program usage rows known sets (Err fault) end
     → ((end.output_after ≡ end.output) × (end.status ≡ 2)) × HasTold end (refusal_text program usage rows fault)
-what_is_wrong_is_told program usage rows known fault end h = h
+what_is_wrong_is_told program usage rows known sets fault end h = h
 
 pub what_a_check_does : {Z W E : Type 0} (known : KnownLists) (words : List (String Z)) (end : Ending W E)
     → EndsInspecting known words Check end
@@ -202,7 +204,7 @@ pub a_union_prints : (list : List (List ℕ)) (text : List ℕ) (number : ℕ) (
     (sets others : Sets) → TakesLines (at_list (nothing_read no_refusals) number) list read
     → read.is_out_of_memory ≡ false
     → IsAggregate 32 read.v4 sets.v4 → IsAggregate 128 read.v6 sets.v6
-    → IsAnswer Union Blocks sets others text → UnionPrints list text
+    → IsAnswer usual_names Union Blocks sets others text → UnionPrints list text
 a_union_prints list text number read sets others takes memory v4 v6 answer =
     record {
       number = number;

@@ -18,7 +18,7 @@ use Rattle.options.specs.declared.table.Pair.{Pair}
 use Rattle.options.specs.declared.table.Row.{Row}
 use Rattle.options.specs.declared.table.Table.{Table}
 use Rattle.cidr_merge.specs.CommandLines.{asked_for, command_if, command_of, first_said, second_said, unless}
-use Rattle.cidr_merge.specs.Faults.{cannot_print, fault_of, files_among, files_fault, is_exported, is_value, item_fault, items_fault, lacks_json, lacks_prefix, option_fault, sides_fault, takes, times_named, together_fault, value_fault}
+use Rattle.cidr_merge.specs.Faults.{cannot_print, fault_of, files_among, files_fault, is_exported, is_value, item_fault, items_fault, lacks_json, lacks_prefix, option_fault, sides_fault, takes, times_named, together_fault, value_fault, has_sets, has_table}
 use Rattle.cidr_merge.specs.Forms.{form_of}
 use Rattle.cidr_merge.specs.Options as own
 use Rattle.cidr_merge.specs.RightWords.{AFile, AFlag, AJoined, AValue, AreRight, AskFor, IsRightItem, IsValue, RightWordsAreTaken, SaySides}
@@ -62,20 +62,35 @@ needed true true c h = rw (h refl refl) refl
 needed true false c h = refl
 needed false b c h = refl
 
+-- the second has to hold where the first does
+implied : (a c : Bool) → (a && not c) ≡ false → a ≡ true → c ≡ true
+implied true true h e = refl
+implied true false h e = absurd (true≢false h)
+implied false c h e = absurd (true≢false (sym e))
+
+not_lacking : (a c : Bool) → (a ≡ true → c ≡ true) → (a && not c) ≡ false
+not_lacking true c h = rw (h refl) refl
+not_lacking false c h = refl
+
 -- ---- each option
 
 to_value : (row : ℕ) (text : List ℕ) → is_value row text ≡ true → IsValue row text
 to_value row text h = record {
   form = λ e. subst (λ (r : ℕ). is_value r text ≡ true) e h;
   prefix = λ e. subst (λ (r : ℕ). is_value r text ≡ true) e h;
+  set = λ e. subst (λ (r : ℕ). is_value r text ≡ true) e h;
+  table = λ e. subst (λ (r : ℕ). is_value r text ≡ true) e h;
 }
 
 is_of_value : (row : ℕ) (text : List ℕ) → IsValue row text → is_value row text ≡ true
-is_of_value row text v = by (row == own.format) (row == own.prefix) refl refl where
-  by : (f p : Bool) → (row == own.format) ≡ f → (row == own.prefix) ≡ p → is_value row text ≡ true
-  by true p e g = rw e (v.form (eqb-true row own.format e))
-  by false true e g = rw (e, g) (v.prefix (eqb-true row own.prefix g))
-  by false false e g = rw (e, g) refl
+is_of_value row text v = by (row == own.format) (row == own.prefix) (row == own.set) (row == own.table) refl refl refl refl where
+  by : (f p s t : Bool) → (row == own.format) ≡ f → (row == own.prefix) ≡ p → (row == own.set) ≡ s → (row == own.table) ≡ t
+      → is_value row text ≡ true
+  by true p s t e g h i = rw e (v.form (eqb-true row own.format e))
+  by false true s t e g h i = rw (e, g) (v.prefix (eqb-true row own.prefix g))
+  by false false true t e g h i = rw (e, g, h) (v.set (eqb-true row own.set h))
+  by false false false true e g h i = rw (e, g, h, i) (v.table (eqb-true row own.table i))
+  by false false false false e g h i = rw (e, g, h, i) refl
 
 module _ (rows : List Row) (task : Task) where
   taken_row : (row : ℕ) → option_fault rows task row ≡ None → takes task row ≡ true
@@ -231,6 +246,8 @@ module _ (table : Table) (task : Task) (name : List ℕ) (dashes : ℕ) (items :
       let q = fails (lacks_json task items) _ _ p.1 in
       let r = fails (cannot_print task (form_of Blocks items)) _ _ q.1 in
       let s = fails (lacks_prefix task items) _ _ r.1 in
+      let u = fails (is_given items own.set && not (has_sets (form_of Blocks items))) _ _ s.1 in
+      let v = fails (is_given items own.table && not (has_table (form_of Blocks items))) _ _ u.1 in
       let t = right_sides task name dashes firsts seconds (subst (λ (n : ℕ). sides_fault task name dashes (length firsts) n ≡ None) behind c.0) in
       let f = right_files (files_among task (length firsts) (firsts ++ seconds)) c.1 in (
         t.cut,
@@ -240,6 +257,8 @@ module _ (table : Table) (task : Task) (name : List ℕ) (dashes : ℕ) (items :
           strict = needs (takes task own.json) (is_given items own.strict) (is_given items own.json) q.0;
           form = λ e. subst (λ (o : Task). cannot_print o (form_of Blocks items) ≡ false) e r.0;
           prefix = λ e. given (is_given items own.prefix) (subst (λ (o : Task). lacks_prefix o items ≡ false) e s.0);
+          sets = implied (is_given items own.set) (has_sets (form_of Blocks items)) u.0;
+          sets_table = implied (is_given items own.table) (has_table (form_of Blocks items)) v.0;
           some = t.some;
           others = t.others;
           named = f.0;
@@ -256,8 +275,12 @@ module _ (table : Table) (task : Task) (name : List ℕ) (dashes : ℕ) (items :
         no_pair items table.pairs.now r.apart,
         needed (takes task own.json) (is_given items own.strict) (is_given items own.json) r.strict,
       )
-      (rw (can_print task (form_of Blocks items) r.form, has_prefix task items r.prefix, sides)
-      (no_files_fault (files_among task (length firsts) (firsts ++ seconds)) r.named r.input))
+      (rw (can_print task (form_of Blocks items) r.form, has_prefix task items r.prefix)
+      (rw (
+        not_lacking (is_given items own.set) (has_sets (form_of Blocks items)) r.sets,
+        not_lacking (is_given items own.table) (has_table (form_of Blocks items)) r.sets_table,
+        sides,
+      ) (no_files_fault (files_among task (length firsts) (firsts ++ seconds)) r.named r.input)))
 
 -- ---- all words
 

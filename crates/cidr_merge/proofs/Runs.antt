@@ -12,7 +12,7 @@ use Rattle.options.specs.declared.faults.Fault.{Fault}
 use Rattle.options.specs.declared.table.Table.{Table}
 use Rattle.program.specs.Runs.{text_asked}
 use Rattle.program.proofs.Runs.{not_asked}
-use Rattle.cidr_merge.specs.CommandLines.{command_of}
+use Rattle.cidr_merge.specs.CommandLines.{command_of, sets_of}
 use Rattle.cidr_merge.specs.Endings.{EndsAsked, EndsAs}
 use Rattle.cidr_merge.specs.Options.{IsOptions}
 use Rattle.cidr_merge.specs.declared.command_line.Command.{Command}
@@ -20,6 +20,7 @@ use Rattle.cidr_merge.specs.Reading.{ReadsSide, ReadsSides}
 use Rattle.cidr_merge.specs.Runs.{EndsAnswering, EndsMerging}
 use Rattle.cidr_merge.specs.Shapes.{source}
 use Rattle.cidr_merge.specs.Stopping.{Stops, StopsInSides}
+use Rattle.cidr_merge.specs.SetNames.{Names}
 use Rattle.cidr_merge.specs.declared.command_line.Request.{Request}
 use Rattle.lists.specs.declared.named.ReadFault.{ReadFault}
 use Rattle.cidr_merge.specs.declared.reading.Sets.{Sets}
@@ -56,14 +57,14 @@ sides_read (Err fault) known words others request first second between refused o
 )
 
 -- the answer was given
-pub merged : {Z W E : Type 0} (known : KnownLists) (words : List (String Z)) (request : Request)
+pub merged : {Z W E : Type 0} (known : KnownLists) (words : List (String Z)) (sets : Names) (request : Request)
     (first second : Sets) (refused : Refused) (is_empty : Bool) (end : Ending W E)
     (told : Written E) → ReadsSides known words request first second refused
     → Reports end.errors told (refusals_text words in_list refused)
-    → is_empty ≡ (length refused.kept == 0) → EndsAnswering request (not is_empty) first second
+    → is_empty ≡ (length refused.kept == 0) → EndsAnswering sets request (not is_empty) first second
     (record end { errors = told })
-    → EndsMerging known words request end
-merged known words request first second refused is_empty end told sides tells f ends = (
+    → EndsMerging known words sets request end
+merged known words sets request first second refused is_empty end told sides tells f ends = (
   refused,
   told,
   tells,
@@ -71,7 +72,7 @@ merged known words request first second refused is_empty end told sides tells f 
     first,
     second,
     sides,
-    subst (λ (b : Bool). EndsAnswering request (not b) first second
+    subst (λ (b : Bool). EndsAnswering sets request (not b) first second
         (record end { errors = told })) f ends,
   ),
 )
@@ -84,7 +85,7 @@ module _ {Z W E : Type 0} (program help version usage : List ℕ) (known : Known
 
   -- they ask for this, or this is wrong with them
   pub asked_ends : (table : Table) → IsOptions table → (asked : Result (Command × List (List ℕ)) Fault) → asked ≡ command_of table words
-      → EndsAsked program usage table.rows.now known asked end → EndsAs program help version usage known words end
+      → EndsAsked program usage table.rows.now known (sets_of table words) asked end → EndsAs program help version usage known words end
   asked_ends table options asked e h =
       not_asked help version words _ end no_text
-      (inr (table, options, subst (λ (r : Result (Command × List (List ℕ)) Fault). EndsAsked program usage table.rows.now known r end) e h))
+      (inr (table, options, subst (λ (r : Result (Command × List (List ℕ)) Fault). EndsAsked program usage table.rows.now known (sets_of table words) r end) e h))

@@ -17,6 +17,7 @@ use Rattle.cidr_merge.specs.declared.command_line.Form.TheVariants.{Blocks, Rang
 use Rattle.cidr_merge.specs.declared.command_line.Form.TheVariants.{Exported}
 use Rattle.cidr_merge.specs.declared.exports.Export.{Export}
 use Rattle.cidr_merge.specs.Exports.{export_text}
+use Rattle.cidr_merge.specs.SetNames.{Names}
 use Rattle.cidr_merge.specs.declared.reading.Sets.{Sets}
 use Rattle.cidr_merge.specs.declared.merge_join.Side.{Side}
 use Rattle.cidr_merge.specs.declared.merge_join.Side.TheVariants.{First, Second}
@@ -129,19 +130,19 @@ AreCounts Differ first second text =
     (IsLeftOfSecond Differ 128 first.v6 second.v6) seconds × (text ≡ firsts ++ seconds)
 
 -- the text is an export of the blocks that the operation leaves of the first side
-abbrev pub IsExport : Operation → Export → Sets → Sets → List ℕ → Type 0
-IsExport operation export first second text =
+abbrev pub IsExport : Names → Operation → Export → Sets → Sets → List ℕ → Type 0
+IsExport names operation export first second text =
     (v4 v6 : List Network) × IsLeastList 32 (IsLeft operation 32 first.v4 second.v4) v4
     × IsLeastList 128 (IsLeft operation 128 first.v6 second.v6) v6
-    × (text ≡ export_text export v4 v6)
+    × (text ≡ export_text names export v4 v6)
 
 -- the text is the answer in this form
-abbrev pub IsAnswer : Operation → Form → Sets → Sets → List ℕ → Type 0
-IsAnswer operation Blocks first second text =
+abbrev pub IsAnswer : Names → Operation → Form → Sets → Sets → List ℕ → Type 0
+IsAnswer names operation Blocks first second text =
     AreBoth (AreBlockLines operation v4_family first.v4 second.v4)
     (AreBlockLines operation v6_family first.v6 second.v6) text
-IsAnswer operation Ranges first second text =
+IsAnswer names operation Ranges first second text =
     AreBoth (AreRangeLines operation v4_family first.v4 second.v4)
     (AreRangeLines operation v6_family first.v6 second.v6) text
-IsAnswer operation Counts first second text = AreCounts operation first second text
-IsAnswer operation (Exported export) first second text = IsExport operation export first second text
+IsAnswer names operation Counts first second text = AreCounts operation first second text
+IsAnswer names operation (Exported export) first second text = IsExport names operation export first second text

@@ -1,5 +1,5 @@
 -- What the words of a command line ask for.
-use Rattle.std.specs.Prelude.{ℕ, Bool, List, [], ◌∷◌, ◌++◌, Option, None, Some, Result, Ok, Err, length, map}
+use Rattle.std.specs.Prelude.{ℕ, Bool, List, [], ◌∷◌, ◌++◌, Option, None, Some, Result, Ok, Err, length, map, drop}
 use Rattle.std.specs.Prelude.{if◌then◌else◌, codes, String}
 use Rattle.std.specs.String.{string_bytes}
 use Rattle.program.specs.Words.{count}
@@ -15,6 +15,7 @@ use Rattle.options.specs.declared.table.Table.{Table}
 use Rattle.cidr_merge.specs.Faults.{fault_of, no_task_fault}
 use Rattle.cidr_merge.specs.Forms.{form_of, shape_of, length_of}
 use Rattle.cidr_merge.specs.Options as own
+use Rattle.cidr_merge.specs.SetNames.{Names, names_of}
 use Rattle.cidr_merge.specs.Sides.{before_dashes, behind_dashes}
 use Rattle.cidr_merge.specs.Tasks.{task_called}
 use Rattle.cidr_merge.specs.declared.command_line.Asked.{Asked}
@@ -65,6 +66,14 @@ first_said rows others = items_of rows modes.Free (before_dashes others)
 
 abbrev pub second_said : {Z : Type 0} → List Row → List (String Z) → List Item
 second_said rows others = items_of rows modes.Free (behind_dashes others)
+
+-- what the sets of an export are called by both
+abbrev pub sets_by : {Z : Type 0} → Table → List (String Z) → Names
+sets_by table others = names_of (first_said table.rows.now others ++ second_said table.rows.now others)
+
+-- and by all words after the program's name
+abbrev pub sets_of : {Z : Type 0} → Table → List (String Z) → Names
+sets_of table words = sets_by table (drop 1 words)
 
 -- this is wrong, or that is asked for of these FILEs
 abbrev pub unless : Option Fault → Command → List (List ℕ) → Result (Command × List (List ℕ)) Fault

@@ -9,30 +9,35 @@ use Rattle.options.specs.declared.table.Row.{Row}
 use Rattle.options.specs.declared.table.Table.{Table}
 use Rattle.program.specs.Endings.{Ending, Refuses}
 use Rattle.program.specs.Runs.{EndsRun}
-use Rattle.cidr_merge.specs.CommandLines.{command_of}
+use Rattle.cidr_merge.specs.CommandLines.{command_of, sets_of}
 use Rattle.cidr_merge.specs.FindRuns.{EndsFind}
 use Rattle.cidr_merge.specs.InspectionRuns.{EndsInspecting}
 use Rattle.cidr_merge.specs.Options.{IsOptions}
 use Rattle.cidr_merge.specs.Runs.{EndsMerging}
+use Rattle.cidr_merge.specs.SetNames.{Names}
 use Rattle.cidr_merge.specs.Splits.{EndsSplitting}
 use Rattle.cidr_merge.specs.declared.command_line.Command.{Command}
 use Rattle.cidr_merge.specs.declared.command_line.Command.TheVariants as commands
 
--- what is asked for is done, of the FILEs of these names
-abbrev pub EndsCommand : {Z W E : Type 0} → List ℕ → List ℕ → List Row → KnownLists → List (String Z) → Command
+-- what is asked for is done, of the FILEs of these names; exports have sets of those
+abbrev pub EndsCommand : {Z W E : Type 0} → List ℕ → List ℕ → List Row → KnownLists → List (String Z) → Names → Command
     → Ending W E → Type 0
-EndsCommand program usage rows known words (commands.Merge request) end = EndsMerging known words request end
-EndsCommand program usage rows known words (commands.Split request) end = EndsSplitting known words request end
-EndsCommand program usage rows known words (commands.Inspect inspection) end = EndsInspecting known words inspection end
-EndsCommand program usage rows known words (commands.Find middle) end =
+EndsCommand program usage rows known words sets (commands.Merge request) end =
+    EndsMerging known words sets request end
+EndsCommand program usage rows known words sets (commands.Split request) end =
+    EndsSplitting known words request end
+EndsCommand program usage rows known words sets (commands.Inspect inspection) end =
+    EndsInspecting known words inspection end
+EndsCommand program usage rows known words sets (commands.Find middle) end =
     EndsFind program usage rows known words middle end
 
 -- or something is wrong with the words, and that and the usage are reported
-abbrev pub EndsAsked : {W E : Type 0} → List ℕ → List ℕ → List Row → KnownLists
+abbrev pub EndsAsked : {W E : Type 0} → List ℕ → List ℕ → List Row → KnownLists → Names
     → Result (Command × List (List ℕ)) Fault → Ending W E → Type 0
-EndsAsked program usage rows known (Ok asked) end = (names : List (String Global)) × (map string_bytes names ≡ asked.1)
-    × EndsCommand program usage rows known names asked.0 end
-EndsAsked program usage rows known (Err fault) end = Refuses (refusal_text program usage rows fault) end
+EndsAsked program usage rows known sets (Ok asked) end = (names : List (String Global))
+    × (map string_bytes names ≡ asked.1)
+    × EndsCommand program usage rows known names sets asked.0 end
+EndsAsked program usage rows known sets (Err fault) end = Refuses (refusal_text program usage rows fault) end
 
 -- how a run ends of a program of this name, help, version and usage: with the help or the version, if the words ask for
 -- it. Else they are read by the table of its options, unless there is no memory for that
@@ -41,4 +46,4 @@ abbrev pub EndsAs : {Z W E : Type 0} → List ℕ → List ℕ → List ℕ → 
 EndsAs program help version usage known words end = EndsRun help version words
     (Refuses (codes "out of memory\n") end
     ⊎ ((table : Table) × IsOptions table × EndsAsked program usage table.rows.now known
-    (command_of table words) end)) end
+    (sets_of table words) (command_of table words) end)) end

@@ -5,30 +5,38 @@ use Rattle.std.specs.Prelude.{codes}
 use Rattle.std.specs.List.{concat, flat_map}
 use Rattle.ipnetwork_family.specs.Network.{Network, block_size, mask_of, low, high, members}
 use Rattle.ipnetwork_family.specs.Family.{Family, text_of, v4_family, v6_family}
+use Rattle.cidr_merge.specs.SetNames.{Names}
 use Rattle.cidr_merge.specs.declared.exports.Export.{Export}
 use Rattle.cidr_merge.specs.declared.exports.Export.TheVariants.{Netmask, Wildcard, Csv, Nft, Ipset}
 use Rattle.cidr_merge.specs.declared.exports.Export.TheVariants.{Json, Addresses}
 use Rattle.cidr_merge.specs.declared.exports.Version.{Version}
 use Rattle.cidr_merge.specs.declared.exports.Version.TheVariants.{V4, V6}
 
--- the word for a family in the names of its sets
+-- the end of the name of a family's set, the addresses of one of nftables, and how one of ipset is made
 abbrev pub family_word : Version → List ℕ
-family_word V4 = codes "ipv4"
-family_word V6 = codes "ipv6"
+family_word V4 = codes "_ipv4"
+family_word V6 = codes "_ipv6"
 
--- how a set of ipset is made, behind its name
+abbrev pub address_type : Version → List ℕ
+address_type V4 = codes "ipv4_addr"
+address_type V6 = codes "ipv6_addr"
+
 abbrev pub made : Version → List ℕ
 made V4 = codes " hash:net family inet maxelem 4294967295 -exist\n"
 made V6 = codes " hash:net family inet6 maxelem 4294967295 -exist\n"
 
+-- nftables: a table is made, if it is not there
+abbrev pub nft_table : List ℕ → List ℕ
+nft_table table = concat (codes "add table inet " ∷ table ∷ codes "\n" ∷ [])
+
 -- ---- what stands around the blocks: nothing, where a form is not named
 
 -- before everything else
-abbrev pub head : Export → List ℕ
-head Csv = codes "family,network,first,last\n"
-head Nft = codes "add table inet cidr_merge\n"
-head Json = codes "["
-head _ = []
+abbrev pub head : Names → Export → List ℕ
+head names Csv = codes "family,network,first,last\n"
+head names Nft = nft_table names.table
+head names Json = codes "["
+head names _ = []
 
 -- after everything else
 abbrev pub foot : Export → List ℕ
@@ -36,41 +44,42 @@ foot Json = codes "\n]\n"
 foot _ = []
 
 -- nftables: a set is made, if it is not there, and loses its elements; it gets others
-abbrev pub nft_set : List ℕ → List ℕ
-nft_set word = concat
-    (codes "add set inet cidr_merge " ∷ word ∷ codes " { type " ∷ word
-    ∷ codes "_addr; flags interval; }\nflush set inet cidr_merge " ∷ word ∷ codes "\n" ∷ [])
+abbrev pub nft_set : List ℕ → List ℕ → List ℕ → List ℕ → List ℕ
+nft_set table set word addresses = concat
+    (codes "add set inet " ∷ table ∷ codes " " ∷ set ∷ word ∷ codes " { type " ∷ addresses
+    ∷ codes "; flags interval; }\nflush set inet " ∷ table ∷ codes " " ∷ set ∷ word ∷ codes "\n" ∷ [])
 
-abbrev pub nft_elements : List ℕ → List ℕ
-nft_elements word = concat (codes "add element inet cidr_merge " ∷ word ∷ codes " {\n\t" ∷ [])
+abbrev pub nft_elements : List ℕ → List ℕ → List ℕ → List ℕ
+nft_elements table set word =
+    concat (codes "add element inet " ∷ table ∷ codes " " ∷ set ∷ word ∷ codes " {\n\t" ∷ [])
 
 -- ipset: a set is made, if it is not there, and a new one without elements, which takes the place of the old one
-abbrev pub ipset_sets : List ℕ → List ℕ → List ℕ
-ipset_sets word made = concat
-    (codes "create cidr_merge_" ∷ word ∷ made ∷ codes "create cidr_merge_" ∷ word ∷ codes "_new" ∷ made
-    ∷ codes "flush cidr_merge_" ∷ word ∷ codes "_new\n" ∷ [])
+abbrev pub ipset_sets : List ℕ → List ℕ → List ℕ → List ℕ
+ipset_sets set word made = concat
+    (codes "create " ∷ set ∷ word ∷ made ∷ codes "create " ∷ set ∷ word ∷ codes "_new" ∷ made
+    ∷ codes "flush " ∷ set ∷ word ∷ codes "_new\n" ∷ [])
 
-abbrev pub ipset_swap : List ℕ → List ℕ
-ipset_swap word = concat
-    (codes "swap cidr_merge_" ∷ word ∷ codes "_new cidr_merge_" ∷ word
-    ∷ codes "\ndestroy cidr_merge_" ∷ word ∷ codes "_new\n" ∷ [])
+abbrev pub ipset_swap : List ℕ → List ℕ → List ℕ
+ipset_swap set word = concat
+    (codes "swap " ∷ set ∷ word ∷ codes "_new " ∷ set ∷ word
+    ∷ codes "\ndestroy " ∷ set ∷ word ∷ codes "_new\n" ∷ [])
 
 -- before the blocks of a family, even if there is none
-abbrev pub family_head : Export → Version → List ℕ
-family_head Nft version = nft_set (family_word version)
-family_head Ipset version = ipset_sets (family_word version) (made version)
-family_head _ version = []
+abbrev pub family_head : Names → Export → Version → List ℕ
+family_head names Nft version = nft_set names.table names.set (family_word version) (address_type version)
+family_head names Ipset version = ipset_sets names.set (family_word version) (made version)
+family_head names _ version = []
 
 -- after them, even if there is none
-abbrev pub family_foot : Export → Version → List ℕ
-family_foot Ipset version = ipset_swap (family_word version)
-family_foot _ version = []
+abbrev pub family_foot : Names → Export → Version → List ℕ
+family_foot names Ipset version = ipset_swap names.set (family_word version)
+family_foot names _ version = []
 
 -- before the first block of a family: in an array it may follow blocks of the other family
-abbrev pub opening : Export → Version → Bool → List ℕ
-opening Nft version follows = nft_elements (family_word version)
-opening Json version follows = if follows then codes ",\n" else codes "\n"
-opening _ version _ = []
+abbrev pub opening : Names → Export → Version → Bool → List ℕ
+opening names Nft version follows = nft_elements names.table names.set (family_word version)
+opening names Json version follows = if follows then codes ",\n" else codes "\n"
+opening names _ version _ = []
 
 -- between two blocks of a family
 abbrev pub separator : Export → List ℕ
@@ -108,59 +117,60 @@ half_blocks V4 = (codes "0.0.0.0/1", codes "128.0.0.0/1")
 half_blocks V6 = (codes "::/1", codes "8000::/1")
 
 -- a network is added to the new set, or these two
-abbrev pub ipset_line : List ℕ → List ℕ → List ℕ
-ipset_line word network =
-    concat (codes "add cidr_merge_" ∷ word ∷ codes "_new " ∷ network ∷ codes "\n" ∷ [])
+abbrev pub ipset_line : List ℕ → List ℕ → List ℕ → List ℕ
+ipset_line set word network =
+    concat (codes "add " ∷ set ∷ word ∷ codes "_new " ∷ network ∷ codes "\n" ∷ [])
 
-abbrev pub ipset_halves : List ℕ → List ℕ × List ℕ → List ℕ
-ipset_halves word halves = concat
-    (codes "add cidr_merge_" ∷ word ∷ codes "_new " ∷ halves.0
-    ∷ codes "\nadd cidr_merge_" ∷ word ∷ codes "_new " ∷ halves.1 ∷ codes "\n" ∷ [])
+abbrev pub ipset_halves : List ℕ → List ℕ → List ℕ × List ℕ → List ℕ
+ipset_halves set word halves = concat
+    (codes "add " ∷ set ∷ word ∷ codes "_new " ∷ halves.0
+    ∷ codes "\nadd " ∷ set ∷ word ∷ codes "_new " ∷ halves.1 ∷ codes "\n" ∷ [])
 
-abbrev pub ipset_lines : {w : ℕ} → Version → Family w → Network → List ℕ
-ipset_lines version family block =
-    if block.prefix == 0 then ipset_halves (family_word version) (half_blocks version)
-    else ipset_line (family_word version) (text_of family block)
+abbrev pub ipset_lines : {w : ℕ} → List ℕ → Version → Family w → Network → List ℕ
+ipset_lines set version family block =
+    if block.prefix == 0 then ipset_halves set (family_word version) (half_blocks version)
+    else ipset_line set (family_word version) (text_of family block)
 
 -- the line of an address
 abbrev pub address_line : {w : ℕ} → Family w → ℕ → List ℕ
 address_line family address = family.canonical address ++ codes "\n"
 
 -- how a block is written; the bits of a wildcard are those of the mask turned round
-abbrev pub element : {w : ℕ} → Export → Version → Family w → Network → List ℕ
-element {w} Netmask version family block = with_mask version family block (mask_of w block.prefix)
-element {w} Wildcard version family block =
+abbrev pub element : {w : ℕ} → Names → Export → Version → Family w → Network → List ℕ
+element {w} names Netmask version family block = with_mask version family block (mask_of w block.prefix)
+element {w} names Wildcard version family block =
     with_mask version family block (block_size w block.prefix - 1)
-element Csv version family block = csv_line version family block
-element Nft version family block = text_of family block
-element Ipset version family block = ipset_lines version family block
-element Json version family block = concat (codes "\"" ∷ text_of family block ∷ codes "\"" ∷ [])
-element {w} Addresses version family block = flat_map (address_line family) (members w block)
+element names Csv version family block = csv_line version family block
+element names Nft version family block = text_of family block
+element names Ipset version family block = ipset_lines names.set version family block
+element names Json version family block = concat (codes "\"" ∷ text_of family block ∷ codes "\"" ∷ [])
+element {w} names Addresses version family block = flat_map (address_line family) (members w block)
 
 -- ---- all blocks
 
 -- a block after another of its family
-abbrev pub following : {w : ℕ} → Export → Version → Family w → Network → List ℕ
-following export version family block = separator export ++ element export version family block
+abbrev pub following : {w : ℕ} → Names → Export → Version → Family w → Network → List ℕ
+following names export version family block = separator export ++ element names export version family block
 
 -- the blocks of a family
-abbrev pub listed : {w : ℕ} → Export → Version → Family w → Bool → List Network → List ℕ
-listed export version family follows [] = []
-listed export version family follows (block ∷ blocks) =
-    opening export version follows ++ element export version family block
-    ++ flat_map (following export version family) blocks ++ closing export
+abbrev pub listed : {w : ℕ} → Names → Export → Version → Family w → Bool → List Network → List ℕ
+listed names export version family follows [] = []
+listed names export version family follows (block ∷ blocks) =
+    opening names export version follows ++ element names export version family block
+    ++ flat_map (following names export version family) blocks ++ closing export
 
 -- with what stands there even if there is none
-abbrev pub family_text : {w : ℕ} → Export → Version → Family w → Bool → List Network → List ℕ
-family_text export version family follows blocks =
-    family_head export version ++ listed export version family follows blocks ++ family_foot export version
+abbrev pub family_text : {w : ℕ} → Names → Export → Version → Family w → Bool → List Network → List ℕ
+family_text names export version family follows blocks =
+    family_head names export version ++ listed names export version family follows blocks
+    ++ family_foot names export version
 
 abbrev pub is_any : {X : Type 0} → List X → Bool
 is_any [] = false
 is_any (x ∷ xs) = true
 
 -- the blocks of both families
-abbrev pub export_text : Export → List Network → List Network → List ℕ
-export_text export v4 v6 =
-    head export ++ family_text export V4 v4_family false v4
-    ++ family_text export V6 v6_family (is_any v4) v6 ++ foot export
+abbrev pub export_text : Names → Export → List Network → List Network → List ℕ
+export_text names export v4 v6 =
+    head names export ++ family_text names export V4 v4_family false v4
+    ++ family_text names export V6 v6_family (is_any v4) v6 ++ foot export

@@ -1,6 +1,6 @@
 -- What is wrong with the words of a command line.
-use Rattle.std.specs.Prelude.{ℕ, ◌-◌, ◌==◌, ◌&&◌, Bool, true, false, not, List, [], ◌∷◌, Option, None, Some, length}
-use Rattle.std.specs.Prelude.{drop, nat_lt, if◌then◌else◌, codes, bytes_eq}
+use Rattle.std.specs.Prelude.{ℕ, ◌-◌, ◌==◌, ◌&&◌, ◌||◌, Bool, true, false, not, List, [], ◌∷◌, Option, None, Some}
+use Rattle.std.specs.Prelude.{length, drop, nat_lt, if◌then◌else◌, codes, bytes_eq}
 use Rattle.std.specs.List.{list_any, count_by}
 use Rattle.std.specs.Option.{option_or, is_some}
 use Rattle.options.specs.Faults.{about, pair_fault, problem_at}
@@ -18,10 +18,12 @@ use Rattle.options.specs.declared.table.Table.{Table}
 use Rattle.cidr_merge.specs.Forms.{form_called, form_of, prefix_in}
 use Rattle.cidr_merge.specs.Options as own
 use Rattle.cidr_merge.specs.Options.{taken}
+use Rattle.cidr_merge.specs.SetNames.{is_set_name}
 use Rattle.cidr_merge.specs.Tasks.{is_two_sided, no_option, no_first, one_side}
 use Rattle.cidr_merge.specs.declared.command_line.Form.{Form}
 use Rattle.cidr_merge.specs.declared.command_line.Form.TheVariants.{Blocks, Exported}
 use Rattle.cidr_merge.specs.declared.command_line.Operation.TheVariants as operations
+use Rattle.cidr_merge.specs.declared.exports.Export.TheVariants.{Nft, Ipset}
 use Rattle.cidr_merge.specs.declared.tasks.Task.{Task}
 use Rattle.cidr_merge.specs.declared.tasks.Task.TheVariants as tasks
 
@@ -64,6 +66,7 @@ abbrev pub is_value : ℕ → List ℕ → Bool
 is_value row text =
     if row == own.format then is_some (form_called text)
     else if row == own.prefix then is_some (prefix_in text)
+    else if row == own.set || row == own.table then is_set_name text
     else true
 
 abbrev pub value_fault : List Row → ℕ → List ℕ → Option Fault
@@ -100,6 +103,24 @@ abbrev pub cannot_print : Task → Form → Bool
 cannot_print (tasks.Merge operations.Differ) form = is_exported form
 cannot_print task form = false
 
+-- a form has sets, and a table, and an option names them in another
+abbrev pub has_sets : Form → Bool
+has_sets (Exported Nft) = true
+has_sets (Exported Ipset) = true
+has_sets form = false
+
+abbrev pub has_table : Form → Bool
+has_table (Exported Nft) = true
+has_table form = false
+
+abbrev pub names_fault : List Item → Form → Option Fault
+names_fault items form =
+    if is_given items own.set && not (has_sets form)
+    then Some (about (subjects.Option own.set) (codes "only together with --format nft or ipset"))
+    else if is_given items own.table && not (has_table form)
+    then Some (about (subjects.Option own.table) (codes "only together with --format nft"))
+    else None
+
 -- what is wrong with options together
 abbrev pub together_fault : Table → Task → List Item → Option Fault
 together_fault table task items =
@@ -108,7 +129,7 @@ together_fault table task items =
     else if cannot_print task (form_of Blocks items)
     then Some (about (subjects.Option own.format) (codes "differ can be printed only as plain or range"))
     else if lacks_prefix task items then Some (about subjects.CommandLine (codes "split: no --prefix N"))
-    else None)
+    else names_fault items (form_of Blocks items))
 
 -- ---- lists
 

@@ -22,6 +22,7 @@ pub mod Reading
 pub mod Repetitions
 pub mod RightWords
 pub mod Runs
+pub mod SetNames
 pub mod Shapes
 pub mod Sides
 pub mod Splits

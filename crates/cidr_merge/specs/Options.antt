@@ -25,8 +25,18 @@ json = 4
 abbrev pub strict : ℕ
 strict = 5
 
+abbrev pub set : ℕ
+set = 6
+
+abbrev pub table : ℕ
+table = 7
+
 abbrev pub prefix : ℕ
-prefix = 6
+prefix = 8
+
+-- what is told of a name that is none
+abbrev pub no_name : List ℕ
+no_name = codes "not a name of 1 to 22 letters, digits, _, - and ., the first a letter"
 
 -- the options, in the order of their rows
 abbrev pub entries : List Entry
@@ -35,6 +45,7 @@ entries =
     ∷ long (codes "--format") kinds.Text true
     (codes "not a form; the forms are plain, range, netmask, wildcard, csv, nft, ipset, json and addresses")
     ∷ long_flag (codes "--skip-bad") ∷ long_flag (codes "--json") ∷ long_flag (codes "--strict")
+    ∷ long (codes "--set") kinds.Text true no_name ∷ long (codes "--table") kinds.Text true no_name
     ∷ long (codes "--prefix") kinds.Text true (codes "not a prefix length, 0 to 128")
     ∷ alone (codes "--help") (codes "taken only alone")
     ∷ alone (codes "--version") (codes "taken only alone")
@@ -47,16 +58,17 @@ another_form = codes "--format: given twice, or together with --ranges or --coun
 abbrev pub pairs : List (ℕ × ℕ × List ℕ)
 pairs = (ranges, count, codes "--ranges: not together with --count") ∷ (format, format, another_form)
     ∷ (format, ranges, another_form) ∷ (format, count, another_form)
-    ∷ (prefix, prefix, codes "--prefix: given twice") ∷ []
+    ∷ (prefix, prefix, codes "--prefix: given twice")
+    ∷ (set, set, codes "--set: given twice") ∷ (table, table, codes "--table: given twice") ∷ []
 
 -- the table has these
 abbrev pub IsOptions : Table → Type 0
-IsOptions table = IsTable table entries pairs [] []
+IsOptions options = IsTable options entries pairs [] []
 
 -- those that a task takes
 abbrev pub taken : Task → List ℕ
-taken (tasks.Merge operation) = ranges ∷ count ∷ format ∷ skip_bad ∷ json ∷ strict ∷ []
-taken tasks.List = ranges ∷ count ∷ format ∷ skip_bad ∷ json ∷ strict ∷ []
+taken (tasks.Merge operation) = ranges ∷ count ∷ format ∷ set ∷ table ∷ skip_bad ∷ json ∷ strict ∷ []
+taken tasks.List = ranges ∷ count ∷ format ∷ set ∷ table ∷ skip_bad ∷ json ∷ strict ∷ []
 taken tasks.Split = prefix ∷ skip_bad ∷ json ∷ strict ∷ []
 taken tasks.Check = strict ∷ []
 taken tasks.Overlaps = []

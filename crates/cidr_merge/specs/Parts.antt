@@ -6,6 +6,7 @@ use Rattle.ipnetwork_blocks.specs.Aggregate.{IsAggregate}
 use Rattle.lists.specs.Lists.{ReadLists, nothing_read, at_list, TakesLines}
 use Rattle.lists.specs.Refusals.{no_refusals}
 use Rattle.cidr_merge.specs.Answers.{IsAnswer}
+use Rattle.cidr_merge.specs.SetNames.{usual_names}
 use Rattle.cidr_merge.specs.declared.command_line.Operation.TheVariants.{Union}
 use Rattle.cidr_merge.specs.declared.command_line.Form.TheVariants.{Blocks}
 use Rattle.cidr_merge.specs.declared.reading.Sets.{Sets}
@@ -20,7 +21,7 @@ pub record UnionPrints (list : List (List ℕ)) (text : List ℕ) : Type 0 where
   pub memory : read.is_out_of_memory ≡ false
   pub v4 : IsAggregate 32 read.v4 sets.v4
   pub v6 : IsAggregate 128 read.v6 sets.v6
-  pub answer : IsAnswer Union Blocks sets others text
+  pub answer : IsAnswer usual_names Union Blocks sets others text
 
 -- that of each of these lists prints the text in its place
 abbrev pub UnionsPrint : List (List (List ℕ)) → List (List ℕ) → Type 0

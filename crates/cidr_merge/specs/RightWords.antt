@@ -14,9 +14,10 @@ use Rattle.options.specs.declared.table.Row.{Row}
 use Rattle.options.specs.declared.table.Table.{Table}
 use Rattle.program.specs.Words.{count}
 use Rattle.cidr_merge.specs.CommandLines.{asked_for, command_of}
-use Rattle.cidr_merge.specs.Faults.{is_exported, files_among, takes, times_named}
+use Rattle.cidr_merge.specs.Faults.{is_exported, files_among, has_sets, has_table, takes, times_named}
 use Rattle.cidr_merge.specs.Forms.{form_called, form_of, prefix_in}
 use Rattle.cidr_merge.specs.Options as own
+use Rattle.cidr_merge.specs.SetNames.{is_set_name}
 use Rattle.cidr_merge.specs.Tasks.{is_two_sided, task_called}
 use Rattle.cidr_merge.specs.declared.command_line.Command.{Command}
 use Rattle.cidr_merge.specs.declared.command_line.Form.TheVariants.{Blocks}
@@ -37,6 +38,8 @@ pub data SaySides {Z : Type 0} (rows : List Row) : Bool → List (String Z) → 
 pub record IsValue (row : ℕ) (text : List ℕ) : Type 0 where
   pub form : row ≡ own.format → IsTrue (is_some (form_called text))
   pub prefix : row ≡ own.prefix → IsTrue (is_some (prefix_in text))
+  pub set : row ≡ own.set → IsTrue (is_set_name text)
+  pub table : row ≡ own.table → IsTrue (is_set_name text)
 
 -- an option that the task takes, with a value if it has one, or a FILE
 pub data IsRightItem (task : Task) : Item → Type 0 where
@@ -55,6 +58,8 @@ pub record AreRight (table : Table) (task : Task) (items : List Item) (first sec
   pub strict : IsTrue (takes task own.json) → IsTrue (is_given items own.strict) → IsTrue (is_given items own.json)
   pub form : task ≡ tasks.Merge operations.Differ → is_exported (form_of Blocks items) ≡ false
   pub prefix : task ≡ tasks.Split → IsTrue (is_given items own.prefix)
+  pub sets : IsTrue (is_given items own.set) → IsTrue (has_sets (form_of Blocks items))
+  pub sets_table : IsTrue (is_given items own.table) → IsTrue (has_table (form_of Blocks items))
   pub some : first ≢ []
   pub others : IsTrue (is_two_sided task) → second ≢ []
   pub named : times_named [] (files_among task (length first) (first ++ second)) ≡ 0

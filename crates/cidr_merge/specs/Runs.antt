@@ -15,6 +15,7 @@ use Rattle.cidr_merge.specs.Writing.{FailsToWrite}
 use Rattle.cidr_merge.specs.declared.command_line.Operation.{Operation}
 use Rattle.cidr_merge.specs.declared.command_line.Operation.TheVariants.{Union, Common, Minus}
 use Rattle.cidr_merge.specs.declared.command_line.Operation.TheVariants.{Differ}
+use Rattle.cidr_merge.specs.SetNames.{Names}
 use Rattle.cidr_merge.specs.declared.command_line.Request.{Request}
 use Rattle.cidr_merge.specs.declared.reading.Sets.{Sets}
 
@@ -33,19 +34,19 @@ answer_status operation skips first second =
     if skips then 3 else if are_unequal operation first second then 1 else 0
 
 -- the answer was written, and nothing more was reported
-abbrev pub WritesAnswer : {W E : Type 0} → Request → Bool → Sets → Sets → Ending W E → Type 0
-WritesAnswer request skips first second end =
-    (text : List ℕ) × IsAnswer request.operation request.form first second text
+abbrev pub WritesAnswer : {W E : Type 0} → Names → Request → Bool → Sets → Sets → Ending W E → Type 0
+WritesAnswer sets request skips first second end =
+    (text : List ℕ) × IsAnswer sets request.operation request.form first second text
     × HasWritten end text × HasTold end []
     × (end.status ≡ answer_status request.operation skips first second)
 
 -- the lists of both sides were read: if lines were refused and are not to be skipped, nothing is
 -- written, and else the answer is, unless the writer fails
-abbrev pub EndsAnswering : {W E : Type 0} → Request → Bool → Sets → Sets → Ending W E → Type 0
-EndsAnswering request skips first second end =
+abbrev pub EndsAnswering : {W E : Type 0} → Names → Request → Bool → Sets → Sets → Ending W E → Type 0
+EndsAnswering sets request skips first second end =
     ((skips && not request.skips_bad ≡ true) × IsSilent end × HasTold end [])
     ⊎ ((skips && not request.skips_bad ≡ false)
-    × (FailsToWrite end ⊎ WritesAnswer request skips first second end))
+    × (FailsToWrite end ⊎ WritesAnswer sets request skips first second end))
 
 -- the lists were not read to their ends, and these lines were refused before: nothing was written,
 -- and the cause was reported
@@ -56,10 +57,10 @@ StopsReading known words request refused end =
     × HasTold end (fault_text words fault)
 
 -- the refused lines were reported, and then either why the reading stopped, or the answer was given
-abbrev pub EndsMerging : {Z W E : Type 0} → KnownLists → List (String Z) → Request → Ending W E
+abbrev pub EndsMerging : {Z W E : Type 0} → KnownLists → List (String Z) → Names → Request → Ending W E
     → Type 0
-EndsMerging {Z} {W} {E} known words request end = (refused : Refused) × (told : Written E)
+EndsMerging {Z} {W} {E} known words sets request end = (refused : Refused) × (told : Written E)
     × Reports end.errors told (refusals_text words in_list refused)
     × (StopsReading known words request refused (record end { errors = told })
     ⊎ ((first second : Sets) × ReadsSides known words request first second refused
-    × EndsAnswering request (was_refused refused) first second (record end { errors = told })))
+    × EndsAnswering sets request (was_refused refused) first second (record end { errors = told })))

@@ -1,5 +1,5 @@
 -- What the first word says to do, and what is told of words that it does not take.
-use Rattle.std.specs.Prelude.{ℕ, Bool, true, false, List, Option, None, Some, if◌then◌else◌, codes, bytes_eq}
+use Rattle.std.specs.Prelude.{ℕ, Bool, true, false, List, ◌++◌, Option, None, Some, if◌then◌else◌, codes, bytes_eq}
 use Rattle.cidr_merge.specs.declared.command_line.Operation.TheVariants as operations
 use Rattle.cidr_merge.specs.declared.tasks.Task.{Task}
 use Rattle.cidr_merge.specs.declared.tasks.Task.TheVariants as tasks
@@ -31,7 +31,8 @@ no_option tasks.Split = codes "not an option of split; it takes --prefix N, --sk
 no_option tasks.Check = codes "not an option of check; it takes --strict"
 no_option tasks.Overlaps = codes "not an option of overlaps; it takes none"
 no_option tasks.Find = codes "not an option of find; it takes none"
-no_option task = codes "not an option of union, common, minus, differ or list; they take --ranges, --count, --format FORM, --skip-bad, --json and --strict"
+no_option task = codes "not an option of union, common, minus, differ or list; they take --ranges, --count, "
+    ++ codes "--format FORM, --set NAME, --table NAME, --skip-bad, --json and --strict"
 
 -- and of a `--` where there is one side, and with nothing before it
 abbrev pub one_side : List ℕ

@@ -1,12 +1,14 @@
 //! What the words of a command line ask for.
 ghost use Rattle.std.specs.Prelude.{◌≡◌, ◌≤◌, length, IfOk};
 ghost use Rattle.cidr_merge.specs.CommandLines.{request_of, inspection_of, asked_for, command_for, command_of, told_of};
+ghost use Rattle.cidr_merge.specs.CommandLines.{sets_by, sets_of};
 ghost use Rattle.cidr_merge.specs.Forms.{form_called, form_of, shape_of, without_plus, prefix_in, length_of};
 ghost use Rattle.cidr_merge.specs.Private.Words.{IsCommandWithin};
 
 use crate::exports::Export;
 use crate::faults::{fault_of, no_task_fault};
 use crate::rows::{COUNT, FORMAT, JSON, PREFIX, RANGES, SKIP_BAD, STRICT, table};
+use crate::set_names::{SetNames, names_of};
 use crate::shapes::Shape;
 use crate::tasks::{Task, task_called};
 use crate::words::{before_dashes, behind_dashes};
@@ -102,6 +104,8 @@ pub struct Asked {
     pub command: Command,
     /// The FILEs.
     pub names: Vec<String>,
+    /// The names of the sets that an export fills.
+    pub sets: SetNames,
 }
 
 /// What the words after the program's name ask for, or what is wrong with them, unless memory runs out.
@@ -111,6 +115,7 @@ pub(crate) fn command_of<'a>(
     words: &'a [String],
 ) -> Result<Result<Asked, Fault<'a>>, AllocError>
     ensures asked { IfOk result (λ asked. told_of asked ≡ command_of table.now words.now) }
+    ensures sets { IfOk result (λ asked. IfOk asked (λ all. all.sets ≡ sets_of table.now words.now)) }
     ensures within { IfOk result (λ asked. IfOk asked
         (λ all. IsCommandWithin (length all.names.items) all.command)) }
 {
@@ -133,6 +138,8 @@ fn command_for<'a>(
 ) -> Result<Result<Asked, Fault<'a>>, AllocError>
     ensures asked { IfOk result
         (λ asked. told_of asked ≡ command_for table.now name.now task others.now) }
+    ensures sets { IfOk result (λ asked. IfOk asked
+        (λ all. all.sets ≡ sets_by table.now others.now)) }
     ensures within { IfOk result (λ asked. IfOk asked
         (λ all. IsCommandWithin (length all.names.items) all.command)) }
 {
@@ -150,6 +157,7 @@ fn command_for<'a>(
         None => Ok(Ok(Asked {
             command: asked_for(task, items, middle),
             names,
+            sets: names_of(items),
         })),
     }
 }

@@ -1,5 +1,6 @@
 //! What a run is given.
 
+use crate::set_names::SetNames;
 use std::alloc::Global;
 
 /// What a run is given, but for what it writes to.
@@ -11,4 +12,6 @@ pub(crate) struct Context<'a, L> {
     pub names: &'a [String],
     /// The lists that it can open.
     pub lists: &'a L,
+    /// The names of the sets that an export fills.
+    pub sets: &'a SetNames,
 }

@@ -11,6 +11,7 @@ use crate::exports::{
     Export, Version, around_blocks, put_family_foot, put_family_head, put_foot, put_head,
     put_opening,
 };
+use crate::set_names::SetNames;
 use crate::sweep::Sweep;
 use ipnetwork::{Address, Ipv4Network, Ipv6Network, Network};
 use ipnetwork_sets::SetBlocks;
@@ -21,17 +22,18 @@ use std::io::Write;
 /// Prints an export of the blocks of both families.
 pub(crate) fn print_export<W: Write>(
     export: Export,
+    names: &SetNames,
     v4: Sweep<'_, Ipv4Network>,
     v6: Sweep<'_, Ipv6Network>,
     output: &mut Output<'_, W>,
 ) -> Result<(), RunFault>
     ensures text { OnOk result (Prints output.old output.new
-        (export_text export (blocks_left v4.entry) (blocks_left v6.entry))) }
+        (export_text names.now export (blocks_left v4.entry) (blocks_left v6.entry))) }
     ensures failed { output.new.failed ≡ (output.old.failed || is_err result) }
 {
-    put_head(export, output)?;
-    let follows = print_family(export, Version::V4, false, v4, output)?;
-    print_family(export, Version::V6, follows, v6, output)?;
+    put_head(export, names, output)?;
+    let follows = print_family(export, names, Version::V4, false, v4, output)?;
+    print_family(export, names, Version::V6, follows, v6, output)?;
     put_foot(export, output)
 }
 
@@ -39,39 +41,41 @@ pub(crate) fn print_export<W: Write>(
 // printed yet.
 fn print_family<A: Address, W: Write>(
     export: Export,
+    names: &SetNames,
     version: Version,
     follows: bool,
     blocks: Sweep<'_, Network<A>>,
     output: &mut Output<'_, W>,
 ) -> Result<bool, RunFault>
-    ensures printed { IfOk result (PrintsBlocks (family_text export version A.family follows)
+    ensures printed { IfOk result (PrintsBlocks (family_text names.now export version A.family follows)
         follows (blocks_left blocks.entry) output.old output.new) }
     ensures failed { output.new.failed ≡ (output.old.failed || is_err result) }
 {
-    put_family_head(export, version, output)?;
-    let any = print_listed(export, version, follows, blocks, output)?;
-    put_family_foot(export, version, output)?;
+    put_family_head(export, names, version, output)?;
+    let any = print_listed(export, names, version, follows, blocks, output)?;
+    put_family_foot(export, names, version, output)?;
     Ok(any)
 }
 
 // Prints the blocks of a family with what stands around them.
 fn print_listed<A: Address, W: Write>(
     export: Export,
+    names: &SetNames,
     version: Version,
     follows: bool,
     mut blocks: Sweep<'_, Network<A>>,
     output: &mut Output<'_, W>,
 ) -> Result<bool, RunFault>
-    ensures printed { IfOk result (PrintsBlocks (listed export version A.family follows) follows
+    ensures printed { IfOk result (PrintsBlocks (listed names.now export version A.family follows) follows
         (blocks_left blocks.entry) output.old output.new) }
     ensures failed { output.new.failed ≡ (output.old.failed || is_err result) }
 {
     let Some(block) = blocks.next_block() else {
         return Ok(follows);
     };
-    put_opening(export, version, follows, output)?;
-    print_element(export, version, block, output)?;
-    print_following(export, version, blocks, output)?;
+    put_opening(export, names, version, follows, output)?;
+    print_element(export, names, version, block, output)?;
+    print_following(export, names, version, blocks, output)?;
     let (_, closing) = around_blocks(export);
     output.put(closing.as_bytes())?;
     Ok(true)
@@ -81,17 +85,18 @@ fn print_listed<A: Address, W: Write>(
 #[tactic(auto, using(crate::proofs::Printed::none_printed, crate::proofs::Printed::all_printed, crate::proofs::Merging::shorter))]
 fn print_following<A: Address, W: Write>(
     export: Export,
+    names: &SetNames,
     version: Version,
     mut blocks: Sweep<'_, Network<A>>,
     output: &mut Output<'_, W>,
 ) -> Result<(), RunFault>
     ensures text { OnOk result (Prints output.old output.new
-        (flat_map (following export version A.family) (blocks_left blocks.entry))) }
+        (flat_map (following names.now export version A.family) (blocks_left blocks.entry))) }
     ensures failed { output.new.failed ≡ (output.old.failed || is_err result) }
 {
     let (separator, _) = around_blocks(export);
     while let Some(block) = blocks.next_block() {
-        print_after(separator, export, version, block, output)?;
+        print_after(separator, export, names, version, block, output)?;
     }
     Ok(())
 }
@@ -100,14 +105,15 @@ fn print_following<A: Address, W: Write>(
 fn print_after<A: Address, W: Write>(
     text: &str,
     export: Export,
+    names: &SetNames,
     version: Version,
     block: Network<A>,
     output: &mut Output<'_, W>,
 ) -> Result<(), RunFault>
     ensures text { OnOk result (Prints output.old output.new
-        (text.now ++ element export version A.family block)) }
+        (text.now ++ element names.now export version A.family block)) }
     ensures failed { output.new.failed ≡ (output.old.failed || is_err result) }
 {
     output.put(text.as_bytes())?;
-    print_element(export, version, block, output)
+    print_element(export, names, version, block, output)
 }

@@ -1,10 +1,12 @@
 //! What is wrong with the words of a command line.
 ghost use Rattle.std.specs.Prelude.{◌≡◌, ◌≤◌, length, map};
 ghost use Rattle.std.specs.String.{string_bytes};
-ghost use Rattle.cidr_merge.specs.Faults.{at, problem_of_row, no_task_fault, takes, option_fault, is_value, value_fault, item_fault, items_fault, lacks_json, lacks_prefix, cannot_print, together_fault, sides_fault, files_fault, files_among, fault_of};
+ghost use Rattle.cidr_merge.specs.Faults.{at, problem_of_row, no_task_fault, takes, option_fault, is_value, value_fault, item_fault, items_fault, lacks_json, lacks_prefix, cannot_print, has_sets, has_table, names_fault, together_fault, sides_fault, files_fault, files_among, fault_of};
 
 use crate::command_line::{Form, Operation, form_called, form_of, prefix_in};
-use crate::rows::{FORMAT, JSON, PREFIX, STRICT, taken};
+use crate::exports::Export;
+use crate::rows::{FORMAT, JSON, PREFIX, SET, STRICT, TABLE, taken};
+use crate::set_names::is_set_name;
 use crate::tasks::{ONE_SIDE, Task, is_two_sided, no_first, no_option};
 use options::faults::{Fault, Subject, about, pair_fault, problem_at};
 use options::given::is_given;
@@ -69,6 +71,7 @@ fn is_value(row: usize, text: &str) -> bool
     match row {
         FORMAT => form_called(text).is_some(),
         PREFIX => prefix_in(text).is_some(),
+        SET | TABLE => is_set_name(text),
         _ => true,
     }
 }
@@ -139,6 +142,35 @@ fn cannot_print(task: Task, form: Form) -> bool
     }
 }
 
+// Whether a form has sets, and a table.
+fn has_sets(form: Form) -> bool
+    ensures { result ≡ has_sets form }
+{
+    matches!(form, Form::Exported(Export::Nft | Export::Ipset))
+}
+
+fn has_table(form: Form) -> bool
+    ensures { result ≡ has_table form }
+{
+    matches!(form, Form::Exported(Export::Nft))
+}
+
+// What is wrong with options that name sets, in this form.
+fn names_fault<'a>(items: &[Item<'a>], form: Form) -> Option<Fault<'a>>
+    ensures { result ≡ names_fault items.now form }
+{
+    if is_given(items, SET) && !has_sets(form) {
+        return Some(about(
+            Subject::Option(SET),
+            "only together with --format nft or ipset",
+        ));
+    }
+    if is_given(items, TABLE) && !has_table(form) {
+        return Some(about(Subject::Option(TABLE), "only together with --format nft"));
+    }
+    None
+}
+
 // What is wrong with options together.
 fn together_fault<'a>(table: &Table<'_>, task: Task, items: &[Item<'a>]) -> Option<Fault<'a>>
     ensures { result ≡ together_fault table.now task items.now }
@@ -149,14 +181,15 @@ fn together_fault<'a>(table: &Table<'_>, task: Task, items: &[Item<'a>]) -> Opti
     if lacks_json(task, items) {
         return Some(about(Subject::Option(STRICT), "only together with --json"));
     }
-    if cannot_print(task, form_of(Form::Blocks, items)) {
+    let form = form_of(Form::Blocks, items);
+    if cannot_print(task, form) {
         let problem = "differ can be printed only as plain or range";
         return Some(about(Subject::Option(FORMAT), problem));
     }
     if lacks_prefix(task, items) {
         return Some(about(Subject::CommandLine, "split: no --prefix N"));
     }
-    None
+    names_fault(items, form)
 }
 
 // What is wrong with the sides, which have so many FILEs: with one a `--`, or that there is no FILE; with two that there is

@@ -28,6 +28,7 @@ mod repeating;
 mod rows;
 mod run;
 mod searching;
+mod set_names;
 mod shapes;
 mod side_parts;
 mod split;

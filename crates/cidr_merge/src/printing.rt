@@ -13,6 +13,7 @@ use crate::counts::Counts;
 use crate::exporting::print_export;
 use crate::merge_join::{MergeJoin, Side};
 use crate::reading::Sets;
+use crate::set_names::SetNames;
 use crate::side_parts::{Parts, sign_of};
 use crate::sweep::Sweep;
 use ipnetwork::{Address, Network};
@@ -27,6 +28,8 @@ use std::io::Write;
 pub(crate) struct Merging<'a> {
     /// The request.
     pub request: Request,
+    /// The names of the sets of an export.
+    pub sets: &'a SetNames,
     /// The addresses of the first side.
     pub first: &'a Sets,
     /// Those of the second.
@@ -39,7 +42,7 @@ pub(crate) fn print<W: Write>(
     output: &mut Output<'_, W>,
 ) -> Result<(), RunFault>
     ensures text { let m = merging.now in OnOk result (PrintsSome
-        (IsAnswer m.request.operation m.request.form m.first.now m.second.now)
+        (IsAnswer m.sets.now m.request.operation m.request.form m.first.now m.second.now)
         output.old output.new) }
     ensures failed { output.new.failed ≡ (output.old.failed || is_err result) }
 {
@@ -59,7 +62,7 @@ pub(crate) fn print<W: Write>(
         Form::Exported(export) => {
             let v4 = Sweep::of(operation, &first.v4, &second.v4);
             let v6 = Sweep::of(operation, &first.v6, &second.v6);
-            print_export(export, v4, v6, output)
+            print_export(export, merging.sets, v4, v6, output)
         }
     }
 }

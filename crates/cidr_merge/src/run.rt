@@ -52,6 +52,7 @@ pub(crate) fn run<L: OpenLists, W: Write, E: Write>(
                 alloc,
                 names,
                 lists,
+                sets: &asked.sets,
             };
             obey(asked.command, table.rows, &context, output, errors)
         }
@@ -70,7 +71,7 @@ fn obey<L: OpenLists, W: Write, E: Write>(
 ) -> u8
     requires { IsCommandWithin (length context.now.names.now) command }
     ensures { EndsCommand PROGRAM.now USAGE.now rows.now (L.known context.now.lists.now)
-        context.now.names.now command (ending output.old output.new errors.old errors.new result) }
+        context.now.names.now context.now.sets.now command (ending output.old output.new errors.old errors.new result) }
 {
     match command {
         Command::Merge(request) => merge(request, context, output, errors),
@@ -88,7 +89,7 @@ fn merge<L: OpenLists, W: Write, E: Write>(
     errors: &mut Output<'_, E>,
 ) -> u8
     requires { request.middle ≤ length context.now.names.now }
-    ensures { EndsMerging (L.known context.now.lists.now) context.now.names.now request
+    ensures { EndsMerging (L.known context.now.lists.now) context.now.names.now context.now.sets.now request
         (ending output.old output.new errors.old errors.new result) }
 {
     let (first, second, refusals, read) = read_sides(request, context);
@@ -97,6 +98,7 @@ fn merge<L: OpenLists, W: Write, E: Write>(
         Ok(()) => {
             let merging = Merging {
                 request,
+                sets: context.sets,
                 first: &first,
                 second: &second,
             };
@@ -145,7 +147,7 @@ fn answer<W: Write, E: Write>(
     output: &mut Output<'_, W>,
     errors: &mut Output<'_, E>,
 ) -> u8
-    ensures { let m = merging.now in EndsAnswering m.request skips m.first.now m.second.now
+    ensures { let m = merging.now in EndsAnswering m.sets.now m.request skips m.first.now m.second.now
         (ending output.old output.new errors.old errors.new result) }
 {
     let request = merging.request;
@@ -160,7 +162,7 @@ fn answer<W: Write, E: Write>(
 // Writes what the operation leaves of the sides.
 fn write_answer<W: Write>(merging: &Merging<'_>, output: &mut Output<'_, W>) -> Result<(), RunFault>
     ensures written { let m = merging.now in OnOk result ((text : List ℕ)
-        × IsAnswer m.request.operation m.request.form m.first.now m.second.now text
+        × IsAnswer m.sets.now m.request.operation m.request.form m.first.now m.second.now text
         × Writes output.old output.new text) }
     ensures failed { output.new.failed ≡ is_err result }
 {

@@ -7,6 +7,7 @@ use fosibegan::plain_std::string::String;
 use crate::exports::Export;
 use crate::faults::{fault_of, no_task_fault};
 use crate::rows::{COUNT, FORMAT, JSON, PREFIX, RANGES, SKIP_BAD, STRICT, table};
+use crate::set_names::{SetNames, names_of};
 use crate::shapes::Shape;
 use crate::tasks::{Task, task_called};
 use crate::words::{before_dashes, behind_dashes};
@@ -101,6 +102,8 @@ pub struct Asked {
     pub command: Command,
     /// The FILEs.
     pub names: Vec<String>,
+    /// The names of the sets that an export fills.
+    pub sets: SetNames,
 }
 
 /// What the words after the program's name ask for, or what is wrong with them, unless memory runs out.
@@ -140,6 +143,7 @@ fn command_for<'a>(
         None => Ok(Ok(Asked {
             command: asked_for(task, items, middle),
             names,
+            sets: names_of(items),
         })),
     }
 }

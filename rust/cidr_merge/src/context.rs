@@ -3,6 +3,7 @@
 //! What a run is given.
 
 use fosibegan::plain_std::string::String;
+use crate::set_names::SetNames;
 use fosibegan::plain_std::alloc::Global;
 
 /// What a run is given, but for what it writes to.
@@ -13,4 +14,6 @@ pub(crate) struct Context<'a, L> {
     pub names: &'a [String],
     /// The lists that it can open.
     pub lists: &'a L,
+    /// The names of the sets that an export fills.
+    pub sets: &'a SetNames,
 }

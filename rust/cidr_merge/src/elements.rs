@@ -3,7 +3,8 @@
 //! How a block is written in an export.
 
 use crate::addresses::print_addresses;
-use crate::exports::{Export, SETS, Version, family_word};
+use crate::exports::{Export, Version, family_word};
+use crate::set_names::{Name, SetNames};
 use fosibegan::plain_std::arrayvec::ArrayString;
 use fosibegan::ipnetwork::{Address, Network};
 use fosibegan::ipnetwork_addr::decimal::push_decimal;
@@ -21,6 +22,7 @@ type Line = ArrayString<LINE_CAPACITY>;
 /// Writes a block.
 pub(crate) fn print_element<A: Address, W: Write>(
     export: Export,
+    names: &SetNames,
     version: Version,
     block: Network<A>,
     output: &mut Output<'_, W>,
@@ -30,7 +32,7 @@ pub(crate) fn print_element<A: Address, W: Write>(
         Export::Wildcard => put_with_mask(version, block, wildcard(block), output),
         Export::Csv => output.put(csv_line(version, block).as_bytes()),
         Export::Nft => output.put(block.canonical().as_bytes()),
-        Export::Ipset => put_ipset(version, block, output),
+        Export::Ipset => put_ipset(names.set, version, block, output),
         Export::Json => put_all(&["\"", block.canonical().as_str(), "\""], output),
         Export::Addresses => print_addresses(block.iter(), output),
     }
@@ -79,17 +81,18 @@ fn csv_line<A: Address>(version: Version, block: Network<A>) -> Line {
 // Writes what adds a block to the new set of ipset: a set cannot have the block of all addresses, but
 // both halves of it.
 fn put_ipset<A: Address, W: Write>(
+    set: Name,
     version: Version,
     block: Network<A>,
     output: &mut Output<'_, W>,
 ) -> Result<(), RunFault> {
     if block.prefix() == 0 {
-        return put_halves(version, output);
+        return put_halves(set, version, output);
     }
     put_all(
         &[
             "add ",
-            SETS,
+            set.as_str(),
             family_word(version),
             "_new ",
             block.canonical().as_str(),
@@ -100,12 +103,17 @@ fn put_ipset<A: Address, W: Write>(
 }
 
 // Writes what adds all addresses to the new set of ipset.
-fn put_halves<W: Write>(version: Version, output: &mut Output<'_, W>) -> Result<(), RunFault> {
+fn put_halves<W: Write>(
+    set: Name,
+    version: Version,
+    output: &mut Output<'_, W>,
+) -> Result<(), RunFault> {
+    let set = set.as_str();
     let word = family_word(version);
     let (first, second) = half_blocks(version);
     put_all(
         &[
-            "add ", SETS, word, "_new ", first, "\nadd ", SETS, word, "_new ", second, "\n",
+            "add ", set, word, "_new ", first, "\nadd ", set, word, "_new ", second, "\n",
         ],
         output,
     )

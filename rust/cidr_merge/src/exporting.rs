@@ -7,6 +7,7 @@ use crate::exports::{
     Export, Version, around_blocks, put_family_foot, put_family_head, put_foot, put_head,
     put_opening,
 };
+use crate::set_names::SetNames;
 use crate::sweep::Sweep;
 use fosibegan::ipnetwork::{Address, Ipv4Network, Ipv6Network, Network};
 use fosibegan::ipnetwork_sets::SetBlocks;
@@ -17,13 +18,14 @@ use fosibegan::plain_std::io::Write;
 /// Prints an export of the blocks of both families.
 pub(crate) fn print_export<W: Write>(
     export: Export,
+    names: &SetNames,
     v4: Sweep<'_, Ipv4Network>,
     v6: Sweep<'_, Ipv6Network>,
     output: &mut Output<'_, W>,
 ) -> Result<(), RunFault> {
-    put_head(export, output)?;
-    let follows = print_family(export, Version::V4, false, v4, output)?;
-    print_family(export, Version::V6, follows, v6, output)?;
+    put_head(export, names, output)?;
+    let follows = print_family(export, names, Version::V4, false, v4, output)?;
+    print_family(export, names, Version::V6, follows, v6, output)?;
     put_foot(export, output)
 }
 
@@ -31,20 +33,22 @@ pub(crate) fn print_export<W: Write>(
 // printed yet.
 fn print_family<A: Address, W: Write>(
     export: Export,
+    names: &SetNames,
     version: Version,
     follows: bool,
     blocks: Sweep<'_, Network<A>>,
     output: &mut Output<'_, W>,
 ) -> Result<bool, RunFault> {
-    put_family_head(export, version, output)?;
-    let any = print_listed(export, version, follows, blocks, output)?;
-    put_family_foot(export, version, output)?;
+    put_family_head(export, names, version, output)?;
+    let any = print_listed(export, names, version, follows, blocks, output)?;
+    put_family_foot(export, names, version, output)?;
     Ok(any)
 }
 
 // Prints the blocks of a family with what stands around them.
 fn print_listed<A: Address, W: Write>(
     export: Export,
+    names: &SetNames,
     version: Version,
     follows: bool,
     mut blocks: Sweep<'_, Network<A>>,
@@ -53,9 +57,9 @@ fn print_listed<A: Address, W: Write>(
     let Some(block) = blocks.next_block() else {
         return Ok(follows);
     };
-    put_opening(export, version, follows, output)?;
-    print_element(export, version, block, output)?;
-    print_following(export, version, blocks, output)?;
+    put_opening(export, names, version, follows, output)?;
+    print_element(export, names, version, block, output)?;
+    print_following(export, names, version, blocks, output)?;
     let (_, closing) = around_blocks(export);
     output.put(closing.as_bytes())?;
     Ok(true)
@@ -64,13 +68,14 @@ fn print_listed<A: Address, W: Write>(
 // Prints the blocks after the first of a family.
 fn print_following<A: Address, W: Write>(
     export: Export,
+    names: &SetNames,
     version: Version,
     mut blocks: Sweep<'_, Network<A>>,
     output: &mut Output<'_, W>,
 ) -> Result<(), RunFault> {
     let (separator, _) = around_blocks(export);
     while let Some(block) = blocks.next_block() {
-        print_after(separator, export, version, block, output)?;
+        print_after(separator, export, names, version, block, output)?;
     }
     Ok(())
 }
@@ -79,10 +84,11 @@ fn print_following<A: Address, W: Write>(
 fn print_after<A: Address, W: Write>(
     text: &str,
     export: Export,
+    names: &SetNames,
     version: Version,
     block: Network<A>,
     output: &mut Output<'_, W>,
 ) -> Result<(), RunFault> {
     output.put(text.as_bytes())?;
-    print_element(export, version, block, output)
+    print_element(export, names, version, block, output)
 }

@@ -2,6 +2,7 @@
 
 //! Forms that other programs read, and the texts that stand around the blocks in each.
 
+use crate::set_names::{Name, SetNames};
 use cidr_programs::lines::fault::RunFault;
 use cidr_programs::lines::output::Output;
 use cidr_programs::program::putting::put_all;
@@ -35,23 +36,25 @@ pub enum Version {
     V6,
 }
 
-/// The table of nftables.
-const TABLE: &str = "cidr_merge";
-
-/// What the names of the sets of ipset begin with.
-pub(crate) const SETS: &str = "cidr_merge_";
-
-/// How the new set of ipset is made, behind its name.
+/// How a set of ipset is made, behind its name.
 const MADE_V4: &str = " hash:net family inet maxelem 4294967295 -exist\n";
 
 /// The same for IPv6.
 const MADE_V6: &str = " hash:net family inet6 maxelem 4294967295 -exist\n";
 
-/// The word for a family in the names of its sets.
+/// The end of the name of a family's set.
 pub(crate) fn family_word(version: Version) -> &'static str {
     match version {
-        Version::V4 => "ipv4",
-        Version::V6 => "ipv6",
+        Version::V4 => "_ipv4",
+        Version::V6 => "_ipv6",
+    }
+}
+
+// The addresses of a set of nftables.
+fn address_type(version: Version) -> &'static str {
+    match version {
+        Version::V4 => "ipv4_addr",
+        Version::V6 => "ipv6_addr",
     }
 }
 
@@ -64,13 +67,22 @@ fn made(version: Version) -> &'static str {
 }
 
 /// Writes what stands before everything else.
-pub(crate) fn put_head<W: Write>(export: Export, output: &mut Output<'_, W>) -> Result<(), RunFault> {
+pub(crate) fn put_head<W: Write>(
+    export: Export,
+    names: &SetNames,
+    output: &mut Output<'_, W>,
+) -> Result<(), RunFault> {
     match export {
         Export::Csv => put_all(&["family,network,first,last\n"], output),
-        Export::Nft => put_all(&["add table inet ", TABLE, "\n"], output),
+        Export::Nft => put_table(names.table, output),
         Export::Json => put_all(&["["], output),
         _ => Ok(()),
     }
+}
+
+// Writes what makes a table of nftables, if it is not there.
+fn put_table<W: Write>(table: Name, output: &mut Output<'_, W>) -> Result<(), RunFault> {
+    put_all(&["add table inet ", table.as_str(), "\n"], output)
 }
 
 /// Writes what stands after everything else.
@@ -81,92 +93,136 @@ pub(crate) fn put_foot<W: Write>(export: Export, output: &mut Output<'_, W>) -> 
     }
 }
 
-/// Writes what stands before the blocks of a family, even if there is none: it makes an empty set.
+/// Writes what stands before the blocks of a family, even if there is none.
 pub(crate) fn put_family_head<W: Write>(
     export: Export,
+    names: &SetNames,
     version: Version,
     output: &mut Output<'_, W>,
 ) -> Result<(), RunFault> {
-    let word = family_word(version);
-    let made = made(version);
     match export {
-        Export::Nft => put_all(
-            &[
-                "add set inet ",
-                TABLE,
-                " ",
-                word,
-                " { type ",
-                word,
-                "_addr; flags interval; }\nflush set inet ",
-                TABLE,
-                " ",
-                word,
-                "\n",
-            ],
-            output,
-        ),
-        Export::Ipset => put_all(
-            &[
-                "create ", SETS, word, made, "create ", SETS, word, "_new", made, "flush ", SETS,
-                word, "_new\n",
-            ],
-            output,
-        ),
+        Export::Nft => put_nft_set(names.table, names.set, version, output),
+        Export::Ipset => put_ipset_sets(names.set, version, output),
         _ => Ok(()),
     }
 }
 
-/// Writes what stands after the blocks of a family, even if there is none: the new set of ipset takes the place of the old
-/// one.
-pub(crate) fn put_family_foot<W: Write>(
-    export: Export,
+// Writes what makes a set of nftables, if it is not there, and takes its elements away.
+fn put_nft_set<W: Write>(
+    table: Name,
+    set: Name,
     version: Version,
     output: &mut Output<'_, W>,
 ) -> Result<(), RunFault> {
+    let table = table.as_str();
+    let set = set.as_str();
     let word = family_word(version);
+    put_all(
+        &[
+            "add set inet ",
+            table,
+            " ",
+            set,
+            word,
+            " { type ",
+            address_type(version),
+            "; flags interval; }\nflush set inet ",
+            table,
+            " ",
+            set,
+            word,
+            "\n",
+        ],
+        output,
+    )
+}
+
+// Writes what makes a set of ipset, if it is not there, and a new one without elements.
+fn put_ipset_sets<W: Write>(
+    set: Name,
+    version: Version,
+    output: &mut Output<'_, W>,
+) -> Result<(), RunFault> {
+    let set = set.as_str();
+    let word = family_word(version);
+    let made = made(version);
+    put_all(
+        &[
+            "create ", set, word, made, "create ", set, word, "_new", made, "flush ", set, word,
+            "_new\n",
+        ],
+        output,
+    )
+}
+
+/// Writes what stands after the blocks of a family, even if there is none.
+pub(crate) fn put_family_foot<W: Write>(
+    export: Export,
+    names: &SetNames,
+    version: Version,
+    output: &mut Output<'_, W>,
+) -> Result<(), RunFault> {
     match export {
-        Export::Ipset => put_all(
-            &[
-                "swap ",
-                SETS,
-                word,
-                "_new ",
-                SETS,
-                word,
-                "\ndestroy ",
-                SETS,
-                word,
-                "_new\n",
-            ],
-            output,
-        ),
+        Export::Ipset => put_ipset_swap(names.set, version, output),
         _ => Ok(()),
     }
+}
+
+// Writes what puts the new set of ipset in the place of the old one.
+fn put_ipset_swap<W: Write>(
+    set: Name,
+    version: Version,
+    output: &mut Output<'_, W>,
+) -> Result<(), RunFault> {
+    let set = set.as_str();
+    let word = family_word(version);
+    put_all(
+        &[
+            "swap ",
+            set,
+            word,
+            "_new ",
+            set,
+            word,
+            "\ndestroy ",
+            set,
+            word,
+            "_new\n",
+        ],
+        output,
+    )
 }
 
 /// Writes what stands before the first block of a family, which may follow blocks of the other.
 pub(crate) fn put_opening<W: Write>(
     export: Export,
+    names: &SetNames,
     version: Version,
     follows: bool,
     output: &mut Output<'_, W>,
 ) -> Result<(), RunFault> {
     match export {
-        Export::Nft => put_all(
-            &[
-                "add element inet ",
-                TABLE,
-                " ",
-                family_word(version),
-                " {\n\t",
-            ],
-            output,
-        ),
+        Export::Nft => put_nft_opening(names.table, names.set, version, output),
         Export::Json if follows => put_all(&[",\n"], output),
         Export::Json => put_all(&["\n"], output),
         _ => Ok(()),
     }
+}
+
+// Writes what stands before the elements that a set of nftables gets.
+fn put_nft_opening<W: Write>(
+    table: Name,
+    set: Name,
+    version: Version,
+    output: &mut Output<'_, W>,
+) -> Result<(), RunFault> {
+    let table = table.as_str();
+    let set = set.as_str();
+    let word = family_word(version);
+    put_all(
+        &["add element inet ", table, " ", set, word, " {\n\t"],
+        output,
+    )
 }
 
 /// What stands between two blocks of a family, and after the last one.

@@ -4,7 +4,9 @@
 
 use fosibegan::plain_std::string::String;
 use crate::command_line::{Form, Operation, form_called, form_of, prefix_in};
-use crate::rows::{FORMAT, JSON, PREFIX, STRICT, taken};
+use crate::exports::Export;
+use crate::rows::{FORMAT, JSON, PREFIX, SET, STRICT, TABLE, taken};
+use crate::set_names::is_set_name;
 use crate::tasks::{ONE_SIDE, Task, is_two_sided, no_first, no_option};
 use cidr_programs::options::faults::{Fault, Subject, about, pair_fault, problem_at};
 use cidr_programs::options::given::is_given;
@@ -57,6 +59,7 @@ fn is_value(row: usize, text: &str) -> bool {
     match row {
         FORMAT => form_called(text).is_some(),
         PREFIX => prefix_in(text).is_some(),
+        SET | TABLE => is_set_name(text),
         _ => true,
     }
 }
@@ -115,6 +118,29 @@ fn cannot_print(task: Task, form: Form) -> bool {
     }
 }
 
+// Whether a form has sets, and a table.
+fn has_sets(form: Form) -> bool {
+    matches!(form, Form::Exported(Export::Nft | Export::Ipset))
+}
+
+fn has_table(form: Form) -> bool {
+    matches!(form, Form::Exported(Export::Nft))
+}
+
+// What is wrong with options that name sets, in this form.
+fn names_fault<'a>(items: &[Item<'a>], form: Form) -> Option<Fault<'a>> {
+    if is_given(items, SET) && !has_sets(form) {
+        return Some(about(
+            Subject::Option(SET),
+            "only together with --format nft or ipset",
+        ));
+    }
+    if is_given(items, TABLE) && !has_table(form) {
+        return Some(about(Subject::Option(TABLE), "only together with --format nft"));
+    }
+    None
+}
+
 // What is wrong with options together.
 fn together_fault<'a>(table: &Table<'_>, task: Task, items: &[Item<'a>]) -> Option<Fault<'a>> {
     if let Some(fault) = pair_fault(items, table.pairs) {
@@ -123,14 +149,15 @@ fn together_fault<'a>(table: &Table<'_>, task: Task, items: &[Item<'a>]) -> Opti
     if lacks_json(task, items) {
         return Some(about(Subject::Option(STRICT), "only together with --json"));
     }
-    if cannot_print(task, form_of(Form::Blocks, items)) {
+    let form = form_of(Form::Blocks, items);
+    if cannot_print(task, form) {
         let problem = "differ can be printed only as plain or range";
         return Some(about(Subject::Option(FORMAT), problem));
     }
     if lacks_prefix(task, items) {
         return Some(about(Subject::CommandLine, "split: no --prefix N"));
     }
-    None
+    names_fault(items, form)
 }
 
 // What is wrong with the sides, which have so many FILEs: with one a `--`, or that there is no FILE; with two that there is

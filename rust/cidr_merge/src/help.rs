@@ -19,18 +19,18 @@ Merges lists of IP networks, and prints the shortest list with exactly the addre
     --ranges       print FIRST - LAST for each run of addresses
     --count        print v4 BLOCKS ADDRESSES and v6 BLOCKS ADDRESSES
     --format FORM  print plain, range, netmask, wildcard, csv, nft, ipset, json or addresses
+    --set NAME     of nft, ipset: fill NAME_ipv4 and NAME_ipv6; --table NAME: of this table of nft
     --skip-bad     report refused lines, and print the result for the others
     --json         each FILE is JSON: take its strings that are entries; --strict refuses others
     --quiet        as the first word: do not show on a terminal how much was read
-    --help         print this text; --version prints the version
+    --help         print this text; --version prints the version. Options stand in any order
 
 A FILE is a name or -, standard input. A line has a network (10.0.0.0/8, 10.0.0.1, 2001:db8::/32), a
 range (A - B) or nothing, and at most 1,024 bytes; # and ; begin a comment. Host bits are dropped.
 The result ascends, IPv4 first; differ puts < before what only the first side has, and > before what
-only the second has. A refused line is reported as FILE:LINE: refused format, address, prefix, range
-or length; check prints that, and the line; find FILE:LINE: has ADDRESS, and the line. split leaves
-longer networks whole, and those of IPv4 if N is above 32, and prints a million at most; it takes
---skip-bad, --json and --strict too. Options may stand behind FILEs and on both sides of a --.
+only the second has. A refused line is reported as FILE:LINE: refused CAUSE; check prints that, and
+the line; find FILE:LINE: has ADDRESS, and the line. split leaves longer networks whole, and those
+of IPv4 if N is above 32, and prints a million at most; it takes --skip-bad, --json, --strict.
 
 Status: 0; 1 if the sides of differ are not equal, check or overlaps found something or find
 nothing; 2 on wrong usage, a refused line, a file not read, too many networks of split, a failed

@@ -23,11 +23,17 @@ pub(crate) const JSON: usize = 4;
 /// The row of `--strict`.
 pub(crate) const STRICT: usize = 5;
 
+/// The row of `--set`.
+pub(crate) const SET: usize = 6;
+
+/// The row of `--table`.
+pub(crate) const TABLE: usize = 7;
+
 /// The row of `--prefix`.
-pub(crate) const PREFIX: usize = 6;
+pub(crate) const PREFIX: usize = 8;
 
 // The options.
-const ROWS: [Row; 10] = [
+const ROWS: [Row; 12] = [
     long!("--ranges", Flag, false, ""),
     long!("--count", Flag, false, ""),
     long!(
@@ -40,6 +46,8 @@ const ROWS: [Row; 10] = [
     long!("--skip-bad", Flag, false, ""),
     long!("--json", Flag, false, ""),
     long!("--strict", Flag, false, ""),
+    long!("--set", Text, true, NO_NAME),
+    long!("--table", Text, true, NO_NAME),
     long!("--prefix", Text, true, "not a prefix length, 0 to 128"),
     long!("--help", Alone, false, "taken only alone"),
     long!("--version", Alone, false, "taken only alone"),
@@ -51,16 +59,21 @@ const ROWS: [Row; 10] = [
     ),
 ];
 
+// What is told of a value of `--set` or `--table` that is no name.
+const NO_NAME: &str = "not a name of 1 to 22 letters, digits, _, - and ., the first a letter";
+
 // What is told of `--format` beside an option that says how to print.
 const ANOTHER_FORM: &str = "--format: given twice, or together with --ranges or --count";
 
 // Which do not go together.
-const PAIRS: [Pair; 5] = [
+const PAIRS: [Pair; 7] = [
     pair!(RANGES, COUNT, "--ranges: not together with --count"),
     pair!(FORMAT, FORMAT, ANOTHER_FORM),
     pair!(FORMAT, RANGES, ANOTHER_FORM),
     pair!(FORMAT, COUNT, ANOTHER_FORM),
     pair!(PREFIX, PREFIX, "--prefix: given twice"),
+    pair!(SET, SET, "--set: given twice"),
+    pair!(TABLE, TABLE, "--table: given twice"),
 ];
 
 /// The options.
@@ -74,7 +87,7 @@ pub(crate) fn table() -> Table<'static> {
 }
 
 // Those of an operation that merges, of a `split` and of a `check`, by the indices of their rows.
-const OF_MERGES: [usize; 6] = [RANGES, COUNT, FORMAT, SKIP_BAD, JSON, STRICT];
+const OF_MERGES: [usize; 8] = [RANGES, COUNT, FORMAT, SET, TABLE, SKIP_BAD, JSON, STRICT];
 
 const OF_SPLIT: [usize; 4] = [PREFIX, SKIP_BAD, JSON, STRICT];
 

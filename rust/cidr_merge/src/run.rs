@@ -43,6 +43,7 @@ pub(crate) fn run<L: OpenLists, W: Write, E: Write>(
                 alloc,
                 names,
                 lists,
+                sets: &asked.sets,
             };
             obey(asked.command, table.rows, &context, output, errors)
         }
@@ -80,6 +81,7 @@ fn merge<L: OpenLists, W: Write, E: Write>(
         Ok(()) => {
             let merging = Merging {
                 request,
+                sets: context.sets,
                 first: &first,
                 second: &second,
             };

@@ -51,7 +51,7 @@ pub(crate) fn no_option(task: Task) -> &'static str {
     match task {
         Task::Merge(_) | Task::List => {
             "not an option of union, common, minus, differ or list; they take --ranges, --count, \
-             --format FORM, --skip-bad, --json and --strict"
+             --format FORM, --set NAME, --table NAME, --skip-bad, --json and --strict"
         }
         Task::Split => {
             "not an option of split; it takes --prefix N, --skip-bad, --json and --strict"

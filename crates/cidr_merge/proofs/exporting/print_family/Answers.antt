@@ -6,8 +6,8 @@ use Rattle.cidr_merge.proofs.exporting.print_family.Goals as goal
 pub returns-clause-printed : goal.returns-clause-printed
 returns-clause-printed g c =
     let listed = c.in_ok-any.ensures.printed in
-    let head = family_head c.args.export c.args.version in
-    let foot = family_foot c.args.export c.args.version in (
+    let head = family_head c.args.names.now c.args.export c.args.version in
+    let foot = family_foot c.args.names.now c.args.export c.args.version in (
       puts_three c.args.output.now.holds c.put_family_head.new.output.holds
           c.print_listed.new.output.holds c.put_family_foot.new.output.holds
           c.args.output.now.waits c.put_family_head.new.output.waits

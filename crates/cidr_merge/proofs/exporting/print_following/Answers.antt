@@ -8,6 +8,6 @@ pub loop-block-preserved : goal.loop-block-preserved
 loop-block-preserved g c =
     printed_more _ _ _ _ _ _ _ _ c.loop-block.invariant c.in-Some.ensures.step
     (subst (λ (t : List ℕ). Prints c.loop-block.output c.print_after.new.output
-    (t ++ element c.args.export c.args.version g.A.Address.family c.in-Some.block))
+    (t ++ element c.args.names.now c.args.export c.args.version g.A.Address.family c.in-Some.block))
     c.around_blocks.ensures.between c.in_ok-print_after.ensures.text)
     c.in_ok-print_after.ensures.failed

@@ -7,7 +7,7 @@ use Rattle.cidr_merge.proofs.exporting.print_listed.Goals as goal
 
 pub returns-in_default-clause-printed : goal.returns-in_default-clause-printed
 returns-in_default-clause-printed g c = (
-  puts_no_block c.args.export c.args.version g.A.Address.family c.args.follows _
+  puts_no_block c.args.names.now c.args.export c.args.version g.A.Address.family c.args.follows _
       c.args.output.now.holds c.args.output.now.waits c.in_default.ensures.step.0,
   there_is_none c.args.follows _ c.in_default.ensures.step.0,
 )
@@ -15,10 +15,10 @@ returns-in_default-clause-printed g c = (
 pub returns-clause-printed : goal.returns-clause-printed
 returns-clause-printed g c =
     let family = g.A.Address.family in
-    let front = opening c.args.export c.args.version c.args.follows in
-    let first = element c.args.export c.args.version family c.in-Some.block in (
+    let front = opening c.args.names.now c.args.export c.args.version c.args.follows in
+    let first = element c.args.names.now c.args.export c.args.version family c.in-Some.block in (
       subst (λ blocks. Prints c.args.output.now c.put.new.self
-          (listed c.args.export c.args.version family c.args.follows blocks))
+          (listed c.args.names.now c.args.export c.args.version family c.args.follows blocks))
           (sym c.in-Some.ensures.step)
           (puts_three c.args.output.now.holds c.print_element.new.output.holds
           c.print_following.new.output.holds c.put.new.self.holds

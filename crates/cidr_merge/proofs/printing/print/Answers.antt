@@ -20,7 +20,7 @@ pub returns-in-Exported-clause-text : goal.returns-in-Exported-clause-text
 returns-in-Exported-clause-text g c =
     let m = c.args.merging.now in
     rw c.in-Exported.is (line_ok c.print_export.result
-    (IsExport m.request.operation c.in-Exported.export m.first.now m.second.now)
+    (IsExport m.sets.now m.request.operation c.in-Exported.export m.first.now m.second.now)
     c.args.output.now.holds c.print_export.new.output.holds
     c.args.output.now.waits c.print_export.new.output.waits _
     (_, _, c.of-v4.ensures.left, c.of-v6.ensures.left, refl) c.print_export.ensures.text)

@@ -7,7 +7,7 @@ pub returns-in-Ok : goal.returns-in-Ok
 returns-in-Ok g c =
     let r = c.read_sides-first.result in
     merged (g.L.OpenLists.known c.args.context.now.lists.now) c.args.context.now.names.now
-    c.args.request r.0 r.1 r.2 c.is_empty.result
+    c.args.context.now.sets.now c.args.request r.0 r.1 r.2 c.is_empty.result
     (ending c.args.output.now c.answer.new.output c.args.errors.now c.answer.new.errors
     c.answer.result) c.tell_refusals.new.errors
     (rw c.in-Ok.is at c.read_sides-first.ensures.read)

@@ -2,8 +2,9 @@ use Rattle.std.proofs.Common.{◌∙◌, refl, sym, ap, subst}
 use Rattle.std.specs.Prelude.{Ok, Err}
 use Rattle.program.specs.Endings.{ending}
 use Rattle.program.proofs.Runs.{printed}
-use Rattle.cidr_merge.specs.CommandLines.{told_of}
+use Rattle.cidr_merge.specs.CommandLines.{told_of, sets_of}
 use Rattle.cidr_merge.specs.Endings.{EndsCommand}
+use Rattle.cidr_merge.specs.SetNames.{Names}
 use Rattle.cidr_merge.specs.declared.help.TheConstants.{HELP, PROGRAM, USAGE, VERSION}
 use Rattle.cidr_merge.proofs.Runs.{no_memory, asked_ends}
 use Rattle.cidr_merge.proofs.run.run.Goals as goal
@@ -28,8 +29,12 @@ returns-in-Ok-Ok g c =
     (told_of (Ok c.in-Ok-Ok.asked)) (ap told_of (sym c.in-Ok-Ok.field-0-is) ∙ c.in-Ok-Ok.ensures.asked) (
       c.in-Ok-Ok.asked.names.items,
       refl,
-      subst (λ names. EndsCommand PROGRAM.now USAGE.now c.table-table.result.rows.now (g.L.OpenLists.known c.args.lists.now) names c.in-Ok-Ok.asked.command
-          (ending c.args.output.now c.obey.new.output c.args.errors.now c.obey.new.errors c.obey.result)) c.as_slice-names.ensures.value c.obey.ensures,
+      subst (λ names. EndsCommand PROGRAM.now USAGE.now c.table-table.result.rows.now (g.L.OpenLists.known c.args.lists.now) names (sets_of c.table-table.result c.args.words.now) c.in-Ok-Ok.asked.command
+          (ending c.args.output.now c.obey.new.output c.args.errors.now c.obey.new.errors c.obey.result)) c.as_slice-names.ensures.value
+          (subst (λ (sets : Names). EndsCommand PROGRAM.now USAGE.now c.table-table.result.rows.now (g.L.OpenLists.known c.args.lists.now)
+          c.as_slice-names.result.now sets c.in-Ok-Ok.asked.command
+          (ending c.args.output.now c.obey.new.output c.args.errors.now c.obey.new.errors c.obey.result))
+          (rw c.in-Ok-Ok.field-0-is at c.in-Ok-Ok.ensures.sets) c.obey.ensures),
     )
 
 pub returns-in-Ok-Err : goal.returns-in-Ok-Err

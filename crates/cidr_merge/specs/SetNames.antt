@@ -1,0 +1,39 @@
+-- What other programs call the sets that an export fills.
+use Rattle.std.specs.Prelude.{ℕ, ◌==◌, ◌&&◌, ◌||◌, Bool, false, List, [], ◌∷◌, length, nat_lt, nat_le, if◌then◌else◌}
+use Rattle.std.specs.Prelude.{codes}
+use Rattle.std.specs.List.{list_all}
+use Rattle.options.specs.Given.{is_given, value_of}
+use Rattle.options.specs.declared.items.Item.{Item}
+use Rattle.cidr_merge.specs.Options as own
+
+-- the table of nftables, and what the names of both sets begin with
+pub record Names : Type 0 where
+  pub table : List ℕ
+  pub set : List ℕ
+
+-- a text as a name; nothing, if it has more than 22 bytes
+abbrev pub name_in : List ℕ → List ℕ
+name_in text = if nat_le (length text) 22 then text else []
+
+-- the name that the option of a row says, or else `cidr_merge`
+abbrev pub name_by : ℕ → List Item → List ℕ
+name_by row items = if is_given items row then name_in (value_of items row) else name_in (codes "cidr_merge")
+
+abbrev pub names_of : List Item → Names
+names_of items = record { table = name_by own.table items; set = name_by own.set items }
+
+-- those without an option
+abbrev pub usual_names : Names
+usual_names = names_of []
+
+-- a name: 1 to 22 letters of ASCII, digits, `_`, `-` and `.`, of which the first is a letter
+abbrev pub is_letter : ℕ → Bool
+is_letter byte = (nat_le 97 byte && nat_le byte 122) || (nat_le 65 byte && nat_le byte 90)
+
+abbrev pub is_name_byte : ℕ → Bool
+is_name_byte byte =
+    (((is_letter byte || (nat_le 48 byte && nat_le byte 57)) || byte == 95) || byte == 45) || byte == 46
+
+abbrev pub is_set_name : List ℕ → Bool
+is_set_name [] = false
+is_set_name (first ∷ others) = (list_all is_name_byte others && is_letter first) && nat_lt (length others) 22

@@ -1,0 +1,74 @@
+// Written by scripts/plain out of crates/cidr_merge/src/set_names.rt
+
+//! What other programs call the sets that an export fills.
+
+use crate::rows::{SET, TABLE};
+use fosibegan::plain_std::arrayvec::ArrayString;
+use cidr_programs::options::given::{is_given, value_of};
+use cidr_programs::options::items::Item;
+
+/// The most bytes of a name: ipset takes 31, of which `_ipv4_new` needs nine.
+const NAME_MAX: usize = 22;
+
+/// A name.
+pub(crate) type Name = ArrayString<NAME_MAX>;
+
+/// The table of nftables, and what the names of both sets begin with.
+#[derive(Debug)]
+pub struct SetNames {
+    /// The table.
+    pub table: Name,
+    /// The beginning of `NAME_ipv4` and `NAME_ipv6`.
+    pub set: Name,
+}
+
+/// Those that options name.
+pub(crate) fn names_of(items: &[Item<'_>]) -> SetNames {
+    SetNames {
+        table: name_by(items, TABLE),
+        set: name_by(items, SET),
+    }
+}
+
+// The name that the option of a row says, or else the usual one.
+fn name_by(items: &[Item<'_>], row: usize) -> Name {
+    if is_given(items, row) {
+        name_in(value_of(items, row))
+    } else {
+        name_in("cidr_merge")
+    }
+}
+
+// A text as a name; nothing, if it is too long.
+fn name_in(text: &str) -> Name {
+    let mut name = Name::new();
+    if text.len() <= NAME_MAX {
+        name.push_str(text);
+    }
+    name
+}
+
+/// Whether a text is a name: 1 to 22 letters, digits, `_`, `-` and `.`, of which the first is a letter.
+pub(crate) fn is_set_name(text: &str) -> bool {
+    match text.as_bytes() {
+        [] => false,
+        [first, others @ ..] => are_name_bytes(others)
+            && is_letter(*first)
+            && others.len() < NAME_MAX,
+    }
+}
+
+// Whether bytes may stand in a name.
+fn are_name_bytes(bytes: &[u8]) -> bool {
+    bytes.iter().all(|byte| is_name_byte(*byte))
+}
+
+// Whether a byte is a letter.
+fn is_letter(byte: u8) -> bool {
+    byte >= b'a' && byte <= b'z' || byte >= b'A' && byte <= b'Z'
+}
+
+// Whether a byte may stand in a name.
+fn is_name_byte(byte: u8) -> bool {
+    is_letter(byte) || byte >= b'0' && byte <= b'9' || byte == b'_' || byte == b'-' || byte == b'.'
+}
