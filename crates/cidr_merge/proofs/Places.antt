@@ -1,7 +1,12 @@
 -- Lists up to a place, and with one item more.
-use Rattle.std.proofs.Common.{◌≡◌, ◌+◌, ◌<◌, ◌∙◌, ℕ, List, [], ◌∷◌, ◌++◌, sym, ap}
+use Rattle.std.proofs.Common.{◌≡◌, ◌+◌, ◌<◌, ◌∙◌, ℕ, List, [], ◌∷◌, ◌++◌, refl, sym, ap}
 use Rattle.std.proofs.Common.{length, take, drop, get_or, append_assoc}
-use Rattle.std.proofs.lemmas.List.{take_more, take-append-drop}
+use Rattle.std.specs.Prelude.{String, map}
+use Rattle.std.specs.String.{string_bytes}
+use Rattle.std.proofs.lemmas.List.{drop-map, take_more, take-append-drop}
+use Rattle.cidr_merge.specs.Faults.{files_among}
+use Rattle.cidr_merge.specs.declared.tasks.Task.{Task}
+use Rattle.cidr_merge.specs.declared.tasks.Task.TheVariants as tasks
 
 -- what stands up to a place and the item at it stand up to the next place
 pub up_to_next : {X : Type 0} (xs : List X) (place : ℕ) (x : X) → place < length xs
@@ -15,3 +20,13 @@ cut_at xs place x l is =
     sym (take-append-drop (place + 1) xs)
     ∙ ap (λ ys. ys ++ drop (place + 1) xs) (up_to_next xs place x l is)
     ∙ append_assoc (take place xs) (x ∷ []) (drop (place + 1) xs)
+
+-- the lists among names, as they are spelled
+pub named_among : {Z : Type 0} (task : Task) (middle : ℕ) (names : List (String Z))
+    → map string_bytes (files_among task middle names) ≡ files_among task middle (map string_bytes names)
+named_among (tasks.Merge operation) middle names = refl
+named_among tasks.List middle names = refl
+named_among tasks.Split middle names = refl
+named_among tasks.Check middle names = refl
+named_among tasks.Overlaps middle names = refl
+named_among tasks.Find middle names = sym (drop-map string_bytes middle names)

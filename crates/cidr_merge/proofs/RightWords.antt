@@ -93,22 +93,16 @@ is_of_value row text v = by (row == own.format) (row == own.prefix) (row == own.
   by false false false false e g h i = rw (e, g, h, i) refl
 
 module _ (rows : List Row) (task : Task) where
-  taken_row : (row : ℕ) → option_fault rows task row ≡ None → takes task row ≡ true
-  taken_row row h = passes (takes task row) _ h
-
-  no_option_fault : (row : ℕ) → takes task row ≡ true → option_fault rows task row ≡ None
-  no_option_fault row t = rw t refl
-
   valued : (row : ℕ) (text : List ℕ) → option_or (option_fault rows task row) (value_fault rows row text) ≡ None
       → (takes task row ≡ true) × IsValue row text
-  valued row text h = let n = no_or _ _ h in (taken_row row n.0, to_value row text (passes (is_value row text) _ n.1))
+  valued row text h = let n = no_or _ _ h in (passes (takes task row) _ n.0, to_value row text (passes (is_value row text) _ n.1))
 
   no_value_fault : (row : ℕ) (text : List ℕ) → takes task row ≡ true → IsValue row text
       → option_or (option_fault rows task row) (value_fault rows row text) ≡ None
   no_value_fault row text t v = rw (t, is_of_value row text v) refl
 
   right_item : (item : Item) → item_fault rows task item ≡ None → IsRightItem task item
-  right_item (says.Flag row) h = AFlag row (taken_row row h)
+  right_item (says.Flag row) h = AFlag row (passes (takes task row) _ h)
   right_item (says.Value row text) h = let v = valued row text h in AValue row text v.0 v.1
   right_item (says.Joined row text word) h = let v = valued row text h in AJoined row text word v.0 v.1
   right_item (says.File name) h = AFile name
@@ -116,7 +110,7 @@ module _ (rows : List Row) (task : Task) where
   right_item (says.Lacks row) h = absurd (none-some _ (sym (no_or _ _ h).1))
 
   no_item_fault : (item : Item) → IsRightItem task item → item_fault rows task item ≡ None
-  no_item_fault item (AFlag row t) = no_option_fault row t
+  no_item_fault item (AFlag row t) = rw t refl
   no_item_fault item (AValue row text t v) = no_value_fault row text t v
   no_item_fault item (AJoined row text word t v) = no_value_fault row text t v
   no_item_fault item (AFile name) = refl
@@ -239,16 +233,16 @@ module _ (table : Table) (task : Task) (name : List ℕ) (dashes : ℕ) (items :
 
   to_right : Untold → (dashes ≡ dashes_of (is_two_sided task)) × AreRight table task items firsts seconds
   to_right h =
-      let a = no_or (items_fault table.rows.now task items) _ h in
-      let b = no_or (together_fault table task items) _ a.1 in
-      let c = no_or (sides_fault task name dashes (length firsts) (length (firsts ++ seconds) - length firsts)) _ b.1 in
-      let p = no_or (pair_fault items table.pairs.now) _ b.0 in
+      let c = no_or _ (files_fault (files_among task (length firsts) (firsts ++ seconds))) h in
+      let b = no_or _ (sides_fault task name dashes (length firsts) (length (firsts ++ seconds) - length firsts)) c.0 in
+      let a = no_or (items_fault table.rows.now task items) (together_fault table task items) b.0 in
+      let p = no_or (pair_fault items table.pairs.now) _ a.1 in
       let q = fails (lacks_json task items) _ _ p.1 in
       let r = fails (cannot_print task (form_of Blocks items)) _ _ q.1 in
       let s = fails (lacks_prefix task items) _ _ r.1 in
       let u = fails (is_given items own.set && not (has_sets (form_of Blocks items))) _ _ s.1 in
       let v = fails (is_given items own.table && not (has_table (form_of Blocks items))) _ _ u.1 in
-      let t = right_sides task name dashes firsts seconds (subst (λ (n : ℕ). sides_fault task name dashes (length firsts) n ≡ None) behind c.0) in
+      let t = right_sides task name dashes firsts seconds (subst (λ (n : ℕ). sides_fault task name dashes (length firsts) n ≡ None) behind b.1) in
       let f = right_files (files_among task (length firsts) (firsts ++ seconds)) c.1 in (
         t.cut,
         record {

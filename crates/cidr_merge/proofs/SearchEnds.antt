@@ -8,17 +8,13 @@ use Rattle.lines.specs.Outputs.{Written}
 use Rattle.lines.specs.declared.fault.RunFault.{RunFault}
 use Rattle.ipnetwork_addr.specs.declared.ip.IpAddr.{IpAddr}
 use Rattle.lists.specs.KnownLists.{KnownLists}
-use Rattle.lists.specs.declared.named.ReadFault.{ReadFault}
-use Rattle.program.specs.Endings.{Ending, Refuses, status_of, end_text}
+use Rattle.program.specs.Endings.{Ending, status_of, end_text}
 use Rattle.program.specs.Messages.{Reports}
-use Rattle.program.specs.Reported.{fault_text}
 use Rattle.cidr_merge.specs.Finds.{lists_matches, lists_refusals}
-use Rattle.options.specs.declared.table.Row.{Row}
-use Rattle.cidr_merge.specs.FindRuns.{sought_fault_text, EndsSearching, EndsReadingAll, EndsFind}
-use Rattle.cidr_merge.specs.FindWords.{AreAddresses, StopsAtWord, with_addresses}
+use Rattle.cidr_merge.specs.FindRuns.{EndsSearching, EndsReadingAll}
+use Rattle.cidr_merge.specs.FindWords.{with_addresses}
 use Rattle.cidr_merge.specs.Private.Reported.{TellsFound}
-use Rattle.cidr_merge.specs.Texts.{AreTexts, TextsStop}
-use Rattle.cidr_merge.specs.declared.query.QueryFault.{QueryFault}
+use Rattle.cidr_merge.specs.Texts.{AreTexts}
 use Rattle.cidr_merge.proofs.Inspected.{works_before, fails_now, written_all}
 
 status_by : (no_told no_printed told printed : Bool) → told ≡ not no_told → printed ≡ not no_printed
@@ -77,26 +73,3 @@ module _ {Z W E : Type 0} (known : KnownLists) (words sought names : List (Strin
         subst (λ ns. EndsSearching (with_addresses (take middle words) addresses) ns texts end) n
             (subst (λ ss. EndsSearching (with_addresses ss addresses) names texts end) s h),
       )
-
-  -- or one was not
-  pub not_read : (fault : ReadFault) → TextsStop known middle names fault
-      → Refuses (fault_text words fault) end → EndsReadingAll known words middle addresses end
-  not_read fault stops h =
-      inl (
-        fault,
-        subst (λ ns. TextsStop known middle ns fault) n stops,
-        h,
-      )
-
-module _ {Z W E : Type 0} (program usage : List ℕ) (rows : List Row) (known : KnownLists)
-    (words sought : List (String Z)) (middle : ℕ) (end : Ending W E) (s : sought ≡ take middle words) where
-  -- words are no addresses
-  pub no_addresses : (fault : QueryFault) → StopsAtWord 0 sought fault
-      → Refuses (sought_fault_text program usage rows words fault) end
-      → EndsFind program usage rows known words middle end
-  no_addresses fault wrong h = inl (fault, subst (λ ss. StopsAtWord 0 ss fault) s wrong, h)
-
-  -- or they are
-  pub right_addresses : (addresses : List IpAddr) → AreAddresses sought addresses
-      → EndsReadingAll known words middle addresses end → EndsFind program usage rows known words middle end
-  right_addresses addresses are h = inr (addresses, subst (λ ss. AreAddresses ss addresses) s are, h)

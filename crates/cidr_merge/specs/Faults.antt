@@ -168,7 +168,5 @@ files_among task middle names = names
 -- with options together, with the sides, and with the names of lists
 abbrev pub fault_of : Table → Task → List ℕ → ℕ → List Item → ℕ → List (List ℕ) → Option Fault
 fault_of table task name dashes items middle names =
-    option_or (items_fault table.rows.now task items)
-    (option_or (together_fault table task items)
-    (option_or (sides_fault task name dashes middle (length names - middle))
-    (files_fault (files_among task middle names))))
+    option_or (option_or (option_or (items_fault table.rows.now task items) (together_fault table task items))
+    (sides_fault task name dashes middle (length names - middle))) (files_fault (files_among task middle names))

@@ -1,5 +1,5 @@
 //! What the words of a command line ask for.
-ghost use Rattle.std.specs.Prelude.{◌≡◌, ◌≤◌, length, IfOk};
+ghost use Rattle.std.specs.Prelude.{◌≡◌, ◌≤◌, ℕ, length, IfOk};
 ghost use Rattle.cidr_merge.specs.CommandLines.{request_of, inspection_of, asked_for, command_for, command_of, told_of};
 ghost use Rattle.cidr_merge.specs.CommandLines.{sets_by, sets_of};
 ghost use Rattle.cidr_merge.specs.Forms.{form_called, form_of, shape_of, without_plus, prefix_in, length_of};
@@ -164,7 +164,8 @@ fn command_for<'a>(
 
 // What is asked for by options and so many FILEs of the first side.
 fn asked_for(task: Task, items: &[Item<'_>], middle: usize) -> Command
-    ensures { result ≡ asked_for task items.now middle }
+    ensures asked { result ≡ asked_for task items.now middle }
+    ensures within { (count : ℕ) → middle ≤ count → IsCommandWithin count result }
 {
     match task {
         Task::Merge(operation) => {

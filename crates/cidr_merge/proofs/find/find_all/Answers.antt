@@ -3,7 +3,7 @@ use Rattle.std.proofs.lemmas.List.{take_rest}
 use Rattle.program.specs.Endings.{ending}
 use Rattle.cidr_merge.specs.FindRuns.{EndsSearching}
 use Rattle.cidr_merge.specs.FindWords.{with_addresses}
-use Rattle.cidr_merge.proofs.SearchEnds.{search_ended, searched, not_read}
+use Rattle.cidr_merge.proofs.SearchEnds.{search_ended, searched}
 use Rattle.cidr_merge.proofs.SoughtWords.{as_many_addresses}
 use Rattle.cidr_merge.proofs.WholeLists.{as_many_held}
 use Rattle.cidr_merge.proofs.find.find_all.Goals as goal
@@ -38,12 +38,3 @@ returns g c =
     reported.ensures.printed reported.ensures.told c.status-status.ensures
     c.finish-written.ensures.ok c.finish-written.ensures.works c.finish-written.ensures.failed
     c.end.ensures.status c.end.ensures.told))
-
-pub returns-in-Err : goal.returns-in-Err
-returns-in-Err g c =
-    let words = c.args.context.now.names.now in
-    not_read (g.L.OpenLists.known c.args.context.now.lists.now) words (take c.args.middle words)
-    (take (length words - c.args.middle) (drop c.args.middle words)) c.args.middle c.args.addresses.now
-    (ending c.args.output.now c.args.output.now c.args.errors.now c.refuse_lists.new.errors
-    c.refuse_lists.result) refl (take_rest words c.args.middle) c.in-Err.fault c.in-Err.ensures.err
-    ((refl, c.refuse_lists.ensures.status), c.refuse_lists.ensures.told)

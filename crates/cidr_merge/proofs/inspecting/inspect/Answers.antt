@@ -1,10 +1,6 @@
-use Rattle.std.proofs.Common.{inl, refl}
 use Rattle.cidr_merge.proofs.Inspected.{read}
 use Rattle.cidr_merge.proofs.WholeLists.{as_many_held}
 use Rattle.cidr_merge.proofs.inspecting.inspect.Goals as goal
-
-pub returns-in-Err : goal.returns-in-Err
-returns-in-Err g c = inl (c.in-Err.fault, c.in-Err.ensures.err, ((refl, c.refuse_lists.ensures.status), c.refuse_lists.ensures.told))
 
 pub look_over-requires : goal.look_over-requires
 look_over-requires g c =
