@@ -27,8 +27,8 @@ abbrev pub wildcard_of : IpNetwork → IpAddr
 wildcard_of (V4 network) = addresses.V4 (2 ^ 32 - 1 - mask_of 32 network.prefix)
 wildcard_of (V6 network) = addresses.V6 (2 ^ 128 - 1 - mask_of 128 network.prefix)
 
--- the first and the last address that a host may have: of an IPv4 network, up to prefix length 30, neither the least nor
--- the greatest (RFC 1122, section 3.2.1.3); else these (RFC 3021)
+-- the first and the last address that a host may have: of an IPv4 network, up to prefix length 30, neither the least
+-- nor the greatest (RFC 1122, section 3.2.1.3); else these (RFC 3021)
 abbrev pub v4_hosts_of : Network → ℕ × ℕ
 v4_hosts_of network =
     if nat_lt 30 network.prefix then (low 32 network, high 32 network)

@@ -1,6 +1,6 @@
 -- How a run ends: its exit status, what was written, and what was reported.
-use Rattle.std.specs.Prelude.{◌≡◌, ◌⊎◌, ℕ, ◌&&◌, Bool, true, false, not, List, [], ◌++◌, Option, None, Some, MatchOption}
-use Rattle.std.specs.Prelude.{if◌then◌else◌, codes, String}
+use Rattle.std.specs.Prelude.{◌≡◌, ◌⊎◌, ℕ, ◌&&◌, Bool, true, false, not, List, [], ◌++◌, Option, None, Some}
+use Rattle.std.specs.Prelude.{MatchOption, if◌then◌else◌, codes, String}
 use Rattle.std.specs.List.{list_any, list_all}
 use Rattle.std.specs.Option.{option_or, is_some}
 use Rattle.ipnetwork.specs.Computed.IpNetworks.{is_ip_subnet}

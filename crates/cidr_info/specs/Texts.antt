@@ -30,8 +30,8 @@ abbrev pub closing : Field → List ℕ
 closing says.Hexadecimal = codes "\"}\n"
 closing field = codes "\""
 
--- what stands before the value of a field: its name, with blanks (32) up to the thirteenth byte, or, as JSON, the name as
--- a string, a colon and a quote
+-- what stands before the value of a field: its name, with blanks (32) up to the thirteenth byte, or, as JSON, the name
+-- as a string, a colon and a quote
 abbrev pub before_value : Bool → Field → List ℕ
 before_value false field = name_of field ++ replicate (13 - length (name_of field)) 32
 before_value true field = opening field ++ codes "\"" ++ name_of field ++ codes "\":\""

@@ -11,7 +11,7 @@ octet_at place address = address / 2 ^ (8 * (3 - place)) % 256
 abbrev pub nibble_at : ℕ → ℕ → ℕ
 nibble_at place address = address / 2 ^ (4 * (31 - place)) % 16
 
--- the labels of the first octets, this many, the last of them first, each with a dot behind it, and of the first nibbles
+-- the labels of the first octets, this many, the last of them first, each with a dot behind it; of the first nibbles
 abbrev pub octet_labels : ℕ → ℕ → List ℕ
 octet_labels zero address = []
 octet_labels (suc count) address = decimal (octet_at count address) ++ codes "." ++ octet_labels count address

@@ -1,5 +1,5 @@
-//! What follows from the definitions of this crate. Each function's contract is a law: it does nothing, and a proof that
-//! calls it may use the law.
+//! What follows from the definitions of this crate. Each function's contract is a law: it does nothing, and a proof
+//! that calls it may use the law.
 ghost use Rattle.cidr_info.specs.Laws.{NetworksReadBack, ZonesHaveWholeLabels};
 
 use ipnetwork::laws as network_laws;

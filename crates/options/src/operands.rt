@@ -6,9 +6,9 @@ use crate::faults::{Fault, Subject, about, first_fault, has_file, is_read_once, 
 use crate::items::Item;
 use crate::table::Table;
 
-/// What is wrong with a command line that says this, if a FILE has to be given and no option: the first option that is none or
-/// has a wrong value or none, then the first pair of options that do not go together, then that there is no FILE, and then
-/// that standard input is read twice. A FILE may be empty.
+/// What is wrong with a command line that says this, if a FILE has to be given and no option: the first option that is
+/// none or has a wrong value or none, then the first pair of options that do not go together, then that there is no
+/// FILE, and then that standard input is read twice. A FILE may be empty.
 ///
 /// ```
 /// use options::items::{Item, Text};
