@@ -33,7 +33,7 @@ Of each NETWORK the program prints
     hexadecimal     the same in base 16
 
 Status: 0; with --in, 1 if a NETWORK does not lie within it; 2 on wrong usage, a text that names no
-network, a file that cannot be read, a failed write or out of memory.
+network, standard input that cannot be read, a failed write or out of memory.
 
 Examples:
     cidr_info 10.1.9.32/20 2001:db8::1/48
