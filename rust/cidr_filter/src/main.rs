@@ -2,7 +2,8 @@
 
 //! The lines of logs whose address is in a list of networks.
 #![allow(unused_imports, unused_labels, unused_variables, dead_code)]
-#![allow(clippy::complexity, clippy::style, clippy::large_enum_variant, clippy::non_canonical_clone_impl)]
+#![allow(clippy::complexity, clippy::style, clippy::large_enum_variant, clippy::manual_contains,
+    clippy::non_canonical_clone_impl)]
 #![forbid(unsafe_code)]
 
 use fosibegan::plain_std::rt::HostRuntime;

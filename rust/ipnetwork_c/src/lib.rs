@@ -7,7 +7,8 @@
 //! table does not look at every struct, and one of ranges looks at no prefix length. A call that
 //! returns a fault writes nothing, except for the length or number that comes with `SHORT_BUFFER`.
 #![allow(unused_imports, unused_labels, unused_variables, dead_code)]
-#![allow(clippy::complexity, clippy::style, clippy::large_enum_variant, clippy::non_canonical_clone_impl)]
+#![allow(clippy::complexity, clippy::style, clippy::large_enum_variant, clippy::manual_contains,
+    clippy::non_canonical_clone_impl)]
 
 mod lent;
 mod address;
