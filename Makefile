@@ -224,7 +224,8 @@ uninstall:
 	    rm -f "$(DESTDIR)$(ZSHDIR)/_$$program" "$(DESTDIR)$(FISHDIR)/$$program.fish"; \
 	done
 	@for script in $(SCRIPTS) $(SHARED_SCRIPTS); do rm -f "$(DESTDIR)$(SCRIPTDIR)/$$script"; done
-	@for program in $(PROGRAMS) .; do rmdir "$(DESTDIR)$(SCRIPTDIR)/$$program" 2> /dev/null || true; done
+	@for program in $(PROGRAMS); do rmdir "$(DESTDIR)$(SCRIPTDIR)/$$program" 2> /dev/null || true; done
+	@rmdir "$(DESTDIR)$(SCRIPTDIR)" 2> /dev/null || true
 
 .PHONY: deb
 deb:

@@ -70,6 +70,12 @@ in_parts() {
     if command -v parallel > /dev/null; then
         PARALLEL="--block 64M ${PARALLEL-}" parallel --pipe --keep-order --quote "$@"
     else
-        SHELL=$(command -v bash) split --lines="${PART_LINES:-500000}" --filter="$(printf '%q ' "$@")"
+        local failed status=0
+        failed=$(mktemp)
+        SHELL=$(command -v bash) split --lines="${PART_LINES:-500000}" \
+            --filter="$(printf '%q ' "$@") || { [ \$? -eq 2 ] && echo > $(printf '%q' "$failed"); }" || status=$?
+        [ ! -s "$failed" ] || status=2
+        rm -f "$failed"
+        return "$status"
     fi
 }

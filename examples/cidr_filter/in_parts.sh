@@ -9,8 +9,8 @@
 # are added up. `--bad stop` is refused: a line would end its part only; and so are `-m`, `-l`, `-q`
 # and `-n`. Without GNU parallel, the parts are filtered one after the other.
 #
-# If a line is too long, the status is 2, and it is reported with its number in its part; with `-c`
-# nothing is printed then, and otherwise, by GNU parallel, the parts behind its part all the same.
+# If a line is too long, it is reported with its number in its part; the other parts are filtered all
+# the same, and the status is 2.
 set -eu -o pipefail
 . "$(dirname "$0")/../log_in_parts.sh"
 . "$(dirname "$0")/../program.sh"
@@ -34,26 +34,28 @@ option() {
 each_option "$@"
 check_lists "$@"
 
+failed=
 folder=$(mktemp -d)
 trap 'rm -rf "$folder"' EXIT
 # A part of which no line is selected has status 1.
 part='folder=$1; shift; status=0
 "$0" "$@" || status=$?
 [ $status -ne 0 ] || : > "$folder/selected"
-[ $status -le 1 ]'
+[ $status -le 1 ] || exit $status'
 
 filter_parts() {
     in_parts bash -c "$part" "$program" "$folder" "$@"
 }
 
 if [ "$counts" ]; then
-    filter_parts "$@" > "$folder/counts" || exit 2
+    filter_parts "$@" > "$folder/counts" || failed=1
     total=0
     while read -r count; do
         total=$((total + count))
     done < "$folder/counts"
     printf '%s\n' "$total"
 else
-    filter_parts "$@" || exit 2
+    filter_parts "$@" || failed=1
 fi
+[ ! "$failed" ] || exit 2
 [ -e "$folder/selected" ]

@@ -9,8 +9,8 @@
 # parts are joined one after the other. With PARALLEL='--sshlogin ONE,TWO' they go to these machines, which need the
 # program and the list at the same path. `--bad stop` is refused: a line would end its part only.
 #
-# If a line is too long, the status is 2, and it is reported with its number in its part; with `--tally` nothing is printed
-# then, and otherwise, by GNU parallel, the parts behind its part all the same.
+# If a line is too long, it is reported with its number in its part; the other parts are joined all the same, and the
+# status is 2.
 set -eu -o pipefail
 . "$(dirname "$0")/../log_in_parts.sh"
 . "$(dirname "$0")/../program.sh"
@@ -38,10 +38,12 @@ if [ ! "$tally" ]; then
 fi
 rows=$(mktemp)
 trap 'rm -f "$rows"' EXIT
-in_parts "$program" "$@" > "$rows" || exit 2
+status=0
+in_parts "$program" "$@" > "$rows" || status=2
 # A row is a count, a tab and a text, which may have tabs too.
 export LC_ALL=C
 tab=$'\t'
 awk '{ tab = index($0, "\t"); counts[substr($0, tab + 1)] += substr($0, 1, tab - 1) }
     END { for (text in counts) printf "%.0f\t%s\n", counts[text], text }' "$rows" |
     sort -t "$tab" -k 1,1nr -k 2
+exit "$status"

@@ -13,7 +13,7 @@ json = 1
 
 -- the options, in the order of their rows
 abbrev pub entries : List Entry
-entries = long (codes "--in") kinds.Text false (codes "is no network") ∷ long_flag (codes "--json")
+entries = long (codes "--in") kinds.Text true (codes "is no network") ∷ long_flag (codes "--json")
     ∷ alone (codes "--help") (codes "is not the only argument")
     ∷ alone (codes "--version") (codes "is not the only argument") ∷ []
 

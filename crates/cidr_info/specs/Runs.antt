@@ -1,6 +1,6 @@
 -- How a run ends: its exit status, what was written, and what was reported.
-use Rattle.std.specs.Prelude.{◌≡◌, ◌⊎◌, ℕ, ◌&&◌, Bool, true, false, not, List, [], ◌++◌, Option, None, Some}
-use Rattle.std.specs.Prelude.{MatchOption, if◌then◌else◌, codes, String}
+use Rattle.std.specs.Prelude.{◌≡◌, ◌⊎◌, ℕ, ◌==◌, ◌&&◌, Bool, true, false, not, List, [], ◌++◌, Option, None, Some}
+use Rattle.std.specs.Prelude.{MatchOption, length, if◌then◌else◌, codes, String}
 use Rattle.std.specs.List.{list_any, list_all}
 use Rattle.std.specs.Option.{option_or, is_some}
 use Rattle.ipnetwork.specs.Computed.IpNetworks.{is_ip_subnet}
@@ -52,13 +52,14 @@ is_within outer (Some network) = is_ip_subnet network outer
 abbrev pub all_within : IpNetwork → List Saying → Bool
 all_within outer all = list_all (λ said. is_within outer said.network) all
 
--- the exit status: 2 if a text names no network, and with `--in` 1 if one does not lie within that network
+-- the exit status: 2 if a text names no network, and with `--in` 1 if one does not lie within that network, or there is
+-- none
 abbrev pub is_refused : Saying → Bool
 is_refused said = not (is_some said.network)
 
 abbrev pub within_status : Option IpNetwork → List Saying → ℕ
 within_status None all = 0
-within_status (Some outer) all = if all_within outer all then 0 else 1
+within_status (Some outer) all = if not (length all == 0) && all_within outer all then 0 else 1
 
 abbrev pub status_of : Option IpNetwork → List Saying → ℕ
 status_of outer all = if list_any is_refused all then 2 else within_status outer all

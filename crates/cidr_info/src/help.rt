@@ -21,19 +21,19 @@ skipped. Options may stand behind NETWORKs; what follows a -- are NETWORKs. A NE
 none is reported, and the others are printed.
 
 Of each NETWORK the program prints
-    address         the address as it was given
+    address         its address, with the host bits that were given
     network         its network, without host bits
     mask, wildcard  the network's mask, and its complement
     first, last     the least and the greatest address of the network
-    hosts           those that hosts may have: of IPv4, up to a prefix length of 30, without the first
-                    and the last, and else all
+    hosts           those that hosts may have: of IPv4, up to a prefix length of 30, without the
+                    first and the last, and else all
     addresses       how many addresses the network has
     reverse         the zone of the reverse names of its whole octets, of IPv6 of its whole nibbles
     integer         the address as a number
     hexadecimal     the same in base 16
 
-Status: 0; with --in, 1 if a NETWORK does not lie within it; 2 on wrong usage, a text that names no
-network, standard input that cannot be read, a failed write or out of memory.
+Status: 0; with --in, 1 if a NETWORK does not lie within it, or none is read; 2 on wrong usage, a
+text that names no network, standard input that cannot be read, a failed write or out of memory.
 
 Examples:
     cidr_info 10.1.9.32/20 2001:db8::1/48

@@ -14,7 +14,7 @@ pub(crate) const NO_NETWORK: &str = "is no network";
 
 // The options.
 const ROWS: [Row; 4] = [
-    long!("--in", Text, false, NO_NETWORK),
+    long!("--in", Text, true, NO_NETWORK),
     long!("--json", Flag, false, ""),
     long!("--help", Alone, false, "is not the only argument"),
     long!("--version", Alone, false, "is not the only argument"),

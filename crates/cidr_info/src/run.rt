@@ -162,12 +162,18 @@ fn is_refused(all: &[Said<'_>]) -> bool
     all.iter().any(|said| said.network().is_none())
 }
 
-// The exit status if each of them names one: 1 if one is to lie within a network and does not.
+// The exit status if each of them names one: 1 if one is to lie within a network and does not, or there is none to.
 fn within_status(outer: Option<IpNetwork>, all: &[Said<'_>]) -> u8
     ensures { result ≡ within_status outer all.now }
 {
     match outer {
-        Some(outer) => { if all_within(outer, all) { 0 } else { 1 } }
+        Some(outer) => {
+            if !all.is_empty() && all_within(outer, all) {
+                0
+            } else {
+                1
+            }
+        }
         None => 0,
     }
 }
