@@ -1,13 +1,10 @@
 -- Networks at which a misreading of the definitions would show. Each of these computes.
-use Rattle.std.proofs.Common.{◌≡◌, ◌∙◌, ℕ, [], ◌∷◌, ◌++◌, refl, sym, ap}
-use Rattle.std.specs.Prelude.{Some, codes}
+use Rattle.std.proofs.Common.{◌≡◌, [], ◌∷◌, ◌++◌, refl}
+use Rattle.std.specs.Prelude.{codes}
 use Rattle.std.specs.Fmt.{digits}
-use Rattle.ipnetwork.specs.IpNetworks.{IsIpNetwork, prefix_of, ip_low, made_of}
-use Rattle.ipnetwork.specs.declared.ip_network.IpNetwork.{IpNetwork}
 use Rattle.ipnetwork.specs.declared.ip_network.IpNetwork.TheVariants.{V4, V6}
-use Rattle.cidr_info.specs.Fields.{block_text, value_of}
-use Rattle.cidr_info.specs.Laws.{NetworksReadBack, ZonesHaveWholeLabels, dots}
-use Rattle.cidr_info.specs.Words.{lines_said, network_in, said_of}
+use Rattle.cidr_info.specs.Fields.{value_of}
+use Rattle.cidr_info.specs.Words.{lines_said, said_of}
 use Rattle.cidr_info.specs.Zones.{zone_of}
 use Rattle.cidr_info.specs.declared.field.Field.TheVariants as says
 
@@ -60,15 +57,3 @@ host_bits_stay = (refl, refl, refl, refl)
 -- a blank line and a comment count, and say nothing; a return is no part of the text
 pub second_line : lines_said 1 (codes " #x" ∷ (codes " ::1" ++ 13 ∷ []) ∷ [] ∷ []) ≡ said_of 2 (codes "::1") ∷ []
 second_line = refl
-
--- ---- what the laws let one conclude
-
--- two networks of one text are one block
-pub one_text_one_block : NetworksReadBack → (a b : IpNetwork) → IsIpNetwork a → IsIpNetwork b → block_text a ≡ block_text b
-    → Some (made_of (ip_low a) (prefix_of a)) ≡ Some (made_of (ip_low b) (prefix_of b))
-one_text_one_block law a b p q same = sym (law a p) ∙ ap network_in same ∙ law b q
-
--- a prefix length of 23 covers two octets, and one of 127 thirty-one nibbles, whatever the address
-pub labels_of_part : ZonesHaveWholeLabels → (address : ℕ)
-    → (dots (zone_of (V4 (record { address = address; prefix = 23 }))) ≡ 3) × (dots (zone_of (V6 (record { address = address; prefix = 127 }))) ≡ 32)
-labels_of_part law address = ((law (record { address = address; prefix = 23 })).0, (law (record { address = address; prefix = 127 })).1)

@@ -49,7 +49,8 @@ fn check_line<W: Write>(strictly: bool, line: &Line<'_>, output: &mut Output<'_,
 
 // Tells a line if its entry has host bits that are to be told, and returns whether it has.
 fn tell_if_loose<W: Write>(is_loose: bool, line: &Line<'_>, output: &mut Output<'_, W>) -> bool
-    ensures { TellsFound (host_findings is_loose line.now.name.now line.now.number line.now.text.now)
+    ensures { TellsFound
+        (host_findings is_loose line.now.name.now line.now.number line.now.text.now)
         output.old output.new result }
 {
     if is_loose {

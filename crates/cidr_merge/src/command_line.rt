@@ -115,7 +115,8 @@ pub(crate) fn command_of<'a>(
     words: &'a [String],
 ) -> Result<Result<Asked, Fault<'a>>, AllocError>
     ensures asked { IfOk result (λ asked. told_of asked ≡ command_of table.now words.now) }
-    ensures sets { IfOk result (λ asked. IfOk asked (λ all. all.sets ≡ sets_of table.now words.now)) }
+    ensures sets { IfOk result (λ asked. IfOk asked
+        (λ all. all.sets ≡ sets_of table.now words.now)) }
     ensures within { IfOk result (λ asked. IfOk asked
         (λ all. IsCommandWithin (length all.names.items) all.command)) }
 {

@@ -103,7 +103,8 @@ fn put_ipset<A: Address, W: Write>(
     block: Network<A>,
     output: &mut Output<'_, W>,
 ) -> Result<(), RunFault>
-    ensures { PutsOrFails result output.old output.new (ipset_lines set.bytes version A.family block) }
+    ensures { PutsOrFails result output.old output.new
+        (ipset_lines set.bytes version A.family block) }
 {
     if block.prefix() == 0 {
         return put_halves(set, version, output);

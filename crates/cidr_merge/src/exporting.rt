@@ -47,7 +47,8 @@ fn print_family<A: Address, W: Write>(
     blocks: Sweep<'_, Network<A>>,
     output: &mut Output<'_, W>,
 ) -> Result<bool, RunFault>
-    ensures printed { IfOk result (PrintsBlocks (family_text names.now export version A.family follows)
+    ensures printed { IfOk result (PrintsBlocks
+        (family_text names.now export version A.family follows)
         follows (blocks_left blocks.entry) output.old output.new) }
     ensures failed { output.new.failed ≡ (output.old.failed || is_err result) }
 {
@@ -66,7 +67,8 @@ fn print_listed<A: Address, W: Write>(
     mut blocks: Sweep<'_, Network<A>>,
     output: &mut Output<'_, W>,
 ) -> Result<bool, RunFault>
-    ensures printed { IfOk result (PrintsBlocks (listed names.now export version A.family follows) follows
+    ensures printed { IfOk result (PrintsBlocks
+        (listed names.now export version A.family follows) follows
         (blocks_left blocks.entry) output.old output.new) }
     ensures failed { output.new.failed ≡ (output.old.failed || is_err result) }
 {

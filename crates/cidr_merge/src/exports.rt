@@ -246,7 +246,8 @@ fn put_nft_opening<W: Write>(
     version: Version,
     output: &mut Output<'_, W>,
 ) -> Result<(), RunFault>
-    ensures { PutsOrFails result output.old output.new (nft_elements table.bytes set.bytes (family_word version)) }
+    ensures { PutsOrFails result output.old output.new
+        (nft_elements table.bytes set.bytes (family_word version)) }
 {
     let table = table.as_str();
     let set = set.as_str();

@@ -39,7 +39,8 @@ pub(crate) fn tell_line<W: Write>(
     separator: &str,
     output: &mut Output<'_, W>,
 )
-    ensures { Reports output.old output.new (place_text line.now.name.now line.now.number ++ what.now
+    ensures { Reports output.old output.new
+        (place_text line.now.name.now line.now.number ++ what.now
         ++ about.now ++ separator.now ++ escaped line.now.text.now ++ codes "\n") }
 {
     tell_place(line.name, line.number, output);

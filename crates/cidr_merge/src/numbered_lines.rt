@@ -61,7 +61,8 @@ impl<'a> NumberedLines<'a> {
     pub(crate) fn next(&mut self) -> Option<Line<'a>>
         ensures line { MatchOption result (lines_left self.old ≡ [])
             (λ line. lines_left self.old ≡ as_numbered line ∷ lines_left self.new) }
-        ensures named { IfSome result (λ line. line.name.now ≡ name_at self.old.names.now line.list) }
+        ensures named { IfSome result
+            (λ line. line.name.now ≡ name_at self.old.names.now line.list) }
         ensures names { self.new.names.now ≡ self.old.names.now }
     {
         'lists: loop {

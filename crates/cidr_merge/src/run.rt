@@ -71,7 +71,8 @@ fn obey<L: OpenLists, W: Write, E: Write>(
 ) -> u8
     requires { IsCommandWithin (length context.now.names.now) command }
     ensures { EndsCommand PROGRAM.now USAGE.now rows.now (L.known context.now.lists.now)
-        context.now.names.now context.now.sets.now command (ending output.old output.new errors.old errors.new result) }
+        context.now.names.now context.now.sets.now command
+        (ending output.old output.new errors.old errors.new result) }
 {
     match command {
         Command::Merge(request) => merge(request, context, output, errors),
@@ -89,7 +90,8 @@ fn merge<L: OpenLists, W: Write, E: Write>(
     errors: &mut Output<'_, E>,
 ) -> u8
     requires { request.middle ≤ length context.now.names.now }
-    ensures { EndsMerging (L.known context.now.lists.now) context.now.names.now context.now.sets.now request
+    ensures { EndsMerging (L.known context.now.lists.now) context.now.names.now
+        context.now.sets.now request
         (ending output.old output.new errors.old errors.new result) }
 {
     let (first, second, refusals, read) = read_sides(request, context);
@@ -147,7 +149,8 @@ fn answer<W: Write, E: Write>(
     output: &mut Output<'_, W>,
     errors: &mut Output<'_, E>,
 ) -> u8
-    ensures { let m = merging.now in EndsAnswering m.sets.now m.request skips m.first.now m.second.now
+    ensures { let m = merging.now in EndsAnswering m.sets.now m.request skips
+        m.first.now m.second.now
         (ending output.old output.new errors.old errors.new result) }
 {
     let request = merging.request;
