@@ -1,5 +1,5 @@
 -- The options of the command line.
-use Rattle.std.specs.Prelude.{ℕ, false, List, [], ◌∷◌, codes}
+use Rattle.std.specs.Prelude.{ℕ, true, List, [], ◌∷◌, codes}
 use Rattle.options.specs.Table.{Entry, IsTable, long_flag, long, alone}
 use Rattle.options.specs.declared.table.Kind.TheVariants as kinds
 use Rattle.options.specs.declared.table.Table.{Table}
