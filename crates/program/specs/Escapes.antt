@@ -2,8 +2,8 @@
 use Rattle.std.specs.Prelude.{ℕ, ◌+◌, ◌-◌, ◌/◌, ◌%◌, ◌==◌, ◌&&◌, ◌||◌, Bool, not, List, [], ◌∷◌, ◌++◌, nat_lt, nat_le}
 use Rattle.std.specs.Prelude.{if◌then◌else◌, codes}
 
--- a byte that follows another, or 0, is a control character: one of ASCII but the tab (9), or one from U+0080 to U+009F,
--- by itself or as UTF-8 has it, behind the byte 194
+-- a byte that follows another, or 0, is a control character: one of ASCII but the tab (9), or
+-- one from U+0080 to U+009F, by itself or as UTF-8 has it, behind the byte 194
 abbrev pub is_control : ℕ → ℕ → Bool
 is_control before byte =
     ((nat_lt byte 32 && not (byte == 9)) || byte == 127)

@@ -7,7 +7,9 @@ use Rattle.ipnetwork_addr.specs.Texts.{dot}
 -- where the byte of this position stands after the first eight bytes of a text of this length are followed by its last
 -- eight
 abbrev pub joined_position : ℕ → ℕ → ℕ
-joined_position count position = if nat_lt position 8 then position else (if nat_lt position count then position + 16 - count else 255)
+joined_position count position =
+    if nat_lt position 8 then position
+    else (if nat_lt position count then position + 16 - count else 255)
 
 abbrev pub sixteen : List ℕ
 sixteen = 0 ∷ 1 ∷ 2 ∷ 3 ∷ 4 ∷ 5 ∷ 6 ∷ 7 ∷ 8 ∷ 9 ∷ 10 ∷ 11 ∷ 12 ∷ 13 ∷ 14 ∷ 15 ∷ []
