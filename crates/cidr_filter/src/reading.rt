@@ -73,7 +73,8 @@ fn read_lists<L: OpenLists>(
     ensures read { OnOk result (ReadsItems (L.known lists.now) 0 items.now reader.old reader.new) }
     ensures memory { OnOk result (reader.new.is_out_of_memory ≡ false) }
     ensures stopped { IfErr result
-        (λ fault. StopsAtItems (L.known lists.now) 0 items.now reader.old fault reader.new.refused) }
+        (λ fault. StopsAtItems (L.known lists.now) 0 items.now reader.old fault
+        reader.new.refused) }
 {
     let mut at = 0;
     'items: while at < items.len() {
