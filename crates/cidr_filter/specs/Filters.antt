@@ -9,7 +9,7 @@ use Rattle.ipnetwork.specs.IpNetworkText.{ip_network_text}
 use Rattle.ipnetwork.specs.declared.ip_network.IpNetwork.{IpNetwork}
 use Rattle.line_addresses.specs.Addresses.{Spelled, spelled, addresses_of}
 use Rattle.line_addresses.specs.Following.{following}
-use Rattle.line_addresses.specs.Mapped.{unmapped}
+use Rattle.ipnetwork_addr.specs.Either.{unmapped}
 use Rattle.line_addresses.specs.Words.{words_of}
 use Rattle.line_addresses.specs.Fields.{field_of}
 use Rattle.program.specs.LogLines.{LogLine, content, printed, IsWhole}

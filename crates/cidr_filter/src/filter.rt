@@ -7,9 +7,7 @@ ghost use Rattle.cidr_filter.specs.Private.Copying.{IsSelectedByAddress};
 
 use crate::matcher::Matcher;
 use ipnetwork::{IpAddr, IpNetwork};
-use line_addresses::{
-    Area, Text, address_of, field_of, following, next_address, unmapped, word_of,
-};
+use line_addresses::{Area, Text, address_of, field_of, following, next_address, word_of};
 use log_programs::finding::found_in;
 use log_programs::without_address::WithoutAddress;
 use program::log_reader::LINE_MAX;
@@ -235,7 +233,7 @@ impl Filter<'_> {
         ensures { result ≡ asked self.now.mapped address }
     {
         if self.mapped {
-            unmapped(address)
+            address.to_canonical()
         } else {
             address
         }

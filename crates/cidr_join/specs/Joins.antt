@@ -4,7 +4,7 @@ use Rattle.std.specs.Prelude.{option_map, if◌then◌else◌}
 use Rattle.ipnetwork_addr.specs.declared.ip.IpAddr.{IpAddr}
 use Rattle.ipnetwork.specs.IpNetworkText.{ip_network_text}
 use Rattle.ipnetwork.specs.declared.ip_network.IpNetwork.{IpNetwork}
-use Rattle.line_addresses.specs.Mapped.{unmapped}
+use Rattle.ipnetwork_addr.specs.Either.{unmapped}
 use Rattle.log_programs.specs.Finding.{found_in}
 use Rattle.log_programs.specs.LogStats.{is_long}
 use Rattle.log_programs.specs.WithoutAddress.{is_dropped, is_stopped}

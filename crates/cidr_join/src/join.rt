@@ -5,7 +5,7 @@ ghost use Rattle.cidr_join.specs.Joins.{Finds, address_in, is_left_out, is_refus
 use crate::answers::Answers;
 use crate::found::Found;
 use ipnetwork::IpAddr;
-use line_addresses::{Area, unmapped};
+use line_addresses::Area;
 use log_programs::finding::found_in;
 use log_programs::without_address::WithoutAddress;
 
@@ -63,7 +63,7 @@ impl<'a> Join<'a> {
             return None;
         };
         if self.mapped {
-            Some(unmapped(address))
+            Some(address.to_canonical())
         } else {
             Some(address)
         }

@@ -9,7 +9,7 @@ use Rattle.ipnetwork_addr.specs.declared.error.AddrParseError.{AddrParseError}
 use Rattle.ipnetwork_addr.specs.declared.error.AddrParseError.TheVariants.{Ipv4, Ipv6, Ip}
 use Rattle.ipnetwork_addr.specs.declared.ip.IpAddr.TheVariants.{V4, V6}
 use Rattle.ipnetwork_addr.specs.Digits.{octets_of, octets_of_v6, segments_of}
-use Rattle.ipnetwork_addr.specs.Either.{FitsIp, IsAddrBefore, IsAddrAtMost, ip_cmp, ip_writes, canonical_ip}
+use Rattle.ipnetwork_addr.specs.Either.{FitsIp, IsAddrBefore, IsAddrAtMost, ip_cmp, ip_writes, canonical_ip, unmapped}
 use Rattle.ipnetwork_addr.specs.Computed.Either.{ip_of}
 use Rattle.ipnetwork_addr.specs.Faults.{addr_fault_text}
 use Rattle.ipnetwork_addr.specs.Reading.{Reads}
@@ -261,3 +261,16 @@ pub printed_at_the_ends :
     ≡ codes "::fffe:ffff:ffff" ∷ codes "::ffff:0.0.0.0" ∷ codes "::ffff:255.255.255.255" ∷ codes "::1:0:0:0" ∷ []
 unfolding digits
 printed_at_the_ends = refl
+
+-- ---- what IPv4-mapped addresses stand for
+
+pub stand_for : map unmapped (V6 0xffff0a010101 ∷ V6 0x0a010101 ∷ V6 0x1ffff0a010101 ∷ V4 1 ∷ [])
+    ≡ V4 0x0a010101 ∷ V6 0x0a010101 ∷ V6 0x1ffff0a010101 ∷ V4 1 ∷ []
+stand_for = refl
+
+-- both ends of ::ffff:0:0/96, which are ::ffff:0.0.0.0 and ::ffff:255.255.255.255, and what stands beside them,
+-- ::fffe:255.255.255.255 and ::1:0:0:0
+pub first_and_last_mapped :
+    map unmapped (V6 0xffff00000000 ∷ V6 0xffffffffffff ∷ V6 0xfffeffffffff ∷ V6 0x1000000000000 ∷ [])
+    ≡ V4 0 ∷ V4 0xffffffff ∷ V6 0xfffeffffffff ∷ V6 0x1000000000000 ∷ []
+first_and_last_mapped = refl

@@ -8,7 +8,7 @@ use Rattle.ipnetwork_addr.specs.declared.error.AddrParseError.{AddrParseError}
 use Rattle.ipnetwork_addr.specs.declared.error.AddrParseError.TheVariants as error
 use Rattle.ipnetwork_addr.specs.declared.ip.IpAddr.{IpAddr}
 use Rattle.ipnetwork_addr.specs.declared.ip.IpAddr.TheVariants.{V4, V6}
-use Rattle.ipnetwork_addr.specs.Either.{NamesIp, FitsIp, canonical_ip}
+use Rattle.ipnetwork_addr.specs.Either.{NamesIp, FitsIp, canonical_ip, unmapped}
 use Rattle.ipnetwork_addr.specs.Computed.Either.{ip_of}
 use Rattle.ipnetwork_addr.specs.Computed.Ipv4Text.{v4_of}
 use Rattle.ipnetwork_addr.specs.Computed.Ipv6Canonical.{canonical_v6}
@@ -215,3 +215,10 @@ pub no_dot_before_v6
     : ((text rest : List ℕ) (address : ℕ) → NamesV6 text address → colon_first (text ++ rest) ≡ true)
     → (text : List ℕ) (address : ℕ) → ¬ (NamesV6 (46 ∷ text) address)
 no_dot_before_v6 law text address named = true≢false (sym (law (46 ∷ text) [] address named))
+
+-- ---- what an IPv4-mapped address stands for
+
+pub mapped_text : ((mapped address : ℕ) → unmapped (V6 mapped) ≡ V4 address
+    → canonical_v6 mapped ≡ codes "::ffff:" ++ canonical_v4 address)
+    → canonical_v6 0xffffc0000201 ≡ codes "::ffff:" ++ canonical_v4 0xc0000201
+mapped_text law = law 0xffffc0000201 0xc0000201 refl

@@ -1,5 +1,5 @@
 -- Texts of an address of either family.
-use Rattle.std.specs.Prelude.{⊤, ℕ, ◌^◌, ◌<◌, ◌≤◌, List, ◌++◌, pos}
+use Rattle.std.specs.Prelude.{⊤, ℕ, ◌/◌, ◌%◌, ◌^◌, ◌<◌, ◌≤◌, ◌==◌, if◌then◌else◌, List, ◌++◌, pos}
 use Rattle.std.specs.Hash.{HashWrites, isize, u32, u128}
 use Rattle.std.specs.Ordering.{nat_cmp}
 use Rattle.std.specs.declared.cmp.Ordering.{Ordering}
@@ -19,6 +19,12 @@ NamesIp text (V6 address) = NamesV6 text address
 abbrev pub canonical_ip : IpAddr → List ℕ
 canonical_ip (V4 address) = canonical_v4 address
 canonical_ip (V6 address) = canonical_v6 address
+
+-- the IPv4 address of the low 32 bits if those above them are 0xffff, which are the addresses of `::ffff:0:0/96` (RFC
+-- 4291, section 2.5.5.2), and else the address itself
+abbrev pub unmapped : IpAddr → IpAddr
+unmapped (V4 address) = V4 address
+unmapped (V6 address) = if address / 2 ^ 32 == 0xffff then V4 (address % 2 ^ 32) else V6 address
 
 -- the number fits the bits of its family
 abbrev pub FitsIp : IpAddr → Type 0

@@ -24,7 +24,7 @@ pub enum IpAddr {
 }
 
 impl IpAddr {
-    ghost use Rattle.ipnetwork_addr.specs.Either.{NamesIp, canonical_ip};
+    ghost use Rattle.ipnetwork_addr.specs.Either.{NamesIp, canonical_ip, unmapped};
 
     /// The address that a text names, as `Ipv4Addr::read_bytes` or `Ipv6Addr::read_bytes` reads it: no text names one
     /// of each family. Any other text is `AddrParseError::Ip`.
@@ -63,6 +63,31 @@ impl IpAddr {
         match self {
             IpAddr::V4(address) => address.canonical(),
             IpAddr::V6(address) => address.canonical(),
+        }
+    }
+
+    /// The IPv4 address that an IPv4-mapped one, of `::ffff:0:0/96`, stands for (RFC 4291, section 2.5.5.2). Any other
+    /// address is returned as it is.
+    ///
+    /// ```
+    /// let mapped: IpAddr = "::ffff:10.1.1.1".parse()?;
+    /// assert_eq!(rt; mapped.to_canonical(), "10.1.1.1".parse()?);
+    /// let other: IpAddr = "::10.1.1.1".parse()?;
+    /// assert_eq!(rt; other.to_canonical(), other);
+    /// ```
+    pub fn to_canonical(&self) -> IpAddr
+        ensures { result ≡ unmapped self.now }
+    {
+        match self {
+            IpAddr::V4(address) => IpAddr::V4(*address),
+            IpAddr::V6(address) => {
+                let number = u128::from(*address);
+                if number / 0x1_0000_0000 == 0xffff {
+                    IpAddr::V4(Ipv4Addr::from((number % 0x1_0000_0000) as u32))
+                } else {
+                    IpAddr::V6(*address)
+                }
+            }
         }
     }
 }

@@ -6,7 +6,6 @@ use Rattle.std.specs.Fmt.{digits}
 use Rattle.ipnetwork_addr.specs.Computed.Ipv6Text.{v6_of, gap_below}
 use Rattle.ipnetwork_addr.specs.declared.ip.IpAddr.TheVariants.{V4, V6}
 use Rattle.line_addresses.specs.Addresses.{Spelled, address_of, before_port, address_in, addresses_of}
-use Rattle.line_addresses.specs.Mapped.{unmapped}
 use Rattle.line_addresses.specs.LineRuns.{is_run_byte}
 use Rattle.line_addresses.specs.Words.{is_blank, words_of}
 
@@ -31,14 +30,6 @@ pub no_addresses : map addresses_of (codes "v10.1.2.3x" ∷ codes "1.2.3.4.5" �
     ≡ [] ∷ [] ∷ [] ∷ [] ∷ [] ∷ [] ∷ [] ∷ [] ∷ []
 unfolding address_in before_port address_of digits v6_of gap_below
 no_addresses = refl
-
-pub mapped : map unmapped (V6 0xffff0a010101 ∷ V6 0x0a010101 ∷ V6 0x1ffff0a010101 ∷ V4 1 ∷ []) ≡ V4 0x0a010101 ∷ V6 0x0a010101 ∷ V6 0x1ffff0a010101 ∷ V4 1 ∷ []
-mapped = refl
-
--- both ends of ::ffff:0:0/96, which are ::ffff:0.0.0.0 and ::ffff:255.255.255.255, and what stands beside them,
--- ::fffe:255.255.255.255 and ::1:0:0:0
-pub first_and_last_mapped : map unmapped (V6 0xffff00000000 ∷ V6 0xffffffffffff ∷ V6 0xfffeffffffff ∷ V6 0x1000000000000 ∷ []) ≡ V4 0 ∷ V4 0xffffffff ∷ V6 0xfffeffffffff ∷ V6 0x1000000000000 ∷ []
-first_and_last_mapped = refl
 
 pub words : words_of (codes " Nov  3 10:00 ") ≡ codes "Nov" ∷ codes "3" ∷ codes "10:00" ∷ []
 words = refl

@@ -4,7 +4,6 @@ pub mod Fields
 pub mod Following
 pub mod Found
 pub mod Laws
-pub mod Mapped
 pub mod Private
 pub mod LineRuns
 pub mod Words

@@ -5,7 +5,7 @@
 use crate::matcher::Matcher;
 use fosibegan::ipnetwork::{IpAddr, IpNetwork};
 use cidr_programs::line_addresses::{
-    Area, Text, address_of, field_of, following, next_address, unmapped, word_of,
+    Area, Text, address_of, field_of, following, next_address, word_of,
 };
 use cidr_programs::log_programs::finding::found_in;
 use cidr_programs::log_programs::without_address::WithoutAddress;
@@ -204,7 +204,7 @@ impl Filter<'_> {
     #[inline(always)]
     fn asked(&self, address: IpAddr) -> IpAddr {
         if self.mapped {
-            unmapped(address)
+            address.to_canonical()
         } else {
             address
         }

@@ -5,7 +5,7 @@
 use crate::answers::Answers;
 use crate::found::Found;
 use fosibegan::ipnetwork::IpAddr;
-use cidr_programs::line_addresses::{Area, unmapped};
+use cidr_programs::line_addresses::Area;
 use cidr_programs::log_programs::finding::found_in;
 use cidr_programs::log_programs::without_address::WithoutAddress;
 
@@ -54,7 +54,7 @@ impl<'a> Join<'a> {
             return None;
         };
         if self.mapped {
-            Some(unmapped(address))
+            Some(address.to_canonical())
         } else {
             Some(address)
         }

@@ -1,7 +1,8 @@
 //! Laws of texts: which address a text names, and how an address is printed.
-ghost use Rattle.std.specs.Prelude.{true, false, ◌++◌, ◌≡◌, ◌↔◌, ℕ, ◌^◌, ◌<◌, List};
+ghost use Rattle.std.specs.Prelude.{true, false, ◌++◌, ◌≡◌, ◌↔◌, ℕ, ◌^◌, ◌<◌, List, codes};
 ghost use Rattle.ipnetwork_addr.specs.Ipv4Text.{IsOctet, IsPlainOctet, NamesV4, canonical_v4};
-ghost use Rattle.ipnetwork_addr.specs.Either.{NamesIp, FitsIp, canonical_ip};
+ghost use Rattle.ipnetwork_addr.specs.Either.{NamesIp, FitsIp, canonical_ip, unmapped};
+ghost use Rattle.ipnetwork_addr.specs.declared.ip.IpAddr.TheVariants.{V4, V6};
 ghost use Rattle.ipnetwork_addr.specs.Ipv6Canonical.{IsCanonicalV6};
 ghost use Rattle.ipnetwork_addr.specs.Computed.Ipv6Canonical.{canonical_v6};
 ghost use Rattle.ipnetwork_addr.specs.Ipv6Text.{NamesV6};
@@ -94,4 +95,10 @@ pub fn v4_text_has_a_dot_first()
 pub fn v6_text_has_a_colon_first()
     ensures { (text rest : List ℕ) (address : ℕ) → NamesV6 text address
         → colon_first (text ++ rest) ≡ true }
+{}
+
+/// What an IPv4-mapped address stands for is printed as what stands behind its `::ffff:`.
+pub fn mapped_text_ends_in_its_v4()
+    ensures { (mapped address : ℕ) → unmapped (V6 mapped) ≡ V4 address
+        → canonical_v6 mapped ≡ codes "::ffff:" ++ canonical_v4 address }
 {}

@@ -67,6 +67,33 @@ impl IpAddr {
             IpAddr::V6(address) => address.canonical(),
         }
     }
+
+    /// The IPv4 address that an IPv4-mapped one, of `::ffff:0:0/96`, stands for (RFC 4291, section 2.5.5.2). Any other
+    /// address is returned as it is.
+    ///
+    /// ```
+    /// # use fosibegan::in_examples::*;
+    /// # ended(|| {
+    /// let mapped: IpAddr = "::ffff:10.1.1.1".parse()?;
+    /// assert_eq!(mapped.to_canonical(), "10.1.1.1".parse()?);
+    /// let other: IpAddr = "::10.1.1.1".parse()?;
+    /// assert_eq!(other.to_canonical(), other);
+    /// # Ok(())
+    /// # });
+    /// ```
+    pub fn to_canonical(&self) -> IpAddr {
+        match self {
+            IpAddr::V4(address) => IpAddr::V4(*address),
+            IpAddr::V6(address) => {
+                let number = u128::from(*address);
+                if number / 0x1_0000_0000 == 0xffff {
+                    IpAddr::V4(Ipv4Addr::from((number % 0x1_0000_0000) as u32))
+                } else {
+                    IpAddr::V6(*address)
+                }
+            }
+        }
+    }
 }
 
 impl FromStr for IpAddr {
