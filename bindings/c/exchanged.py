@@ -31,6 +31,7 @@ SAME = [
     (r"v[46]_index_contains_column", {"answer_count", "fault_count"}),
     (r"v[46]_index_find_column", {"place_count", "fault_count"}),
     (r"v[46]_ranges_make", {"range_room", "place_room"}),
+    (r"v[46]_ranges_make_numbered", {"range_room", "beside_room"}),
     (r"v[46]_ranges_find_column", {"found_count", "fault_count"}),
     (r"(v[46]_)?read(_with_cause)?_column", {"network_count", "fault_count"}),
     (r"address_read_column", {"address_count", "fault_count"}),

@@ -1,7 +1,7 @@
 /* IP networks in CIDR notation, IPv4 and IPv6: read from texts, printed, and asked about their sets of addresses.
  *
- * Every call except the two that tell a version returns an ipnetwork_fault: IPNETWORK_OK, which is 0, or why there is
- * no result. Results are written through the last pointers. After a fault nothing has been written, except that after
+ * Every call returns an ipnetwork_fault: IPNETWORK_OK, which is 0, or why there is no result; except the two that tell a
+ * version, and the two that return an ipnetwork_place. Results are written through the last pointers. After a fault nothing has been written, except that after
  * IPNETWORK_SHORT_BUFFER a call with a pointer for the length of texts, or for the number of blocks, has written that.
  * A prefix length that the caller has filled is checked by each call that looks at it: one past the width is
  * IPNETWORK_PREFIX, and never trusted. The searches of sets, tables and ranges do not look at every one, or at none.
@@ -34,8 +34,8 @@ extern "C" {
 /* The version of the names, structs and numbers below: it changes with any of them. ipnetwork_abi_version() returns
  * that of the library. A call that is added raises the minor version, which ipnetwork_abi_minor_version() returns: a
  * program needs a library of the version that it was compiled with, and of the same minor version or a later one. */
-#define IPNETWORK_ABI_VERSION 2
-#define IPNETWORK_ABI_MINOR_VERSION 7
+#define IPNETWORK_ABI_VERSION 3
+#define IPNETWORK_ABI_MINOR_VERSION 0
 
 /* Enough for every text of the family and the zero byte after it. */
 #define IPNETWORK_V4_TEXT 19
@@ -108,6 +108,12 @@ typedef struct ipnetwork_address {
     uint8_t octets[16];
     uint8_t length;
 } ipnetwork_address;
+
+/* What a search by ranges returns: what stands beside the range that was found, or IPNETWORK_NO_PLACE. As a struct it is
+ * not taken for a truth value, or for a fault. */
+typedef struct ipnetwork_place {
+    size_t place;
+} ipnetwork_place;
 
 uint32_t ipnetwork_abi_version(void);
 uint32_t ipnetwork_abi_minor_version(void);
@@ -217,6 +223,15 @@ IPNETWORK_CHECKED ipnetwork_fault ipnetwork_compare(const ipnetwork_ip *one, con
  * text, with a '/' or a zone, IPNETWORK_ADDRESS. */
 IPNETWORK_CHECKED_AT(3) ipnetwork_fault ipnetwork_address_read(const char *text, size_t text_length,
                                                                 ipnetwork_address *IPNETWORK_ALONE address);
+
+/* The address that an IPv4-mapped one, of ::ffff:0:0/96, stands for (RFC 4291, section 2.5.5.2), and any other as it is.
+ * A socket of both families tells its IPv4 peers as mapped addresses: unmapped, they are found in lists of IPv4 networks.
+ * IPNETWORK_NO_FAMILY if the struct's length is neither 4 nor 16. */
+IPNETWORK_CHECKED ipnetwork_fault ipnetwork_address_unmapped(const ipnetwork_address *address,
+                                                             ipnetwork_address *IPNETWORK_ALONE unmapped);
+
+/* The octets of that IPv4 address. IPNETWORK_NO_MEMBER if the address is no IPv4-mapped one. */
+IPNETWORK_CHECKED ipnetwork_fault ipnetwork_v6_unmapped(const uint8_t address[16], uint8_t unmapped[IPNETWORK_ALONE 4]);
 
 /* The canonical text of an address, and a zero byte after it: as ipnetwork_canonical prints the address of a network,
  * into a buffer of which IPNETWORK_ADDRESS_TEXT bytes are enough. IPNETWORK_NO_FAMILY if the struct's length is neither
@@ -393,6 +408,17 @@ IPNETWORK_CHECKED_AT(7) ipnetwork_fault ipnetwork_v6_ranges_make(const ipnetwork
     ipnetwork_v6 *IPNETWORK_ALONE ranges, size_t range_room, size_t *IPNETWORK_ALONE places, size_t place_room,
     size_t *IPNETWORK_ALONE range_count);
 
+/* The same ranges, and in beside[i], in place of the place of the longest block, the number that stands at that place in
+ * numbers: with the places of a table, as ipnetwork_v4_table_make and ipnetwork_v6_table_make leave them, that of the
+ * block's network in the caller's list. IPNETWORK_SHORT_BUFFER, before any other fault, if number_count is less than
+ * block_count. The next calls take these numbers as they take places; a number IPNETWORK_NO_PLACE is taken for none. */
+IPNETWORK_CHECKED_AT(9) ipnetwork_fault ipnetwork_v4_ranges_make_numbered(const ipnetwork_v4 *blocks, size_t block_count,
+    const size_t *numbers, size_t number_count, ipnetwork_v4 *IPNETWORK_ALONE ranges, size_t range_room,
+    size_t *IPNETWORK_ALONE beside, size_t beside_room, size_t *IPNETWORK_ALONE range_count);
+IPNETWORK_CHECKED_AT(9) ipnetwork_fault ipnetwork_v6_ranges_make_numbered(const ipnetwork_v6 *blocks, size_t block_count,
+    const size_t *numbers, size_t number_count, ipnetwork_v6 *IPNETWORK_ALONE ranges, size_t range_room,
+    size_t *IPNETWORK_ALONE beside, size_t beside_room, size_t *IPNETWORK_ALONE range_count);
+
 /* What ipnetwork_v4_table_find and ipnetwork_v6_table_find find in a table, by its ranges and their places, as the calls
  * above make them, and an index of the ranges, as ipnetwork_v4_index_make and ipnetwork_v6_index_make make it:
  * *place is the place beside the last range that begins at the address or before it. IPNETWORK_NO_MEMBER if there is none,
@@ -407,9 +433,9 @@ IPNETWORK_CHECKED_AT(7, 8) ipnetwork_fault ipnetwork_v6_ranges_find(const ipnetw
     size_t *IPNETWORK_ALONE place);
 
 /* Return what the calls above write, and IPNETWORK_NO_PLACE where they find none. For one address this is the fastest. */
-IPNETWORK_CHECKED_AT(7) size_t ipnetwork_v4_ranges_place(const ipnetwork_v4 *ranges, size_t range_count,
+IPNETWORK_CHECKED_AT(7) ipnetwork_place ipnetwork_v4_ranges_place(const ipnetwork_v4 *ranges, size_t range_count,
     const size_t *places, size_t place_count, const uint32_t *index, size_t index_length, const uint8_t address[4]);
-IPNETWORK_CHECKED_AT(7) size_t ipnetwork_v6_ranges_place(const ipnetwork_v6 *ranges, size_t range_count,
+IPNETWORK_CHECKED_AT(7) ipnetwork_place ipnetwork_v6_ranges_place(const ipnetwork_v6 *ranges, size_t range_count,
     const size_t *places, size_t place_count, const uint32_t *index, size_t index_length, const uint8_t address[16]);
 
 /* ipnetwork_v4_ranges_find and ipnetwork_v6_ranges_find of many addresses in one call: found[i] and faults[i] are what they

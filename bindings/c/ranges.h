@@ -118,10 +118,10 @@ static inline ipnetwork_fault number_of(const searched_list *ranges, const int64
         (int64_t)(ranges->width == 4
                       ? ipnetwork_v4_ranges_place((const ipnetwork_v4 *)ranges->structs, ranges->count,
                                                   (const size_t *)numbers, ranges->count, ranges->index,
-                                                  ranges->index_length, address)
+                                                  ranges->index_length, address).place
                       : ipnetwork_v6_ranges_place((const ipnetwork_v6 *)ranges->structs, ranges->count,
                                                   (const size_t *)numbers, ranges->count, ranges->index,
-                                                  ranges->index_length, address));
+                                                  ranges->index_length, address).place);
     return IPNETWORK_OK;
 }
 

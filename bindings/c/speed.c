@@ -201,7 +201,7 @@ static uint64_t ranges_by(size_t i) {
     return ipnetwork_v4_ranges_find(ranges, range_count, beside, range_count, index_ranges, length_ranges, searched[i], indexes) + indexes[0];
 }
 static uint64_t place_by(size_t i) {
-    return ipnetwork_v4_ranges_place(ranges, range_count, beside, range_count, index_ranges, length_ranges, searched[i]);
+    return ipnetwork_v4_ranges_place(ranges, range_count, beside, range_count, index_ranges, length_ranges, searched[i]).place;
 }
 static uint64_t ranges_column_by(size_t i) {
     return i != 0 ? 0 : ipnetwork_v4_ranges_find_column(ranges, range_count, beside, range_count, index_ranges, length_ranges, searched[0], COUNT, indexes, COUNT, faults, COUNT) + indexes[1];

@@ -1058,8 +1058,8 @@ static ipnetwork_fault found_by(const struct ranges_of_table *of, size_t place_c
 
 static size_t place_by(const struct ranges_of_table *of, size_t place_count, const uint8_t *address) {
     if (of->width == 4)
-        return ipnetwork_v4_ranges_place((const ipnetwork_v4 *)of->structs, of->count, of->places, place_count, of->index, of->index_length, address);
-    return ipnetwork_v6_ranges_place((const ipnetwork_v6 *)of->structs, of->count, of->places, place_count, of->index, of->index_length, address);
+        return ipnetwork_v4_ranges_place((const ipnetwork_v4 *)of->structs, of->count, of->places, place_count, of->index, of->index_length, address).place;
+    return ipnetwork_v6_ranges_place((const ipnetwork_v6 *)of->structs, of->count, of->places, place_count, of->index, of->index_length, address).place;
 }
 
 static ipnetwork_fault column_by(const struct ranges_of_table *of, size_t place_count, const uint8_t *addresses, size_t asked, size_t *places, size_t room, uint8_t *faults, size_t fault_room) {
@@ -1083,6 +1083,35 @@ static void nothing_is_written(const struct ranges_of_table *of, const uint8_t *
     if (munmap(place, (size_t)sysconf(_SC_PAGESIZE)) != 0)
         abort();
 }
+
+/* The same ranges with numbers beside them: one more number than blocks, of which the last stands nowhere. */
+static void numbers_beside(const struct ranges_of_table *of, const uint8_t *blocks, size_t count) {
+    size_t room = 2 * count, stride = of->width + 1, told = 77;
+    size_t *numbers = edge((count + 1) * sizeof *numbers), *beside = edge((room + 1) * sizeof *beside);
+    uint8_t *structs = edge((room + 1) * stride);
+    for (size_t i = 0; i <= count; i++) numbers[i] = 1000 + 3 * i;
+    memset(beside, 77, (room + 1) * sizeof *beside);
+    memset(structs, 77, (room + 1) * stride);
+    ipnetwork_fault made = of->width == 4
+        ? ipnetwork_v4_ranges_make_numbered((const ipnetwork_v4 *)blocks, count, numbers, count + 1, (ipnetwork_v4 *)structs, room, beside, room + 1, &told)
+        : ipnetwork_v6_ranges_make_numbered((const ipnetwork_v6 *)blocks, count, numbers, count + 1, (ipnetwork_v6 *)structs, room, beside, room + 1, &told);
+    CHECK("numbered", made == YES && told == of->count && memcmp(structs, of->structs, told * stride) == 0);
+    for (size_t i = 0; i < told; i++)
+        CHECK("numbered", beside[i] == (of->places[i] == IPNETWORK_NO_PLACE ? IPNETWORK_NO_PLACE : 1000 + 3 * of->places[i]));
+    for (size_t i = told * stride; i < (room + 1) * stride; i++) CHECK("numbered", structs[i] == 77);
+    for (size_t i = told * sizeof *beside; i < (room + 1) * sizeof *beside; i++) CHECK("numbered", ((uint8_t *)beside)[i] == 77);
+    if (count > 0) {
+        size_t kept = told = 77;
+        CHECK("fewer numbers", (of->width == 4 ? ipnetwork_v4_ranges_make_numbered((const ipnetwork_v4 *)blocks, count, numbers, count - 1, (ipnetwork_v4 *)structs, room, beside, room, &told)
+                                               : ipnetwork_v6_ranges_make_numbered((const ipnetwork_v6 *)blocks, count, numbers, count - 1, (ipnetwork_v6 *)structs, room, beside, room, &told)) == IPNETWORK_SHORT_BUFFER && told == kept);
+        CHECK("room", (of->width == 4 ? ipnetwork_v4_ranges_make_numbered((const ipnetwork_v4 *)blocks, count, numbers, count, (ipnetwork_v4 *)structs, room - 1, beside, room, &told)
+                                      : ipnetwork_v6_ranges_make_numbered((const ipnetwork_v6 *)blocks, count, numbers, count, (ipnetwork_v6 *)structs, room, beside, room - 1, &told)) == IPNETWORK_SHORT_BUFFER && told == kept);
+    }
+    leave_edge(numbers, (count + 1) * sizeof *numbers);
+    leave_edge(beside, (room + 1) * sizeof *beside);
+    leave_edge(structs, (room + 1) * stride);
+}
+
 
 /* The ranges of a table cut it where they have to, and each address has the place that a linear search of the table finds,
  * by itself and in a column, whatever the index holds. */
@@ -1139,6 +1168,7 @@ static void asked_ranges(const uint8_t *blocks, size_t count, size_t width, cons
                                   : ipnetwork_v6_ranges_make((const ipnetwork_v6 *)blocks, count, (ipnetwork_v6 *)of.structs, room, of.places, 2 * count - 1, &told)) == IPNETWORK_SHORT_BUFFER && told == 77);
         CHECK("room", column_by(&of, of.count, addresses, 2, found, 1, faults, 2) == IPNETWORK_SHORT_BUFFER && column_by(&of, of.count, addresses, 2, found, 2, faults, 1) == IPNETWORK_SHORT_BUFFER);
     }
+    numbers_beside(&of, blocks, count);
     nothing_is_written(&of, blocks, count, addresses, asked);
     leave_edge(of.structs, room * stride);
     leave_edge(of.places, room * sizeof *of.places);
@@ -1200,8 +1230,8 @@ static void table_ranges(void) {
     CHECK("NULL", ipnetwork_v6_ranges_make(NULL, 0, NULL, 0, NULL, 0, &told) == YES && told == 0);
     CHECK("NULL", ipnetwork_v4_ranges_find(NULL, 0, NULL, 0, NULL, 0, addresses[0], &place) == IPNETWORK_NO_MEMBER && place == 77);
     CHECK("NULL", ipnetwork_v6_ranges_find(NULL, 0, NULL, 0, NULL, 0, addresses_six[0], &place) == IPNETWORK_NO_MEMBER && place == 77);
-    CHECK("NULL", ipnetwork_v4_ranges_place(NULL, 0, NULL, 0, NULL, 0, addresses[0]) == IPNETWORK_NO_PLACE);
-    CHECK("NULL", ipnetwork_v6_ranges_place(NULL, 0, NULL, 0, NULL, 0, addresses_six[0]) == IPNETWORK_NO_PLACE);
+    CHECK("NULL", ipnetwork_v4_ranges_place(NULL, 0, NULL, 0, NULL, 0, addresses[0]).place == IPNETWORK_NO_PLACE);
+    CHECK("NULL", ipnetwork_v6_ranges_place(NULL, 0, NULL, 0, NULL, 0, addresses_six[0]).place == IPNETWORK_NO_PLACE);
     CHECK("NULL", ipnetwork_v4_ranges_find_column(NULL, 0, NULL, 0, NULL, 0, NULL, 0, NULL, 0, NULL, 0) == YES);
     CHECK("NULL", ipnetwork_v6_ranges_find_column(NULL, 0, NULL, 0, NULL, 0, NULL, 0, NULL, 0, NULL, 0) == YES);
 }
@@ -1415,6 +1445,44 @@ static void either(void) {
         four.family = (uint8_t)family;
         four.v4.prefix = 200;
         CHECK("family", ipnetwork_contains(&four, four.v4.address, 4, &answer) == IPNETWORK_NO_FAMILY && answer == 77);
+    }
+}
+
+/* IPv4-mapped addresses (RFC 4291, section 2.5.5.2) stand for IPv4 addresses, and those beside them for none. */
+static void unmapped(void) {
+    static const struct {
+        const char *text, *wanted;
+    } mapped[] = {
+        {"::ffff:0.0.0.0", "0.0.0.0"},
+        {"::ffff:255.255.255.255", "255.255.255.255"},
+        {"::ffff:c000:201", "192.0.2.1"},
+        {"::fffe:255.255.255.255", NULL},
+        {"::1:0:0:0", NULL},
+        {"::192.0.2.1", NULL},
+        {"1::ffff:192.0.2.1", NULL},
+        {"64:ff9b::192.0.2.1", NULL},
+    };
+    for (size_t i = 0; i < sizeof mapped / sizeof *mapped; i++) {
+        const char *text = mapped[i].text;
+        ipnetwork_address six, four = {{9}, 4}, found = {{77}, 77};
+        uint8_t octets[5] = {77, 77, 77, 77, 77};
+        CHECK(text, ipnetwork_address_read(text, strlen(text), &six) == YES && six.length == 16);
+        CHECK(text, ipnetwork_v6_unmapped(six.octets, octets) == (mapped[i].wanted ? YES : IPNETWORK_NO_MEMBER) && octets[4] == 77);
+        CHECK(text, ipnetwork_address_unmapped(&six, &found) == YES);
+        if (mapped[i].wanted == NULL) {
+            CHECK(text, octets[0] == 77 && octets[3] == 77 && memcmp(&found, &six, sizeof six) == 0);
+            continue;
+        }
+        CHECK(text, ipnetwork_address_read(mapped[i].wanted, strlen(mapped[i].wanted), &four) == YES);
+        CHECK(text, memcmp(octets, four.octets, 4) == 0 && memcmp(&found, &four, sizeof four) == 0);
+        six = four;
+        six.octets[4] = 9; /* not looked at */
+        CHECK(text, ipnetwork_address_unmapped(&six, &found) == YES && memcmp(&found, &four, sizeof four) == 0);
+    }
+    for (unsigned length = 0; length <= 255; length++) {
+        ipnetwork_address address = {{0}, (uint8_t)length}, found = {{77}, 77};
+        if (length == 4 || length == 16) continue;
+        CHECK("length", ipnetwork_address_unmapped(&address, &found) == IPNETWORK_NO_FAMILY && found.length == 77 && found.octets[0] == 77);
     }
 }
 
@@ -1712,6 +1780,7 @@ int main(void) {
     printed_columns();
     printed_columns_of_either();
     either();
+    unmapped();
     questions_of_either();
     refused_of_either();
     odd_places();

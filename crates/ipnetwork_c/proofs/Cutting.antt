@@ -3,7 +3,7 @@ use Rattle.std.proofs.Common.{◌≡◌, ◌↔◌, ℕ, zero, suc, ◌+◌, ◌
 use Rattle.std.specs.List.{All, AllPairs, Contains}
 use Rattle.std.specs.List.Sorted.{IsPermutation}
 use Rattle.std.proofs.lemmas.Bool.{cases_lt}
-use Rattle.std.proofs.lemmas.List.{get_or_default, get_or_past, get_or-map, length-map, map-append, length-set, drop-set-lt, drop-drop, length-take-le}
+use Rattle.std.proofs.lemmas.List.{get_or_default, get_or-map, length-map, map-append, length-set, drop-set-lt, drop-drop, length-take-le}
 use Rattle.std.proofs.Math.Seq.{take-append_seam, drop-append_seam}
 use Rattle.std.proofs.lemmas.List.Elements.{All-nil, All-cons, All-append, All-map, Contains-append_left, Contains-append_right, Contains-append_cases}
 use Rattle.std.proofs.lemmas.List.Sorted.{All-permutation, Contains-permutation, IsPermutation-map, IsPermutation-sym, length_permutation}
@@ -17,7 +17,7 @@ use Rattle.ipnetwork_c.specs.Held.{PrefixFits}
 use Rattle.ipnetwork_c.specs.Outcomes.Unless.{On, Nothing}
 use Rattle.ipnetwork_c.specs.Searches.{StandsAt, LastFits}
 use Rattle.ipnetwork_c.specs.Tables.{IsTable, FindsLongest, TableQuery}
-use Rattle.ipnetwork_c.specs.Ranges.{no_place, place_before, IsLongestAt, AreRangesOf, MakesRanges, PlaceQuery, PlacesAreOfTheLongest, RangeQuery, RangesFindTheLongest}
+use Rattle.ipnetwork_c.specs.Ranges.{no_place, place_before, IsLongestAt, AreRangesOf, MakesRanges, PlacesAreOfTheLongest, RangeQuery, RangesFindTheLongest}
 use Rattle.ipnetwork_c.specs.Private.Cuts.{firsts, IsAlone, AreEndsOf, AreCutsOf, IsWrittenUpTo, ArePlacesUpTo}
 use Rattle.std.proofs.lemmas.Option.{get_or_from_slice_get, slice_get_within}
 use Rattle.ipnetwork_c.proofs.Searching.{stands_split}

@@ -17,6 +17,7 @@ pub mod PrintedRows
 pub mod TableFinding
 pub mod TableMaking
 pub mod Cutting
+pub mod NumberedRanges
 pub mod TableExamples
 pub mod RangeExamples
 pub mod WideRangeExamples

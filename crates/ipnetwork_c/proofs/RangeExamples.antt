@@ -1,6 +1,6 @@
 -- Ranges at which a misreading of `IsCut`, `IsLongestAt`, `place_before` or `AreRangesOf` would show: of 10.0.0.0/8, and
 -- 10.1.0.0/16 twice.
-use Rattle.std.proofs.Common.{◌≡◌, ℕ, zero, suc, ◌<◌, ◌≤◌, List, [], ◌∷◌, map, refl, inl, inr, lit<, arith, ⊎_elim, slice_index_or}
+use Rattle.std.proofs.Common.{◌≡◌, ℕ, zero, suc, ◌<◌, ◌≤◌, List, [], ◌∷◌, map, refl, ap, ◌∙◌, inl, inr, lit<, lit≤, arith, ⊎_elim, slice_index_or}
 use Rattle.ipnetwork_family.specs.Network.{Network, Member}
 use Rattle.ipnetwork_blocks.proofs.LeastLists.{contains_nil}
 use Rattle.ipnetwork_c.specs.Tables.{FindsLongest}
@@ -11,7 +11,7 @@ use Rattle.ipnetwork_c.specs.Held.{v4_in}
 use Rattle.ipnetwork_c.specs.Outcomes.{Unless, IsFault, Writes}
 use Rattle.ipnetwork_c.specs.Outcomes.Unless.{On, Nothing}
 use Rattle.ipnetwork_c.specs.Tables.{IsTable}
-use Rattle.ipnetwork_c.specs.Ranges.{no_place, place_before, EndsAt, IsCut, IsLongestAt, AreRangesOf, PlaceQuery, PlacesAreOfTheLongest, RangeQuery, RangesFindTheLongest}
+use Rattle.ipnetwork_c.specs.Ranges.{no_place, place_before, EndsAt, IsCut, IsLongestAt, AreRangesOf, PlaceQuery, PlacesAreOfTheLongest, NumbersAreOfTheLongest, RangeQuery, RangesFindTheLongest, number_at}
 use Rattle.ipnetwork_c.proofs.TableExamples.{nested, nested_is_a_table, the_last_of_the_longest_is_found, no_wider_block_is_found, none_before_an_equal_one_is_found}
 
 abbrev wide : Network
@@ -118,3 +118,19 @@ pub places_after_all_are_of_none : PlacesAreOfTheLongest 32 v4_in → (ranges : 
     → AreRangesOf 32 nested (map v4_in ranges) places → PlaceQuery v4_in ranges places 0x0b000000 place → place ≡ no_place
 places_after_all_are_of_none law ranges places place are query =
     none_stands_there place (law nested_in_c ranges places 0x0b000000 place are (lit< tt) query)
+
+-- and the number that stands at the place of the last of the longest is found, and that of no network
+abbrev numbers : List ℕ
+numbers = 500 ∷ 0 ∷ 7 ∷ []
+
+pub numbers_are_of_the_last_of_the_longest : NumbersAreOfTheLongest 32 v4_in → (ranges : List Ipv4InC) (places : List ℕ) (number : ℕ)
+    → AreRangesOf 32 nested (map v4_in ranges) places → PlaceQuery v4_in ranges (map (number_at numbers) places) 0x0a010203 number → number ≡ 7
+numbers_are_of_the_last_of_the_longest law ranges places number are query =
+    let (place, is, told) = law nested_in_c ranges numbers places 0x0a010203 number (lit≤ tt) are (lit< tt) query in
+    told ∙ ap (number_at numbers) (stands_in_a_table 32 nested 0x0a010203 2 nested_is_a_table narrow_has_it only_the_last place is)
+
+pub numbers_after_all_are_of_none : NumbersAreOfTheLongest 32 v4_in → (ranges : List Ipv4InC) (places : List ℕ) (number : ℕ)
+    → AreRangesOf 32 nested (map v4_in ranges) places → PlaceQuery v4_in ranges (map (number_at numbers) places) 0x0b000000 number → number ≡ no_place
+numbers_after_all_are_of_none law ranges places number are query =
+    let (place, is, told) = law nested_in_c ranges numbers places 0x0b000000 number (lit≤ tt) are (lit< tt) query in
+    told ∙ ap (number_at numbers) (none_stands_there place is)

@@ -1,6 +1,6 @@
 -- What the laws of ranges let one conclude of IPv6: in blocks of each prefix length from none to all 128, at the last
 -- address that there is, in as many blocks as one likes, and in networks with host bits, which are no table.
-use Rattle.std.proofs.Common.{◌^◌, ◌≡◌, ℕ, zero, suc, ◌+◌, ◌-◌, ◌<◌, ◌⊎◌, List, [], ◌∷◌, ◌++◌, get_or, length, map, replicate, refl, inl, inr, subst, sym, ap, ◌∙◌, lit<, lit≤, arith}
+use Rattle.std.proofs.Common.{◌^◌, ◌≡◌, ℕ, zero, suc, ◌+◌, ◌<◌, ◌⊎◌, List, [], ◌∷◌, ◌++◌, get_or, length, map, replicate, refl, inl, inr, subst, sym, ap, ◌∙◌, lit<, lit≤, arith}
 use Rattle.std.proofs.lemmas.List.{get_or-map, get_or-replicate, length-map, length-replicate}
 use Rattle.ipnetwork_family.specs.Network.{Network, IsCidrBlock, IsNetworkAtMost, Member}
 use Rattle.ipnetwork_blocks.specs.Aggregate.{InUnion}

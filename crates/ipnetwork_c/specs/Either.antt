@@ -2,7 +2,7 @@
 use Rattle.std.specs.Prelude.{◌≡◌, ◌==◌, if◌then◌else◌, ◌++◌, ℕ, List, length, replicate, take, Option, Some, None}
 use Rattle.std.specs.Prelude.{Result, Ok, Err}
 use Rattle.ipnetwork_addr.specs.Digits.{octets_of, octets_of_v6}
-use Rattle.ipnetwork_addr.specs.Either.{NamesIp}
+use Rattle.ipnetwork_addr.specs.Either.{NamesIp, unmapped}
 use Rattle.ipnetwork_addr.specs.declared.ip.IpAddr.{IpAddr}
 use Rattle.ipnetwork_addr.specs.declared.ip.IpAddr.TheVariants as addresses
 use Rattle.ipnetwork_family.specs.declared.error.CidrFault.{CidrFault}
@@ -14,7 +14,7 @@ use Rattle.ipnetwork_c.specs.declared.structs.Ipv4InC.{Ipv4InC}
 use Rattle.ipnetwork_c.specs.declared.structs.Ipv6InC.{Ipv6InC}
 use Rattle.ipnetwork_c.specs.declared.structs.IpInC.{IpInC}
 use Rattle.ipnetwork_c.specs.declared.address.AddressInC.{AddressInC}
-use Rattle.ipnetwork_c.specs.Numbers.{address, prefix, no_family}
+use Rattle.ipnetwork_c.specs.Numbers.{address, prefix, no_family, no_member}
 use Rattle.ipnetwork_c.specs.Held.{PrefixFits, HoldsV4, HoldsV6, v4_in, v6_in, number_of_octets}
 use Rattle.ipnetwork_c.specs.Outcomes.{Writes, IsFault, Finds}
 use Rattle.ipnetwork_c.specs.Answers.{IsFlag}
@@ -69,6 +69,12 @@ held_address held =
 abbrev pub ReadsAddress : List ℕ → AddressInC → AddressInC → ℕ → Type 0
 ReadsAddress text = Finds (NamesIp text) (IsFault address ((a : IpAddr) → ¬ (NamesIp text a)))
     (λ a. Writes (λ held. HoldsAddress held a))
+
+-- the octets of the IPv4 address that an IPv6 address stands for are put; `no_member` if it stands for none
+abbrev pub WritesUnmapped : ℕ → List ℕ → List ℕ → ℕ → Type 0
+WritesUnmapped x = Finds (λ a. unmapped (addresses.V6 x) ≡ addresses.V4 a)
+    (IsFault no_member ((a : ℕ) → ¬ (unmapped (addresses.V6 x) ≡ addresses.V4 a)))
+    (λ a. Writes (λ octets. octets ≡ octets_of a))
 
 -- the struct stands for no address, and so has no family
 abbrev pub NoAddress : AddressInC → ℕ → Type 0

@@ -59,6 +59,24 @@ MakesRanges w held list before =
     × AreRangesOf w (map held list) (map held (take after.1 after.0.0)) (take after.1 after.0.1)
     × (drop after.1 after.0.0 ≡ drop after.1 before.0.0) × (drop after.1 after.0.1 ≡ drop after.1 before.0.1)))) before
 
+-- the number at a place, and the place of no network if none stands there
+abbrev pub number_at : List ℕ → ℕ → ℕ
+number_at numbers place = get_or numbers place no_place
+
+-- the same, but that the number at its place stands beside each range, if each network of the list has one
+abbrev pub MakesNumberedRanges : {C : Type 0} → ℕ → (C → Network) → List C → List ℕ → (List C × List ℕ) × ℕ
+    → (List C × List ℕ) × ℕ → ℕ → Type 0
+MakesNumberedRanges w held list numbers =
+    Needs (length list ≤ length numbers) short_buffer
+    (IfFit (All (λ c. PrefixFits w (held c)) list)
+    (λ before. Needs ((2 * length list ≤ length before.0.0) × (2 * length list ≤ length before.0.1)) short_buffer
+    (Writes (λ after. (length after.0.0 ≡ length before.0.0) × (length after.0.1 ≡ length before.0.1)
+    × (after.1 ≤ length before.0.0)
+    × ((places : List ℕ) × AreRangesOf w (map held list) (map held (take after.1 after.0.0)) places
+    × (take after.1 after.0.1 ≡ map (number_at numbers) places))
+    × (drop after.1 after.0.0 ≡ drop after.1 before.0.0) × (drop after.1 after.0.1 ≡ drop after.1 before.0.1)))
+    before))
+
 -- the place is that beside the last range that begins at the address or before it, or that of no network if there is
 -- none
 abbrev pub PlaceQuery : {C : Type 0} → (C → Network) → List C → List ℕ → ℕ → ℕ → Type 0
@@ -91,3 +109,11 @@ RangesFindTheLongest {C} w held =
     → RangeQuery held ranges places x before after code
     → Unless (IsFault no_member (IsTable w (map held list) → ¬ (InUnion w (map held list) x)))
     (Writes (FindsLongest w (map held list) x)) before after code
+
+-- the number beside a range of a list is that of the longest network of the list
+abbrev pub NumbersAreOfTheLongest : {C : Type 0} → ℕ → (C → Network) → Type 0
+NumbersAreOfTheLongest {C} w held =
+    (list ranges : List C) (numbers places : List ℕ) (x number : ℕ) → length numbers ≤ no_place
+    → AreRangesOf w (map held list) (map held ranges) places → x < 2 ^ w
+    → PlaceQuery held ranges (map (number_at numbers) places) x number
+    → (place : ℕ) × IsLongestAt w (map held list) x place × (number ≡ number_at numbers place)

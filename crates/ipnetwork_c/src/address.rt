@@ -1,11 +1,12 @@
 //! Addresses of either family for C.
 ghost use Rattle.std.specs.Prelude.{◌≡◌, Some};
-ghost use Rattle.ipnetwork_addr.specs.Either.{canonical_ip};
-ghost use Rattle.ipnetwork_c.specs.Outcomes.{Finds};
+ghost use Rattle.ipnetwork_addr.specs.Either.{canonical_ip, unmapped};
+ghost use Rattle.ipnetwork_c.specs.Outcomes.{Finds, Writes};
 ghost use Rattle.ipnetwork_c.specs.Answers.{PutsText};
-ghost use Rattle.ipnetwork_c.specs.Either.{HoldsAddress, held_address, ReadsAddress, NoAddress};
+ghost use Rattle.ipnetwork_c.specs.Either.{HoldsAddress, held_address, ReadsAddress, NoAddress, WritesUnmapped};
+ghost use Rattle.ipnetwork_c.specs.Held.{number_of_octets};
 
-use crate::fault::{ADDRESS, NO_FAMILY, OK};
+use crate::fault::{ADDRESS, NO_FAMILY, NO_MEMBER, OK};
 use crate::structs::address_of;
 use crate::text;
 use ipnetwork::{IpAddr, Ipv4Addr};
@@ -85,5 +86,36 @@ pub extern "C" fn ipnetwork_address_canonical(
     match address.address() {
         Some(address) => text::tell_address(&address, buffer, length),
         None => NO_FAMILY,
+    }
+}
+
+/// Writes to `found` the address that an IPv4-mapped one, of `::ffff:0:0/96`, stands for, and any other as it is.
+/// `NO_FAMILY` if the number of octets in the struct is neither 4 nor 16.
+#[unsafe(no_mangle)]
+pub extern "C" fn ipnetwork_address_unmapped(address: &AddressInC, found: &mut AddressInC) -> u32
+    ensures { Finds (λ a. held_address address.now ≡ Some a) (NoAddress address.now)
+        (λ a. Writes (λ held. HoldsAddress held (unmapped a))) found.old found.new result }
+{
+    match address.address() {
+        Some(address) => {
+            *found = AddressInC::of(address.to_canonical());
+            OK
+        }
+        None => NO_FAMILY,
+    }
+}
+
+/// Writes to `found` the octets of the IPv4 address that an IPv4-mapped one, of `::ffff:0:0/96`, stands for.
+/// `NO_MEMBER` if the address is no such one.
+#[unsafe(no_mangle)]
+pub extern "C" fn ipnetwork_v6_unmapped(address: &[u8; 16], found: &mut [u8; 4]) -> u32
+    ensures { WritesUnmapped (number_of_octets address.now) found.old found.new result }
+{
+    match IpAddr::V6(address_of(address)).to_canonical() {
+        IpAddr::V4(address) => {
+            *found = address.octets();
+            OK
+        }
+        IpAddr::V6(_) => NO_MEMBER,
     }
 }

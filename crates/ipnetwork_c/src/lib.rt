@@ -24,6 +24,7 @@ pub mod laws;
 mod list_calls;
 mod listed;
 mod lists;
+mod making_calls;
 mod network_calls;
 mod numbered;
 mod order;
@@ -45,22 +46,22 @@ mod upper_bound;
 mod writing;
 
 pub use address::AddressInC;
-pub use structs::{IpInC, IpWithCauseInC, Ipv4InC, Ipv6InC};
+pub use structs::{IpInC, IpWithCauseInC, Ipv4InC, Ipv6InC, PlaceInC};
 
 /// The version of what C relies on: the names, the structs and the numbers. A change of any of them
 /// changes it.
 #[unsafe(no_mangle)]
 pub extern "C" fn ipnetwork_abi_version() -> u32
-    ensures { result ≡ 2 }
+    ensures { result ≡ 3 }
 {
-    2
+    3
 }
 
 /// The minor version: each call that is added raises it, and a change of `ipnetwork_abi_version`
 /// begins it again at 0.
 #[unsafe(no_mangle)]
 pub extern "C" fn ipnetwork_abi_minor_version() -> u32
-    ensures { result ≡ 7 }
+    ensures { result ≡ 0 }
 {
-    7
+    0
 }

@@ -1,5 +1,5 @@
-//! The calls of lists of networks in the caller's memory: asked for an address, joined, made of a range of
-//! addresses, and made into tables and ranges.
+//! The calls of lists of networks in the caller's memory: asked for an address, joined, and made of a range of
+//! addresses.
 ghost use Rattle.std.specs.Prelude.{All, Any};
 ghost use Rattle.ipnetwork_family.specs.Network.{Member};
 ghost use Rattle.ipnetwork_sets.specs.Sets.{InEither, InBoth, InFirstAlone};
@@ -8,14 +8,14 @@ ghost use Rattle.ipnetwork_c.specs.Blocks.{RangeOperation};
 ghost use Rattle.ipnetwork_c.specs.Held.{v4_in, v6_in, PrefixFits, number_of_octets};
 ghost use Rattle.ipnetwork_c.specs.Lists.{SetQuery};
 ghost use Rattle.ipnetwork_c.specs.Outcomes.{Writes};
-ghost use Rattle.ipnetwork_c.specs.Ranges.{MakesRanges, PlaceQuery, RangeQuery};
+ghost use Rattle.ipnetwork_c.specs.Ranges.{PlaceQuery, RangeQuery};
 ghost use Rattle.ipnetwork_c.specs.Sets.{SetOperation};
-ghost use Rattle.ipnetwork_c.specs.Tables.{MakesTable, TableQuery};
+ghost use Rattle.ipnetwork_c.specs.Tables.{TableQuery};
 
 use crate::block_calls::range;
 use crate::set_operations::{Operation, operate};
-use crate::structs::{Ipv4InC, Ipv6InC, address_of};
-use crate::{lists, range_making, ranges, sets, table_making, tables};
+use crate::structs::{Ipv4InC, Ipv6InC, PlaceInC, address_of};
+use crate::{lists, ranges, sets, tables};
 use ipnetwork::{Ipv4Addr, Ipv4Network, Ipv6Network};
 
 /// Whether an address lies in the set of one of these networks, as 1 or 0: 0 if there are no networks. `PREFIX` if the
@@ -216,10 +216,12 @@ pub extern "C" fn ipnetwork_v4_ranges_place(
     places: &[usize],
     index: &[u32],
     address: &[u8; 4],
-) -> usize
-    ensures { PlaceQuery v4_in ranges.now places.now (number_of_octets address.now) result }
+) -> PlaceInC
+    ensures { PlaceQuery v4_in ranges.now places.now (number_of_octets address.now) result.place }
 {
-    ranges::place_of::<Ipv4Network, Ipv4InC>(address, ranges, places, index)
+    PlaceInC {
+        place: ranges::place_of::<Ipv4Network, Ipv4InC>(address, ranges, places, index),
+    }
 }
 
 /// The same for IPv6.
@@ -230,10 +232,12 @@ pub extern "C" fn ipnetwork_v6_ranges_place(
     places: &[usize],
     index: &[u32],
     address: &[u8; 16],
-) -> usize
-    ensures { PlaceQuery v6_in ranges.now places.now (number_of_octets address.now) result }
+) -> PlaceInC
+    ensures { PlaceQuery v6_in ranges.now places.now (number_of_octets address.now) result.place }
 {
-    ranges::place_of::<Ipv6Network, Ipv6InC>(address, ranges, places, index)
+    PlaceInC {
+        place: ranges::place_of::<Ipv6Network, Ipv6InC>(address, ranges, places, index),
+    }
 }
 
 /// Writes the blocks of the addresses that are in one of two sets or in both, to the front of `blocks`: the fewest
@@ -352,68 +356,4 @@ pub extern "C" fn ipnetwork_v6_range_to_blocks(
         (blocks.old, count.old) (blocks.new, count.new) result }
 {
     range::<Ipv6Network, Ipv6InC>(address_of(first), address_of(last), blocks, count)
-}
-
-/// Makes a table of networks in any order, host bits or not: their blocks in ascending order to the front of `blocks`,
-/// and to the front of `places` the index in `networks` of each. Blocks that are equal come in the order of their
-/// networks, so that `ipnetwork_v4_table_find` finds that of the last one. What comes after them stays as it is.
-/// `PREFIX` if the prefix length of a network is greater than 32, else `SHORT_BUFFER` if there is room for fewer blocks
-/// or places than networks.
-#[unsafe(no_mangle)]
-pub extern "C" fn ipnetwork_v4_table_make(
-    networks: &[Ipv4InC],
-    blocks: &mut [Ipv4InC],
-    places: &mut [usize],
-) -> u32
-    ensures { MakesTable 32 v4_in networks.now (blocks.old, places.old)
-        (blocks.new, places.new) result }
-{
-    table_making::make::<Ipv4Network, Ipv4InC>(networks, blocks, places)
-}
-
-/// The same of IPv6, for prefix lengths up to 128.
-#[unsafe(no_mangle)]
-pub extern "C" fn ipnetwork_v6_table_make(
-    networks: &[Ipv6InC],
-    blocks: &mut [Ipv6InC],
-    places: &mut [usize],
-) -> u32
-    ensures { MakesTable 128 v6_in networks.now (blocks.old, places.old)
-        (blocks.new, places.new) result }
-{
-    table_making::make::<Ipv6Network, Ipv6InC>(networks, blocks, places)
-}
-
-/// Cuts the addresses into ranges where the blocks of a table begin and after their ends, so that
-/// all addresses of one have the same longest block: to the front of `ranges` the first address of
-/// each, as the network of it alone, in ascending order, to the front of `places` the place of that
-/// block, or the greatest number if there is none, and how many they are to `count`. An address
-/// before all of them has no block. What comes after them stays as it is. `PREFIX` if the prefix
-/// length of a struct is greater than 32, else `SHORT_BUFFER` if there is room for fewer ranges or
-/// places than two of each block.
-#[unsafe(no_mangle)]
-pub extern "C" fn ipnetwork_v4_ranges_make(
-    blocks: &[Ipv4InC],
-    ranges: &mut [Ipv4InC],
-    places: &mut [usize],
-    count: &mut usize,
-) -> u32
-    ensures { MakesRanges 32 v4_in blocks.now ((ranges.old, places.old), count.old)
-        ((ranges.new, places.new), count.new) result }
-{
-    range_making::make::<Ipv4Network, Ipv4InC>(blocks, ranges, places, count)
-}
-
-/// The same of IPv6, for prefix lengths up to 128.
-#[unsafe(no_mangle)]
-pub extern "C" fn ipnetwork_v6_ranges_make(
-    blocks: &[Ipv6InC],
-    ranges: &mut [Ipv6InC],
-    places: &mut [usize],
-    count: &mut usize,
-) -> u32
-    ensures { MakesRanges 128 v6_in blocks.now ((ranges.old, places.old), count.old)
-        ((ranges.new, places.new), count.new) result }
-{
-    range_making::make::<Ipv6Network, Ipv6InC>(blocks, ranges, places, count)
 }

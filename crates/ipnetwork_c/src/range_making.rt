@@ -2,7 +2,7 @@
 //! memory.
 ghost use Rattle.std.specs.Prelude.{◌≡◌, ◌+◌, ◌*◌, ◌<◌, ◌≤◌, ◌++◌, ◌∷◌, [], List, length, map, take};
 ghost use Rattle.std.specs.List.{All};
-ghost use Rattle.ipnetwork_c.specs.Ranges.{IsLongestAt, MakesRanges};
+ghost use Rattle.ipnetwork_c.specs.Ranges.{IsLongestAt, MakesNumberedRanges, MakesRanges, number_at};
 ghost use Rattle.ipnetwork_c.specs.Private.Cuts.{firsts, AreCutsOf, AreEndsOf, ArePlacesUpTo, IsAlone, IsWrittenUpTo};
 
 use crate::fault::{OK, PREFIX, SHORT_BUFFER};
@@ -35,6 +35,47 @@ pub(crate) fn make<N: AddressSpace, H: SearchHint<N>>(
     put_places::<N, H>(blocks, &ranges[..made], &mut places[..made]);
     *count = made;
     OK
+}
+
+/// The same, and then puts beside each range the number that stands where its place was.
+pub(crate) fn make_numbered<N: AddressSpace, H: SearchHint<N>>(
+    blocks: &[H],
+    numbers: &[usize],
+    ranges: &mut [H],
+    beside: &mut [usize],
+    count: &mut usize,
+) -> u32
+    ensures { MakesNumberedRanges N.WIDTH H.held blocks.now numbers.now
+        ((ranges.old, beside.old), count.old) ((ranges.new, beside.new), count.new) result }
+{
+    if numbers.len() < blocks.len() {
+        return SHORT_BUFFER;
+    }
+    let made = make::<N, H>(blocks, ranges, beside, count);
+    if made == OK {
+        put_numbers(numbers, &mut beside[..*count]);
+    }
+    made
+}
+
+// Puts for each place the number that stands there, and for that of no block the place itself.
+fn put_numbers(numbers: &[usize], places: &mut [usize])
+    ensures { places.new ≡ map (number_at numbers.now) places.old }
+{
+    for row in 0..places.len() {
+        places[row] = number_at(numbers, places[row]);
+    }
+}
+
+// The number at a place, or the place of no block if none stands there.
+fn number_at(numbers: &[usize], place: usize) -> usize
+    ensures { result ≡ number_at numbers.now place }
+{
+    if place < numbers.len() {
+        numbers[place]
+    } else {
+        NO_PLACE
+    }
 }
 
 // Puts where each block begins, and where it has ended, and returns how many these are.

@@ -29,6 +29,14 @@ pub struct Ipv6InC {
     pub prefix: u8,
 }
 
+/// What a search by ranges returns. As a struct it is not taken for a truth value, or for a fault.
+#[repr(C)]
+#[derive(Clone, Copy)]
+pub struct PlaceInC {
+    /// What stands beside the range that was found, or the greatest number if there is none.
+    pub place: usize,
+}
+
 /// The family of an `IpInC` whose network is an IPv4 network.
 pub(crate) const V4: u8 = 4;
 

@@ -2,7 +2,7 @@
 
 //! Addresses of either family for C.
 
-use crate::fault::{ADDRESS, NO_FAMILY, OK};
+use crate::fault::{ADDRESS, NO_FAMILY, NO_MEMBER, OK};
 use crate::structs::address_of;
 use crate::text;
 use fosibegan::ipnetwork::{IpAddr, Ipv4Addr};
@@ -87,5 +87,45 @@ const _: () = {
     #[export_name = "ipnetwork_address_canonical"]
     unsafe extern "C" fn called(address: &AddressInC, buffer: *mut u8, buffer_length: usize, length: &mut usize) -> u32 {
         unsafe { ipnetwork_address_canonical(address, crate::lent::lent_mut(buffer, buffer_length), length) }
+    }
+};
+
+/// Writes to `found` the address that an IPv4-mapped one, of `::ffff:0:0/96`, stands for, and any other as it is.
+/// `NO_FAMILY` if the number of octets in the struct is neither 4 nor 16.
+#[inline]
+pub fn ipnetwork_address_unmapped(address: &AddressInC, found: &mut AddressInC) -> u32 {
+    match address.address() {
+        Some(address) => {
+            *found = AddressInC::of(address.to_canonical());
+            OK
+        }
+        None => NO_FAMILY,
+    }
+}
+
+const _: () = {
+    #[export_name = "ipnetwork_address_unmapped"]
+    extern "C" fn called(address: &AddressInC, found: &mut AddressInC) -> u32 {
+        ipnetwork_address_unmapped(address, found)
+    }
+};
+
+/// Writes to `found` the octets of the IPv4 address that an IPv4-mapped one, of `::ffff:0:0/96`, stands for.
+/// `NO_MEMBER` if the address is no such one.
+#[inline]
+pub fn ipnetwork_v6_unmapped(address: &[u8; 16], found: &mut [u8; 4]) -> u32 {
+    match IpAddr::V6(address_of(address)).to_canonical() {
+        IpAddr::V4(address) => {
+            *found = address.octets();
+            OK
+        }
+        IpAddr::V6(_) => NO_MEMBER,
+    }
+}
+
+const _: () = {
+    #[export_name = "ipnetwork_v6_unmapped"]
+    extern "C" fn called(address: &[u8; 16], found: &mut [u8; 4]) -> u32 {
+        ipnetwork_v6_unmapped(address, found)
     }
 };

@@ -26,6 +26,7 @@ mod ipv6_in_c;
 mod list_calls;
 mod listed;
 mod lists;
+mod making_calls;
 mod network_calls;
 mod numbered;
 mod order;
@@ -47,13 +48,13 @@ mod upper_bound;
 mod writing;
 
 pub use address::AddressInC;
-pub use structs::{IpInC, IpWithCauseInC, Ipv4InC, Ipv6InC};
+pub use structs::{IpInC, IpWithCauseInC, Ipv4InC, Ipv6InC, PlaceInC};
 
 /// The version of what C relies on: the names, the structs and the numbers. A change of any of them
 /// changes it.
 #[inline]
 pub fn ipnetwork_abi_version() -> u32 {
-    2
+    3
 }
 
 const _: () = {
@@ -67,7 +68,7 @@ const _: () = {
 /// begins it again at 0.
 #[inline]
 pub fn ipnetwork_abi_minor_version() -> u32 {
-    7
+    0
 }
 
 const _: () = {

@@ -1,12 +1,12 @@
 // Written by scripts/plain out of crates/ipnetwork_c/src/list_calls.rt
 
-//! The calls of lists of networks in the caller's memory: asked for an address, joined, made of a range of
-//! addresses, and made into tables and ranges.
+//! The calls of lists of networks in the caller's memory: asked for an address, joined, and made of a range of
+//! addresses.
 
 use crate::block_calls::range;
 use crate::set_operations::{Operation, operate};
-use crate::structs::{Ipv4InC, Ipv6InC, address_of};
-use crate::{lists, range_making, ranges, sets, table_making, tables};
+use crate::structs::{Ipv4InC, Ipv6InC, PlaceInC, address_of};
+use crate::{lists, ranges, sets, tables};
 use fosibegan::ipnetwork::{Ipv4Addr, Ipv4Network, Ipv6Network};
 
 /// Whether an address lies in the set of one of these networks, as 1 or 0: 0 if there are no networks. `PREFIX` if the
@@ -244,13 +244,15 @@ pub fn ipnetwork_v4_ranges_place(
     places: &[usize],
     index: &[u32],
     address: &[u8; 4],
-) -> usize {
-    ranges::place_of::<Ipv4Network, Ipv4InC>(address, ranges, places, index)
+) -> PlaceInC {
+    PlaceInC {
+        place: ranges::place_of::<Ipv4Network, Ipv4InC>(address, ranges, places, index),
+    }
 }
 
 const _: () = {
     #[export_name = "ipnetwork_v4_ranges_place"]
-    unsafe extern "C" fn called(ranges: *const Ipv4InC, ranges_length: usize, places: *const usize, places_length: usize, index: *const u32, index_length: usize, address: &[u8; 4]) -> usize {
+    unsafe extern "C" fn called(ranges: *const Ipv4InC, ranges_length: usize, places: *const usize, places_length: usize, index: *const u32, index_length: usize, address: &[u8; 4]) -> PlaceInC {
         unsafe { ipnetwork_v4_ranges_place(crate::lent::lent(ranges, ranges_length), crate::lent::lent(places, places_length), crate::lent::lent(index, index_length), address) }
     }
 };
@@ -262,13 +264,15 @@ pub fn ipnetwork_v6_ranges_place(
     places: &[usize],
     index: &[u32],
     address: &[u8; 16],
-) -> usize {
-    ranges::place_of::<Ipv6Network, Ipv6InC>(address, ranges, places, index)
+) -> PlaceInC {
+    PlaceInC {
+        place: ranges::place_of::<Ipv6Network, Ipv6InC>(address, ranges, places, index),
+    }
 }
 
 const _: () = {
     #[export_name = "ipnetwork_v6_ranges_place"]
-    unsafe extern "C" fn called(ranges: *const Ipv6InC, ranges_length: usize, places: *const usize, places_length: usize, index: *const u32, index_length: usize, address: &[u8; 16]) -> usize {
+    unsafe extern "C" fn called(ranges: *const Ipv6InC, ranges_length: usize, places: *const usize, places_length: usize, index: *const u32, index_length: usize, address: &[u8; 16]) -> PlaceInC {
         unsafe { ipnetwork_v6_ranges_place(crate::lent::lent(ranges, ranges_length), crate::lent::lent(places, places_length), crate::lent::lent(index, index_length), address) }
     }
 };
@@ -420,86 +424,5 @@ const _: () = {
     #[export_name = "ipnetwork_v6_range_to_blocks"]
     unsafe extern "C" fn called(first: &[u8; 16], last: &[u8; 16], blocks: *mut Ipv6InC, blocks_length: usize, count: &mut usize) -> u32 {
         unsafe { ipnetwork_v6_range_to_blocks(first, last, crate::lent::lent_mut(blocks, blocks_length), count) }
-    }
-};
-
-/// Makes a table of networks in any order, host bits or not: their blocks in ascending order to the front of `blocks`,
-/// and to the front of `places` the index in `networks` of each. Blocks that are equal come in the order of their
-/// networks, so that `ipnetwork_v4_table_find` finds that of the last one. What comes after them stays as it is.
-/// `PREFIX` if the prefix length of a network is greater than 32, else `SHORT_BUFFER` if there is room for fewer blocks
-/// or places than networks.
-#[inline]
-pub fn ipnetwork_v4_table_make(
-    networks: &[Ipv4InC],
-    blocks: &mut [Ipv4InC],
-    places: &mut [usize],
-) -> u32 {
-    table_making::make::<Ipv4Network, Ipv4InC>(networks, blocks, places)
-}
-
-const _: () = {
-    #[export_name = "ipnetwork_v4_table_make"]
-    unsafe extern "C" fn called(networks: *const Ipv4InC, networks_length: usize, blocks: *mut Ipv4InC, blocks_length: usize, places: *mut usize, places_length: usize) -> u32 {
-        unsafe { ipnetwork_v4_table_make(crate::lent::lent(networks, networks_length), crate::lent::lent_mut(blocks, blocks_length), crate::lent::lent_mut(places, places_length)) }
-    }
-};
-
-/// The same of IPv6, for prefix lengths up to 128.
-#[inline]
-pub fn ipnetwork_v6_table_make(
-    networks: &[Ipv6InC],
-    blocks: &mut [Ipv6InC],
-    places: &mut [usize],
-) -> u32 {
-    table_making::make::<Ipv6Network, Ipv6InC>(networks, blocks, places)
-}
-
-const _: () = {
-    #[export_name = "ipnetwork_v6_table_make"]
-    unsafe extern "C" fn called(networks: *const Ipv6InC, networks_length: usize, blocks: *mut Ipv6InC, blocks_length: usize, places: *mut usize, places_length: usize) -> u32 {
-        unsafe { ipnetwork_v6_table_make(crate::lent::lent(networks, networks_length), crate::lent::lent_mut(blocks, blocks_length), crate::lent::lent_mut(places, places_length)) }
-    }
-};
-
-/// Cuts the addresses into ranges where the blocks of a table begin and after their ends, so that
-/// all addresses of one have the same longest block: to the front of `ranges` the first address of
-/// each, as the network of it alone, in ascending order, to the front of `places` the place of that
-/// block, or the greatest number if there is none, and how many they are to `count`. An address
-/// before all of them has no block. What comes after them stays as it is. `PREFIX` if the prefix
-/// length of a struct is greater than 32, else `SHORT_BUFFER` if there is room for fewer ranges or
-/// places than two of each block.
-#[inline]
-pub fn ipnetwork_v4_ranges_make(
-    blocks: &[Ipv4InC],
-    ranges: &mut [Ipv4InC],
-    places: &mut [usize],
-    count: &mut usize,
-) -> u32
-{
-    range_making::make::<Ipv4Network, Ipv4InC>(blocks, ranges, places, count)
-}
-
-const _: () = {
-    #[export_name = "ipnetwork_v4_ranges_make"]
-    unsafe extern "C" fn called(blocks: *const Ipv4InC, blocks_length: usize, ranges: *mut Ipv4InC, ranges_length: usize, places: *mut usize, places_length: usize, count: &mut usize) -> u32 {
-        unsafe { ipnetwork_v4_ranges_make(crate::lent::lent(blocks, blocks_length), crate::lent::lent_mut(ranges, ranges_length), crate::lent::lent_mut(places, places_length), count) }
-    }
-};
-
-/// The same of IPv6, for prefix lengths up to 128.
-#[inline]
-pub fn ipnetwork_v6_ranges_make(
-    blocks: &[Ipv6InC],
-    ranges: &mut [Ipv6InC],
-    places: &mut [usize],
-    count: &mut usize,
-) -> u32 {
-    range_making::make::<Ipv6Network, Ipv6InC>(blocks, ranges, places, count)
-}
-
-const _: () = {
-    #[export_name = "ipnetwork_v6_ranges_make"]
-    unsafe extern "C" fn called(blocks: *const Ipv6InC, blocks_length: usize, ranges: *mut Ipv6InC, ranges_length: usize, places: *mut usize, places_length: usize, count: &mut usize) -> u32 {
-        unsafe { ipnetwork_v6_ranges_make(crate::lent::lent(blocks, blocks_length), crate::lent::lent_mut(ranges, ranges_length), crate::lent::lent_mut(places, places_length), count) }
     }
 };

@@ -33,6 +33,41 @@ pub(crate) fn make<N: AddressSpace, H: SearchHint<N>>(
     OK
 }
 
+/// The same, and then puts beside each range the number that stands where its place was.
+pub(crate) fn make_numbered<N: AddressSpace, H: SearchHint<N>>(
+    blocks: &[H],
+    numbers: &[usize],
+    ranges: &mut [H],
+    beside: &mut [usize],
+    count: &mut usize,
+) -> u32
+{
+    if numbers.len() < blocks.len() {
+        return SHORT_BUFFER;
+    }
+    let made = make::<N, H>(blocks, ranges, beside, count);
+    if made == OK {
+        put_numbers(numbers, &mut beside[..*count]);
+    }
+    made
+}
+
+// Puts for each place the number that stands there, and for that of no block the place itself.
+fn put_numbers(numbers: &[usize], places: &mut [usize]) {
+    for row in 0..places.len() {
+        places[row] = number_at(numbers, places[row]);
+    }
+}
+
+// The number at a place, or the place of no block if none stands there.
+fn number_at(numbers: &[usize], place: usize) -> usize {
+    if place < numbers.len() {
+        numbers[place]
+    } else {
+        NO_PLACE
+    }
+}
+
 // Puts where each block begins, and where it has ended, and returns how many these are.
 fn put_cuts<N: AddressSpace, H: SearchHint<N>>(blocks: &[H], ranges: &mut [H]) -> usize
 {

@@ -1,0 +1,6 @@
+use Rattle.std.proofs.Common.{◌≡◌, ◌++◌, map, take, drop}
+use Rattle.ipnetwork_c.specs.Ranges.{number_at}
+use Rattle.ipnetwork_c.proofs.range_making.put_numbers.Given as goal
+
+abbrev pub invariant-loop-row : goal.invariant-loop-row
+invariant-loop-row l = l.places ≡ map (number_at l.numbers) (take l.row l.initial.places) ++ drop l.row l.initial.places
