@@ -36,8 +36,6 @@ package ipnetwork
 #cgo nocallback ipnetwork_go_ranges
 #cgo noescape ipnetwork_go_index
 #cgo nocallback ipnetwork_go_index
-#cgo noescape ipnetwork_go_range_numbers
-#cgo nocallback ipnetwork_go_range_numbers
 #cgo noescape ipnetwork_go_operate_v4
 #cgo nocallback ipnetwork_go_operate_v4
 #cgo noescape ipnetwork_go_operate_v6

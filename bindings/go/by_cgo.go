@@ -22,12 +22,14 @@ func callText(function *[0]byte, call *C.text_call) {
 	*call = C.ipnetwork_go_of_text(function, *call)
 }
 
-// search is without an answer, and has a fault, if the address has a zone or is none.
-func (held *lists) search(function *[0]byte, address netip.Addr) C.search_answer {
+// search is without an answer, and has a fault, if the address has a zone or is none. The numbers are those of the ranges of
+// a table, and none of a set.
+func (held *lists) search(function *[0]byte, fourNumbers, sixNumbers []int, address netip.Addr) C.search_answer {
 	var asked C.ipnetwork_address
 	if !give(address, &asked) {
 		return C.search_answer{fault: C.IPNETWORK_NO_FAMILY}
 	}
 	return C.ipnetwork_go_search(function, start(held.fours), size(held.fours), start(held.fourIndex), size(held.fourIndex),
-		start(held.sixes), size(held.sixes), start(held.sixIndex), size(held.sixIndex), asked)
+		int64s(fourNumbers), start(held.sixes), size(held.sixes), start(held.sixIndex), size(held.sixIndex),
+		int64s(sixNumbers), asked)
 }

@@ -3,6 +3,8 @@
 #include "calls.h"
 #include "ranges.h"
 
+#include <string.h>
+
 void ipnetwork_go_read(text_call *call) {
     call->fault = ipnetwork_read_with_cause(call->text, call->length, &call->network);
 }
@@ -113,17 +115,19 @@ static ipnetwork_fault contains(const both_lists *lists, const ipnetwork_address
     return list_contains(&list, address->octets, answer);
 }
 
-static ipnetwork_fault find(const both_lists *lists, const ipnetwork_address *address, size_t *place) {
+/* The number that stands beside the range of an address, or -1. */
+static ipnetwork_fault find(const search_call *call, const ipnetwork_address *address, int64_t *number) {
     if (address->length != 4 && address->length != 16) return IPNETWORK_NO_FAMILY;
-    searched_list list = address->length == 4 ? fours_of(lists) : sixes_of(lists);
-    return list_find(&list, address->octets, place);
+    searched_list ranges = address->length == 4 ? fours_of(&call->lists) : sixes_of(&call->lists);
+    *number = number_of(&ranges, address->length == 4 ? call->four_numbers : call->six_numbers, address->octets);
+    return IPNETWORK_OK;
 }
 
 void ipnetwork_go_set_contains(search_call *call) {
     call->told.fault = contains(&call->lists, &call->address, &call->told.answer);
 }
 
-void ipnetwork_go_find(search_call *call) { call->told.fault = find(&call->lists, &call->address, &call->told.place); }
+void ipnetwork_go_find(search_call *call) { call->told.fault = find(call, &call->address, &call->told.number); }
 
 address_call ipnetwork_go_of_address(void (*function)(address_call *call), address_call call) {
     function(&call);
@@ -141,74 +145,102 @@ text_call ipnetwork_go_of_text(void (*function)(text_call *call), text_call call
 }
 
 search_answer ipnetwork_go_search(void (*function)(search_call *call), const ipnetwork_v4 *fours, size_t four_count,
-                                  const uint32_t *four_index, size_t four_index_length, const ipnetwork_v6 *sixes,
-                                  size_t six_count, const uint32_t *six_index, size_t six_index_length,
-                                  ipnetwork_address address) {
+                                  const uint32_t *four_index, size_t four_index_length, const int64_t *four_numbers,
+                                  const ipnetwork_v6 *sixes, size_t six_count, const uint32_t *six_index,
+                                  size_t six_index_length, const int64_t *six_numbers, ipnetwork_address address) {
     search_call call = {
-        {fours, four_count, four_index, four_index_length, sixes, six_count, six_index, six_index_length}, address, {0, 0, 0}};
+        {fours, four_count, four_index, four_index_length, sixes, six_count, six_index, six_index_length},
+        four_numbers, six_numbers, address, {0, 0, 0}};
     function(&call);
     return call.told;
 }
 
-void ipnetwork_go_contains_each(const ipnetwork_v4 *fours, size_t four_count, const uint32_t *four_index,
-                                size_t four_index_length, const ipnetwork_v6 *sixes, size_t six_count,
-                                const uint32_t *six_index, size_t six_index_length, const ipnetwork_address *addresses,
-                                size_t count, uint8_t *answers) {
+/* Whether a fault is more than that of a row without an address. */
+static int is_fault(ipnetwork_fault fault) { return fault != IPNETWORK_OK && fault != IPNETWORK_NO_FAMILY; }
+
+ipnetwork_fault ipnetwork_go_contains_each(const ipnetwork_v4 *fours, size_t four_count, const uint32_t *four_index,
+                                           size_t four_index_length, const ipnetwork_v6 *sixes, size_t six_count,
+                                           const uint32_t *six_index, size_t six_index_length,
+                                           const ipnetwork_address *addresses, size_t count, uint8_t *answers) {
     both_lists lists = {fours, four_count, four_index, four_index_length, sixes, six_count, six_index, six_index_length};
     for (size_t row = 0; row < count; row++) {
         uint8_t answer = 0;
-        (void)!contains(&lists, &addresses[row], &answer);
+        ipnetwork_fault fault = contains(&lists, &addresses[row], &answer);
+        if (is_fault(fault)) return fault;
         answers[row] = answer;
     }
+    return IPNETWORK_OK;
 }
 
-void ipnetwork_go_find_each(const ipnetwork_v4 *fours, size_t four_count, const uint32_t *four_index,
-                            size_t four_index_length, const int64_t *four_numbers, const ipnetwork_v6 *sixes,
-                            size_t six_count, const uint32_t *six_index, size_t six_index_length,
-                            const int64_t *six_numbers, const ipnetwork_address *addresses, size_t count, int64_t *told) {
-    both_lists lists = {fours, four_count, four_index, four_index_length, sixes, six_count, six_index, six_index_length};
+ipnetwork_fault ipnetwork_go_find_each(const ipnetwork_v4 *fours, size_t four_count, const uint32_t *four_index,
+                                       size_t four_index_length, const int64_t *four_numbers, const ipnetwork_v6 *sixes,
+                                       size_t six_count, const uint32_t *six_index, size_t six_index_length,
+                                       const int64_t *six_numbers, const ipnetwork_address *addresses, size_t count,
+                                       int64_t *told) {
+    search_call call = {
+        {fours, four_count, four_index, four_index_length, sixes, six_count, six_index, six_index_length},
+        four_numbers, six_numbers, {{0}, 0}, {0, 0, 0}};
     for (size_t row = 0; row < count; row++) {
-        size_t place = 0;
-        if (find(&lists, &addresses[row], &place) != IPNETWORK_OK) told[row] = -1;
-        else told[row] = addresses[row].length == 4 ? four_numbers[place] : six_numbers[place];
+        told[row] = -1;
+        ipnetwork_fault fault = find(&call, &addresses[row], &told[row]);
+        if (is_fault(fault)) return fault;
     }
+    return IPNETWORK_OK;
 }
 
-/* So many rows are asked in one call of the library: the faults of its rows, which nobody reads, have room here. */
+/* So many rows are asked in one call of the library: the faults of its rows have room here. */
 enum { AT_ONCE = 1024 };
 
 static inline size_t at_most(size_t rows) { return rows < AT_ONCE ? rows : AT_ONCE; }
 
-void ipnetwork_go_contains_column(size_t width, const uint8_t *structs, size_t struct_count, const uint32_t *index,
-                                  size_t index_length, const uint8_t *addresses, size_t count, uint8_t *answers) {
-    uint8_t faults[AT_ONCE];
-    memset(answers, 0, count);
-    for (size_t row = 0; row < count; row += AT_ONCE) {
-        size_t rows = at_most(count - row);
-        (void)!(width == 4
-                    ? ipnetwork_v4_index_contains_column((const ipnetwork_v4 *)structs, struct_count, index, index_length,
-                                                         addresses + row * 4, rows, answers + row, rows, faults, rows)
-                    : ipnetwork_v6_index_contains_column((const ipnetwork_v6 *)structs, struct_count, index, index_length,
-                                                         addresses + row * 16, rows, answers + row, rows, faults, rows));
-    }
+/* The fault of one of so many rows, if there is one. */
+static ipnetwork_fault fault_of_row(const uint8_t *faults, size_t rows) {
+    uint8_t all = 0;
+    for (size_t row = 0; row < rows; row++) all |= faults[row];
+    if (all == IPNETWORK_OK) return IPNETWORK_OK;
+    for (size_t row = 0; row < rows; row++)
+        if (faults[row] != IPNETWORK_OK) return faults[row];
+    return IPNETWORK_OK;
 }
 
-/* A row without a network keeps -1, which is IPNETWORK_NO_PLACE as a place. */
-void ipnetwork_go_find_column(size_t width, const uint8_t *structs, size_t struct_count, const uint32_t *index,
-                              size_t index_length, const int64_t *numbers, const uint8_t *addresses, size_t count,
-                              int64_t *told) {
+ipnetwork_fault ipnetwork_go_contains_column(size_t width, const uint8_t *structs, size_t struct_count,
+                                             const uint32_t *index, size_t index_length, const uint8_t *addresses,
+                                             size_t count, uint8_t *answers) {
+    uint8_t faults[AT_ONCE];
+    for (size_t row = 0; row < count; row += AT_ONCE) {
+        size_t rows = at_most(count - row);
+        ipnetwork_fault fault =
+            width == 4
+                ? ipnetwork_v4_index_contains_column((const ipnetwork_v4 *)structs, struct_count, index, index_length,
+                                                     addresses + row * 4, rows, answers + row, rows, faults, rows)
+                : ipnetwork_v6_index_contains_column((const ipnetwork_v6 *)structs, struct_count, index, index_length,
+                                                     addresses + row * 16, rows, answers + row, rows, faults, rows);
+        if (fault == IPNETWORK_OK) fault = fault_of_row(faults, rows);
+        if (fault != IPNETWORK_OK) return fault;
+    }
+    return IPNETWORK_OK;
+}
+
+/* A row without a network keeps -1, which is IPNETWORK_NO_PLACE as a place; its fault is IPNETWORK_NO_MEMBER, as a search
+ * among ranges has no other. */
+ipnetwork_fault ipnetwork_go_find_column(size_t width, const uint8_t *structs, size_t struct_count, const uint32_t *index,
+                                         size_t index_length, const int64_t *numbers, const uint8_t *addresses,
+                                         size_t count, int64_t *told) {
     uint8_t faults[AT_ONCE];
     memset(told, 0xff, count * sizeof *told);
     for (size_t row = 0; row < count; row += AT_ONCE) {
         size_t rows = at_most(count - row), *places = (size_t *)(told + row);
-        (void)!(width == 4
-                    ? ipnetwork_v4_ranges_find_column((const ipnetwork_v4 *)structs, struct_count, (const size_t *)numbers,
-                                                      struct_count, index, index_length, addresses + row * 4, rows, places,
-                                                      rows, faults, rows)
-                    : ipnetwork_v6_ranges_find_column((const ipnetwork_v6 *)structs, struct_count, (const size_t *)numbers,
-                                                      struct_count, index, index_length, addresses + row * 16, rows, places,
-                                                      rows, faults, rows));
+        ipnetwork_fault fault =
+            width == 4
+                ? ipnetwork_v4_ranges_find_column((const ipnetwork_v4 *)structs, struct_count, (const size_t *)numbers,
+                                                  struct_count, index, index_length, addresses + row * 4, rows, places,
+                                                  rows, faults, rows)
+                : ipnetwork_v6_ranges_find_column((const ipnetwork_v6 *)structs, struct_count, (const size_t *)numbers,
+                                                  struct_count, index, index_length, addresses + row * 16, rows, places,
+                                                  rows, faults, rows);
+        if (fault != IPNETWORK_OK) return fault;
     }
+    return IPNETWORK_OK;
 }
 
 ipnetwork_fault ipnetwork_go_table(size_t width, const uint8_t *networks, size_t count, uint8_t *blocks, size_t *places) {
@@ -217,21 +249,15 @@ ipnetwork_fault ipnetwork_go_table(size_t width, const uint8_t *networks, size_t
     return ipnetwork_v6_table_make((const ipnetwork_v6 *)networks, count, (ipnetwork_v6 *)blocks, count, places, count);
 }
 
-ipnetwork_fault ipnetwork_go_ranges(size_t width, const uint8_t *blocks, size_t count, uint8_t *ranges, size_t *range_count) {
-    return ranges_of(blocks, count, width, ranges, range_count);
+ipnetwork_fault ipnetwork_go_ranges(size_t width, const uint8_t *blocks, size_t count, const int64_t *numbers,
+                                    uint8_t *ranges, int64_t *beside, size_t *range_count) {
+    return table_ranges(width, blocks, count, numbers, ranges, beside, range_count);
 }
 
 size_t ipnetwork_go_index_size(size_t count) { return list_index_size(count); }
 
 ipnetwork_fault ipnetwork_go_index(size_t width, const uint8_t *structs, size_t count, uint32_t *index, size_t length) {
     return list_index(width, structs, count, index, length);
-}
-
-ipnetwork_fault ipnetwork_go_range_numbers(size_t width, const uint8_t *blocks, size_t count, const uint32_t *index,
-                                           size_t index_length, const int64_t *numbers, const uint8_t *ranges,
-                                           size_t range_count, int64_t *told) {
-    searched_list table = {width, blocks, count, index, index_length};
-    return range_numbers(&table, numbers, ranges, range_count, told);
 }
 
 ipnetwork_fault ipnetwork_go_operate_v4(int operation, const ipnetwork_v4 *first, size_t first_count, const ipnetwork_v4 *second,

@@ -53,12 +53,15 @@ typedef struct {
     size_t six_index_length;
 } both_lists;
 typedef struct {
-    size_t place;
+    int64_t number;
     ipnetwork_fault fault;
     uint8_t answer;
 } search_answer;
+
+/* The numbers beside the ranges of each family; a set has none. */
 typedef struct {
     both_lists lists;
+    const int64_t *four_numbers, *six_numbers;
     ipnetwork_address address;
     search_answer told;
 } search_call;
@@ -92,45 +95,42 @@ address_call ipnetwork_go_of_address(void (*function)(address_call *call), addre
 network_call ipnetwork_go_of_network(void (*function)(network_call *call), network_call call);
 text_call ipnetwork_go_of_text(void (*function)(text_call *call), text_call call);
 search_answer ipnetwork_go_search(void (*function)(search_call *call), const ipnetwork_v4 *fours, size_t four_count,
-                                  const uint32_t *four_index, size_t four_index_length, const ipnetwork_v6 *sixes,
-                                  size_t six_count, const uint32_t *six_index, size_t six_index_length,
-                                  ipnetwork_address address);
+                                  const uint32_t *four_index, size_t four_index_length, const int64_t *four_numbers,
+                                  const ipnetwork_v6 *sixes, size_t six_count, const uint32_t *six_index,
+                                  size_t six_index_length, const int64_t *six_numbers, ipnetwork_address address);
 
-/* Many rows, which cgo calls. An address without octets is in no set and no block. */
+/* Many rows, which cgo calls. An address without octets is in no set and no block; that is no fault. */
 
 /* Writes whether each address is in a set. */
-void ipnetwork_go_contains_each(const ipnetwork_v4 *fours, size_t four_count, const uint32_t *four_index,
+ipnetwork_fault ipnetwork_go_contains_each(const ipnetwork_v4 *fours, size_t four_count, const uint32_t *four_index,
                                 size_t four_index_length, const ipnetwork_v6 *sixes, size_t six_count,
                                 const uint32_t *six_index, size_t six_index_length, const ipnetwork_address *addresses,
                                 size_t count, uint8_t *answers);
 
 /* Writes the number beside the range of each address in a table, or -1. */
-void ipnetwork_go_find_each(const ipnetwork_v4 *fours, size_t four_count, const uint32_t *four_index,
+ipnetwork_fault ipnetwork_go_find_each(const ipnetwork_v4 *fours, size_t four_count, const uint32_t *four_index,
                             size_t four_index_length, const int64_t *four_numbers, const ipnetwork_v6 *sixes,
                             size_t six_count, const uint32_t *six_index, size_t six_index_length,
                             const int64_t *six_numbers, const ipnetwork_address *addresses, size_t count, int64_t *told);
 
 /* The same of packed addresses of one family, of 4 or 16 octets each. */
-void ipnetwork_go_contains_column(size_t width, const uint8_t *structs, size_t struct_count, const uint32_t *index,
+ipnetwork_fault ipnetwork_go_contains_column(size_t width, const uint8_t *structs, size_t struct_count, const uint32_t *index,
                                   size_t index_length, const uint8_t *addresses, size_t count, uint8_t *answers);
-void ipnetwork_go_find_column(size_t width, const uint8_t *structs, size_t struct_count, const uint32_t *index,
+ipnetwork_fault ipnetwork_go_find_column(size_t width, const uint8_t *structs, size_t struct_count, const uint32_t *index,
                               size_t index_length, const int64_t *numbers, const uint8_t *addresses, size_t count,
                               int64_t *told);
 
 /* The table of networks of one family: their blocks and the places of these, for which there is room. */
 ipnetwork_fault ipnetwork_go_table(size_t width, const uint8_t *networks, size_t count, uint8_t *blocks, size_t *places);
 
-/* The ranges of a table, at most twice as many as blocks, and how many they are. */
-ipnetwork_fault ipnetwork_go_ranges(size_t width, const uint8_t *blocks, size_t count, uint8_t *ranges, size_t *range_count);
+/* The ranges of a table, beside each the number that stands beside its longest block, or -1, and how many they are: at
+ * most twice as many as blocks, for which there is room. */
+ipnetwork_fault ipnetwork_go_ranges(size_t width, const uint8_t *blocks, size_t count, const int64_t *numbers,
+                                    uint8_t *ranges, int64_t *beside, size_t *range_count);
 
 /* How many numbers the index of a list has, and the index itself. */
 size_t ipnetwork_go_index_size(size_t count);
 ipnetwork_fault ipnetwork_go_index(size_t width, const uint8_t *structs, size_t count, uint32_t *index, size_t length);
-
-/* The number of the longest block of each range, by the index of the blocks, beside which the numbers are; or -1. */
-ipnetwork_fault ipnetwork_go_range_numbers(size_t width, const uint8_t *blocks, size_t count, const uint32_t *index,
-                                           size_t index_length, const int64_t *numbers, const uint8_t *ranges,
-                                           size_t range_count, int64_t *told);
 
 /* The operations on two sets. */
 enum { SET_UNION, SET_INTERSECTION, SET_DIFFERENCE };

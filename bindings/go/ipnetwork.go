@@ -108,6 +108,13 @@ func faultOf(number C.ipnetwork_fault) error {
 	return Fault(number)
 }
 
+// mustBe panics at a fault that a set or a table, which was made by the library, cannot have.
+func mustBe(number C.ipnetwork_fault) {
+	if number != C.IPNETWORK_OK {
+		panic(Fault(number))
+	}
+}
+
 // A Network of either family. Networks are equal by == if address and prefix length are. The zero Network is no network:
 // it has no members, and its text is empty.
 type Network struct{ held C.ipnetwork_ip }

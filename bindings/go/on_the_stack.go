@@ -30,13 +30,15 @@ func callText(function *[0]byte, call *C.text_call) {
 	direct.Call(unsafe.Pointer(function), unsafe.Pointer(call))
 }
 
-// search is without an answer, and has a fault, if the address has a zone or is none.
-func (held *lists) search(function *[0]byte, address netip.Addr) C.search_answer {
+// search is without an answer, and has a fault, if the address has a zone or is none. The numbers are those of the ranges of
+// a table, and none of a set.
+func (held *lists) search(function *[0]byte, fourNumbers, sixNumbers []int, address netip.Addr) C.search_answer {
 	call := C.search_call{lists: C.both_lists{start(held.fours), size(held.fours), start(held.fourIndex), size(held.fourIndex),
 		start(held.sixes), size(held.sixes), start(held.sixIndex), size(held.sixIndex)}}
 	if !give(address, &call.address) {
 		return C.search_answer{fault: C.IPNETWORK_NO_FAMILY}
 	}
+	call.four_numbers, call.six_numbers = int64s(fourNumbers), int64s(sixNumbers)
 	direct.Call(unsafe.Pointer(function), unsafe.Pointer(&call))
 	return call.told
 }

@@ -110,7 +110,11 @@ func Aggregate(networks []Network) ([]Network, error) {
 
 // Contains reports whether an address is one of the set, by a search in a few steps. No address with a zone is.
 func (set Set) Contains(address netip.Addr) bool {
-	return set.search(toSearchSet, address).answer == 1
+	told := set.search(toSearchSet, nil, nil, address)
+	if told.fault != C.IPNETWORK_NO_FAMILY {
+		mustBe(told.fault)
+	}
+	return told.answer == 1
 }
 
 // ContainsColumn writes 1 or 0 to answers for each address of a column: whether it is one of the set, as Contains reports.
@@ -127,11 +131,11 @@ func (set Set) ContainsColumn(packed []byte, length int, answers []byte) error {
 	}
 	addresses, told := bytesOf(packed), bytesOf(answers)
 	if length == 4 {
-		C.ipnetwork_go_contains_column(4, bytesOf(set.fours), size(set.fours), start(set.fourIndex),
-			size(set.fourIndex), addresses, C.size_t(rows), told)
+		mustBe(C.ipnetwork_go_contains_column(4, bytesOf(set.fours), size(set.fours), start(set.fourIndex),
+			size(set.fourIndex), addresses, C.size_t(rows), told))
 	} else {
-		C.ipnetwork_go_contains_column(16, bytesOf(set.sixes), size(set.sixes), start(set.sixIndex),
-			size(set.sixIndex), addresses, C.size_t(rows), told)
+		mustBe(C.ipnetwork_go_contains_column(16, bytesOf(set.sixes), size(set.sixes), start(set.sixIndex),
+			size(set.sixIndex), addresses, C.size_t(rows), told))
 	}
 	return nil
 }
@@ -141,9 +145,9 @@ func (set Set) ContainsEach(addresses []netip.Addr) []bool {
 	answers := make([]bool, len(addresses))
 	inPortions(addresses, func(from int, held []C.ipnetwork_address) {
 		// A bool of Go is a byte, 0 or 1.
-		C.ipnetwork_go_contains_each(start(set.fours), size(set.fours), start(set.fourIndex), size(set.fourIndex),
+		mustBe(C.ipnetwork_go_contains_each(start(set.fours), size(set.fours), start(set.fourIndex), size(set.fourIndex),
 			start(set.sixes), size(set.sixes), start(set.sixIndex), size(set.sixIndex), &held[0], size(held),
-			(*C.uint8_t)(unsafe.Pointer(&answers[from])))
+			(*C.uint8_t)(unsafe.Pointer(&answers[from]))))
 	})
 	return answers
 }

@@ -208,6 +208,28 @@ func TestAskedAtOnce(t *testing.T) {
 	wait.Wait()
 }
 
+// panics reports whether a question panics.
+func panics(ask func()) (told bool) {
+	defer func() { told = recover() != nil }()
+	ask()
+	return
+}
+
+// A fault that no set and no table has is told, and is not an answer.
+func TestFaultsPanic(t *testing.T) {
+	set, _ := NewSet([]Network{MustParse("10.0.0.0/8")})
+	address := netip.MustParseAddr("10.1.2.3")
+	set.fours[0].prefix = 33
+	for name, ask := range map[string]func(){
+		"Contains":       func() { set.Contains(address) },
+		"ContainsEach":   func() { set.ContainsEach([]netip.Addr{{}, address}) },
+		"ContainsColumn": func() { _ = set.ContainsColumn([]byte{10, 1, 2, 3}, 4, make([]byte, 1)) },
+	} {
+		equal(t, name+" panics", panics(ask), true)
+	}
+	equal(t, "no address", panics(func() { set.Contains(netip.Addr{}) }), false)
+}
+
 // A table and a set of many networks of each family, beside a search of all of them.
 func TestManyNetworks(t *testing.T) {
 	random := rand.New(rand.NewSource(9))

@@ -62,22 +62,14 @@ func ranged[Struct any](width C.size_t, networks []Struct, numbers []int) ([]Str
 	for row, place := range places {
 		beside[row] = numbers[place]
 	}
-	room, count := make([]Struct, 2*len(blocks)), C.size_t(0)
-	if number := C.ipnetwork_go_ranges(width, in, size(blocks), bytesOf(room), &count); number != C.IPNETWORK_OK {
-		return nil, nil, nil, Fault(number)
-	}
-	ranges, told := trimmed(room[:count]), make([]int, count)
-	index, err := indexed(width, blocks)
-	if err != nil {
-		return nil, nil, nil, err
-	}
-	number := C.ipnetwork_go_range_numbers(width, in, size(blocks), start(index), size(index), int64s(beside),
-		bytesOf(ranges), count, int64s(told))
+	room, told, count := make([]Struct, 2*len(blocks)), make([]int, 2*len(blocks)), C.size_t(0)
+	number := C.ipnetwork_go_ranges(width, in, size(blocks), int64s(beside), bytesOf(room), int64s(told), &count)
 	if number != C.IPNETWORK_OK {
 		return nil, nil, nil, Fault(number)
 	}
-	index, err = indexed(width, ranges)
-	return ranges, told, index, err
+	ranges := trimmed(room[:count])
+	index, err := indexed(width, ranges)
+	return ranges, trimmed(told[:count]), index, err
 }
 
 // int64s is the first of some numbers, which have 64 bits here, or none.
@@ -86,14 +78,12 @@ func int64s(numbers []int) *C.int64_t { return (*C.int64_t)(unsafe.Pointer(start
 // Find returns which of the networks, counted from 0, is the longest one that has an address: the last one, if some have the
 // same block. The number is -1 if none has it, as none has an address with a zone.
 func (table Table) Find(address netip.Addr) int {
-	told := table.search(toFind, address)
-	switch {
-	case told.fault != C.IPNETWORK_OK:
+	told := table.search(toFind, table.fourNumbers, table.sixNumbers, address)
+	if told.fault == C.IPNETWORK_NO_FAMILY {
 		return -1
-	case address.Is4():
-		return table.fourNumbers[told.place]
 	}
-	return table.sixNumbers[told.place]
+	mustBe(told.fault)
+	return int(told.number)
 }
 
 // FindColumn writes to numbers what Find returns for each address of a column, by one call. The column has packed addresses
@@ -109,11 +99,11 @@ func (table Table) FindColumn(packed []byte, length int, numbers []int) error {
 	}
 	addresses, told := bytesOf(packed), int64s(numbers)
 	if length == 4 {
-		C.ipnetwork_go_find_column(4, bytesOf(table.fours), size(table.fours), start(table.fourIndex),
-			size(table.fourIndex), int64s(table.fourNumbers), addresses, C.size_t(rows), told)
+		mustBe(C.ipnetwork_go_find_column(4, bytesOf(table.fours), size(table.fours), start(table.fourIndex),
+			size(table.fourIndex), int64s(table.fourNumbers), addresses, C.size_t(rows), told))
 	} else {
-		C.ipnetwork_go_find_column(16, bytesOf(table.sixes), size(table.sixes), start(table.sixIndex),
-			size(table.sixIndex), int64s(table.sixNumbers), addresses, C.size_t(rows), told)
+		mustBe(C.ipnetwork_go_find_column(16, bytesOf(table.sixes), size(table.sixes), start(table.sixIndex),
+			size(table.sixIndex), int64s(table.sixNumbers), addresses, C.size_t(rows), told))
 	}
 	return nil
 }
@@ -122,9 +112,9 @@ func (table Table) FindColumn(packed []byte, length int, numbers []int) error {
 func (table Table) FindEach(addresses []netip.Addr) []int {
 	numbers := make([]int, len(addresses))
 	inPortions(addresses, func(from int, held []C.ipnetwork_address) {
-		C.ipnetwork_go_find_each(start(table.fours), size(table.fours), start(table.fourIndex), size(table.fourIndex),
+		mustBe(C.ipnetwork_go_find_each(start(table.fours), size(table.fours), start(table.fourIndex), size(table.fourIndex),
 			int64s(table.fourNumbers), start(table.sixes), size(table.sixes), start(table.sixIndex), size(table.sixIndex),
-			int64s(table.sixNumbers), &held[0], size(held), int64s(numbers[from:]))
+			int64s(table.sixNumbers), &held[0], size(held), int64s(numbers[from:])))
 	})
 	return numbers
 }

@@ -333,6 +333,26 @@ class Joined(unittest.TestCase):
             table.__init__(self.TABLE)
         self.assertEqual(len(table), 3)
 
+    def test_ranges_are_those_of_the_library(self):
+        # 10.0.0.0/8 and 10.1.0.0/16 are cut at 10.0.0.0, 10.1.0.0, 10.2.0.0 and 11.0.0.0.
+        numbers = array.array("q", [7, 3]).tobytes()
+        blocks = b"".join(ip_network(text)._row for text in ("10.0.0.0/8", "10.1.0.0/16"))
+        core = ipnetwork._core
+        ranges, beside, index = core.ranges(4, blocks, numbers)
+        wanted = ("10.0.0.0", "10.1.0.0", "10.2.0.0", "11.0.0.0")
+        self.assertEqual(ranges, b"".join(ip_network(text)._row for text in wanted))
+        self.assertEqual(memoryview(beside).cast("q").tolist(), [7, 3, 7, -1])
+        self.assertEqual(index, b"")
+        # The last address of all has none after it; a range is cut twice where one block ends and another begins.
+        blocks = b"".join(ip_network(text)._row for text in ("::/1", "8000::/1"))
+        ranges, beside, _ = core.ranges(6, blocks, numbers)
+        wanted = ("::", "8000::", "8000::")
+        self.assertEqual(ranges, b"".join(ip_network(text)._row for text in wanted))
+        self.assertEqual(memoryview(beside).cast("q").tolist(), [7, 3, 3])
+        self.assertEqual(core.ranges(4, b"", b""), (b"", b"", b""))
+        with self.assertRaises(ValueError):
+            core.ranges(4, bytes(10), bytes(8))
+
     def test_rows_that_are_refused(self):
         for table in (Table(self.TABLE, "abc"), PrefixTable(zip(self.TABLE, "abc")), PrefixTable()):
             for rows in (

@@ -19,6 +19,7 @@ from ._by_ctypes_lists import (
     index,
     is_empty,
     layout,
+    numbers_packed,
     operate,
     print_rows,
     range_rows,
@@ -146,5 +147,4 @@ def table_find(search: tuple[bytes, bytes, bytes, bytes, bytes, bytes], address:
         return -1
     packed = address.packed
     ranges, numbers, index = search[:3] if len(packed) == 4 else search[3:]
-    place = find_packed(ranges, index, packed, len(packed))[0]
-    return -1 if place < 0 else memoryview(numbers).cast("q")[place]
+    return numbers_packed(ranges, numbers, index, packed, len(packed))[0]

@@ -61,6 +61,7 @@ def _load() -> ctypes.CDLL:
     printed = [octets, size, pointer, size, pointer, size, pointer]
     operation = [octets, size, octets, size, pointer, size, pointer]
     searched = [octets, size, octets, size, octets, size, pointer, size, pointer, size]
+    numbered = [pointer, size, pointer, size, pointer]
     for name, arguments in (
         ("read_with_cause", [octets, size, pointer]),
         ("address_read", [octets, size, pointer]),
@@ -76,6 +77,7 @@ def _load() -> ctypes.CDLL:
             ("canonical", [octets, pointer, size, pointer]),
             ("contains_column", [octets, pointer, size, pointer, size]),
             ("table_make", [octets, size, pointer, size, pointer, size]),
+            ("ranges_make_numbered", [octets, size, octets, size, *numbered]),
             ("index_make", [octets, size, pointer, size]),
             ("index_contains_column", searched),
             ("index_find_column", searched),

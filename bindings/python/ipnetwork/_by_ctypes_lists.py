@@ -169,26 +169,18 @@ def table_make(version: int, rows: bytes) -> tuple[bytes, bytes]:
 
 def ranges(version: int, blocks: bytes, numbers: bytes) -> tuple[bytes, bytes, bytes]:
     """The ranges of addresses that have the same longest block of a table, as structs of their
-    first addresses with the prefix length 0, which has each address; the number beside that block,
-    or -1; and an index of the ranges.
-
-    No block begins or ends within a range, so that its number is that of its first address.
-    """
-    width, last = _step(version) - 1, (ctypes.c_ubyte * (_step(version) - 1))()
-    broadcast = getattr(library, f"ipnetwork_v{version}_broadcast")
-    begin = set()
-    for at in range(0, len(blocks), width + 1):
-        row = blocks[at : at + width + 1]
-        answered(broadcast(row, last))
-        after = int.from_bytes(bytes(last), "big") + 1
-        begin.add(row[:width])
-        if after < 1 << 8 * width:
-            begin.add(after.to_bytes(width, "big"))
-    starts, told = sorted(begin), memoryview(numbers).cast("q")
-    places = find_packed(blocks, index(version, blocks), b"".join(starts), width)
-    found = array.array("q", [-1 if place < 0 else told[place] for place in places])
-    structs = b"".join([each + b"\0" for each in starts])
-    return structs, found.tobytes(), index(version, structs)
+    first addresses; the number beside that block, or -1; and an index of the ranges."""
+    step, made = _step(version), ctypes.c_size_t()
+    count = len(blocks) // step
+    if len(numbers) // 8 < count:
+        raise ValueError("there is not a number beside each block")
+    structs = ctypes.create_string_buffer(2 * count * step)
+    beside = (ctypes.c_size_t * (2 * count))()
+    call = getattr(library, f"ipnetwork_v{version}_ranges_make_numbered")
+    given = blocks, count, numbers, count
+    answered(call(*given, structs, 2 * count, beside, 2 * count, ctypes.byref(made)))
+    front = structs.raw[: made.value * step]
+    return front, bytes(beside)[: made.value * 8], index(version, front)
 
 
 def table_find_column(

@@ -168,12 +168,6 @@ static int bytes_at(PyObject *given, Py_ssize_t place, const char **bytes, Py_ss
     return 1;
 }
 
-/* The index that bytes are, put beside the list. */
-static void index_of_object(PyObject *index, searched_list *list) {
-    list->index = (const uint32_t *)PyBytes_AsString(index);
-    list->index_length = (size_t)PyBytes_Size(index) / sizeof(uint32_t);
-}
-
 /* The list of one family at two places of a tuple: its structs, and its index. */
 static int list_at(PyObject *given, Py_ssize_t structs, Py_ssize_t index, size_t width, searched_list *list) {
     const char *bytes, *indexed;

@@ -27,40 +27,29 @@ static PyObject *table_make(PyObject *module, PyObject *arguments) {
     return both;
 }
 
-/* ---- the ranges of a table, as `ranges.h` has them ---- */
+/* ---- the ranges of a table ---- */
 
-/* The ranges themselves, as bytes. */
-static PyObject *ranges_object(const searched_list *table) {
-    size_t step = table->width + 1, made = 0;
-    PyObject *room = PyByteArray_FromStringAndSize(NULL, (Py_ssize_t)(table->count * 2 * step)), *ranges = NULL;
-    if (room == NULL) return NULL;
-    uint8_t *place = (uint8_t *)PyByteArray_AsString(room);
-    ipnetwork_fault fault;
-    Py_BEGIN_ALLOW_THREADS
-    fault = ranges_of(table->structs, table->count, table->width, place, &made);
-    Py_END_ALLOW_THREADS
-    if (answered(fault)) ranges = PyBytes_FromStringAndSize((const char *)place, (Py_ssize_t)(made * step));
-    Py_DECREF(room);
-    return ranges;
+/* The first bytes of a bytearray, as bytes. */
+static PyObject *front_of(PyObject *room, size_t length) {
+    return PyBytes_FromStringAndSize(PyByteArray_AsString(room), (Py_ssize_t)length);
 }
 
-/* The number of the longest block of each range, or -1, of 64 bits each, as bytes. */
-static PyObject *numbers_object(searched_list table, const char *numbers, PyObject *ranges) {
-    size_t count = (size_t)PyBytes_Size(ranges) / (table.width + 1);
-    PyObject *index = list_index_object(table.width, (const char *)table.structs, table.count), *told = NULL;
-    if (index == NULL) return NULL;
-    index_of_object(index, &table);
-    if ((told = PyBytes_FromStringAndSize(NULL, (Py_ssize_t)(count * sizeof(int64_t)))) != NULL) {
-        const uint8_t *each = (const uint8_t *)PyBytes_AsString(ranges);
-        int64_t *place = (int64_t *)PyBytes_AsString(told);
-        ipnetwork_fault fault;
-        Py_BEGIN_ALLOW_THREADS
-        fault = range_numbers(&table, (const int64_t *)numbers, each, count, place);
-        Py_END_ALLOW_THREADS
-        if (!answered(fault)) Py_CLEAR(told);
-    }
-    Py_DECREF(index);
-    return told;
+/* The ranges of a table in these rooms, and their index, as a tuple. */
+static PyObject *ranges_in(const searched_list *table, const char *numbers, PyObject *ranges, PyObject *beside) {
+    size_t step = table->width + 1, made = 0;
+    uint8_t *structs = (uint8_t *)PyByteArray_AsString(ranges);
+    int64_t *told = (int64_t *)PyByteArray_AsString(beside);
+    PyObject *index = NULL, *front = NULL, *front_beside = NULL, *all = NULL;
+    ipnetwork_fault fault;
+    Py_BEGIN_ALLOW_THREADS
+    fault = table_ranges(table->width, table->structs, table->count, (const int64_t *)numbers, structs, told, &made);
+    Py_END_ALLOW_THREADS
+    if (answered(fault) && (index = list_index_object(table->width, (const char *)structs, made)) != NULL
+        && (front = front_of(ranges, made * step)) != NULL
+        && (front_beside = front_of(beside, made * sizeof(int64_t))) != NULL)
+        all = PyTuple_Pack(3, front, front_beside, index);
+    Py_XDECREF(front), Py_XDECREF(front_beside), Py_XDECREF(index);
+    return all;
 }
 
 /* ranges(version, blocks, numbers): the ranges of a table, the number of the longest block of each, and their index. The
@@ -75,11 +64,11 @@ static PyObject *ranges(PyObject *module, PyObject *arguments) {
     searched_list table = {width, (const uint8_t *)blocks, (size_t)length / step, NULL, 0};
     if ((size_t)numbers_length / sizeof(int64_t) < table.count)
         return PyErr_SetString(PyExc_ValueError, "there is not a number beside each block"), NULL;
-    PyObject *made = ranges_object(&table), *told = NULL, *index = NULL, *all = NULL;
-    if (made != NULL && (told = numbers_object(table, numbers, made)) != NULL
-        && (index = list_index_object(width, PyBytes_AsString(made), (size_t)PyBytes_Size(made) / step)) != NULL)
-        all = PyTuple_Pack(3, made, told, index);
-    Py_XDECREF(made), Py_XDECREF(told), Py_XDECREF(index);
+    PyObject *structs = PyByteArray_FromStringAndSize(NULL, (Py_ssize_t)(2 * table.count * step)), *all = NULL;
+    /* One more than there may be, since bytes of no length are anywhere, and these are numbers. */
+    PyObject *beside = PyByteArray_FromStringAndSize(NULL, (Py_ssize_t)((2 * table.count + 1) * sizeof(int64_t)));
+    if (structs != NULL && beside != NULL) all = ranges_in(&table, numbers, structs, beside);
+    Py_XDECREF(structs), Py_XDECREF(beside);
     return all;
 }
 
@@ -106,10 +95,10 @@ static int parse_table(PyObject *given, Table *table) {
 /* The number of the longest network that has an address, or -1; a row without an address has
  * none. IPNETWORK_NO_FAMILY where there is neither an address of 4 or 16 octets nor none. */
 static inline ipnetwork_fault table_has(const Table *table, const ipnetwork_address *address, int64_t *number) {
-    if (address->length == 4) return number_of(&table->fours, table->four_numbers, address->octets, number);
-    if (address->length == 16) return number_of(&table->sixes, table->six_numbers, address->octets, number);
-    *number = -1;
-    return address->length == 0 ? IPNETWORK_OK : IPNETWORK_NO_FAMILY;
+    if (address->length == 4) *number = number_of(&table->fours, table->four_numbers, address->octets);
+    else if (address->length == 16) *number = number_of(&table->sixes, table->six_numbers, address->octets);
+    else *number = -1;
+    return address->length == 4 || address->length == 16 || address->length == 0 ? IPNETWORK_OK : IPNETWORK_NO_FAMILY;
 }
 
 /* table_find(search, address) */

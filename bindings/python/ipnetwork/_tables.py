@@ -72,6 +72,8 @@ def blocks_of(rows: Iterable[bytes]) -> _Blocks:
 def _made(version: int, rows: list[bytes], numbers: array[int]) -> tuple[bytes, bytes]:
     """The blocks of networks in the order of a table, and beside each the number of its network."""
     blocks, places = core.table_make(version, b"".join(rows))
+    if not rows or numbers[-1] == len(rows) - 1:  # of one family, a place is a number
+        return blocks, places
     return blocks, array("q", [numbers[at] for at in memoryview(places).cast("N")]).tobytes()
 
 
