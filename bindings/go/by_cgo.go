@@ -31,5 +31,5 @@ func (held *lists) search(function *[0]byte, fourNumbers, sixNumbers []int, addr
 	}
 	return C.ipnetwork_go_search(function, start(held.fours), size(held.fours), start(held.fourIndex), size(held.fourIndex),
 		int64s(fourNumbers), start(held.sixes), size(held.sixes), start(held.sixIndex), size(held.sixIndex),
-		int64s(sixNumbers), asked)
+		int64s(sixNumbers), held.asMapped(), asked)
 }

@@ -108,18 +108,35 @@ static searched_list sixes_of(const both_lists *lists) {
     return (searched_list){16, (const uint8_t *)lists->sixes, lists->six_count, lists->six_index, lists->six_index_length};
 }
 
+/* The octets by which an address is asked about, and how many they are: 0 if there are neither 4 nor 16. Those of the IPv4
+ * address that a mapped one stands for are put into the room, if such an address counts as that. */
+static const uint8_t *asked_octets(const both_lists *lists, const ipnetwork_address *address, uint8_t room[16],
+                                   size_t *width) {
+    *width = address->length == 4 || address->length == 16 ? address->length : 0;
+    if (!lists->mapped || *width != 16 || ipnetwork_v6_unmapped(address->octets, room) != IPNETWORK_OK)
+        return address->octets;
+    *width = 4;
+    return room;
+}
+
 /* Of an address without octets the answer is left as it is. */
 static ipnetwork_fault contains(const both_lists *lists, const ipnetwork_address *address, uint8_t *answer) {
-    if (address->length != 4 && address->length != 16) return IPNETWORK_NO_FAMILY;
-    searched_list list = address->length == 4 ? fours_of(lists) : sixes_of(lists);
-    return list_contains(&list, address->octets, answer);
+    uint8_t room[16];
+    size_t width;
+    const uint8_t *octets = asked_octets(lists, address, room, &width);
+    if (width == 0) return IPNETWORK_NO_FAMILY;
+    searched_list list = width == 4 ? fours_of(lists) : sixes_of(lists);
+    return list_contains(&list, octets, answer);
 }
 
 /* The number that stands beside the range of an address, or -1. */
 static ipnetwork_fault find(const search_call *call, const ipnetwork_address *address, int64_t *number) {
-    if (address->length != 4 && address->length != 16) return IPNETWORK_NO_FAMILY;
-    searched_list ranges = address->length == 4 ? fours_of(&call->lists) : sixes_of(&call->lists);
-    *number = number_of(&ranges, address->length == 4 ? call->four_numbers : call->six_numbers, address->octets);
+    uint8_t room[16];
+    size_t width;
+    const uint8_t *octets = asked_octets(&call->lists, address, room, &width);
+    if (width == 0) return IPNETWORK_NO_FAMILY;
+    searched_list ranges = width == 4 ? fours_of(&call->lists) : sixes_of(&call->lists);
+    *number = number_of(&ranges, width == 4 ? call->four_numbers : call->six_numbers, octets);
     return IPNETWORK_OK;
 }
 
@@ -147,9 +164,10 @@ text_call ipnetwork_go_of_text(void (*function)(text_call *call), text_call call
 search_answer ipnetwork_go_search(void (*function)(search_call *call), const ipnetwork_v4 *fours, size_t four_count,
                                   const uint32_t *four_index, size_t four_index_length, const int64_t *four_numbers,
                                   const ipnetwork_v6 *sixes, size_t six_count, const uint32_t *six_index,
-                                  size_t six_index_length, const int64_t *six_numbers, ipnetwork_address address) {
+                                  size_t six_index_length, const int64_t *six_numbers, uint8_t mapped,
+                                  ipnetwork_address address) {
     search_call call = {
-        {fours, four_count, four_index, four_index_length, sixes, six_count, six_index, six_index_length},
+        {fours, four_count, four_index, four_index_length, sixes, six_count, six_index, six_index_length, mapped},
         four_numbers, six_numbers, address, {0, 0, 0}};
     function(&call);
     return call.told;
@@ -160,9 +178,10 @@ static int is_fault(ipnetwork_fault fault) { return fault != IPNETWORK_OK && fau
 
 ipnetwork_fault ipnetwork_go_contains_each(const ipnetwork_v4 *fours, size_t four_count, const uint32_t *four_index,
                                            size_t four_index_length, const ipnetwork_v6 *sixes, size_t six_count,
-                                           const uint32_t *six_index, size_t six_index_length,
+                                           const uint32_t *six_index, size_t six_index_length, uint8_t mapped,
                                            const ipnetwork_address *addresses, size_t count, uint8_t *answers) {
-    both_lists lists = {fours, four_count, four_index, four_index_length, sixes, six_count, six_index, six_index_length};
+    both_lists lists = {fours,     four_count, four_index,       four_index_length, sixes,
+                        six_count, six_index,  six_index_length, mapped};
     for (size_t row = 0; row < count; row++) {
         uint8_t answer = 0;
         ipnetwork_fault fault = contains(&lists, &addresses[row], &answer);
@@ -175,10 +194,10 @@ ipnetwork_fault ipnetwork_go_contains_each(const ipnetwork_v4 *fours, size_t fou
 ipnetwork_fault ipnetwork_go_find_each(const ipnetwork_v4 *fours, size_t four_count, const uint32_t *four_index,
                                        size_t four_index_length, const int64_t *four_numbers, const ipnetwork_v6 *sixes,
                                        size_t six_count, const uint32_t *six_index, size_t six_index_length,
-                                       const int64_t *six_numbers, const ipnetwork_address *addresses, size_t count,
-                                       int64_t *told) {
+                                       const int64_t *six_numbers, uint8_t mapped, const ipnetwork_address *addresses,
+                                       size_t count, int64_t *told) {
     search_call call = {
-        {fours, four_count, four_index, four_index_length, sixes, six_count, six_index, six_index_length},
+        {fours, four_count, four_index, four_index_length, sixes, six_count, six_index, six_index_length, mapped},
         four_numbers, six_numbers, {{0}, 0}, {0, 0, 0}};
     for (size_t row = 0; row < count; row++) {
         told[row] = -1;

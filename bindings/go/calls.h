@@ -41,7 +41,7 @@ typedef struct {
 } text_call;
 
 /* A search among the blocks of a set, or the ranges of a table, those of each family by themselves, with the index of
- * each. */
+ * each; and whether an IPv4-mapped address counts as the IPv4 address. */
 typedef struct {
     const ipnetwork_v4 *fours;
     size_t four_count;
@@ -51,6 +51,7 @@ typedef struct {
     size_t six_count;
     const uint32_t *six_index;
     size_t six_index_length;
+    uint8_t mapped;
 } both_lists;
 typedef struct {
     int64_t number;
@@ -97,21 +98,23 @@ text_call ipnetwork_go_of_text(void (*function)(text_call *call), text_call call
 search_answer ipnetwork_go_search(void (*function)(search_call *call), const ipnetwork_v4 *fours, size_t four_count,
                                   const uint32_t *four_index, size_t four_index_length, const int64_t *four_numbers,
                                   const ipnetwork_v6 *sixes, size_t six_count, const uint32_t *six_index,
-                                  size_t six_index_length, const int64_t *six_numbers, ipnetwork_address address);
+                                  size_t six_index_length, const int64_t *six_numbers, uint8_t mapped,
+                                  ipnetwork_address address);
 
 /* Many rows, which cgo calls. An address without octets is in no set and no block; that is no fault. */
 
 /* Writes whether each address is in a set. */
 ipnetwork_fault ipnetwork_go_contains_each(const ipnetwork_v4 *fours, size_t four_count, const uint32_t *four_index,
                                 size_t four_index_length, const ipnetwork_v6 *sixes, size_t six_count,
-                                const uint32_t *six_index, size_t six_index_length, const ipnetwork_address *addresses,
-                                size_t count, uint8_t *answers);
+                                const uint32_t *six_index, size_t six_index_length, uint8_t mapped,
+                                const ipnetwork_address *addresses, size_t count, uint8_t *answers);
 
 /* Writes the number beside the range of each address in a table, or -1. */
 ipnetwork_fault ipnetwork_go_find_each(const ipnetwork_v4 *fours, size_t four_count, const uint32_t *four_index,
                             size_t four_index_length, const int64_t *four_numbers, const ipnetwork_v6 *sixes,
                             size_t six_count, const uint32_t *six_index, size_t six_index_length,
-                            const int64_t *six_numbers, const ipnetwork_address *addresses, size_t count, int64_t *told);
+                            const int64_t *six_numbers, uint8_t mapped, const ipnetwork_address *addresses,
+                            size_t count, int64_t *told);
 
 /* The same of packed addresses of one family, of 4 or 16 octets each. */
 ipnetwork_fault ipnetwork_go_contains_column(size_t width, const uint8_t *structs, size_t struct_count, const uint32_t *index,

@@ -33,6 +33,14 @@ func ExampleSet() {
 	// Output: [10.0.0.0/8] [10.0.0.0/16 10.2.0.0/15] false
 }
 
+// A peer as a socket of both families tells it, and a list of what is denied.
+func ExampleSet_Mapped() {
+	denied, _ := ipnetwork.NewSet([]ipnetwork.Network{ipnetwork.MustParse("10.0.0.0/8")})
+	peer := netip.MustParseAddrPort("[::ffff:10.1.9.32]:443").Addr()
+	fmt.Println(denied.Contains(peer), denied.Contains(peer.Unmap()), denied.Mapped().Contains(peer))
+	// Output: false true true
+}
+
 func ExampleTable() {
 	table, _ := ipnetwork.NewTable([]ipnetwork.Network{ipnetwork.MustParse("10.0.0.0/8"), ipnetwork.MustParse("10.1.0.0/16")})
 	fmt.Println(table.Find(netip.MustParseAddr("10.1.9.32")), table.Find(netip.MustParseAddr("10.2.0.1")))

@@ -4,6 +4,13 @@
 // Linux on x86-64 and ARM64; elsewhere it is made of the proved sources.
 // Addresses are those of net/netip.
 //
+// A server that listens on IPv4 and IPv6 by one socket is told of an IPv4 peer as an IPv4-mapped IPv6 address, such as
+// ::ffff:10.1.9.32, which is in no IPv4 network: it passes a list of what is denied. Ask about what its Unmap gives,
+//
+//	denied.Contains(peer.Addr().Unmap())
+//
+// or ask the set or the table that the method Mapped gives, which does so for each address.
+//
 // A network keeps the host bits of its address. Its members are the addresses that share the first bits of its address,
 // as many as the prefix length says, and the questions are about the members.
 //

@@ -17,6 +17,25 @@ type lists struct {
 	fours               []C.ipnetwork_v4
 	sixes               []C.ipnetwork_v6
 	fourIndex, sixIndex []C.uint32_t
+	// Whether an IPv4-mapped address that is asked about counts as the IPv4 address.
+	mapped bool
+}
+
+// asMapped is what the functions of C take for that.
+func (held *lists) asMapped() C.uint8_t {
+	if held.mapped {
+		return 1
+	}
+	return 0
+}
+
+// addressesOf gives packed IPv6 addresses, each of 16 octets, as addresses.
+func addressesOf(packed []byte) []netip.Addr {
+	addresses := make([]netip.Addr, len(packed)/16)
+	for row := range addresses {
+		addresses[row] = netip.AddrFrom16(*(*[16]byte)(packed[16*row:]))
+	}
+	return addresses
 }
 
 // start is the first element of a slice, or nil.

@@ -34,7 +34,7 @@ func callText(function *[0]byte, call *C.text_call) {
 // a table, and none of a set.
 func (held *lists) search(function *[0]byte, fourNumbers, sixNumbers []int, address netip.Addr) C.search_answer {
 	call := C.search_call{lists: C.both_lists{start(held.fours), size(held.fours), start(held.fourIndex), size(held.fourIndex),
-		start(held.sixes), size(held.sixes), start(held.sixIndex), size(held.sixIndex)}}
+		start(held.sixes), size(held.sixes), start(held.sixIndex), size(held.sixIndex), held.asMapped()}}
 	if !give(address, &call.address) {
 		return C.search_answer{fault: C.IPNETWORK_NO_FAMILY}
 	}

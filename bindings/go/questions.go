@@ -24,7 +24,8 @@ var (
 	toSubnetAt   = (*[0]byte)(C.ipnetwork_go_subnet_at)
 )
 
-// Contains reports whether an address is a member of the network. No address of the other family is, and none with a zone.
+// Contains reports whether an address is a member of the network. No address of the other family is, not even an IPv4-mapped
+// one of an IPv4 network, whose Unmap is; and none with a zone.
 func (network Network) Contains(address netip.Addr) bool {
 	var call C.address_call
 	call.network = network.held

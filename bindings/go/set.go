@@ -17,6 +17,9 @@ var toSearchSet = (*[0]byte)(C.ipnetwork_go_set_contains)
 //
 // It holds the fewest networks that have these addresses, and an index of them: 21 bytes for each IPv4 network, and 33 for
 // each IPv6.
+//
+// An IPv4-mapped IPv6 address, such as ::ffff:10.1.9.32, is in no IPv4 network: ask about its Unmap, or ask the set that
+// Mapped gives.
 type Set struct{ lists }
 
 // NewSet gives the addresses of networks, in any order, host bits or not; NoFamily if one is the zero Network.
@@ -46,6 +49,13 @@ func (set *Set) aggregate() error {
 	}
 	set.fours, set.sixes = trimmed(set.fours[:fours]), trimmed(set.sixes[:sixes])
 	return set.index()
+}
+
+// Mapped gives the same set, which takes an IPv4-mapped IPv6 address that it is asked about for the IPv4 address: so that
+// peers of a socket of both families are found in lists of IPv4 networks. The sets made of it do so too.
+func (set Set) Mapped() Set {
+	set.mapped = true
+	return set
 }
 
 // Union gives the addresses that one of the sets has, or both.
@@ -86,6 +96,7 @@ func (set Set) operate(operation C.int, other Set) (Set, error) {
 		}
 		room = int(count)
 	}
+	made.mapped = set.mapped || other.mapped
 	err := made.index()
 	return made, err
 }
@@ -130,7 +141,11 @@ func (set Set) ContainsColumn(packed []byte, length int, answers []byte) error {
 		return NoRoom
 	}
 	addresses, told := bytesOf(packed), bytesOf(answers)
-	if length == 4 {
+	if length == 16 && set.mapped {
+		for row, answer := range set.ContainsEach(addressesOf(packed)) {
+			answers[row] = *(*byte)(unsafe.Pointer(&answer)) // a bool of Go is a byte, 0 or 1
+		}
+	} else if length == 4 {
 		mustBe(C.ipnetwork_go_contains_column(4, bytesOf(set.fours), size(set.fours), start(set.fourIndex),
 			size(set.fourIndex), addresses, C.size_t(rows), told))
 	} else {
@@ -146,7 +161,7 @@ func (set Set) ContainsEach(addresses []netip.Addr) []bool {
 	inPortions(addresses, func(from int, held []C.ipnetwork_address) {
 		// A bool of Go is a byte, 0 or 1.
 		mustBe(C.ipnetwork_go_contains_each(start(set.fours), size(set.fours), start(set.fourIndex), size(set.fourIndex),
-			start(set.sixes), size(set.sixes), start(set.sixIndex), size(set.sixIndex), &held[0], size(held),
+			start(set.sixes), size(set.sixes), start(set.sixIndex), size(set.sixIndex), set.asMapped(), &held[0], size(held),
 			(*C.uint8_t)(unsafe.Pointer(&answers[from]))))
 	})
 	return answers

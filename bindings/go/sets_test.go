@@ -230,6 +230,52 @@ func TestFaultsPanic(t *testing.T) {
 	equal(t, "no address", panics(func() { set.Contains(netip.Addr{}) }), false)
 }
 
+// By Mapped an IPv4-mapped address has the answer of the IPv4 address, in each question.
+func TestMapped(t *testing.T) {
+	networks := []Network{MustParse("10.0.0.0/8"), MustParse("10.1.0.0/16"), MustParse("::/0")}
+	set, _ := NewSet(networks)
+	table, _ := NewTable(networks)
+	var addresses []netip.Addr
+	var packed []byte
+	for text, wanted := range map[string]int{
+		"::ffff:10.1.2.3": 1, "::ffff:10.2.0.0": 0, "::ffff:11.0.0.0": -1, "::ffff:255.255.255.255": -1,
+		"::fffe:ffff:ffff": 2, "::1:0:0:0": 2, "::10.1.2.3": 2, "64:ff9b::10.1.2.3": 2,
+	} {
+		address := netip.MustParseAddr(text)
+		equal(t, text, table.Find(address.Unmap()), wanted)
+		equal(t, text, fmt.Sprint(table.Find(address), set.Contains(address)), fmt.Sprint(2, true))
+		equal(t, text, table.Mapped().Find(address), wanted)
+		equal(t, text, set.Mapped().Contains(address), wanted >= 0)
+		addresses, packed = append(addresses, address), append(packed, address.AsSlice()...)
+	}
+	addresses = append(addresses, netip.MustParseAddr("10.1.2.3"), netip.MustParseAddr("::ffff:10.1.2.3%eth0"), netip.Addr{})
+	found, has := table.Mapped().FindEach(addresses), set.Mapped().ContainsEach(addresses)
+	numbers, answers := make([]int, 8), make([]byte, 8)
+	equal(t, "column", table.Mapped().FindColumn(packed, 16, numbers), nil)
+	equal(t, "column", set.Mapped().ContainsColumn(packed, 16, answers), nil)
+	for row, address := range addresses {
+		wanted := table.Find(address)
+		if address.Zone() == "" {
+			wanted = table.Find(address.Unmap())
+		}
+		equal(t, address.String(), fmt.Sprint(found[row], has[row]), fmt.Sprint(wanted, wanted >= 0))
+		if row < 8 {
+			equal(t, address.String(), fmt.Sprint(numbers[row], answers[row] == 1), fmt.Sprint(wanted, wanted >= 0))
+		}
+	}
+	equal(t, "an IPv4 column", set.Mapped().ContainsColumn([]byte{10, 1, 2, 3, 11, 0, 0, 0}, 4, answers), nil)
+	equal(t, "an IPv4 column", fmt.Sprint(answers[:2]), "[1 0]")
+	some, _ := NewSet(networks[1:2])
+	for _, made := range []func(Set, Set) (Set, error){Set.Union, Set.Intersection} {
+		one, _ := made(some, set.Mapped())
+		other, _ := made(set.Mapped(), some)
+		equal(t, "kept", fmt.Sprint(one.mapped, other.mapped), fmt.Sprint(true, true))
+	}
+	left, _ := set.Mapped().Difference(some)
+	equal(t, "kept", left.Contains(netip.MustParseAddr("::ffff:10.2.0.0")), true)
+	equal(t, "kept", left.Contains(netip.MustParseAddr("::ffff:10.1.0.0")), false)
+}
+
 // A table and a set of many networks of each family, beside a search of all of them.
 func TestManyNetworks(t *testing.T) {
 	random := rand.New(rand.NewSource(9))

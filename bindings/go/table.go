@@ -18,6 +18,9 @@ var toFind = (*[0]byte)(C.ipnetwork_go_find)
 // A table of n networks holds at most 2 n ranges of addresses, each with the number of its longest network, and an index of
 // them: at most 58 n bytes of IPv4 networks, and 82 n of IPv6. NewTable makes all of it, and no question allocates but
 // FindEach, for its result.
+//
+// An IPv4-mapped IPv6 address, such as ::ffff:10.1.9.32, is in no IPv4 network: ask about its Unmap, or ask the table that
+// Mapped gives.
 type Table struct {
 	lists
 	// The number of the longest network of each range, or -1.
@@ -48,6 +51,12 @@ func NewTable(networks []Network) (Table, error) {
 		return Table{}, err
 	}
 	return table, nil
+}
+
+// Mapped gives the same table, which takes an IPv4-mapped IPv6 address that it is asked about for the IPv4 address.
+func (table Table) Mapped() Table {
+	table.mapped = true
+	return table
 }
 
 // ranged gives the ranges of the table of networks of one family, the number of the longest network of each, and the index
@@ -98,7 +107,9 @@ func (table Table) FindColumn(packed []byte, length int, numbers []int) error {
 		return NoRoom
 	}
 	addresses, told := bytesOf(packed), int64s(numbers)
-	if length == 4 {
+	if length == 16 && table.mapped {
+		copy(numbers, table.FindEach(addressesOf(packed)))
+	} else if length == 4 {
 		mustBe(C.ipnetwork_go_find_column(4, bytesOf(table.fours), size(table.fours), start(table.fourIndex),
 			size(table.fourIndex), int64s(table.fourNumbers), addresses, C.size_t(rows), told))
 	} else {
@@ -114,7 +125,7 @@ func (table Table) FindEach(addresses []netip.Addr) []int {
 	inPortions(addresses, func(from int, held []C.ipnetwork_address) {
 		mustBe(C.ipnetwork_go_find_each(start(table.fours), size(table.fours), start(table.fourIndex), size(table.fourIndex),
 			int64s(table.fourNumbers), start(table.sixes), size(table.sixes), start(table.sixIndex), size(table.sixIndex),
-			int64s(table.sixNumbers), &held[0], size(held), int64s(numbers[from:])))
+			int64s(table.sixNumbers), table.asMapped(), &held[0], size(held), int64s(numbers[from:])))
 	})
 	return numbers
 }

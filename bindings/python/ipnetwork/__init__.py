@@ -1,6 +1,6 @@
 """IP networks in CIDR notation, read, printed and asked by a library whose functions are proved.
 
->>> from ipaddress import IPv4Address
+>>> from ipaddress import IPv4Address, IPv6Address
 >>> network = ip_network("10.1.9.32/16")
 >>> network
 IPv4Network('10.1.9.32/16')
@@ -15,6 +15,14 @@ questions are about the members. Networks are hashable, equal if address and pre
 ordered by address and then by prefix length, so that they can be sorted. ``a <= b`` is that order,
 as in ``ipaddress``; whether a is part of b is ``a.subnet_of(b)``. Addresses are those of
 ``ipaddress``.
+
+A server that listens on IPv4 and IPv6 by one socket is told of an IPv4 peer as ``::ffff:10.1.9.32``,
+an IPv4-mapped IPv6 address, which is in no IPv4 network: it passes a list of what is denied. So ask
+about ``unmapped(address)``, or give a set or a table ``mapped=True``, by which such an address
+counts as the IPv4 address.
+
+>>> unmapped(IPv6Address("::ffff:10.1.9.32")) in network
+True
 
 ``AddressSet`` is a set of addresses, which ``AddressSetBuilder`` makes by and by; ``Table`` and
 ``PrefixTable`` find the longest network that has an address, and the value that belongs to it.
@@ -41,6 +49,7 @@ from ._networks import (
     from_ipaddress,
     ip_network,
     summarize_address_range,
+    unmapped,
 )
 from ._prefix_table import PrefixTable
 from ._sets import AddressSet
@@ -68,6 +77,7 @@ __all__ = [
     "print_address_column",
     "read_address_column",
     "summarize_address_range",
+    "unmapped",
 ]
 
 #: By what the library is called: "native" or "ctypes".
@@ -87,12 +97,12 @@ for _public in (AddressSet, AddressSetBuilder, IPv4Network, IPv6Network, PrefixT
 
 
 def read_address_column(
-    texts: ReadableBuffer, offsets: ReadableBuffer
+    texts: ReadableBuffer, offsets: ReadableBuffer, *, mapped: bool = False
 ) -> tuple[bytearray, bytearray]:
     """The addresses of either family of a column of texts in Arrow's layout, as
     ``IPv4Network.read_column`` has it, and for each a byte that is 0 if its text is one. Each
     address is 17 bytes: its octets, zeros after those of an IPv4 address, and how many they are, 4
-    or 16, or 0 if there is none.
+    or 16, or 0 if there is none. With ``mapped``, an IPv4-mapped address is the IPv4 address.
 
     >>> import array
     >>> offsets = array.array("I", [0, 7, 10, 11])
@@ -100,7 +110,8 @@ def read_address_column(
     >>> [addresses[at + 16] for at in (0, 17, 34)], list(faults)
     ([4, 16, 0], [0, 0, 2])
     """
-    return _core.read_rows(0, texts, offsets)
+    addresses, faults = _core.read_rows(0, texts, offsets)
+    return (_core.unmapped_rows(addresses) if mapped else addresses), faults
 
 
 def print_address_column(

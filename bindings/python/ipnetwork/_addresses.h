@@ -163,13 +163,18 @@ static int address_of(State *state, PyObject *object, ipnetwork_address *address
     return NO_ADDRESS;
 }
 
+/* Raises the TypeError of what is no address. */
+static void no_address(PyObject *object) {
+    PyErr_Format(PyExc_TypeError, "an address is IPv4Address or IPv6Address, not %R", (PyObject *)Py_TYPE(object));
+}
+
 /* The answer of `in` about what has no octets: an address with a zone and a network are no members; else TypeError. */
 static int no_member(State *state, PyObject *object, int kind) {
     if (kind == HAS_RAISED) return -1;
     if (kind == HAS_ZONE || PyObject_TypeCheck(object, state->network_type)) return 0;
     int network = PyObject_IsInstance(object, state->base_network);
     if (network != 0) return network < 0 ? -1 : 0;
-    PyErr_Format(PyExc_TypeError, "an address is IPv4Address or IPv6Address, not %R", (PyObject *)Py_TYPE(object));
+    no_address(object);
     return -1;
 }
 

@@ -62,7 +62,8 @@ def _in_one(steps: list[_Step]) -> _Change:
 class AddressSetBuilder:
     """A set of addresses that networks are added to and taken from, one by one.
 
-    ``build`` gives the addresses so far as an ``AddressSet``, and the builder goes on from there. A
+    ``build`` gives the addresses so far as an ``AddressSet``, and the builder goes on from there.
+    With ``mapped``, an IPv4-mapped address counts as the IPv4 address in these sets. A
     change takes a few microseconds, whatever the size of the set; ``build`` takes time in
     proportion to it. Several threads may change one builder.
 
@@ -75,8 +76,9 @@ class AddressSetBuilder:
 
     __slots__ = ("__weakref__", "_lock", "_made", "_steps")
 
-    def __init__(self, networks: Iterable[Either] = ()) -> None:
-        self._made = networks if isinstance(networks, AddressSet) else AddressSet(networks)
+    def __init__(self, networks: Iterable[Either] = (), *, mapped: bool = False) -> None:
+        given = isinstance(networks, AddressSet) and (networks.mapped or not mapped)
+        self._made = networks if given else AddressSet(networks, mapped=mapped)
         self._steps: list[_Step] = []
         self._lock = new_lock()
 
@@ -124,7 +126,8 @@ class AddressSetBuilder:
             self._lock.release()
 
     def __repr__(self) -> str:
-        return f"{type(self).__name__}({list(self.build())!r})"
+        built = self.build()
+        return f"{type(self).__name__}({list(built)!r}{', mapped=True' * built.mapped})"
 
     def __reduce__(self) -> tuple[type[Self], tuple[AddressSet]]:
         return type(self), (self.build(),)

@@ -28,6 +28,7 @@ from ._by_ctypes_lists import (
     set_contains_column,
     table_find_column,
     table_make,
+    unmapped_rows,
 )
 from ._by_ctypes_networks import (
     V4,
@@ -40,6 +41,7 @@ from ._by_ctypes_networks import (
     prefix_of_mask,
     register,
     subnet_at,
+    unmapped,
 )
 
 __all__ = [
@@ -67,6 +69,8 @@ __all__ = [
     "table_find",
     "table_find_column",
     "table_make",
+    "unmapped",
+    "unmapped_rows",
 ]
 
 
@@ -120,12 +124,14 @@ def longest_key(
     return None
 
 
-def set_contains(search: tuple[bytes, bytes, bytes, bytes], asked: object) -> bool:
+def set_contains(search: tuple[bytes, bytes, bytes, bytes, bool], asked: object) -> bool:
     """Whether a set, given by the bytes of its blocks, has an address, or each of a network."""
+    if search[4] and isinstance(asked, IPv6Address):
+        asked = unmapped(asked)
     row = _asked(asked)
     if row is None:
         return False
-    blocks, index = search[:2] if len(row) == 5 else search[2:]
+    blocks, index = search[:2] if len(row) == 5 else search[2:4]
     if not contains_packed(blocks, index, row[:-1], len(row) - 1)[0]:
         return False
     if isinstance(asked, (IPv4Address, IPv6Address)):
@@ -138,13 +144,15 @@ def set_contains(search: tuple[bytes, bytes, bytes, bytes], asked: object) -> bo
     return answer.value == 1
 
 
-def table_find(search: tuple[bytes, bytes, bytes, bytes, bytes, bytes], address: object) -> int:
+def table_find(
+    search: tuple[bytes, bytes, bytes, bytes, bytes, bytes, bool], address: object
+) -> int:
     """The number of the longest network that has an address, or -1."""
     if not isinstance(address, (IPv4Address, IPv6Address)):
         no_member(address)
         return -1
     if getattr(address, "_scope_id", None) is not None:
         return -1
-    packed = address.packed
-    ranges, numbers, index = search[:3] if len(packed) == 4 else search[3:]
+    packed = (unmapped(address) if search[6] else address).packed
+    ranges, numbers, index = search[:3] if len(packed) == 4 else search[3:6]
     return numbers_packed(ranges, numbers, index, packed, len(packed))[0]

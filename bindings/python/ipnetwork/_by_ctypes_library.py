@@ -10,7 +10,7 @@ from __future__ import annotations
 import ctypes
 import os
 import sys
-from typing import TYPE_CHECKING
+from typing import TYPE_CHECKING, Union
 
 if TYPE_CHECKING:
     from _typeshed import ReadableBuffer
@@ -68,6 +68,7 @@ def _load() -> ctypes.CDLL:
         ("address_read_column", read),
         ("address_print_column", printed),
         ("index_size", [size, pointer]),
+        ("v6_unmapped", [octets, pointer]),
     ):
         _declare(library, name, arguments)
     for family in ("v4", "v6"):
@@ -112,6 +113,16 @@ def answered(fault: int) -> None:
     """A question about a network has no fault, since its prefix length is one of its family."""
     if fault:
         raise RuntimeError(f"the library returned fault {fault} for a question about a network")
+
+
+def unmapped_octets(packed: bytes) -> Union[bytes, None]:
+    """The packed IPv4 address that a packed IPv6 address stands for; None if it stands for none."""
+    octets = (ctypes.c_ubyte * 4)()
+    fault = library.ipnetwork_v6_unmapped(packed, ctypes.byref(octets))
+    if fault == 6:
+        return None
+    answered(fault)
+    return bytes(octets)
 
 
 def flat(given: ReadableBuffer) -> memoryview:

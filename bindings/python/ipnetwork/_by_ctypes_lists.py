@@ -10,7 +10,7 @@ import operator
 from collections.abc import Iterator
 from typing import TYPE_CHECKING, Union
 
-from ._by_ctypes_library import ADDRESS, answered, flat, library
+from ._by_ctypes_library import ADDRESS, answered, flat, library, unmapped_octets
 from ._errors import error
 
 if TYPE_CHECKING:
@@ -91,6 +91,17 @@ def _column(addresses: ReadableBuffer) -> bytes:
     return column
 
 
+def unmapped_rows(addresses: ReadableBuffer) -> bytearray:
+    """The addresses of a column, each IPv4-mapped one as the IPv4 address."""
+    rows = bytearray(_column(addresses))
+    for at in range(0, len(rows), ADDRESS):
+        if rows[at + 16] == 16:
+            octets = unmapped_octets(bytes(rows[at : at + 16]))
+            if octets is not None:
+                rows[at : at + ADDRESS] = octets + bytes(12) + b"\4"
+    return rows
+
+
 def _family(column: bytes, width: int) -> tuple[list[int], bytes]:
     """The rows of a column that have addresses of so many bytes, and these, packed."""
     rows = [row for row, length in enumerate(column[16::ADDRESS]) if length == width]
@@ -144,12 +155,12 @@ def numbers_packed(
 
 
 def set_contains_column(
-    search: tuple[bytes, bytes, bytes, bytes], addresses: ReadableBuffer
+    search: tuple[bytes, bytes, bytes, bytes, bool], addresses: ReadableBuffer
 ) -> bytearray:
     """For each address of a column a byte: 1 if it is one of the set, else 0."""
-    column = _column(addresses)
+    column = bytes(unmapped_rows(addresses)) if search[4] else _column(addresses)
     answers = bytearray(len(column) // ADDRESS)
-    for width, (blocks, index) in ((4, search[:2]), (16, search[2:])):
+    for width, (blocks, index) in ((4, search[:2]), (16, search[2:4])):
         rows, packed = _family(column, width)
         for row, answer in zip(rows, contains_packed(blocks, index, packed, width)):
             answers[row] = answer
@@ -184,13 +195,13 @@ def ranges(version: int, blocks: bytes, numbers: bytes) -> tuple[bytes, bytes, b
 
 
 def table_find_column(
-    search: tuple[bytes, bytes, bytes, bytes, bytes, bytes], addresses: ReadableBuffer
+    search: tuple[bytes, bytes, bytes, bytes, bytes, bytes, bool], addresses: ReadableBuffer
 ) -> bytearray:
     """For each address of a column the number of the longest network that has it, or -1, as numbers
     of 64 bits."""
-    column = _column(addresses)
+    column = bytes(unmapped_rows(addresses)) if search[6] else _column(addresses)
     told = array.array("q", [-1]) * (len(column) // ADDRESS)
-    for width, (structs, numbers, index) in ((4, search[:3]), (16, search[3:])):
+    for width, (structs, numbers, index) in ((4, search[:3]), (16, search[3:6])):
         rows, packed = _family(column, width)
         for row, number in zip(rows, numbers_packed(structs, numbers, index, packed, width)):
             told[row] = number

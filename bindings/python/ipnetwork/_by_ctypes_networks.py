@@ -16,7 +16,7 @@ from typing import TYPE_CHECKING, ClassVar, Generic, SupportsIndex, TypeVar, Uni
 
 from ._by_ctypes_library import V4 as StructV4
 from ._by_ctypes_library import V6 as StructV6
-from ._by_ctypes_library import Either, answered, flat, library
+from ._by_ctypes_library import Either, answered, flat, library, unmapped_octets
 from ._errors import error
 
 if TYPE_CHECKING:
@@ -41,7 +41,23 @@ def no_member(address: object) -> bool:
     a network are no members; else TypeError."""
     if isinstance(address, (IPv4Address, IPv6Address, Network, IPv4Network, IPv6Network)):
         return False
-    raise TypeError(f"an address is IPv4Address or IPv6Address, not {type(address)!r}")
+    raise no_address(address)
+
+
+def no_address(given: object) -> TypeError:
+    """The error of what is no address."""
+    return TypeError(f"an address is IPv4Address or IPv6Address, not {type(given)!r}")
+
+
+def unmapped(address: Union[IPv4Address, IPv6Address]) -> Union[IPv4Address, IPv6Address]:
+    """The IPv4 address that an IPv4-mapped one stands for; any other, and one with a zone, as it
+    is."""
+    if not isinstance(address, (IPv4Address, IPv6Address)):
+        raise no_address(address)
+    if address.version == 6 and address._scope_id is None:
+        octets = unmapped_octets(address.packed)
+        return address if octets is None else IPv4Address(octets)
+    return address
 
 
 class Network(Generic[Address]):

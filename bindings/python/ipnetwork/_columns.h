@@ -203,14 +203,24 @@ static PyObject *index_of(PyObject *module, PyObject *arguments) {
     return list_index_object(width, blocks, (size_t)length / (width + 1));
 }
 
-/* The blocks of a set of addresses of both families, as `aggregate` and `operate` leave them, with their indexes. */
+/* Whether what stands at a place of a tuple is True, put where the last argument says; 0 with TypeError if nothing does. */
+static int truth_at(PyObject *given, Py_ssize_t place, int *truth) {
+    PyObject *item = PyTuple_Check(given) && place < PyTuple_Size(given) ? PyTuple_GetItem(given, place) : NULL;
+    if (item == NULL) return PyErr_SetString(PyExc_TypeError, "a search ends with a truth value"), 0;
+    *truth = item == Py_True;
+    return 1;
+}
+
+/* The blocks of a set of addresses of both families, as `aggregate` and `operate` leave them, with their indexes; and
+ * whether an IPv4-mapped address counts as the IPv4 address. */
 typedef struct {
     searched_list fours, sixes;
+    int mapped;
 } Set;
 
 /* The set that a tuple of bytes is; 0 with TypeError of another object. */
 static int parse_set(PyObject *given, Set *set) {
-    return list_at(given, 0, 1, 4, &set->fours) && list_at(given, 2, 3, 16, &set->sixes);
+    return list_at(given, 0, 1, 4, &set->fours) && list_at(given, 2, 3, 16, &set->sixes) && truth_at(given, 4, &set->mapped);
 }
 
 /* Raises that a row of a column is no address as `read_rows` leaves it; of one without an address
@@ -223,10 +233,13 @@ static void no_such_row(Py_ssize_t row, uint8_t length) {
 /* A row without an address is no member. IPNETWORK_NO_FAMILY where there is neither an address of 4
  * or 16 octets nor none. */
 static inline ipnetwork_fault set_has(const Set *set, const ipnetwork_address *address, uint8_t *answer) {
+    uint8_t octets[16]; /* a call that is not made takes so many */
     *answer = 0;
     if (address->length == 4) return list_contains(&set->fours, address->octets, answer);
-    if (address->length == 16) return list_contains(&set->sixes, address->octets, answer);
-    return address->length == 0 ? IPNETWORK_OK : IPNETWORK_NO_FAMILY;
+    if (address->length != 16) return address->length == 0 ? IPNETWORK_OK : IPNETWORK_NO_FAMILY;
+    if (set->mapped && ipnetwork_v6_unmapped(address->octets, octets) == IPNETWORK_OK)
+        return list_contains(&set->fours, octets, answer);
+    return list_contains(&set->sixes, address->octets, answer);
 }
 
 /* Whether the set has all members of a network: whether one of its blocks has, since they are the
@@ -288,6 +301,57 @@ static PyObject *set_contains_column(PyObject *module, PyObject *arguments) {
     }
     PyBuffer_Release(&column);
     return answers;
+}
+
+/* ---- IPv4-mapped addresses ---- */
+
+/* unmapped(address): the IPv4 address that an IPv4-mapped one stands for; any other, and one with a zone, as it is. */
+static PyObject *unmapped(PyObject *module, PyObject *given) {
+    State *state = PyModule_GetState(module);
+    ipnetwork_address address;
+    uint8_t octets[4];
+    int kind = address_of(state, given, &address);
+    if (kind == HAS_RAISED) return NULL;
+    if (kind == NO_ADDRESS) return no_address(given), NULL;
+    if (kind == IS_ADDRESS && address.length == 16 && ipnetwork_v6_unmapped(address.octets, octets) == IPNETWORK_OK)
+        return address_object(state, octets, 4);
+    return again(given);
+}
+
+/* Puts the addresses of a column unmapped; 0 with the first row that is none, and no row without an address. */
+static int unmap_rows(const ipnetwork_address *addresses, size_t count, ipnetwork_address *rows, size_t *row) {
+    for (*row = 0; *row < count; ++*row) {
+        rows[*row] = addresses[*row];
+        if (addresses[*row].length != 0
+            && ipnetwork_address_unmapped(&addresses[*row], &rows[*row]) != IPNETWORK_OK)
+            return 0;
+    }
+    return 1;
+}
+
+/* unmapped_rows(addresses): the same of a column of addresses, which are as `read_rows` leaves them. */
+static PyObject *unmapped_rows(PyObject *module, PyObject *given) {
+    (void)module;
+    PyObject *rows = NULL;
+    Py_buffer column;
+    if (!bytes_of(given, &column)) return NULL;
+    size_t count = (size_t)column.len / sizeof(ipnetwork_address), row;
+    if ((size_t)column.len % sizeof(ipnetwork_address) != 0) {
+        PyErr_Format(PyExc_ValueError, "%zd bytes are no column of addresses of 17 bytes", column.len);
+    } else if ((rows = PyByteArray_FromStringAndSize(NULL, column.len)) != NULL) {
+        const ipnetwork_address *addresses = column.buf;
+        ipnetwork_address *room = (ipnetwork_address *)PyByteArray_AsString(rows);
+        int all;
+        Py_BEGIN_ALLOW_THREADS
+        all = unmap_rows(addresses, count, room, &row);
+        Py_END_ALLOW_THREADS
+        if (!all) {
+            no_such_row((Py_ssize_t)row, addresses[row].length);
+            Py_CLEAR(rows);
+        }
+    }
+    PyBuffer_Release(&column);
+    return rows;
 }
 
 #endif

@@ -169,7 +169,8 @@ static PyMethodDef calls[] = {
     {"set_contains", set_contains, METH_VARARGS,
      OF_MODULE("set_contains", "search, asked",
                "Whether a set has an address, or each address of a network. A search of a set is\n"
-               "the blocks of IPv4 and their index, and those of IPv6.")},
+               "the blocks of IPv4 and their index, those of IPv6, and whether an IPv4-mapped\n"
+               "address counts as the IPv4 address.")},
     {"set_contains_column", set_contains_column, METH_VARARGS,
      OF_MODULE("set_contains_column", "search, addresses",
                "For each address of a column a byte: 1 if a set has it, else 0.")},
@@ -183,10 +184,17 @@ static PyMethodDef calls[] = {
     {"table_find", table_find, METH_VARARGS,
      OF_MODULE("table_find", "search, address",
                "The number of the longest network that has an address, or -1. A search of a table\n"
-               "is what ``ranges`` gives of IPv4, and of IPv6.")},
+               "is what ``ranges`` gives of IPv4, and of IPv6, and whether an IPv4-mapped address\n"
+               "counts as the IPv4 address.")},
     {"table_find_column", table_find_column, METH_VARARGS,
      OF_MODULE("table_find_column", "search, addresses",
                "The same of each address of a column.")},
+    {"unmapped", unmapped, METH_O,
+     OF_MODULE("unmapped", "address",
+               "The IPv4 address that an IPv4-mapped IPv6 address, of ``::ffff:0:0/96``, stands for, and\n"
+               "any other address as it is, as is one with a zone.")},
+    {"unmapped_rows", unmapped_rows, METH_O,
+     OF_MODULE("unmapped_rows", "addresses", "The same of each address of a column.")},
     {"longest_key", longest_key, METH_VARARGS,
      OF_MODULE("longest_key", "keys, fours, sixes, asked",
                "Of the keys of a dict that of the longest network with all of what is asked about.")},

@@ -19,6 +19,7 @@ if TYPE_CHECKING:
 Address = TypeVar("Address", IPv4Address, IPv6Address)
 EitherAddress = Union[IPv4Address, IPv6Address]
 _Kind = TypeVar("_Kind")
+_Asked = TypeVar("_Asked")
 
 
 def packed(kind: Union[type[EitherAddress], tuple[type, ...]], address: EitherAddress) -> bytes:
@@ -211,6 +212,33 @@ if TYPE_CHECKING:
 
 else:
     ip_network = core.ip_network
+
+
+if TYPE_CHECKING:
+
+    @overload
+    def unmapped(address: IPv4Address) -> IPv4Address:
+        ...
+
+    @overload
+    def unmapped(address: IPv6Address) -> EitherAddress:
+        ...
+
+    def unmapped(address: EitherAddress) -> EitherAddress:
+        """The IPv4 address that an IPv4-mapped IPv6 address, of ``::ffff:0:0/96``, stands for, and
+        any other address as it is, as is one with a zone."""
+
+else:
+    unmapped = core.unmapped
+
+
+def unmapped_network(asked: _Asked) -> Union[_Asked, IPv4Network]:
+    """The IPv4 network that a network of IPv4-mapped addresses stands for; all else as it is."""
+    if isinstance(asked, (IPv6Network, TheirV6)) and asked.prefixlen >= 96:
+        address = unmapped(asked.network_address)
+        if isinstance(address, IPv4Address):
+            return IPv4Network.of(address, asked.prefixlen - 96)
+    return asked
 
 
 def no_network(given: object) -> TypeError:

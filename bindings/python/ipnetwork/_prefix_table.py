@@ -3,6 +3,7 @@
 from __future__ import annotations
 
 from collections.abc import ItemsView, Iterable, Iterator, Mapping, MutableMapping, ValuesView
+from functools import partial
 from ipaddress import IPv4Address, IPv6Address, ip_address
 from ipaddress import IPv4Network as TheirV4
 from ipaddress import IPv6Network as TheirV6
@@ -10,7 +11,15 @@ from typing import TYPE_CHECKING, Any, NamedTuple, TypeVar, Union, overload
 
 from ._chosen import core
 from ._lock import new_lock
-from ._networks import Either, EitherAddress, IPv4Network, IPv6Network, no_network
+from ._networks import (
+    Either,
+    EitherAddress,
+    IPv4Network,
+    IPv6Network,
+    no_network,
+    unmapped,
+    unmapped_network,
+)
 from ._rows import addresses_of
 from ._tables import Search, blocks_of
 
@@ -25,7 +34,7 @@ _Default = TypeVar("_Default")
 Asked = Union[Either, TheirV4, TheirV6, EitherAddress]
 
 _NO_KEY: Any = object()
-_NONE = blocks_of(()).search()  # among no networks
+_NONE = blocks_of(()).search(False)  # among no networks
 _ADDRESSES = (IPv4Address, IPv6Address)
 _NETWORKS = (IPv4Network, IPv6Network)
 _ALL_NETWORKS = (IPv4Network, IPv6Network, TheirV4, TheirV6)
@@ -55,6 +64,10 @@ class PrefixTable(MutableMapping[Either, Value]):
     that has the address. To go through it gives the networks in the order in which they were put
     in, as of a ``dict``. An address cannot be put in, nor taken out.
 
+    With ``mapped``, an IPv4-mapped IPv6 address that is asked about counts as the IPv4 address:
+    without it, ``::ffff:10.1.2.3``, as a socket of both families tells an IPv4 peer, is found in no
+    IPv4 network.
+
     >>> table = PrefixTable({ip_network("10.0.0.0/8"): "lab"})
     >>> table[ip_network("10.1.9.32/16")] = "cellar"
     >>> table[IPv4Address("10.1.2.3")], table[IPv4Address("10.2.0.0")]
@@ -65,11 +78,15 @@ class PrefixTable(MutableMapping[Either, Value]):
     [IPv4Network('10.0.0.0/8'), IPv4Network('10.1.0.0/16')]
     """
 
-    __slots__ = ("__weakref__", "_asked", "_fours", "_lock", "_ready", "_sixes", "_values")
+    __slots__ = ("__weakref__", "_asked", "_fours", "_lock", "_mapped", "_ready", "_sixes", "_values")
 
     def __init__(
-        self, items: Union[Mapping[Either, Value], Iterable[tuple[Either, Value]]] = ()
+        self,
+        items: Union[Mapping[Either, Value], Iterable[tuple[Either, Value]]] = (),
+        *,
+        mapped: bool = False,
     ) -> None:
+        self._mapped = bool(mapped) or (isinstance(items, PrefixTable) and items._mapped)
         # The keys are the bytes of the structs of the networks.
         self._values: dict[bytes, Value] = {}
         # The prefix lengths of the keys of each family, and maybe others, in descending order.
@@ -106,11 +123,13 @@ class PrefixTable(MutableMapping[Either, Value]):
         self._asked += count
         if self._ready is None and self._asked * 8 >= len(self._values):
             keys = list(self._values)
-            self._ready, self._asked = _Ready(blocks_of(keys).search(), keys), 0
+            self._ready, self._asked = _Ready(blocks_of(keys).search(self._mapped), keys), 0
         return self._ready
 
     def _found(self, asked: object) -> Union[tuple[bytes, Value], None]:
         """The key of the longest network that has all of what is asked about, and its value."""
+        if self._mapped:
+            asked = unmapped(asked) if isinstance(asked, IPv6Address) else unmapped_network(asked)
         ready = self._ready
         if ready is not None and isinstance(asked, _ADDRESSES):
             number = core.table_find(ready.search, asked)
@@ -141,6 +160,11 @@ class PrefixTable(MutableMapping[Either, Value]):
             "a table is asked about a network, or an address of ipaddress, not "
             f"{type(asked).__name__}"
         )
+
+    @property
+    def mapped(self) -> bool:
+        """Whether an IPv4-mapped address that is asked about counts as the IPv4 address."""
+        return self._mapped
 
     # What a mapping has.
 
@@ -328,10 +352,11 @@ class PrefixTable(MutableMapping[Either, Value]):
 
     def __repr__(self) -> str:
         each = ", ".join(f"{network!r}: {value!r}" for network, value in self.items())
-        return f"{type(self).__name__}({{{each}}})"
+        return f"{type(self).__name__}({{{each}}}{', mapped=True' * self._mapped})"
 
     def __reduce__(self) -> tuple[Any, ...]:
-        return type(self), (), getattr(self, "__dict__", None), None, iter(self.items())
+        made = partial(type(self), mapped=True) if self._mapped else type(self)
+        return made, (), getattr(self, "__dict__", None), None, iter(self.items())
 
 
 class _Items(ItemsView[Either, Value]):

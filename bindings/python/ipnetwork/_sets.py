@@ -3,6 +3,7 @@
 from __future__ import annotations
 
 from collections.abc import Iterable, Iterator
+from functools import partial
 from ipaddress import IPv4Network as TheirV4
 from ipaddress import IPv6Network as TheirV6
 from typing import TYPE_CHECKING, Literal, Union
@@ -16,6 +17,7 @@ from ._networks import (
     no_network,
     of_rows,
     range_rows,
+    unmapped_network,
 )
 from ._rows import packed
 
@@ -25,6 +27,7 @@ if TYPE_CHECKING:
     from ._rows import Packed
 
 _ALL_FOURS, _ALL_SIXES = bytes(5), bytes(17)  # 0.0.0.0/0 and ::/0
+_ALL_MAPPED = bytes(10) + b"\xff\xff" + bytes(4) + b"\x60"  # ::ffff:0:0/96
 
 
 class AddressSet:
@@ -36,6 +39,11 @@ class AddressSet:
     how many they are. ``in`` takes an address, or a network of this package or of ``ipaddress``,
     which is in the set if all of its addresses are. ``<=`` and ``<`` tell whether one set is part
     of another. ``AddressSetBuilder`` makes a set by and by.
+
+    With ``mapped``, an IPv4-mapped IPv6 address that is asked about counts as the IPv4 address:
+    without it, ``::ffff:10.1.9.32``, as a socket of both families tells an IPv4 peer, is in no set
+    of IPv4 networks. It is a way of asking, which the sets made of this one keep, and no part of
+    the set: it changes neither its networks nor which sets are equal.
 
     The first question about an address or a network makes an index, which the set keeps: 16 bytes
     for each network, and at most 4 MB for a family.
@@ -53,16 +61,20 @@ class AddressSet:
     (True, True, 2)
     >>> allowed - AddressSet([ip_network("10.0.0.0/10"), ip_network("::/0")])
     AddressSet([IPv4Network('10.64.0.0/10'), IPv4Network('10.128.0.0/9')])
+    >>> peer = IPv6Address("::ffff:10.1.9.32")
+    >>> peer in one, peer in AddressSet(one, mapped=True)
+    (False, True)
     """
 
-    __slots__ = ("__weakref__", "_fours", "_search", "_sixes")
+    __slots__ = ("__weakref__", "_fours", "_mapped", "_search", "_sixes")
 
     _fours: bytes
     _sixes: bytes
+    _mapped: bool
     #: The blocks of both families with their indexes, once they were asked for.
-    _search: Union[tuple[bytes, bytes, bytes, bytes], None]
+    _search: Union[tuple[bytes, bytes, bytes, bytes, bool], None]
 
-    def __init__(self, networks: Iterable[Either] = ()) -> None:
+    def __init__(self, networks: Iterable[Either] = (), *, mapped: bool = False) -> None:
         if hasattr(self, "_fours"):
             raise TypeError("a set is made once, and does not change")
         fours: list[bytes] = []
@@ -75,27 +87,48 @@ class AddressSet:
             else:
                 raise no_network(network)
         self._sixes = core.aggregate(6, b"".join(sixes))
-        self._search = None
+        self._mapped, self._search = bool(mapped) or _is_mapped(networks), None
         self._fours = core.aggregate(4, b"".join(fours))
 
     @staticmethod
-    def _of(fours: bytes, sixes: bytes) -> AddressSet:
+    def _of(fours: bytes, sixes: bytes, mapped: bool = False) -> AddressSet:
         """The set of these blocks, which are the fewest with their addresses."""
         made = AddressSet.__new__(AddressSet)
-        made._fours, made._sixes, made._search = fours, sixes, None
+        made._fours, made._sixes, made._mapped, made._search = fours, sixes, mapped, None
         return made
 
-    def _indexed(self) -> tuple[bytes, bytes, bytes, bytes]:
+    @property
+    def mapped(self) -> bool:
+        """Whether an IPv4-mapped address that is asked about counts as the IPv4 address."""
+        return self._mapped
+
+    def _indexed(self) -> tuple[bytes, bytes, bytes, bytes, bool]:
         """The blocks with their indexes, which are made for the first question. Several threads may
         make them, all alike."""
         search = self._search
         if search is None:
             fours, sixes = self._fours, self._sixes
-            search = self._search = (fours, core.index(4, fours), sixes, core.index(6, sixes))
+            indexes = core.index(4, fours), core.index(6, sixes)
+            search = self._search = fours, indexes[0], sixes, indexes[1], self._mapped
         return search
 
+    def _has(self, asked: object) -> bool:
+        """Whether an address is one of the set, or each address of a network."""
+        search = self._search or self._indexed()
+        if not self._mapped or not isinstance(asked, (IPv6Network, TheirV6)):
+            return core.set_contains(search, asked)
+        asked = unmapped_network(asked)
+        row = core.block_row(asked)
+        if row is None or core.is_empty("&", 6, row if len(row) == 17 else b"", _ALL_MAPPED):
+            return core.set_contains(search, asked)
+        # Of a network with all IPv4-mapped addresses and others these are asked about as IPv4's.
+        rest = core.operate("-", 6, row, _ALL_MAPPED)
+        return self._fours == _ALL_FOURS and core.is_empty("-", 6, rest, self._sixes)
+
     @staticmethod
-    def of_ranges(ranges: Iterable[tuple[EitherAddress, EitherAddress]]) -> AddressSet:
+    def of_ranges(
+        ranges: Iterable[tuple[EitherAddress, EitherAddress]], *, mapped: bool = False
+    ) -> AddressSet:
         """The addresses of ranges, each given as its first and its last address. NetworkError,
         which is a ValueError, if the first of one comes after its last; TypeError if they are of
         two families.
@@ -107,12 +140,14 @@ class AddressSet:
         for first, last in ranges:
             blocks = range_rows(first, last)
             rows[first.version].append(blocks)
-        return AddressSet._of(*(core.aggregate(each, b"".join(rows[each])) for each in (4, 6)))
+        blocks = (core.aggregate(each, b"".join(rows[each])) for each in (4, 6))
+        return AddressSet._of(*blocks, bool(mapped))
 
     def _operated(self, operation: str, other: AddressSet) -> AddressSet:
         return AddressSet._of(
             core.operate(operation, 4, self._fours, other._fours),
             core.operate(operation, 6, self._sixes, other._sixes),
+            self._mapped or other._mapped,
         )
 
     def _has_none(self, operation: str, other: AddressSet) -> bool:
@@ -124,6 +159,8 @@ class AddressSet:
     def __contains__(self, asked: object) -> bool:
         """Whether an address is one of the set, or each address of a network. None with a zone
         is."""
+        if self._mapped:
+            return self._has(asked)
         return core.set_contains(self._search or self._indexed(), asked)
 
     def covers(self, network: Union[Either, TheirV4, TheirV6]) -> bool:
@@ -134,7 +171,7 @@ class AddressSet:
         """
         if not isinstance(network, (IPv4Network, IPv6Network, TheirV4, TheirV6)):
             raise TypeError(f"a network is asked about, not {type(network).__name__}")
-        return core.set_contains(self._search or self._indexed(), network)
+        return self._has(network)
 
     def contains_column(self, addresses: Packed) -> bytearray:
         """For each address of a column a byte: 1 if it is one of the set, else 0. The column is a
@@ -176,7 +213,7 @@ class AddressSet:
             raise ValueError(f"version is 4 or 6, for a family, or None, not {version!r}")
         fours = b"" if version == 6 else core.operate("-", 4, _ALL_FOURS, self._fours)
         sixes = b"" if version == 4 else core.operate("-", 6, _ALL_SIXES, self._sixes)
-        return AddressSet._of(fours, sixes)
+        return AddressSet._of(fours, sixes, self._mapped)
 
     def __invert__(self) -> AddressSet:
         """The addresses of both families that the set has not."""
@@ -222,6 +259,7 @@ class AddressSet:
         return AddressSet._of(
             core.aggregate(4, b"".join([one._fours for one in each])),
             core.aggregate(6, b"".join([one._sixes for one in each])),
+            any(one._mapped for one in each),
         )
 
     def intersection(self, *others: Iterable[Either]) -> AddressSet:
@@ -286,10 +324,15 @@ class AddressSet:
         return hash((self._fours, self._sixes))
 
     def __repr__(self) -> str:
-        return f"{type(self).__name__}({list(self)!r})"
+        return f"{type(self).__name__}({list(self)!r}{', mapped=True' * self._mapped})"
 
     def __reduce__(self) -> tuple[Any, ...]:
-        return type(self), (list(self),), getattr(self, "__dict__", None)
+        made = partial(type(self), mapped=True) if self._mapped else type(self)
+        return made, (list(self),), getattr(self, "__dict__", None)
+
+
+def _is_mapped(networks: Iterable[Either]) -> bool:
+    return isinstance(networks, AddressSet) and networks._mapped
 
 
 def _follows(address: EitherAddress, last: EitherAddress) -> bool:

@@ -72,10 +72,12 @@ static PyObject *ranges(PyObject *module, PyObject *arguments) {
     return all;
 }
 
-/* A search of a table: its ranges of both families, the number of each and their indexes, as `ranges` leaves them. */
+/* A search of a table: its ranges of both families, the number of each and their indexes, as `ranges` leaves them; and
+ * whether an IPv4-mapped address counts as the IPv4 address. */
 typedef struct {
     searched_list fours, sixes;
     const int64_t *four_numbers, *six_numbers;
+    int mapped;
 } Table;
 
 /* The search that a tuple of bytes is; 0 with an exception of another object. */
@@ -83,7 +85,8 @@ static int parse_table(PyObject *given, Table *table) {
     const char *four_numbers, *six_numbers;
     Py_ssize_t lengths[2];
     if (!list_at(given, 0, 2, 4, &table->fours) || !list_at(given, 3, 5, 16, &table->sixes)
-        || !bytes_at(given, 1, &four_numbers, &lengths[0]) || !bytes_at(given, 4, &six_numbers, &lengths[1]))
+        || !bytes_at(given, 1, &four_numbers, &lengths[0]) || !bytes_at(given, 4, &six_numbers, &lengths[1])
+        || !truth_at(given, 6, &table->mapped))
         return 0;
     table->four_numbers = (const int64_t *)four_numbers, table->six_numbers = (const int64_t *)six_numbers;
     if ((size_t)lengths[0] / sizeof(int64_t) >= table->fours.count && (size_t)lengths[1] / sizeof(int64_t) >= table->sixes.count)
@@ -95,7 +98,10 @@ static int parse_table(PyObject *given, Table *table) {
 /* The number of the longest network that has an address, or -1; a row without an address has
  * none. IPNETWORK_NO_FAMILY where there is neither an address of 4 or 16 octets nor none. */
 static inline ipnetwork_fault table_has(const Table *table, const ipnetwork_address *address, int64_t *number) {
+    uint8_t octets[16]; /* a call that is not made takes so many */
     if (address->length == 4) *number = number_of(&table->fours, table->four_numbers, address->octets);
+    else if (address->length == 16 && table->mapped && ipnetwork_v6_unmapped(address->octets, octets) == IPNETWORK_OK)
+        *number = number_of(&table->fours, table->four_numbers, octets);
     else if (address->length == 16) *number = number_of(&table->sixes, table->six_numbers, address->octets);
     else *number = -1;
     return address->length == 4 || address->length == 16 || address->length == 0 ? IPNETWORK_OK : IPNETWORK_NO_FAMILY;
@@ -154,11 +160,15 @@ static ipnetwork_fault numbers_of(const searched_list *ranges, const int64_t *nu
 static ipnetwork_fault table_has_rows(const Table *table, const ipnetwork_address *addresses, size_t count,
                                       int64_t *told, size_t *row) {
     Asked fours, sixes;
+    uint8_t octets[16]; /* a call that is not made takes so many */
     fours.count = sixes.count = 0;
     for (*row = 0; *row < count; ++*row) {
         const ipnetwork_address *address = &addresses[*row];
         told[*row] = -1;
         if (address->length == 4) ask(&fours, *row, address->octets, 4);
+        else if (address->length == 16 && table->mapped
+                 && ipnetwork_v6_unmapped(address->octets, octets) == IPNETWORK_OK)
+            ask(&fours, *row, octets, 4);
         else if (address->length == 16) ask(&sixes, *row, address->octets, 16);
         else if (address->length != 0) return IPNETWORK_NO_FAMILY;
     }

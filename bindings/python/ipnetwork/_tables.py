@@ -4,6 +4,7 @@ from __future__ import annotations
 
 from array import array
 from collections.abc import Iterable, Sequence
+from functools import partial
 from typing import TYPE_CHECKING, Generic, NamedTuple, TypeVar, Union, overload
 
 from ._chosen import core
@@ -29,15 +30,16 @@ class _Blocks(NamedTuple):
     sixes: bytes
     six_numbers: bytes
 
-    def search(self) -> Search:
-        """The search among these networks."""
+    def search(self, mapped: bool) -> Search:
+        """The search among these networks; with ``mapped``, an IPv4-mapped address counts as the
+        IPv4 address."""
         fours = core.ranges(4, self.fours, self.four_numbers)
-        return Search(*fours, *core.ranges(6, self.sixes, self.six_numbers))
+        return Search(*fours, *core.ranges(6, self.sixes, self.six_numbers), mapped)
 
 
 class Search(NamedTuple):
     """The ranges of addresses that have the same longest network, the number of that network, or
-    -1, and an index of the ranges."""
+    -1, and an index of the ranges; and whether an IPv4-mapped address counts as the IPv4 address."""
 
     fours: bytes
     four_numbers: bytes
@@ -45,6 +47,7 @@ class Search(NamedTuple):
     sixes: bytes
     six_numbers: bytes
     six_index: bytes
+    mapped: bool
 
     def find_column(self, addresses: ReadableBuffer) -> bytearray:
         """The number for each address of a column, as numbers of 64 bits."""
@@ -95,6 +98,10 @@ class Table(Generic[Value]):
     The first question makes an index, which the table keeps: at most 58 bytes for each IPv4
     network, and 82 for each IPv6.
 
+    With ``mapped``, an IPv4-mapped IPv6 address that is asked about counts as the IPv4 address:
+    without it, ``::ffff:10.1.2.3``, as a socket of both families tells an IPv4 peer, is found in no
+    IPv4 network.
+
     >>> networks = [ip_network(text) for text in ("10.0.0.0/8", "2001:db8::/32", "10.1.9.32/16")]
     >>> table = Table(networks, ["lab", "office", "cellar"])
     >>> table.find(IPv4Address("10.1.2.3")), table.find(IPv4Address("8.8.8.8"))
@@ -103,30 +110,37 @@ class Table(Generic[Value]):
     ['cellar', None, None, 'office']
     """
 
-    __slots__ = ("__weakref__", "_blocks", "_search", "_values")
+    __slots__ = ("__weakref__", "_blocks", "_mapped", "_search", "_values")
 
     _blocks: _Blocks
+    _mapped: bool
     #: The search among the blocks, once it was asked for.
     _search: Union[Search, None]
     _values: Union[list[Value], None]
 
     @overload
-    def __init__(self: Table[None], networks: Iterable[Either]) -> None:
+    def __init__(self: Table[None], networks: Iterable[Either], *, mapped: bool = ...) -> None:
         ...
 
     @overload
-    def __init__(self, networks: Iterable[Either], values: Iterable[Value]) -> None:
+    def __init__(
+        self, networks: Iterable[Either], values: Iterable[Value], *, mapped: bool = ...
+    ) -> None:
         ...
 
     def __init__(
-        self, networks: Iterable[Either], values: Union[Iterable[Value], None] = None
+        self,
+        networks: Iterable[Either],
+        values: Union[Iterable[Value], None] = None,
+        *,
+        mapped: bool = False,
     ) -> None:
         if hasattr(self, "_blocks"):
             raise TypeError("a table is made once, and does not change")
         rows, kept = list(map(_row, networks)), None if values is None else list(values)
         if kept is not None and len(kept) != len(rows):
             raise ValueError(f"there are {len(kept)} values for {len(rows)} networks")
-        self._values, self._search = kept, None
+        self._values, self._mapped, self._search = kept, bool(mapped), None
         self._blocks = blocks_of(rows)
 
     def _made(self) -> Search:
@@ -134,8 +148,13 @@ class Table(Generic[Value]):
         alike."""
         search = self._search
         if search is None:
-            search = self._search = self._blocks.search()
+            search = self._search = self._blocks.search(self._mapped)
         return search
+
+    @property
+    def mapped(self) -> bool:
+        """Whether an IPv4-mapped address that is asked about counts as the IPv4 address."""
+        return self._mapped
 
     def find(self, address: object) -> Union[int, None]:
         """The number of the longest network that has an address; None if none has it, as none has
@@ -183,4 +202,5 @@ class Table(Generic[Value]):
         numbers = [*memoryview(four_numbers).cast("q"), *memoryview(six_numbers).cast("q")]
         each = [rows[place] for place in sorted(range(len(rows)), key=numbers.__getitem__)]
         given = (each,) if self._values is None else (each, self._values)
-        return type(self), given, getattr(self, "__dict__", None)
+        made = partial(type(self), mapped=True) if self._mapped else type(self)
+        return made, given, getattr(self, "__dict__", None)

@@ -32,6 +32,7 @@ from typing import TYPE_CHECKING, Any, Literal, Union
 import numpy
 
 from . import AddressSet, IPv4Network, IPv6Network, Table, read_address_column
+from ._chosen import core
 from ._rows import laid_out
 
 if TYPE_CHECKING:
@@ -82,10 +83,11 @@ def _of_numbers(given: object, numbers: int) -> NDArray[numpy.uint8]:
 
 
 def read_addresses(
-    texts: Column, *, numbers: Numbers = None
+    texts: Column, *, numbers: Numbers = None, mapped: bool = False
 ) -> tuple[NDArray[numpy.uint8], NDArray[numpy.bool_]]:
     """The addresses of a column, and whether there is one in each row. An address is 17 bytes, as
-    ``ipnetwork.read_address_column`` gives them.
+    ``ipnetwork.read_address_column`` gives them. With ``mapped``, an IPv4-mapped address is the
+    IPv4 address.
 
     >>> addresses, present = read_addresses(["8.8.8.8", "8.8.8"])
     >>> addresses[0, :4].tolist(), present.tolist()
@@ -93,34 +95,55 @@ def read_addresses(
     """
     if numbers is not None:
         packed = _of_numbers(texts, numbers)
-        return packed, numpy.ones(len(packed), numpy.bool_)
+        return _unmapped(packed, mapped), numpy.ones(len(packed), numpy.bool_)
     whole, offsets = layout(texts)
-    addresses, faults = read_address_column(whole, offsets.data)
+    addresses, faults = read_address_column(whole, offsets.data, mapped=mapped)
     rows = numpy.frombuffer(addresses, numpy.uint8).reshape(-1, _ROW)
     return rows, numpy.frombuffer(faults, numpy.uint8) == 0
 
 
-def _addresses(given: Column, numbers: Numbers) -> NDArray[numpy.uint8]:
+def _unmapped(rows: NDArray[numpy.uint8], mapped: bool) -> NDArray[numpy.uint8]:
+    """The same addresses; with ``mapped``, an IPv4-mapped one is the IPv4 address."""
+    if not mapped:
+        return rows
+    return numpy.frombuffer(core.unmapped_rows(rows.data), numpy.uint8).reshape(-1, _ROW)
+
+
+def _addresses(given: Column, numbers: Numbers, mapped: bool) -> NDArray[numpy.uint8]:
     """The addresses of a column, or those that ``read_addresses`` gave."""
     if numbers is not None or not isinstance(given, numpy.ndarray):
-        return read_addresses(given, numbers=numbers)[0]
+        return read_addresses(given, numbers=numbers, mapped=mapped)[0]
     if given.dtype != numpy.uint8 or given.ndim != 2:
-        return read_addresses(given)[0]
+        return read_addresses(given, mapped=mapped)[0]
     if given.shape[1] != _ROW:
         raise TypeError(f"addresses of read_addresses have {_ROW} bytes each, not {given.shape[1]}")
-    return numpy.ascontiguousarray(given)
+    return _unmapped(numpy.ascontiguousarray(given), mapped)
 
 
 def is_member(
-    given: Column, which: Union[AddressSet, IPv4Network, IPv6Network], *, numbers: Numbers = None
+    given: Column,
+    which: Union[AddressSet, IPv4Network, IPv6Network],
+    *,
+    numbers: Numbers = None,
+    mapped: bool = False,
 ) -> NDArray[numpy.bool_]:
     """Whether each row of a column is an address of a set, or of a network. The column is as the
-    module says, or of addresses as ``read_addresses`` gives them."""
+    module says, or of addresses as ``read_addresses`` gives them. With ``mapped``, or of a set with
+    it, an IPv4-mapped address counts as the IPv4 address.
+
+    >>> is_member(["::ffff:10.1.9.32"], tens).tolist()
+    [False]
+    >>> is_member(["::ffff:10.1.9.32"], tens, mapped=True).tolist()
+    [True]
+    """
     chosen = which if isinstance(which, AddressSet) else AddressSet([which])
-    return numpy.frombuffer(chosen.contains_column(_addresses(given, numbers).data), numpy.bool_)
+    addresses = _addresses(given, numbers, mapped)
+    return numpy.frombuffer(chosen.contains_column(addresses.data), numpy.bool_)
 
 
-def find(given: Column, table: Table[Any], *, numbers: Numbers = None) -> NDArray[numpy.int64]:
+def find(
+    given: Column, table: Table[Any], *, numbers: Numbers = None, mapped: bool = False
+) -> NDArray[numpy.int64]:
     """Of each row of a column the number of the longest network of a table that has the address,
     or -1. The column is as for ``is_member``.
 
@@ -133,4 +156,5 @@ def find(given: Column, table: Table[Any], *, numbers: Numbers = None) -> NDArra
         raise TypeError(
             f"find takes a Table, not {type(table).__name__}: a PrefixTable gives values, by join"
         )
-    return numpy.frombuffer(table.find_column(_addresses(given, numbers).data), numpy.int64)
+    addresses = _addresses(given, numbers, mapped)
+    return numpy.frombuffer(table.find_column(addresses.data), numpy.int64)
