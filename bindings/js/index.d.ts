@@ -50,6 +50,11 @@ export abstract class IpAddress {
   /** A copy of the octets, 4 or 16, the highest first. */
   readonly octets: Uint8Array;
   /**
+   * The IPv4 address that an IPv4-mapped one, of ::ffff:0:0/96, stands for (RFC 4291, section
+   * 2.5.5.2), and any other as it is.
+   */
+  readonly unmapped: Ipv4Address | Ipv6Address;
+  /**
    * -1 if this address comes before the other, 1 if after, 0 if they are equal. IPv4 comes before
    * IPv6.
    */
@@ -73,6 +78,7 @@ export class Ipv4Address extends IpAddress {
   static tryParse(text: string): Ipv4Address | undefined;
   static fromOctets(octets: Uint8Array): Ipv4Address;
   readonly family: 4;
+  readonly unmapped: Ipv4Address;
   /** The address as a number. */
   readonly number: number;
 }
@@ -189,13 +195,23 @@ export class Ipv6Network extends IpNetwork<Ipv6Address> {
   subnetAt(prefix: number, number: number | bigint): Ipv6Network | undefined;
 }
 
+/** How addresses are taken that are asked for. */
+export interface Mapped {
+  /**
+   * Whether an IPv4-mapped address, such as ::ffff:10.1.9.32, is taken for the IPv4 address that it
+   * stands for, as `unmapped` gives it. A server that listens on IPv6 tells its IPv4 peers so. The
+   * networks of a list are not changed. Not unless it is true.
+   */
+  readonly mapped?: boolean;
+}
+
 /**
  * A column of texts read as addresses in a few calls. It is also an iterable of what `at` gives.
  */
 export class AddressColumn implements Iterable<Ipv4Address | Ipv6Address | undefined> {
   private constructor();
   /** Reads a column. A text that names no address stops nothing. */
-  static read(texts: readonly string[]): AddressColumn;
+  static read(texts: readonly string[], options?: Mapped): AddressColumn;
   /** The number of rows. */
   readonly length: number;
   /** How many of them name no address. */
@@ -234,7 +250,9 @@ export type Networks = (Iterable<IpNetwork | string> & object) | NetworkColumn;
 /** A set of addresses of both families, kept as the fewest networks with exactly these. */
 export class AddressSet {
   /** The addresses of networks, in any order, host bits or not. */
-  constructor(networks?: Networks);
+  constructor(networks?: Networks, options?: Mapped);
+  /** Whether the option was given to it, or to a set that it is made of. */
+  readonly mapped: boolean;
   /** Whether an address lies in the set, by a binary search. */
   contains(address: IpAddress | string): boolean;
   /** Whether each member of a network lies in the set. */
@@ -250,7 +268,7 @@ export class AddressSet {
   intersection(other: AddressSet): AddressSet;
   /** The addresses of this set that the other has not. */
   difference(other: AddressSet): AddressSet;
-  /** Whether both have the same addresses. */
+  /** Whether both have the same addresses, whatever their options are. */
   equals(other: AddressSet): boolean;
   /** The number of addresses. */
   readonly size: bigint;
@@ -270,7 +288,9 @@ export class AddressSet {
 /** Networks with values, asked for the longest network that has an address. */
 export class PrefixTable<V> implements Iterable<[Ipv4Network | Ipv6Network, V]> {
   /** A table of pairs. Of pairs whose networks have the same members, the last one counts. */
-  constructor(entries?: Iterable<readonly [IpNetwork | string, V]>);
+  constructor(entries?: Iterable<readonly [IpNetwork | string, V]>, options?: Mapped);
+  /** Whether the option was given to it. */
+  readonly mapped: boolean;
   /**
    * The longest network with an address, without host bits, and its value; undefined if none has
    * it.

@@ -1,4 +1,4 @@
-import { addressCanonical, addressRead, v4Compare, v6Compare } from './library.mjs';
+import { addressCanonical, addressRead, v4Compare, v6Compare, v6Unmapped } from './library.mjs';
 import { ADDRESS, LITTLE, NUMBER, OTHER, bytes, view, words } from './memory.mjs';
 import { addressError, textOf, wrongType } from './errors.mjs';
 import { askText, printed } from './texts.mjs';
@@ -100,6 +100,12 @@ export class IpAddress {
   get octets() {
     putAddress(this, ADDRESS);
     return bytes.slice(ADDRESS, ADDRESS + (this.#family === 4 ? 4 : 16));
+  }
+
+  get unmapped() {
+    if (this.#family === 4) return this;
+    putAddress(this, ADDRESS);
+    return v6Unmapped(ADDRESS, 0, NUMBER, 0) === 0 ? addressAt(NUMBER, 4) : this;
   }
 
   compare(other) {
@@ -236,6 +242,15 @@ export function addressOf(value, name) {
   if (isAddress(value)) return value;
   if (typeof value !== 'string') throw wrongType(name, 'an IpAddress or a string', value);
   return IpAddress.parse(value);
+}
+
+/**
+ * The address that is asked for; where addresses are mapped, the IPv4 address in the place of an
+ * IPv4-mapped one.
+ */
+export function memberOf(value, mapped) {
+  const member = addressOf(value, 'address');
+  return mapped ? member.unmapped : member;
 }
 
 function requireAddress(value, name) {

@@ -13,6 +13,17 @@ export function wholeNumber(value, name) {
   return value;
 }
 
+/** Whether the options, of which there is one, say that IPv4-mapped addresses are IPv4 addresses. */
+export function mappedOf(options) {
+  if (options === undefined) return false;
+  if (typeof options !== 'object' || options === null) {
+    throw wrongType('options', 'an object', options);
+  }
+  const { mapped = false } = options;
+  if (typeof mapped !== 'boolean') throw wrongType('options.mapped', 'a boolean', mapped);
+  return mapped;
+}
+
 /** Writes a number to NUMBER as the calls of a family take it; whether it has room there. */
 export function putNumber(number, family) {
   if (family === 4) {

@@ -1,6 +1,7 @@
 import { addressReadColumn, readWithCauseColumn } from './library.mjs';
 import { ADDRESS, ANSWER, OTHER, bytes, view } from './memory.mjs';
 import { codeOf, never, wrongType } from './errors.mjs';
+import { mappedOf } from './arguments.mjs';
 import { MADE, addressAt } from './address.mjs';
 import { networkAt } from './network.mjs';
 import { KINDS, withCopy, withRoom } from './blocks.mjs';
@@ -38,8 +39,10 @@ export class AddressColumn {
     Object.freeze(this);
   }
 
-  static read(texts) {
-    return new AddressColumn(MADE, readRows(texts, ADDRESSES));
+  static read(texts, options = undefined) {
+    const mapped = mappedOf(options);
+    const rows = readRows(texts, ADDRESSES);
+    return new AddressColumn(MADE, mapped ? rows.unmapped : rows);
   }
 
   get length() {
@@ -126,9 +129,7 @@ function rowOf(row) {
 function structAt(rows, row, place, make) {
   const family = rows.families[rowOf(row)];
   if (family !== 4 && family !== 6) return undefined;
-  const { bytes: packed, struct } = rows.packed[family === 4 ? 0 : 1];
-  const from = rows.places[row] * struct;
-  for (let i = 0; i < struct; i += 1) bytes[place + i] = packed[from + i];
+  rows.packed[family === 4 ? 0 : 1].put(rows.places[row], place);
   return make(family);
 }
 
@@ -154,14 +155,21 @@ function printedAll(kind, packed) {
   return texts;
 }
 
-/** The rows of a column of addresses, or of texts that are read as one. */
-export function rowsOfAddresses(value) {
-  const rows = addressRows(value);
-  if (rows !== undefined) return rows;
+/**
+ * The rows of a column of addresses, or of texts that are read as one; where they are mapped, with
+ * the IPv4 address in the place of each IPv4-mapped one.
+ */
+export function rowsOfAddresses(value, mapped) {
+  const rows = addressRows(value) ?? addressRows(columnOf(value));
+  return mapped ? rows.unmapped : rows;
+}
+
+/** The column of an array of texts. */
+function columnOf(value) {
   if (!Array.isArray(value)) {
     throw wrongType('addresses', 'an AddressColumn or an array of strings', value);
   }
-  return addressRows(AddressColumn.read(value));
+  return AddressColumn.read(value);
 }
 
 /** The rows of a column of networks; undefined for any other value. */

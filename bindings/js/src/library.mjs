@@ -14,6 +14,7 @@ export const {
   ipnetwork_v6_read: v6Read,
   ipnetwork_read_with_cause: readWithCause,
   ipnetwork_address_read: addressRead,
+  ipnetwork_v6_unmapped: v6Unmapped,
   ipnetwork_v4_canonical: v4Canonical,
   ipnetwork_v6_canonical: v6Canonical,
   ipnetwork_address_canonical: addressCanonical,

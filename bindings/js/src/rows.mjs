@@ -1,4 +1,5 @@
-import { bytes, view } from './memory.mjs';
+import { v6Unmapped } from './library.mjs';
+import { NUMBER, OTHER, bytes, view } from './memory.mjs';
 import { never, wrongType } from './errors.mjs';
 import { withRoom } from './blocks.mjs';
 import { putText } from './texts.mjs';
@@ -36,6 +37,14 @@ class Packed {
     this.count += 1;
   }
 
+  /** Writes the one of this number to the memory. */
+  put(number, place) {
+    const { struct, bytes: from } = this;
+    const target = bytes;
+    const at = number * struct;
+    for (let i = 0; i < struct; i += 1) target[place + i] = from[at + i];
+  }
+
   get packed() {
     return this.bytes.subarray(0, this.count * this.struct);
   }
@@ -48,6 +57,8 @@ class Packed {
  * a struct, and how long that is.
  */
 export class Rows {
+  #unmapped;
+
   constructor(count, form) {
     this.count = count;
     this.form = form;
@@ -73,11 +84,43 @@ export class Rows {
       }
       const place = structs + i * struct;
       const four = bytes[place + tag] === 4;
-      const packed = four ? fours : sixes;
-      this.families[first + i] = four ? 4 : 6;
-      this.places[first + i] = packed.count;
-      packed.push(place + starts[four ? 0 : 1]);
+      this.#push(first + i, four ? 4 : 6, place + starts[four ? 0 : 1]);
     }
+  }
+
+  /**
+   * Of a column of addresses, these rows with the IPv4 address in the place of each IPv4-mapped
+   * one.
+   */
+  get unmapped() {
+    this.#unmapped ??= this.packed[1].count === 0 ? this : this.#unmap();
+    return this.#unmapped;
+  }
+
+  #unmap() {
+    const { count, families, places, packed: [fours, sixes] } = this;
+    const made = new Rows(count, this.form);
+    made.refused = this.refused;
+    made.faults = this.faults;
+    made.packed[0].reserve(fours.count + sixes.count);
+    made.packed[1].reserve(sixes.count);
+    for (let row = 0; row < count; row += 1) {
+      if (families[row] === 0) continue;
+      (families[row] === 4 ? fours : sixes).put(places[row], OTHER);
+      const isMapped = families[row] === 6 && v6Unmapped(OTHER, 0, NUMBER, 0) === 0;
+      if (isMapped) made.#push(row, 4, NUMBER);
+      else made.#push(row, families[row], OTHER);
+    }
+    made.#unmapped = made;
+    return made;
+  }
+
+  /** Takes over the struct of a row and a family from the memory. There has to be room for it. */
+  #push(row, family, place) {
+    const packed = this.packed[family === 4 ? 0 : 1];
+    this.families[row] = family;
+    this.places[row] = packed.count;
+    packed.push(place);
   }
 
   /** The packed structs of a family. */

@@ -1,7 +1,8 @@
 import { v4IndexContains, v4IsSubnetOf, v6IndexContains, v6IsSubnetOf } from './library.mjs';
 import { ADDRESS, ANSWER, NUMBER, OTHER, bitsOf, bytes, view } from './memory.mjs';
 import { IpNetworkError, networkError, never, wrongType } from './errors.mjs';
-import { MADE, addressOf, familyOf, putAddress } from './address.mjs';
+import { mappedOf } from './arguments.mjs';
+import { MADE, addressOf, familyOf, memberOf, putAddress } from './address.mjs';
 import { familyOfNetwork, networkAt, networkOf, putNetwork } from './network.mjs';
 import {
   KINDS, aggregated, combined, eachOf, networksOf, packedOf, sameBlocks, withRoom,
@@ -25,8 +26,10 @@ export function packedNetworks(value, name) {
   return KINDS.map((kind) => rows.packedOf(kind));
 }
 
-/* Friend of the class: it reaches its lists. */
+/* Friends of the class: the lists of a set, undefined for any other value; and whether it is
+ * mapped. */
 let listsOf;
+let isMapped;
 
 /**
  * A set of addresses of both families, kept as the fewest networks with exactly these. It does not
@@ -34,18 +37,22 @@ let listsOf;
  */
 export class AddressSet {
   #lists;
+  #mapped;
   #freed = false;
 
   static {
+    isMapped = (set) => set.#mapped;
     listsOf = (value) => (
       typeof value === 'object' && value !== null && #lists in value ? value.#used() : undefined
     );
   }
 
-  constructor(networks = [], lists = undefined) {
+  constructor(networks = [], options = undefined, lists = undefined) {
     if (networks === MADE) {
+      this.#mapped = options;
       this.#lists = lists;
     } else {
+      this.#mapped = mappedOf(options);
       const packed = packedNetworks(networks, 'networks');
       this.#lists = KINDS.map((kind, which) => aggregated(kind, packed[which]));
     }
@@ -53,7 +60,7 @@ export class AddressSet {
   }
 
   contains(address) {
-    const member = addressOf(address, 'address');
+    const member = memberOf(address, this.#mapped);
     const list = this.#used()[familyOf(member) === 4 ? 0 : 1];
     const { index, indexCount, place, count } = list;
     putAddress(member, ADDRESS);
@@ -79,7 +86,7 @@ export class AddressSet {
   }
 
   containsColumn(addresses) {
-    const rows = rowsOfAddresses(addresses);
+    const rows = rowsOfAddresses(addresses, this.#mapped);
     const lists = this.#used();
     return eachRow(rows, lists.map((list) => answersOf(list, rows)), Uint8Array, 0);
   }
@@ -99,6 +106,10 @@ export class AddressSet {
   equals(other) {
     const lists = requireLists(other);
     return this.#used().every((list, which) => sameBlocks(list, lists[which]));
+  }
+
+  get mapped() {
+    return this.#mapped;
   }
 
   get size() {
@@ -130,7 +141,8 @@ export class AddressSet {
   #combined(other, name) {
     const lists = requireLists(other);
     return new AddressSet(
-      MADE, this.#used().map((list, which) => combined(list, lists[which], name)),
+      MADE, this.#mapped || isMapped(other),
+      this.#used().map((list, which) => combined(list, lists[which], name)),
     );
   }
 }

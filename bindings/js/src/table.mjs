@@ -1,7 +1,8 @@
 import { v4Compare, v6Compare } from './library.mjs';
 import { ADDRESS, NUMBER, bytes, view } from './memory.mjs';
 import { IpNetworkError, never, wrongType } from './errors.mjs';
-import { addressOf, familyOf, putAddress } from './address.mjs';
+import { mappedOf } from './arguments.mjs';
+import { familyOf, memberOf, putAddress } from './address.mjs';
 import { familyOfNetwork, isNetwork, networkOf, putNetwork } from './network.mjs';
 import { Blocks, KINDS, elementOf, isIterable, packedOf, withRoom } from './blocks.mjs';
 import { eachChunkOf, eachRow, rowsOfAddresses } from './columns.mjs';
@@ -70,12 +71,14 @@ class FamilyTable {
 /** Networks with values, asked for the longest network that has an address. It does not change. */
 export class PrefixTable {
   #tables;
+  #mapped;
   #freed = false;
 
-  constructor(entries = []) {
+  constructor(entries = [], options = undefined) {
     if (isNetwork(entries) || !isIterable(entries)) {
       throw wrongType('entries', 'an iterable of pairs of a network and a value', entries);
     }
+    this.#mapped = mappedOf(options);
     const pairs = [];
     for (const entry of entries) pairs.push(pairOf(entry, pairs.length));
     this.#tables = KINDS.map((kind) => new FamilyTable(kind, pairs));
@@ -83,7 +86,7 @@ export class PrefixTable {
   }
 
   lookup(address) {
-    const member = addressOf(address, 'address');
+    const member = memberOf(address, this.#mapped);
     const table = this.#used()[familyOf(member) === 4 ? 0 : 1];
     putAddress(member, ADDRESS);
     const index = table.find(ADDRESS);
@@ -91,7 +94,7 @@ export class PrefixTable {
   }
 
   lookupColumn(addresses) {
-    const rows = rowsOfAddresses(addresses);
+    const rows = rowsOfAddresses(addresses, this.#mapped);
     const tables = this.#used();
     const found = tables.map((table) => table.findColumn(rows));
     return eachRow(rows, found, Array, undefined);
@@ -104,6 +107,10 @@ export class PrefixTable {
 
   has(network) {
     return this.#exactly(network)[1] >= 0;
+  }
+
+  get mapped() {
+    return this.#mapped;
   }
 
   get size() {

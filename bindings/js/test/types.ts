@@ -14,6 +14,11 @@ const either: Ipv4Address | Ipv6Address = network.mask;
 const nothing: Ipv6Network | undefined = Ipv6Network.tryParse('x');
 for (const address of four) address.number.toFixed();
 for (const subnet of four.subnets(16)) subnet.first.number.toFixed();
+const peer: Ipv4Address | Ipv6Address = six.unmapped;
+first.unmapped.number.toFixed();
+const mapped = new AddressSet(['10.0.0.0/8'], { mapped: true }).mapped;
+new PrefixTable([['10.0.0.0/8', 1]], { mapped: true }).lookup(peer);
+AddressColumn.read(['::1'], { mapped });
 const relation: 'same' | 'inside' | 'around' | 'apart' = network.relationTo(four);
 const sorted: IpNetwork[] = [network, four].sort(IpNetwork.compare);
 const set = new AddressSet([network, '10.0.0.0/8']).union(
@@ -45,6 +50,10 @@ new Ipv4Address(1n);
 new AddressSet(four);
 // @ts-expect-error a single text is no list
 new AddressSet('10.0.0.0/8');
+// @ts-expect-error an option is a boolean
+new AddressSet([], { mapped: 1 });
+// @ts-expect-error there is no such option
+new PrefixTable([], { map: true });
 // @ts-expect-error a column is an array of texts
 set.containsColumn([1]);
 // @ts-expect-error the value of this table is no number
