@@ -1,10 +1,12 @@
 import {
-  indexSize, v4Aggregate, v4Difference, v4IndexContainsColumn, v4IndexFind, v4IndexFindColumn,
-  v4IndexMake, v4Intersection, v4PrintColumn, v4RangeToBlocks, v4Union, v6Aggregate, v6Difference,
-  v6IndexContainsColumn, v6IndexFind, v6IndexFindColumn, v6IndexMake, v6Intersection,
-  v6PrintColumn, v6RangeToBlocks, v6Union,
+  indexSize, v4Aggregate, v4Difference, v4IndexContainsColumn, v4IndexFind, v4IndexMake,
+  v4Intersection, v4Network, v4PrintColumn, v4RangeToBlocks, v4RangesFind, v4RangesFindColumn,
+  v4RangesMake, v4TableMake, v4Union, v6Aggregate, v6Difference, v6IndexContainsColumn,
+  v6IndexFind, v6IndexMake, v6Intersection, v6Network, v6PrintColumn, v6RangeToBlocks,
+  v6RangesFind, v6RangesFindColumn, v6RangesMake, v6TableMake, v6Union,
 } from './library.mjs';
 import { ANSWER, OTHER, bytes, giveBack, take, view } from './memory.mjs';
+import { Standing } from './standing.mjs';
 import { IpNetworkError, never, wrongType } from './errors.mjs';
 import { familyOfNetwork, isNetwork, networkAt, networkOf, putNetwork } from './network.mjs';
 
@@ -14,98 +16,75 @@ import { familyOfNetwork, isNetwork, networkAt, networkOf, putNetwork } from './
  */
 const FOUR = {
   family: 4, octets: 4, struct: 5, width: 32, textRoom: 20,
-  aggregate: v4Aggregate, union: v4Union, intersection: v4Intersection,
+  first: v4Network, aggregate: v4Aggregate, union: v4Union, intersection: v4Intersection,
   difference: v4Difference, indexMake: v4IndexMake, indexFind: v4IndexFind,
-  indexFindColumn: v4IndexFindColumn, indexContainsColumn: v4IndexContainsColumn,
-  printColumn: v4PrintColumn, rangeToBlocks: v4RangeToBlocks,
+  indexContainsColumn: v4IndexContainsColumn, printColumn: v4PrintColumn,
+  rangeToBlocks: v4RangeToBlocks, tableMake: v4TableMake, rangesMake: v4RangesMake,
+  rangesFind: v4RangesFind, rangesFindColumn: v4RangesFindColumn,
 };
 const SIX = {
   family: 6, octets: 16, struct: 17, width: 128, textRoom: 44,
-  aggregate: v6Aggregate, union: v6Union, intersection: v6Intersection,
+  first: v6Network, aggregate: v6Aggregate, union: v6Union, intersection: v6Intersection,
   difference: v6Difference, indexMake: v6IndexMake, indexFind: v6IndexFind,
-  indexFindColumn: v6IndexFindColumn, indexContainsColumn: v6IndexContainsColumn,
-  printColumn: v6PrintColumn, rangeToBlocks: v6RangeToBlocks,
+  indexContainsColumn: v6IndexContainsColumn, printColumn: v6PrintColumn,
+  rangeToBlocks: v6RangeToBlocks, tableMake: v6TableMake, rangesMake: v6RangesMake,
+  rangesFind: v6RangesFind, rangesFindColumn: v6RangesFindColumn,
 };
 export const KINDS = [FOUR, SIX];
 
 const SHORT_BUFFER = 4;
 
-/* Lists that stand in the memory, the one that has stood there longest first, and the most that
- * may stand there. */
-const standing = new Set();
-const MOST_LISTS = 4096;
-const MOST_BYTES = 64 * 1024 * 1024;
-let standingBytes = 0;
-const registry = new FinalizationRegistry(leave);
+/** The packed network of this number. One that was freed is an error. */
+export function blockAt({ struct, family }, packed, number) {
+  const from = number * struct;
+  if (from >= packed.length) throw new IpNetworkError('what is listed was freed', 'freed');
+  for (let i = 0; i < struct; i += 1) bytes[OTHER + i] = packed[from + i];
+  return networkAt(OTHER, family);
+}
 
 /**
  * Networks of one family, packed, as the library keeps them. A list that is asked stands in the
- * memory too.
+ * memory too: an index, by which the library searches it, and after that the networks.
  */
-export class Blocks {
+export class Blocks extends Standing {
   constructor(kind, packed) {
+    const count = packed.length / kind.struct;
+    never(indexSize(count, 0, ANSWER, 0));
+    const indexCount = counted();
+    super(4 * indexCount + packed.length);
     this.kind = kind;
     this.packed = packed;
-    this.count = packed.length / kind.struct;
-    never(indexSize(this.count, 0, ANSWER, 0));
-    this.indexCount = counted();
-    this.stand = { place: 0, length: 4 * this.indexCount + packed.length };
+    this.count = count;
+    this.indexCount = indexCount;
   }
 
-  /**
-   * The place in the memory of its index, by which the library searches it, and, after that, of the
-   * networks: there they stand from here on until others need the room.
-   */
+  /** The place of the index. */
   get index() {
-    const { stand } = this;
-    return stand.place !== 0 ? stand.place : enter(this);
+    return this.start;
   }
 
   /** The place of the networks. */
   get place() {
-    return this.index + 4 * this.indexCount;
+    return this.start + 4 * this.indexCount;
+  }
+
+  write(index) {
+    const place = index + 4 * this.indexCount;
+    bytes.set(this.packed, place);
+    never(this.kind.indexMake(place, 0, this.count, 0, index, 0, this.indexCount, 0));
   }
 
   /** The network of this number. */
   at(index) {
-    const { struct, family } = this.kind;
-    if (index >= this.count) throw new IpNetworkError('what is listed was freed', 'freed');
-    for (let i = 0; i < struct; i += 1) bytes[OTHER + i] = this.packed[index * struct + i];
-    return networkAt(OTHER, family);
+    return blockAt(this.kind, this.packed, index);
   }
 
   /** Gives its memory back. It has no networks from here on. */
   free() {
-    if (this.stand.place !== 0) leave(this.stand);
+    this.leave();
     this.packed = new Uint8Array(0);
     this.count = 0;
   }
-}
-
-function enter(list) {
-  const { stand, packed } = list;
-  for (const oldest of standing) {
-    if (standing.size < MOST_LISTS && standingBytes + stand.length <= MOST_BYTES) break;
-    leave(oldest);
-  }
-  const index = take(Math.max(stand.length, 1));
-  const place = index + 4 * list.indexCount;
-  bytes.set(packed, place);
-  never(list.kind.indexMake(place, 0, list.count, 0, index, 0, list.indexCount, 0));
-  stand.place = index;
-  standing.add(stand);
-  standingBytes += stand.length;
-  registry.register(list, stand, stand);
-  return stand.place;
-}
-
-function leave(stand) {
-  if (stand.place === 0) return;
-  giveBack(stand.place, Math.max(stand.length, 1));
-  stand.place = 0;
-  standing.delete(stand);
-  standingBytes -= stand.length;
-  registry.unregister(stand);
 }
 
 /**
@@ -137,7 +116,8 @@ function withList(list, use) {
   return list.stand.place !== 0 ? use(list.place) : withCopy(list.packed, use);
 }
 
-const counted = () => view.getUint32(ANSWER, true);
+/** The number that a call has written to ANSWER. */
+export const counted = () => view.getUint32(ANSWER, true);
 
 /** The least list with the addresses of these packed networks. */
 export function aggregated(kind, packed) {

@@ -1,70 +1,60 @@
-import { v4Compare, v6Compare } from './library.mjs';
-import { ADDRESS, NUMBER, bytes, view } from './memory.mjs';
+import { ADDRESS, OTHER, bytes } from './memory.mjs';
 import { IpNetworkError, never, wrongType } from './errors.mjs';
 import { mappedOf } from './arguments.mjs';
 import { familyOf, memberOf, putAddress } from './address.mjs';
 import { familyOfNetwork, isNetwork, networkOf, putNetwork } from './network.mjs';
-import { Blocks, KINDS, elementOf, isIterable, packedOf, withRoom } from './blocks.mjs';
-import { eachChunkOf, eachRow, rowsOfAddresses } from './columns.mjs';
+import { KINDS, blockAt, elementOf, isIterable, packedOf, withCopy } from './blocks.mjs';
+import { eachRow, rowsOfAddresses } from './columns.mjs';
+import { tableOf } from './ranges.mjs';
+import { textAt } from './texts.mjs';
 
-/** The blocks of a family with their values, in order, each once: of equal ones the last. */
+/** The blocks of a family with their values, in order, of equal ones in that of the pairs. */
 class FamilyTable {
+  #places;
+
   constructor(kind, pairs) {
-    const given = pairs.filter(([block]) => familyOfNetwork(block) === kind.family);
-    /* Equal blocks stay in the order in which they were given. */
-    given.sort(([one], [other]) => one.compare(other));
-    const kept = given.filter(([block], at) => (
-      at + 1 === given.length || !block.equals(given[at + 1][0])
-    ));
-    this.list = new Blocks(kind, packedOf(kept.map(([block]) => block), kind));
-    this.values = kept.map(([, value]) => value);
-  }
-
-  /** The number of the longest block with the address at this place, or -1. */
-  find(address) {
-    const { index, indexCount, place, count, kind } = this.list;
-    const fault = kind.indexFind(
-      place, 0, count, 0, index, 0, indexCount, 0, address, 0, NUMBER, 0,
+    const given = pairs.filter(([network]) => familyOfNetwork(network) === kind.family);
+    const { blocks, numbers, ranges } = tableOf(
+      kind, packedOf(given.map(([network]) => network), kind),
     );
-    return fault === 0 ? view.getUint32(NUMBER, true) : -1;
+    this.kind = kind;
+    this.blocks = blocks;
+    this.values = Array.from(numbers, (number) => given[number][1]);
+    this.ranges = ranges;
   }
 
-  /** The number of the block that equals the one at this place, or -1. */
-  indexOf(block) {
-    const { place, count, kind } = this.list;
-    const compare = kind.family === 4 ? v4Compare : v6Compare;
-    let low = 0;
-    let high = count;
-    while (low < high) {
-      const middle = Math.floor((low + high) / 2);
-      never(compare(place + middle * kind.struct, 0, block, 0, NUMBER, 0));
-      const order = view.getInt32(NUMBER, true);
-      if (order === 0) return middle;
-      if (order < 0) low = middle + 1;
-      else high = middle;
-    }
-    return -1;
+  /** The block at this place. */
+  at(place) {
+    return blockAt(this.kind, this.blocks, place);
   }
 
-  /** For each address of the family the value of the longest block, or undefined. */
-  findColumn(rows) {
-    const { kind } = this.list;
-    const found = new Array(rows.packedOf(kind).length / kind.octets);
-    if (found.length === 0) return found;
-    const { values } = this;
-    const { index: start, indexCount, place, count } = this.list;
-    eachChunkOf(rows, kind, (addresses, length, first) => withRoom(length * 9, (room) => {
-      const faults = room + 8 * length;
-      never(kind.indexFindColumn(
-        place, 0, count, 0, start, 0, indexCount, 0, addresses, 0, length, 0,
-        room, 0, length, 0, faults, 0, length, 0,
-      ));
-      for (let i = 0; i < length; i += 1) {
-        const index = view.getUint32(room + 8 * i, true);
-        found[first + i] = bytes[faults + i] === 0 ? values[index] : undefined;
-      }
-    }));
-    return found;
+  /** The places by the packed blocks as texts, in their order: of equal blocks the last place. */
+  get places() {
+    this.#places ??= this.#placed();
+    return this.#places;
+  }
+
+  #placed() {
+    const { struct } = this.kind;
+    return withCopy(this.blocks, (start) => {
+      const places = new Map();
+      this.values.forEach((_, place) => places.set(textAt(start + struct * place, struct), place));
+      return places;
+    });
+  }
+
+  /** The place of the block with the members of a network, or undefined. */
+  placeOf(network) {
+    const { octets, struct, first } = this.kind;
+    putNetwork(network, OTHER);
+    never(first(OTHER, 0, ADDRESS, 0));
+    bytes[ADDRESS + octets] = bytes[OTHER + octets];
+    return this.places.get(textAt(ADDRESS, struct));
+  }
+
+  free() {
+    this.ranges.free();
+    this.blocks = new Uint8Array(0);
   }
 }
 
@@ -89,24 +79,24 @@ export class PrefixTable {
     const member = memberOf(address, this.#mapped);
     const table = this.#used()[familyOf(member) === 4 ? 0 : 1];
     putAddress(member, ADDRESS);
-    const index = table.find(ADDRESS);
-    return index < 0 ? undefined : { network: table.list.at(index), value: table.values[index] };
+    const place = table.ranges.find(ADDRESS);
+    return place < 0 ? undefined : { network: table.at(place), value: table.values[place] };
   }
 
   lookupColumn(addresses) {
     const rows = rowsOfAddresses(addresses, this.#mapped);
     const tables = this.#used();
-    const found = tables.map((table) => table.findColumn(rows));
+    const found = tables.map((table) => table.ranges.findColumn(rows, table.values));
     return eachRow(rows, found, Array, undefined);
   }
 
   get(network) {
-    const [table, index] = this.#exactly(network);
-    return index < 0 ? undefined : table.values[index];
+    const [table, place] = this.#exactly(network);
+    return table.values[place];
   }
 
   has(network) {
-    return this.#exactly(network)[1] >= 0;
+    return this.#exactly(network)[1] !== undefined;
   }
 
   get mapped() {
@@ -114,13 +104,13 @@ export class PrefixTable {
   }
 
   get size() {
-    return this.#used().reduce((sum, table) => sum + table.list.count, 0);
+    return this.#used().reduce((sum, table) => sum + table.places.size, 0);
   }
 
   * entries() {
     for (const which of [0, 1]) {
-      const { list, values } = this.#used()[which];
-      for (let index = 0; index < values.length; index += 1) yield [list.at(index), values[index]];
+      const table = this.#used()[which];
+      for (const place of table.places.values()) yield [table.at(place), table.values[place]];
     }
   }
 
@@ -130,7 +120,7 @@ export class PrefixTable {
 
   free() {
     this.#freed = true;
-    this.#tables.forEach((table) => table.list.free());
+    this.#tables.forEach((table) => table.free());
   }
 
   #used() {
@@ -139,18 +129,17 @@ export class PrefixTable {
   }
 
   #exactly(network) {
-    const { block } = networkOf(network, 'network');
-    const table = this.#used()[familyOfNetwork(block) === 4 ? 0 : 1];
-    putNetwork(block, ADDRESS);
-    return [table, table.indexOf(ADDRESS)];
+    const exact = networkOf(network, 'network');
+    const table = this.#used()[familyOfNetwork(exact) === 4 ? 0 : 1];
+    return [table, table.placeOf(exact)];
   }
 }
 
-/** The block and the value of an entry. */
+/** The network and the value of an entry. */
 function pairOf(entry, index) {
   if (entry === null || typeof entry !== 'object') {
     throw wrongType(`entries[${index}]`, 'a pair of a network and a value', entry);
   }
   const [network, value] = [entry[0], entry[1]];
-  return [(isNetwork(network) ? network : elementOf(network, 'entries', index)).block, value];
+  return [isNetwork(network) ? network : elementOf(network, 'entries', index), value];
 }

@@ -173,6 +173,42 @@ test('tables, beside a look at each network', () => {
   }
 });
 
+test('a table of many networks, many of them twice, in each other or of all addresses', () => {
+  const random = new Random(21);
+  for (let round = 0; round < 40; round += 1) {
+    const width = round % 2 === 0 ? 32 : 128;
+    const most = 2n ** BigInt(width) - 1n;
+    const address = (number) => (
+      width === 32 ? new Ipv4Address(Number(number)) : new Ipv6Address(number)
+    );
+    const networks = Array.from({ length: 1 + random.below(200) }, () => {
+      const prefix = random.below(4) === 0 ? random.below(width + 1) : width - random.below(9);
+      const low = BigInt(random.below(64));
+      return IpNetwork.parse(`${address(random.below(3) === 0 ? most - low : low)}/${prefix}`);
+    });
+    const table = new PrefixTable(networks.map((network, at) => [network, at]));
+    const ends = networks.flatMap(({ first, last }) => [BigInt(first.number), BigInt(last.number)]);
+    const asked = [0n, most, ...ends.flatMap((each) => [each - 1n, each, each + 1n])]
+      .filter((number) => number >= 0n && number <= most).map(address);
+    const wanted = asked.map((each) => networks.reduce((best, network, at) => (
+      network.contains(each) && !(networks[best]?.prefix > network.prefix) ? at : best
+    ), undefined));
+    assert.deepEqual(asked.map((each) => table.lookup(each)?.value), wanted);
+    assert.deepEqual(table.lookupColumn(asked.map(String)), wanted);
+    const last = new Map(networks.map((network, at) => [String(network.block), at]));
+    assert.equal(table.size, last.size);
+    for (const network of networks) {
+      assert.equal(table.get(network), last.get(String(network.block)));
+      const longer = network.prefix < width ? `${network.first}/${network.prefix + 1}` : '::/0';
+      assert.equal(table.has(longer), last.has(longer));
+    }
+    const entries = [...table].map(([network, value]) => [String(network), value]);
+    assert.deepEqual(entries, [...last].sort(
+      ([one], [other]) => IpNetwork.parse(one).compare(IpNetwork.parse(other))
+    ));
+  }
+});
+
 test('values of a table are kept as they are', () => {
   const value = { name: 'x' };
   const table = new PrefixTable(new Map([['10.0.0.0/8', value], ['10.0.0.0/9', undefined]]));

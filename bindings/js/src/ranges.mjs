@@ -1,0 +1,106 @@
+import { indexSize } from './library.mjs';
+import { ANSWER, NUMBER, bytes, view } from './memory.mjs';
+import { never } from './errors.mjs';
+import { Standing } from './standing.mjs';
+import { counted, withRoom } from './blocks.mjs';
+import { eachChunkOf } from './columns.mjs';
+
+/** So many numbers of the library's size_t from this place on. */
+const numbersAt = (place, count) => Uint32Array.from(
+  { length: count }, (_, at) => view.getUint32(place + 8 * at, true),
+);
+
+/**
+ * Ranges of addresses of one family, and beside each the place of the block that a search finds
+ * there, packed, as the library makes them of a table.
+ */
+class Ranges extends Standing {
+  constructor(kind, ranges, beside) {
+    const count = ranges.length / kind.struct;
+    never(indexSize(count, 0, ANSWER, 0));
+    const indexCount = counted();
+    super(beside.length + 4 * indexCount + ranges.length);
+    this.kind = kind;
+    this.ranges = ranges;
+    this.beside = beside;
+    this.count = count;
+    this.indexCount = indexCount;
+  }
+
+  /** What stands beside the ranges comes first, then their index, and then they. */
+  write(place) {
+    const index = place + this.beside.length;
+    const ranges = index + 4 * this.indexCount;
+    bytes.set(this.beside, place);
+    bytes.set(this.ranges, ranges);
+    never(this.kind.indexMake(ranges, 0, this.count, 0, index, 0, this.indexCount, 0));
+  }
+
+  /** The place of the longest block with the address at this place, or -1. */
+  find(address) {
+    const { start, kind, count, indexCount } = this;
+    const index = start + 8 * count;
+    const fault = kind.rangesFind(
+      index + 4 * indexCount, 0, count, 0, start, 0, count, 0, index, 0, indexCount, 0,
+      address, 0, NUMBER, 0,
+    );
+    return fault === 0 ? view.getUint32(NUMBER, true) : -1;
+  }
+
+  /** For each address of the family the value that belongs to that block, or undefined. */
+  findColumn(rows, values) {
+    const { kind, count, indexCount } = this;
+    const found = new Array(rows.packedOf(kind).length / kind.octets);
+    if (found.length === 0) return found;
+    const { start } = this;
+    const index = start + 8 * count;
+    eachChunkOf(rows, kind, (addresses, length, first) => withRoom(length * 9, (room) => {
+      const faults = room + 8 * length;
+      never(kind.rangesFindColumn(
+        index + 4 * indexCount, 0, count, 0, start, 0, count, 0, index, 0, indexCount, 0,
+        addresses, 0, length, 0, room, 0, length, 0, faults, 0, length, 0,
+      ));
+      const [places, refused] = [view, bytes];
+      for (let i = 0; i < length; i += 1) {
+        found[first + i] = refused[faults + i] === 0
+          ? values[places.getUint32(room + 8 * i, true)] : undefined;
+      }
+    }));
+    return found;
+  }
+
+  /** Gives its memory back. It has no range from here on. */
+  free() {
+    this.leave();
+    this.ranges = this.beside = new Uint8Array(0);
+    this.count = 0;
+  }
+}
+
+/**
+ * The table of these packed networks: its blocks, packed, the number of the network of each, and
+ * the ranges by which the longest one is found, of equal ones the last.
+ */
+export function tableOf(kind, packed) {
+  const { struct } = kind;
+  const count = packed.length / struct;
+  return withRoom((24 + 4 * struct) * count, (numbers) => {
+    const places = numbers + 8 * count;
+    const networks = places + 16 * count;
+    const blocks = networks + struct * count;
+    const ranges = blocks + struct * count;
+    bytes.set(packed, networks);
+    never(kind.tableMake(networks, 0, count, 0, blocks, 0, count, 0, numbers, 0, count, 0));
+    never(kind.rangesMake(
+      blocks, 0, count, 0, ranges, 0, 2 * count, 0, places, 0, 2 * count, 0, ANSWER, 0,
+    ));
+    const made = counted();
+    return {
+      blocks: bytes.slice(blocks, ranges),
+      numbers: numbersAt(numbers, count),
+      ranges: new Ranges(
+        kind, bytes.slice(ranges, ranges + struct * made), bytes.slice(places, places + 8 * made),
+      ),
+    };
+  });
+}
