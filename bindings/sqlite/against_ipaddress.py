@@ -52,6 +52,16 @@ def address_of(database, text):
         return None
 
 
+def printed(database, text, address):
+    """What is printed of the blob of an address, and of what it stands for if it is IPv4-mapped."""
+    unmapped = getattr(address, "ipv4_mapped", None) or address
+    asked = "cidr_print(cidr_addr(?1)), cidr_unmapped(?1), cidr_unmapped(cidr_addr(?1))"
+    own = database.execute(f"SELECT {asked}", (text,)).fetchone()
+    first, second = (canonical(each, each.max_prefixlen).rpartition("/")[0] for each in (address, unmapped))
+    if own != (first, second, blob(unmapped)):
+        differ("what is printed", text, own, (first, second, blob(unmapped)))
+
+
 def texts(database, rows, rng):
     """Texts, of which about half name a network: those that do, and those that do not."""
     seen = [0, 0]
@@ -76,6 +86,12 @@ def texts(database, rows, rng):
         named = other is not None and "/" not in text
         if address_of(database, text) != (blob(other[0]) if named else None):
             differ("the address", text, address_of(database, text), other)
+        or_null = database.execute("SELECT cidr_text_or_null(?1), cidr_addr_or_null(?1)", (text,)).fetchone()
+        wanted = answers(kind(other))[0] if other is not None else None, blob(other[0]) if named else None
+        if or_null != wanted:
+            differ("the reading or NULL", text, or_null, wanted)
+        if named:
+            printed(database, text, other[0])
         seen[other is not None] += 1
     return seen
 

@@ -79,19 +79,24 @@ static const char *name_of_type(int type) {
     switch (type) {
     case SQLITE_INTEGER: return "an integer";
     case SQLITE_FLOAT: return "a real number";
+    case SQLITE_TEXT: return "a text";
     case SQLITE_BLOB: return "a blob";
     default: return "a value of no known type";
     }
 }
 
+/* The error of an argument, counted from 0, of another type than this. */
+static void refuse_type(sqlite3_context *context, sqlite3_value **values, int argument, const char *wanted) {
+    char message[MESSAGE];
+    sqlite3_snprintf(MESSAGE, message, "%s, argument %d: %s, not %s", name_of_call(context), argument + 1,
+                     name_of_type(sqlite3_value_type(values[argument])), wanted);
+    sqlite3_result_error(context, message, -1);
+}
+
 /* Whether an argument is a text; if not, the call ends in an error. */
 static int take_text(sqlite3_context *context, sqlite3_value **values, int argument, struct text *text) {
-    int type = sqlite3_value_type(values[argument]);
-    if (type != SQLITE_TEXT) {
-        char message[MESSAGE];
-        sqlite3_snprintf(MESSAGE, message, "%s, argument %d: %s, not a text", name_of_call(context),
-                         argument + 1, name_of_type(type));
-        sqlite3_result_error(context, message, -1);
+    if (sqlite3_value_type(values[argument]) != SQLITE_TEXT) {
+        refuse_type(context, values, argument, "a text");
         return 0;
     }
     text->bytes = (const char *)sqlite3_value_text(values[argument]);
@@ -125,6 +130,26 @@ static int take_address(sqlite3_context *context, sqlite3_value **values, int ar
     return fault == IPNETWORK_OK;
 }
 
+/* Whether an argument, which is a blob, is one of give_address; if not, the call ends in an error. */
+static int take_blob(sqlite3_context *context, sqlite3_value **values, int argument, ipnetwork_address *address) {
+    const uint8_t *blob = sqlite3_value_blob(values[argument]);
+    int length = sqlite3_value_bytes(values[argument]);
+    if (blob == NULL && length > 0) {
+        sqlite3_result_error_nomem(context);
+        return 0;
+    }
+    if ((length != 5 || blob[0] != 4) && (length != 17 || blob[0] != 6)) {
+        char message[MESSAGE];
+        sqlite3_snprintf(MESSAGE, message, "%s, argument %d: a blob of %d bytes that is no address",
+                         name_of_call(context), argument + 1, length);
+        sqlite3_result_error(context, message, -1);
+        return 0;
+    }
+    address->length = (uint8_t)(length - 1);
+    memcpy(address->octets, blob + 1, address->length);
+    return 1;
+}
+
 /* Whether a call of the library gave an answer. The library refuses no struct that it has read itself, so that this
  * error is for a library that is not the one of the header. */
 static int is_answered(sqlite3_context *context, ipnetwork_fault fault) {
@@ -145,13 +170,35 @@ static void give_address(sqlite3_context *context, const ipnetwork_address *addr
     sqlite3_result_blob(context, blob, 1 + address->length, SQLITE_TRANSIENT);
 }
 
-static void answer_text(sqlite3_context *context, sqlite3_value **values) {
-    ipnetwork_ip network;
+/* An address as its canonical text. */
+static void give_address_text(sqlite3_context *context, const ipnetwork_address *address) {
+    char text[IPNETWORK_ADDRESS_TEXT];
+    size_t length;
+    if (is_answered(context, ipnetwork_address_canonical(address, text, sizeof text, &length)))
+        sqlite3_result_text(context, text, (int)length, SQLITE_TRANSIENT);
+}
+
+/* A network as its canonical text. */
+static void give_network(sqlite3_context *context, const ipnetwork_ip *network) {
     char text[IPNETWORK_V6_TEXT];
     size_t length;
-    if (take_network(context, values, 0, &network) &&
-        is_answered(context, ipnetwork_canonical(&network, text, sizeof text, &length)))
+    if (is_answered(context, ipnetwork_canonical(network, text, sizeof text, &length)))
         sqlite3_result_text(context, text, (int)length, SQLITE_TRANSIENT);
+}
+
+static void answer_text(sqlite3_context *context, sqlite3_value **values) {
+    ipnetwork_ip network;
+    if (take_network(context, values, 0, &network))
+        give_network(context, &network);
+}
+
+/* NULL, the result that SQLite has where none is given, for what is no text of a network. */
+static void answer_text_or_null(sqlite3_context *context, sqlite3_value **values) {
+    struct text text;
+    ipnetwork_ip network;
+    if (sqlite3_value_type(values[0]) == SQLITE_TEXT && take_text(context, values, 0, &text) &&
+        ipnetwork_read_with_cause(text.bytes, text.length, &network) == IPNETWORK_OK)
+        give_network(context, &network);
 }
 
 static void answer_has(sqlite3_context *context, sqlite3_value **values) {
@@ -191,6 +238,34 @@ static void answer_addr(sqlite3_context *context, sqlite3_value **values) {
         give_address(context, &address);
 }
 
+/* NULL for what is no text of an address. */
+static void answer_addr_or_null(sqlite3_context *context, sqlite3_value **values) {
+    struct text text;
+    ipnetwork_address address;
+    if (sqlite3_value_type(values[0]) == SQLITE_TEXT && take_text(context, values, 0, &text) &&
+        ipnetwork_address_read(text.bytes, text.length, &address) == IPNETWORK_OK)
+        give_address(context, &address);
+}
+
+static void answer_print(sqlite3_context *context, sqlite3_value **values) {
+    ipnetwork_address address;
+    if (sqlite3_value_type(values[0]) != SQLITE_BLOB)
+        refuse_type(context, values, 0, "a blob");
+    else if (take_blob(context, values, 0, &address))
+        give_address_text(context, &address);
+}
+
+/* A text for a text, and a blob for a blob. */
+static void answer_unmapped(sqlite3_context *context, sqlite3_value **values) {
+    ipnetwork_address address, unmapped;
+    int type = sqlite3_value_type(values[0]);
+    if (type != SQLITE_TEXT && type != SQLITE_BLOB)
+        refuse_type(context, values, 0, "a text or a blob");
+    else if ((type == SQLITE_TEXT ? take_address : take_blob)(context, values, 0, &address) &&
+             is_answered(context, ipnetwork_address_unmapped(&address, &unmapped)))
+        (type == SQLITE_TEXT ? give_address_text : give_address)(context, &unmapped);
+}
+
 static void answer_prefix(sqlite3_context *context, sqlite3_value **values) {
     ipnetwork_ip network;
     if (take_network(context, values, 0, &network))
@@ -203,7 +278,7 @@ static void answer_family(sqlite3_context *context, sqlite3_value **values) {
         sqlite3_result_int(context, network.family);
 }
 
-/* NULL, the result that SQLite has where none is given, if the text names a network. */
+/* NULL if the text names a network. */
 static void answer_cause(sqlite3_context *context, sqlite3_value **values) {
     struct text text;
     ipnetwork_ip network;
@@ -221,6 +296,9 @@ static const struct function functions[] = {
     {"cidr_text", 1, answer_text},     {"cidr_has", 2, answer_has},       {"cidr_covers", 2, answer_covers},
     {"cidr_first", 1, answer_first},   {"cidr_last", 1, answer_last},     {"cidr_addr", 1, answer_addr},
     {"cidr_prefix", 1, answer_prefix}, {"cidr_family", 1, answer_family}, {"cidr_cause", 1, answer_cause},
+    {"cidr_print", 1, answer_print},   {"cidr_unmapped", 1, answer_unmapped},
+    {"cidr_text_or_null", 1, answer_text_or_null},
+    {"cidr_addr_or_null", 1, answer_addr_or_null},
 };
 
 /* What SQLite calls for each of them. The result is NULL if an argument is. */

@@ -76,7 +76,10 @@ static const struct row rows[] = {
     {"cidr_addr('10.1.9.32')", "X'040A010920'"},
     {"cidr_addr('2001:db8::1')", "X'0620010DB8000000000000000000000001'"},
     {"cidr_addr('::ffff:10.1.9.32')", "X'0600000000000000000000FFFF0A010920'"},
-    /* The expression that README.md has for logs with rows without an address. */
+    /* Logs with rows without an address. */
+    {"(SELECT group_concat(hex(cidr_addr_or_null(client))) FROM (SELECT column1 AS client FROM"
+     " (VALUES ('10.1.9.32'), ('-'), ('10.1.9.32/8'), (''), (NULL), (10))))",
+     "'040A010920,,,,,'"},
     {"(SELECT group_concat(hex(CASE WHEN cidr_cause(client) IS NULL AND instr(client, '/') = 0"
      " THEN cidr_addr(client) END)) FROM (SELECT column1 AS client FROM"
      " (VALUES ('10.1.9.32'), ('-'), ('10.1.9.32/8'), (''), (NULL))))",
@@ -89,6 +92,57 @@ static const struct row rows[] = {
     {"cidr_addr('a00::1') BETWEEN cidr_first('10.0.0.0/8') AND cidr_last('10.0.0.0/8')", "0"},
     {"cidr_addr('10.9.8.7') BETWEEN cidr_first('::/0') AND cidr_last('::/0')", "0"},
     {"cidr_addr('10.9.8.7') BETWEEN cidr_first('10.0.0.0/8') AND cidr_last('10.0.0.0/8')", "1"},
+
+    /* RFC 4291, section 2.5.5.2: what an IPv4-mapped address stands for; any other one is as it is. */
+    {"cidr_unmapped('::ffff:129.144.52.38')", "'129.144.52.38'"},
+    {"cidr_unmapped('0:0:0:0:0:FFFF:7F00:1')", "'127.0.0.1'"},
+    {"cidr_unmapped('::ffff:0:0')", "'0.0.0.0'"},
+    {"cidr_unmapped('::fffe:ffff:ffff')", "'::fffe:ffff:ffff'"},
+    {"cidr_unmapped('::127.0.0.1')", "'::7f00:1'"},
+    {"cidr_unmapped('64:ff9b::127.0.0.1')", "'64:ff9b::7f00:1'"},
+    {"cidr_unmapped('2001:DB8::1')", "'2001:db8::1'"},
+    {"cidr_unmapped('10.1.9.32')", "'10.1.9.32'"},
+    {"cidr_unmapped(cidr_addr('::ffff:10.1.9.32'))", "X'040A010920'"},
+    {"cidr_unmapped(cidr_addr('2001:db8::1'))", "X'0620010DB8000000000000000000000001'"},
+    {"cidr_unmapped(cidr_addr('10.1.9.32'))", "X'040A010920'"},
+    {"cidr_has('10.0.0.0/8', cidr_unmapped('::ffff:10.1.9.32'))", "1"},
+    {"cidr_unmapped(cidr_addr('::ffff:10.1.9.32')) BETWEEN cidr_first('10.0.0.0/8') AND cidr_last('10.0.0.0/8')", "1"},
+
+    /* An address by its blob. */
+    {"cidr_print(cidr_addr('10.1.9.32'))", "'10.1.9.32'"},
+    {"cidr_print(cidr_first('10.1.9.32/8'))", "'10.0.0.0'"},
+    {"cidr_print(cidr_last('2001:DB8::/32'))", "'2001:db8:ffff:ffff:ffff:ffff:ffff:ffff'"},
+    {"cidr_print(cidr_addr('::ffff:10.1.9.32'))", "'::ffff:10.1.9.32'"},
+    {"cidr_print(X'06' || zeroblob(16))", "error: cidr_print, argument 1: a text, not a blob"},
+    {"cidr_print(X'0600000000000000000000000000000000')", "'::'"},
+    {"cidr_print(X'040A0109')", "error: cidr_print, argument 1: a blob of 4 bytes that is no address"},
+    {"cidr_print(X'060A010920')", "error: cidr_print, argument 1: a blob of 5 bytes that is no address"},
+    {"cidr_print(X'0400000000000000000000000000000000')",
+     "error: cidr_print, argument 1: a blob of 17 bytes that is no address"},
+    {"cidr_print(X'0A010920')", "error: cidr_print, argument 1: a blob of 4 bytes that is no address"},
+    {"cidr_print(X'')", "error: cidr_print, argument 1: a blob of 0 bytes that is no address"},
+    {"cidr_print(zeroblob(17))", "error: cidr_print, argument 1: a blob of 17 bytes that is no address"},
+
+    /* NULL in the place of an error, whatever is wrong, and else the same. */
+    {"cidr_text_or_null('10.1.9.32/255.255.0.0')", "'10.1.9.32/16'"},
+    {"cidr_text_or_null('2001:DB8::1/064')", "'2001:db8::1/64'"},
+    {"cidr_text_or_null('10/8')", "NULL"},
+    {"cidr_text_or_null('10.0.0.0/33')", "NULL"},
+    {"cidr_text_or_null('10.0.0.0/8/8')", "NULL"},
+    {"cidr_text_or_null('')", "NULL"},
+    {"cidr_text_or_null(10)", "NULL"},
+    {"cidr_text_or_null(0.5)", "NULL"},
+    {"cidr_text_or_null(cidr_addr('10.1.9.32'))", "NULL"},
+    {"cidr_first(cidr_text_or_null('10.1.9.32/8'))", "X'040A000000'"},
+    {"cidr_first(cidr_text_or_null('-'))", "NULL"},
+    {"cidr_addr_or_null('10.1.9.32')", "X'040A010920'"},
+    {"cidr_addr_or_null('::ffff:10.1.9.32')", "X'0600000000000000000000FFFF0A010920'"},
+    {"cidr_addr_or_null('10.1.9.32/32')", "NULL"},
+    {"cidr_addr_or_null('-')", "NULL"},
+    {"cidr_addr_or_null('')", "NULL"},
+    {"cidr_addr_or_null(167772160)", "NULL"},
+    {"cidr_addr_or_null(x'31302e302e302e30')", "NULL"},
+    {"cidr_unmapped(cidr_addr_or_null('-'))", "NULL"},
 
     {"cidr_prefix('10.1.9.32')", "32"},
     {"cidr_prefix('10.1.9.32/255.255.255.254')", "31"},
@@ -145,6 +199,8 @@ static const struct row rows[] = {
     {"cidr_covers('::', '::/200')", "error: cidr_covers, argument 2: no prefix length of the family: '::/200'"},
     {"cidr_addr('10.0.0.0/8')", "error: cidr_addr, argument 1: no address: '10.0.0.0/8'"},
     {"cidr_addr('')", "error: cidr_addr, argument 1: no address: ''"},
+    {"cidr_unmapped('::ffff:10.1.9.32/128')", "error: cidr_unmapped, argument 1: no address: '::ffff:10.1.9.32/128'"},
+    {"cidr_unmapped(x'0a010920')", "error: cidr_unmapped, argument 1: a blob of 4 bytes that is no address"},
     /* The text is shown in printable ASCII, and at most 60 bytes of it. */
     {"cidr_text('it''s')", "error: cidr_text, argument 1: no address: 'it\\x27s'"},
     {"cidr_text('a\\b')", "error: cidr_text, argument 1: no address: 'a\\x5cb'"},
@@ -174,6 +230,10 @@ static const struct row rows[] = {
     {"cidr_family(4)", "error: cidr_family, argument 1: an integer, not a text"},
     {"cidr_cause(4)", "error: cidr_cause, argument 1: an integer, not a text"},
     {"cidr_cause(x'')", "error: cidr_cause, argument 1: a blob, not a text"},
+    {"cidr_print('10.1.9.32')", "error: cidr_print, argument 1: a text, not a blob"},
+    {"cidr_print(4)", "error: cidr_print, argument 1: an integer, not a blob"},
+    {"cidr_unmapped(167772160)", "error: cidr_unmapped, argument 1: an integer, not a text or a blob"},
+    {"cidr_unmapped(0.5)", "error: cidr_unmapped, argument 1: a real number, not a text or a blob"},
 
     /* NULL if an argument is, whatever the other one is. */
     {"cidr_text(NULL)", "NULL"},
@@ -190,6 +250,10 @@ static const struct row rows[] = {
     {"cidr_prefix(NULL)", "NULL"},
     {"cidr_family(NULL)", "NULL"},
     {"cidr_cause(NULL)", "NULL"},
+    {"cidr_print(NULL)", "NULL"},
+    {"cidr_unmapped(NULL)", "NULL"},
+    {"cidr_text_or_null(NULL)", "NULL"},
+    {"cidr_addr_or_null(NULL)", "NULL"},
 
     /* Each takes as many arguments as it has. */
     {"cidr_text()", "error: wrong number of arguments to function cidr_text()"},

@@ -144,6 +144,9 @@ static void expect_refused(sqlite3 *database, const char *bytes, size_t length) 
                                      "cidr_addr(?1)",   "cidr_covers(?1, '::')", NULL};
     for (const char **each = refusing; *each != NULL; each++)
         expect_of(database, *each, bytes, length, "error: cidr_..");
+    expect_of(database, "cidr_unmapped(?1)", bytes, length, "error: cidr_unmapped, argument 1: no address: '..");
+    expect_of(database, "cidr_text_or_null(?1)", bytes, length, "NULL");
+    expect_of(database, "cidr_addr_or_null(?1)", bytes, length, "NULL");
     expect_of(database, "cidr_has('::/0', ?1)", bytes, length, "error: cidr_has, argument 2: no address: '..");
     expect_of(database, "cidr_covers('::/0', ?1)", bytes, length, "error: cidr_covers, argument 2: ..");
     expect_of(database, "cidr_cause(?1) IS NULL", bytes, length, "0");
@@ -212,6 +215,18 @@ static void schemas(sqlite3 *database) {
     expect(database, "(SELECT client FROM log ORDER BY address DESC LIMIT 1)", "'2001:db8::1'");
     expect(database, "(SELECT text || has || covers || hex(first) || hex(last) || prefix || family || (cause IS NULL)"
            " FROM canonical WHERE text IS NOT NULL)", "'10.1.9.32/810040A000000040AFFFFFF841'");
+    /* A list that skips what is no network, and a log that keeps it without an address. */
+    run(database, "CREATE TABLE list(text TEXT NOT NULL CHECK (cidr_cause(text) IS NULL),"
+        " first BLOB AS (cidr_first(cidr_text_or_null(text))) STORED,"
+        " last BLOB AS (cidr_last(cidr_text_or_null(text))) STORED);"
+        "CREATE TABLE clients(client TEXT, address BLOB AS (cidr_unmapped(cidr_addr_or_null(client))) STORED);"
+        "CREATE INDEX clients_address ON clients(address);"
+        "INSERT OR IGNORE INTO list(text) VALUES ('10.0.0.0/8'), ('10/8'), ('2001:db8::/200'), (''), (NULL), ('::1');"
+        "INSERT INTO clients(client) VALUES ('::ffff:10.1.9.32'), ('-'), ('10.0.0.0/8'), (NULL), ('10.1.9.32');");
+    expect(database, "(SELECT group_concat(text || ' ' || hex(first)) FROM list)",
+           "'10.0.0.0/8 040A000000,::1 0600000000000000000000000000000001'");
+    expect(database, "(SELECT count(*) FROM clients JOIN list ON address BETWEEN first AND last)", "2");
+    expect(database, "(SELECT count(*) FROM clients WHERE address IS NULL)", "3");
     expect(database, "(SELECT count(*) FROM canonical WHERE text IS NULL AND cause IS NULL AND first IS NULL)", "1");
     char *said = answer(database, "INSERT INTO network VALUES ('10/8')", NULL, 0);
     if (strncmp(said, "error: CHECK constraint failed", 30) != 0) {
@@ -247,6 +262,12 @@ static void short_of_memory(sqlite3 *database) {
         {"cidr_cause('10/8')", "'no address'"},
         {"cidr_prefix('10/8')", "error: cidr_prefix, argument 1: no address: '10/8'"},
         {"cidr_family(4)", "error: cidr_family, argument 1: an integer, not a text"},
+        {"cidr_print(X'040A010920')", "'10.1.9.32'"},
+        {"cidr_print(zeroblob(5))", "error: cidr_print, argument 1: a blob of 5 bytes that is no address"},
+        {"cidr_unmapped('::ffff:10.1.9.32')", "'10.1.9.32'"},
+        {"cidr_unmapped(X'0600000000000000000000FFFF0A010920')", "X'040A010920'"},
+        {"cidr_text_or_null('10.1.9.32/255.255.0.0')", "'10.1.9.32/16'"},
+        {"cidr_addr_or_null('10.1.9.32')", "X'040A010920'"},
     };
     for (size_t i = 0; i < sizeof asked / sizeof *asked; i++) {
         char *sql = sqlite3_mprintf("SELECT quote(%s)", asked[i].expression);
