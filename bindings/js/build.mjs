@@ -10,7 +10,9 @@
  * The sources import one another by their own names, so that the package is these files one after
  * the other, without the lines of import and export.
  */
-import { copyFileSync, existsSync, mkdirSync, readFileSync, writeFileSync } from 'node:fs';
+import {
+  copyFileSync, existsSync, mkdirSync, readFileSync, statSync, writeFileSync,
+} from 'node:fs';
 import { dirname, join } from 'node:path';
 import { fileURLToPath } from 'node:url';
 import { deflateRawSync } from 'node:zlib';
@@ -105,7 +107,20 @@ write('index.d.mts', "export * from './index.cjs';\n");
 const types = readFileSync(join(here, 'index.d.ts'), 'utf8').replace(/^ +(?=\/?\*)/gm, ' ');
 write('index.d.cts', types);
 copyFileSync(join(here, 'package.json'), join(folder, 'package.json'));
-copyFileSync(join(here, 'README.md'), join(folder, 'README.md'));
-for (const name of ['LICENSE-MIT', 'NOTICE']) {
+
+/** The page, with the sizes of what is built in the place of those that stand there. */
+const { size: codeLength } = statSync(join(folder, 'index.mjs'));
+const SIZES = { 'a file of': codeLength, 'a module of': bytes.length };
+let page = readFileSync(join(here, 'README.md'), 'utf8');
+for (const [words, size] of Object.entries(SIZES)) {
+  const found = new RegExp(`\\b${words} (\\d+) KB`);
+  const built = Math.round(size / 1000);
+  if (!found.test(page)) throw new Error(`README.md does not say: ${words} .. KB`);
+  const [, said] = page.match(found);
+  if (Number(said) !== built) console.log(`README.md says ${words} ${said} KB: it has ${built}`);
+  page = page.replace(found, `${words} ${built} KB`);
+}
+write('README.md', page);
+for (const name of ['LICENSE-MIT', 'LICENSE-APACHE', 'NOTICE']) {
   copyFileSync(join(here, '../..', name), join(folder, name));
 }

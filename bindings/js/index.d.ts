@@ -5,6 +5,8 @@
  * bits of its address, as many as the prefix length says. Values do not change, and their text
  * (`toString`) is the key of a `Map` for them: two of them are equal exactly if their texts are.
  *
+ * `structuredClone` and `postMessage` refuse values: send the text, or what `toJSON` gives.
+ *
  * An argument of a wrong type is a `TypeError` that names the argument. A text that names no
  * network, and a prefix length that is none, is an `IpNetworkError` with the cause as its `code`.
  */
@@ -221,6 +223,8 @@ export class AddressColumn implements Iterable<Ipv4Address | Ipv6Address | undef
   /** Why the text of a row names none; undefined if it names one. */
   codeAt(row: number): 'address' | undefined;
   [Symbol.iterator](): IterableIterator<Ipv4Address | Ipv6Address | undefined>;
+  /** The canonical texts; null for a row without an address. */
+  toJSON(): (string | null)[];
 }
 
 /** A column of texts read as networks in a few calls. It is also an iterable of what `at` gives. */
@@ -239,6 +243,8 @@ export class NetworkColumn implements Iterable<Ipv4Network | Ipv6Network | undef
   /** The canonical texts; undefined for a row without a network. */
   toStrings(): (string | undefined)[];
   [Symbol.iterator](): IterableIterator<Ipv4Network | Ipv6Network | undefined>;
+  /** The canonical texts; null for a row without a network. */
+  toJSON(): (string | null)[];
 }
 
 /**
@@ -247,8 +253,15 @@ export class NetworkColumn implements Iterable<Ipv4Network | Ipv6Network | undef
  */
 export type Networks = (Iterable<IpNetwork | string> & object) | NetworkColumn;
 
-/** A set of addresses of both families, kept as the fewest networks with exactly these. */
-export class AddressSet {
+/** The addresses of one family from the first to the last, both included. */
+export type AddressRange =
+  { first: Ipv4Address; last: Ipv4Address } | { first: Ipv6Address; last: Ipv6Address };
+
+/**
+ * A set of addresses of both families, kept as the fewest networks with exactly these. It is also
+ * an iterable of these networks.
+ */
+export class AddressSet implements Iterable<Ipv4Network | Ipv6Network> {
   /** The addresses of networks, in any order, host bits or not. */
   constructor(networks?: Networks, options?: Mapped);
   /** Whether the option was given to it, or to a set that it is made of. */
@@ -268,6 +281,10 @@ export class AddressSet {
   intersection(other: AddressSet): AddressSet;
   /** The addresses of this set that the other has not. */
   difference(other: AddressSet): AddressSet;
+  /** The addresses that one of both has, and not the other. */
+  symmetricDifference(other: AddressSet): AddressSet;
+  /** All addresses of both families that the set has not. */
+  complement(): AddressSet;
   /** Whether both have the same addresses, whatever their options are. */
   equals(other: AddressSet): boolean;
   /** The number of addresses. */
@@ -276,7 +293,13 @@ export class AddressSet {
   readonly blockCount: number;
   /** The fewest networks with its addresses, in ascending order, those of IPv4 first. */
   blocks(): IterableIterator<Ipv4Network | Ipv6Network>;
-  /** Their texts. */
+  [Symbol.iterator](): IterableIterator<Ipv4Network | Ipv6Network>;
+  /**
+   * The fewest ranges with its addresses, both ends included, in ascending order, those of IPv4
+   * first.
+   */
+  ranges(): IterableIterator<AddressRange>;
+  /** The texts of its networks. */
   toJSON(): string[];
   /**
    * Gives its memory back now, and not only when the set is collected. No call but this one may
@@ -312,6 +335,8 @@ export class PrefixTable<V> implements Iterable<[Ipv4Network | Ipv6Network, V]> 
    */
   entries(): IterableIterator<[Ipv4Network | Ipv6Network, V]>;
   [Symbol.iterator](): IterableIterator<[Ipv4Network | Ipv6Network, V]>;
+  /** The texts of the networks with their values. */
+  toJSON(): [string, V][];
   /**
    * Gives its memory back now, and not only when the table is collected. No call but this one may
    * follow.

@@ -2,6 +2,7 @@ import { addressCanonical, addressRead, v4Compare, v6Compare, v6Unmapped } from 
 import { ADDRESS, LITTLE, NUMBER, OTHER, bytes, view, words } from './memory.mjs';
 import { addressError, textOf, wrongType } from './errors.mjs';
 import { askText, printed } from './texts.mjs';
+import { INSPECT, SENT } from './shown.mjs';
 import { fourContains, sixContains } from './words.mjs';
 
 /**
@@ -9,9 +10,6 @@ import { fourContains, sixContains } from './words.mjs';
  * wrote.
  */
 export const MADE = Symbol('made');
-
-/** The name of the method by which Node's console shows a value. */
-export const INSPECT = Symbol.for('nodejs.util.inspect.custom');
 
 /* What a typed array is and how long, whatever it has been given as properties. */
 const TYPED = Object.getPrototypeOf(Uint8Array.prototype);
@@ -24,6 +22,7 @@ const ofAddress = { __proto__: null };
 
 /** An address of either family. It does not change. */
 export class IpAddress {
+  sent = SENT;
   /* Numbers from the beginning, so that an engine need not ask what they are. */
   #family = 0;
   /* The octets, four in a number, as they stand in the memory. */
@@ -242,15 +241,6 @@ export function addressOf(value, name) {
   if (isAddress(value)) return value;
   if (typeof value !== 'string') throw wrongType(name, 'an IpAddress or a string', value);
   return IpAddress.parse(value);
-}
-
-/**
- * The address that is asked for; where addresses are mapped, the IPv4 address in the place of an
- * IPv4-mapped one.
- */
-export function memberOf(value, mapped) {
-  const member = addressOf(value, 'address');
-  return mapped ? member.unmapped : member;
 }
 
 function requireAddress(value, name) {

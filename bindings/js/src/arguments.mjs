@@ -13,7 +13,7 @@ export function wholeNumber(value, name) {
   return value;
 }
 
-/** Whether the options, of which there is one, say that IPv4-mapped addresses are IPv4 addresses. */
+/** Whether the options say that IPv4-mapped addresses are taken for IPv4 addresses. */
 export function mappedOf(options) {
   if (options === undefined) return false;
   if (typeof options !== 'object' || options === null) {

@@ -8,7 +8,7 @@ import {
 import { ANSWER, OTHER, bytes, giveBack, take, view } from './memory.mjs';
 import { Standing } from './standing.mjs';
 import { IpNetworkError, never, wrongType } from './errors.mjs';
-import { familyOfNetwork, isNetwork, networkAt, networkOf, putNetwork } from './network.mjs';
+import { elementOf, familyOfNetwork, isNetwork, networkAt, putNetwork } from './network.mjs';
 
 /**
  * What the lists of one family have: bytes of an address and of a struct, bits, and the calls of
@@ -157,19 +157,9 @@ export function networksOf(value, name) {
   }
   const networks = [];
   for (const element of value) {
-    networks.push(isNetwork(element) ? element : elementOf(element, name, networks.length));
+    networks.push(elementOf(element, name, networks.length));
   }
   return networks;
-}
-
-/** The network that an element names; the error for a text that names none has its index. */
-export function elementOf(element, name, index) {
-  try {
-    return networkOf(element, `${name}[${index}]`);
-  } catch (error) {
-    if (error.code !== undefined) error.index = index;
-    throw error;
-  }
 }
 
 /** The networks of one family among these, packed. */

@@ -6,6 +6,7 @@ import { MADE, addressAt } from './address.mjs';
 import { networkAt } from './network.mjs';
 import { KINDS, withCopy, withRoom } from './blocks.mjs';
 import { readRows } from './rows.mjs';
+import { INSPECT, SENT, shownList } from './shown.mjs';
 import { textAt } from './texts.mjs';
 
 /* How columns are read: an address is 16 octets and how many they are, a network its family and
@@ -25,6 +26,7 @@ let networkRows;
 
 /** A column of texts read as addresses. It does not change. */
 export class AddressColumn {
+  sent = SENT;
   #rows;
 
   static {
@@ -66,10 +68,19 @@ export class AddressColumn {
   * [Symbol.iterator]() {
     for (let row = 0; row < this.length; row += 1) yield this.at(row);
   }
+
+  toJSON() {
+    return Array.from(this, (value) => (value === undefined ? null : String(value)));
+  }
+
+  [INSPECT]() {
+    return shownList(this, this.length, this, '[]');
+  }
 }
 
 /** A column of texts read as networks of either family. It does not change. */
 export class NetworkColumn {
+  sent = SENT;
   #rows;
 
   static {
@@ -113,6 +124,14 @@ export class NetworkColumn {
 
   * [Symbol.iterator]() {
     for (let row = 0; row < this.length; row += 1) yield this.at(row);
+  }
+
+  toJSON() {
+    return Array.from(this, (value) => (value === undefined ? null : String(value)));
+  }
+
+  [INSPECT]() {
+    return shownList(this, this.length, this, '[]');
   }
 }
 

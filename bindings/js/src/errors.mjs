@@ -35,10 +35,19 @@ export function networkError(fault, text, wanted, index) {
   return new IpNetworkError(`no ${wanted}${at}: ${shown}${MESSAGES[code]}`, code, text, index);
 }
 
+/** What is said where an address is asked for and a network given. */
+export const networkGiven = (name) => (
+  `${name} must be an address, not a network: isSubnetOf tells whether one lies in another, and `
+  + 'covers whether in a set'
+);
+
 /** The error of a text that names no address. */
-export function addressError(text, wanted, index) {
-  const at = index === undefined ? '' : ` at ${index}`;
-  return new IpNetworkError(`no ${wanted}${at}: ${quoted(text)}`, 'address', text, index);
+export function addressError(text, wanted) {
+  const more = text.includes('/')
+    ? ': with a slash it is no address; isSubnetOf tells whether a network lies in another, and '
+      + 'covers whether in a set'
+    : '';
+  return new IpNetworkError(`no ${wanted}: ${quoted(text)}${more}`, 'address', text);
 }
 
 /** The error of a prefix length that is not one of least to most. */

@@ -6,12 +6,13 @@ import {
 import {
   ADDRESS, ANSWER, LITTLE, NETWORK, NUMBER, OTHER, bytes, view, words,
 } from './memory.mjs';
-import { networkError, never, prefixError, textOf, wrongType } from './errors.mjs';
+import { networkError, networkGiven, never, prefixError, textOf, wrongType } from './errors.mjs';
 import { putNumber, requireParts, wholeNumber } from './arguments.mjs';
 import { askText, printed } from './texts.mjs';
 import {
-  INSPECT, IpAddress, MADE, addressAt, isAddress, liesInFour, liesInSix,
+  IpAddress, MADE, addressAt, addressOf, isAddress, liesInFour, liesInSix,
 } from './address.mjs';
+import { INSPECT, SENT } from './shown.mjs';
 
 /* Friends of the class: they reach its fields. They are constants once it is there, so that an
  * engine need not ask what they are. */
@@ -21,6 +22,7 @@ const ofNetwork = { __proto__: null };
  * A network of either family: an address, host bits kept, and a prefix length. It does not change.
  */
 export class IpNetwork {
+  sent = SENT;
   /* Numbers from the beginning, so that an engine need not ask what they are. */
   #family = 0;
   /* The octets of the address, four in a number, as they stand in the memory. */
@@ -144,6 +146,7 @@ export class IpNetwork {
       return this.#family === 4 ? hasFour(this, member) : hasSix(this, member);
     } catch (error) {
       if (isAddress(member)) throw error;
+      if (isNetwork(member)) throw new TypeError(networkGiven('address'));
       throw wrongType('address', 'an IpAddress or a string', member);
     }
   }
@@ -365,6 +368,27 @@ export function networkOf(value, name) {
   if (isNetwork(value)) return value;
   if (typeof value !== 'string') throw wrongType(name, 'an IpNetwork or a string', value);
   return IpNetwork.parse(value);
+}
+
+/** The same of the element of a list, whose place in it an error tells. */
+export function elementOf(value, name, index) {
+  if (isNetwork(value)) return value;
+  if (typeof value !== 'string') {
+    throw wrongType(`${name}[${index}]`, 'an IpNetwork or a string', value);
+  }
+  const fault = readEither(value);
+  if (fault !== 0) throw networkError(fault, value, 'IP network', index);
+  return eitherAt(OTHER);
+}
+
+/**
+ * The address that a list is asked for; where addresses are mapped, the IPv4 address in the place
+ * of an IPv4-mapped one.
+ */
+export function memberOf(value, mapped) {
+  if (isNetwork(value)) throw new TypeError(networkGiven('address'));
+  const member = addressOf(value, 'address');
+  return mapped ? member.unmapped : member;
 }
 
 /* A network of either family is its family, the struct of IPv4 and the struct of IPv6. */

@@ -2,12 +2,13 @@ import { v4IndexContains, v4IsSubnetOf, v6IndexContains, v6IsSubnetOf } from './
 import { ADDRESS, ANSWER, NUMBER, OTHER, bitsOf, bytes, view } from './memory.mjs';
 import { IpNetworkError, networkError, never, wrongType } from './errors.mjs';
 import { mappedOf } from './arguments.mjs';
-import { MADE, addressOf, familyOf, memberOf, putAddress } from './address.mjs';
-import { familyOfNetwork, networkAt, networkOf, putNetwork } from './network.mjs';
+import { MADE, addressOf, familyOf, putAddress } from './address.mjs';
+import { familyOfNetwork, memberOf, networkAt, networkOf, putNetwork } from './network.mjs';
 import {
-  KINDS, aggregated, combined, eachOf, networksOf, packedOf, sameBlocks, withRoom,
+  Blocks, KINDS, aggregated, combined, eachOf, networksOf, packedOf, sameBlocks, withRoom,
 } from './blocks.mjs';
 import { eachChunkOf, eachRow, rowsOfAddresses, rowsOfNetworks } from './columns.mjs';
+import { INSPECT, SENT, shownList } from './shown.mjs';
 
 /**
  * For each family the packed networks that an argument lists: an iterable, or a column, none of
@@ -36,6 +37,7 @@ let isMapped;
  * change.
  */
 export class AddressSet {
+  sent = SENT;
   #lists;
   #mapped;
   #freed = false;
@@ -103,6 +105,17 @@ export class AddressSet {
     return this.#combined(other, 'difference');
   }
 
+  symmetricDifference(other) {
+    return this.difference(other).union(other.difference(this));
+  }
+
+  complement() {
+    const all = KINDS.map((kind) => new Blocks(kind, new Uint8Array(kind.struct)));
+    return new AddressSet(MADE, this.#mapped, this.#used().map(
+      (list, which) => combined(all[which], list, 'difference'),
+    ));
+  }
+
   equals(other) {
     const lists = requireLists(other);
     return this.#used().every((list, which) => sameBlocks(list, lists[which]));
@@ -124,8 +137,30 @@ export class AddressSet {
     for (const which of [0, 1]) yield* eachOf(this.#used()[which]);
   }
 
+  * ranges() {
+    let range;
+    for (const { first, last } of this.blocks()) {
+      if (range !== undefined && isNext(range.last, first)) {
+        range = { first: range.first, last };
+      } else {
+        if (range !== undefined) yield range;
+        range = { first, last };
+      }
+    }
+    if (range !== undefined) yield range;
+  }
+
+  [Symbol.iterator]() {
+    return this.blocks();
+  }
+
   toJSON() {
     return Array.from(this.blocks(), String);
+  }
+
+  [INSPECT]() {
+    if (this.#freed) return `${this.constructor.name}(freed)`;
+    return shownList(this, this.blockCount, this.blocks());
   }
 
   free() {
@@ -146,6 +181,11 @@ export class AddressSet {
     );
   }
 }
+
+/** Whether an address comes right after another one of its family. */
+const isNext = (one, other) => (
+  familyOf(one) === familyOf(other) && BigInt(one.number) + 1n === BigInt(other.number)
+);
 
 function requireLists(value) {
   const lists = listsOf(value);

@@ -9,8 +9,8 @@ let standingBytes = 0;
 const registry = new FinalizationRegistry(leave);
 
 /**
- * A list that is kept outside the memory, and stands in it, so many bytes, once it is asked. `write`
- * puts it there.
+ * A list that is kept outside the memory, and once it is asked stands in it, where `write` puts so
+ * many bytes.
  */
 export class Standing {
   constructor(length) {

@@ -1,11 +1,14 @@
 import { ADDRESS, OTHER, bytes } from './memory.mjs';
 import { IpNetworkError, never, wrongType } from './errors.mjs';
 import { mappedOf } from './arguments.mjs';
-import { familyOf, memberOf, putAddress } from './address.mjs';
-import { familyOfNetwork, isNetwork, networkOf, putNetwork } from './network.mjs';
-import { KINDS, blockAt, elementOf, isIterable, packedOf, withCopy } from './blocks.mjs';
+import { familyOf, putAddress } from './address.mjs';
+import {
+  elementOf, familyOfNetwork, isNetwork, memberOf, networkOf, putNetwork,
+} from './network.mjs';
+import { KINDS, blockAt, isIterable, packedOf, withCopy } from './blocks.mjs';
 import { eachRow, rowsOfAddresses } from './columns.mjs';
 import { tableOf } from './ranges.mjs';
+import { INSPECT, SENT, shownList } from './shown.mjs';
 import { textAt } from './texts.mjs';
 
 /** The blocks of a family with their values, in order, of equal ones in that of the pairs. */
@@ -60,6 +63,7 @@ class FamilyTable {
 
 /** Networks with values, asked for the longest network that has an address. It does not change. */
 export class PrefixTable {
+  sent = SENT;
   #tables;
   #mapped;
   #freed = false;
@@ -118,6 +122,18 @@ export class PrefixTable {
     return this.entries();
   }
 
+  toJSON() {
+    return Array.from(this.entries(), ([network, value]) => [String(network), value]);
+  }
+
+  [INSPECT](depth, options, inspect) {
+    if (this.#freed) return `${this.constructor.name}(freed)`;
+    const texts = function* texts(entries) {
+      for (const [network, value] of entries) yield `${network} => ${inspect(value, options)}`;
+    };
+    return shownList(this, this.size, texts(this.entries()));
+  }
+
   free() {
     this.#freed = true;
     this.#tables.forEach((table) => table.free());
@@ -141,5 +157,5 @@ function pairOf(entry, index) {
     throw wrongType(`entries[${index}]`, 'a pair of a network and a value', entry);
   }
   const [network, value] = [entry[0], entry[1]];
-  return [isNetwork(network) ? network : elementOf(network, 'entries', index), value];
+  return [elementOf(network, 'entries', index), value];
 }

@@ -5,6 +5,7 @@ import { readFileSync, readdirSync, statSync } from 'node:fs';
 import { createRequire } from 'node:module';
 import { join } from 'node:path';
 import test from 'node:test';
+import { createContext, runInContext } from 'node:vm';
 import ipnetwork, { bindings, folder } from './package.mjs';
 
 const about = JSON.parse(readFileSync(join(folder, 'package.json'), 'utf8'));
@@ -19,7 +20,7 @@ test('every file that package.json names is there, and nothing else', () => {
   const named = JSON.stringify(about.exports).match(/\.\/[\w.]+/g).map((name) => name.slice(2));
   const there = readdirSync(folder);
   for (const name of [...named, ...about.files]) assert.ok(there.includes(name), name);
-  const alone = ['package.json', 'README.md', 'LICENSE-MIT', 'NOTICE'];
+  const alone = ['package.json', 'README.md'];
   for (const name of there) assert.ok(about.files.includes(name) || alone.includes(name), name);
   assert.equal(about.dependencies, undefined);
   const size = there.reduce((sum, name) => sum + statSync(join(folder, name)).size, 0);
@@ -45,6 +46,35 @@ test('in a browser it needs nothing of Node', () => {
   ),
     '--input-type=module', '--eval', script], { encoding: 'utf8' });
   assert.equal(printed, '10.1.0.0 ::/0\n');
+});
+
+test('where WebAssembly is refused it says what to add', () => {
+  const source = readFileSync(join(folder, 'index.mjs'), 'utf8').replace(/^export .*$/m, '');
+  const globals = { TextEncoder, FinalizationRegistry };
+  const strict = createContext(globals, { codeGeneration: { strings: false, wasm: false } });
+  assert.throws(() => runInContext(source, strict), (error) => {
+    assert.match(error.message, /Content-Security-Policy, .*'wasm-unsafe-eval'/);
+    assert.equal(error.cause.name, 'CompileError');
+    return true;
+  });
+});
+
+test('the package has its licences, and each file is one that npm packs', () => {
+  for (const name of ['LICENSE-MIT', 'LICENSE-APACHE', 'NOTICE']) {
+    assert.equal(
+      readFileSync(join(folder, name), 'utf8'), readFileSync(join(bindings, '..', name), 'utf8'),
+    );
+    assert.ok(about.files.includes(name), name);
+  }
+});
+
+test('its page has the sizes of what is built', () => {
+  const page = readFileSync(join(folder, 'README.md'), 'utf8');
+  const [, module] = readFileSync(join(folder, 'index.mjs'), 'utf8').match(/MODULE_LENGTH = (\d+)/);
+  const [, code] = page.match(/a file of (\d+) KB/);
+  const [, unpacked] = page.match(/a module of (\d+) KB/);
+  assert.equal(Number(unpacked), Math.round(module / 1000));
+  assert.equal(Number(code), Math.round(statSync(join(folder, 'index.mjs')).size / 1000));
 });
 
 test('exports.txt has the functions of the module that the sources name', () => {

@@ -271,14 +271,26 @@ test('lists whose elements are made while they are looked at', () => {
 
 test('errors say which element', () => {
   const texts = ['10.0.0.0/8', '10/8', 'x'];
-  assert.throws(() => new AddressSet(texts), { code: 'address', index: 1, input: '10/8' });
-  assert.throws(
-    () => new PrefixTable(texts.map((text) => [text, 1])), { code: 'address', index: 1 },
-  );
-  assert.throws(
-    () => network.contains('10.0.0.0/8'),
-    { name: 'IpNetworkError', code: 'address', input: '10.0.0.0/8' },
-  );
+  const message = 'no IP network at 1: "10/8": what stands before the slash, or the whole text, '
+    + 'is no address';
+  const refused = { name: 'IpNetworkError', code: 'address', index: 1, input: '10/8', message };
+  assert.throws(() => new AddressSet(texts), refused);
+  assert.throws(() => aggregate(texts), refused);
+  assert.throws(() => new PrefixTable(texts.map((text) => [text, 1])), refused);
+});
+
+test('a network in the place of an address points to what was meant', () => {
+  const calls = [
+    (value) => network.contains(value), (value) => set.contains(value),
+    (value) => table.lookup(value),
+  ];
+  for (const call of calls) {
+    assert.throws(() => call('10.0.0.0/8'), {
+      name: 'IpNetworkError', code: 'address', input: '10.0.0.0/8', message: /isSubnetOf .* covers/,
+    });
+    assert.throws(() => call(network), { name: 'TypeError', message: /isSubnetOf .* covers/ });
+    assert.throws(() => call('10.0.0'), { message: 'no IP address: "10.0.0"' });
+  }
 });
 
 test('what is freed is refused', () => {

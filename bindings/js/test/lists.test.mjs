@@ -56,6 +56,16 @@ function same(set, has) {
   });
 }
 
+/** The first and the last number of each run of a table's members. */
+function runs(has) {
+  const ends = [];
+  has.forEach((member, host) => {
+    if (member === 1 && has[host - 1] !== 1) ends.push([host]);
+    if (member === 1 && has[host + 1] !== 1) ends.at(-1).push(host);
+  });
+  return ends;
+}
+
 /** How many blocks a table needs at the least: halves are joined as long as both are whole. */
 function fewest(has) {
   const count = (from, size) => {
@@ -81,6 +91,18 @@ test('sets and their operations', () => {
     same(first.union(second), joined((a, b) => a | b));
     same(first.intersection(second), joined((a, b) => a & b));
     same(first.difference(second), joined((a, b) => a & (1 - b)));
+    same(first.symmetricDifference(second), joined((a, b) => a ^ b));
+    const others = first.complement();
+    assert.equal(others.size + first.size, 2n ** 32n + 2n ** 128n);
+    assert.equal(others.intersection(first).size, 0n);
+    assert.ok(others.complement().equals(first) && others.contains('8.8.8.8'));
+    assert.deepEqual([...first].map(String), first.toJSON());
+    assert.deepEqual(
+      Array.from(first.ranges(), ({ first: from, last }) => `${from} ${last}`),
+      one.has.flatMap((each, which) => runs(each).map(
+        (ends) => ends.map(FAMILIES[which].of).join(' '),
+      )).map((text) => text.split(' ').map((each) => `${IpNetwork.parse(each).first}`).join(' ')),
+    );
     assert.ok(first.union(second).equals(second.union(first)));
     assert.equal(
       first.equals(second),
@@ -173,7 +195,7 @@ test('tables, beside a look at each network', () => {
   }
 });
 
-test('a table of many networks, many of them twice, in each other or of all addresses', () => {
+test('a table of many networks, twice, in each other, or of all addresses', () => {
   const random = new Random(21);
   for (let round = 0; round < 40; round += 1) {
     const width = round % 2 === 0 ? 32 : 128;
@@ -252,6 +274,28 @@ test('columns', () => {
   assert.deepEqual(read.toStrings(), many.map((text) => (text.length > 99 ? '10.0.0.0/8' : text)));
   assert.equal(
     AddressColumn.read(many.map((text) => text.split('/')[0])).at(5).toString(), '10.0.5.0',
+  );
+});
+
+test('the ranges of a set', () => {
+  const ranges = (networks) => Array.from(
+    new AddressSet(networks).ranges(), ({ first, last }) => `${first} ${last}`,
+  );
+  assert.deepEqual(ranges([]), []);
+  assert.deepEqual(
+    ranges(['10.0.0.0/8', '11.0.0.0/9', '11.128.0.0/16', '192.0.2.0/32', '::/0']),
+    ['10.0.0.0 11.128.255.255', '192.0.2.0 192.0.2.0', `:: ${'ffff:'.repeat(7)}ffff`],
+  );
+  /* The last address of one family does not go on in the other. */
+  assert.deepEqual(
+    ranges(['255.255.255.255', '::', '0.0.0.0']),
+    ['0.0.0.0 0.0.0.0', '255.255.255.255 255.255.255.255', ':: ::'],
+  );
+  assert.deepEqual(new AddressSet().complement().toJSON(), ['0.0.0.0/0', '::/0']);
+  assert.deepEqual(
+    ranges(new AddressSet(['10.0.0.0/8', '::1']).complement()),
+    ['0.0.0.0 9.255.255.255', '11.0.0.0 255.255.255.255', ':: ::',
+      '::2 ffff:ffff:ffff:ffff:ffff:ffff:ffff:ffff'],
   );
 });
 

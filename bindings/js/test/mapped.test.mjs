@@ -123,7 +123,7 @@ test('columns', () => {
   new AddressSet([], { mapped: true }).containsColumn(read);
   assert.equal(String(read.at(0)), '::ffff:129.144.52.38');
   const many = Array.from({ length: 10_000 }, (_, row) => (
-    row % 3 === 0 ? `::ffff:10.0.${row & 255}.1` : row % 3 === 1 ? `10.0.${row & 255}.1` : `::${row}`
+    [`::ffff:10.0.${row & 255}.1`, `10.0.${row & 255}.1`, `::${row}`][row % 3]
   ));
   assert.deepEqual(
     Array.from(AddressColumn.read(many, { mapped: true }), String),

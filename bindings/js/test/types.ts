@@ -25,7 +25,11 @@ const set = new AddressSet([network, '10.0.0.0/8']).union(
   new AddressSet(NetworkColumn.read(['::/0']))
 );
 const flags: Uint8Array = set.containsColumn(AddressColumn.read(['::1']));
+const range: IpAddress = [...set.complement().symmetricDifference(set).ranges()][0].first;
+for (const block of set) block.prefix.toFixed();
+const texts: (string | null)[] = AddressColumn.read(['x']).toJSON();
 const table = new PrefixTable([['10.0.0.0/8', { name: 'x' }]]);
+const rows: [string, { name: string }][] = table.toJSON();
 const name: string | undefined = table.lookup('10.0.0.1')?.value.name;
 const names: (string | undefined)[] = table.lookupColumn(['10.0.0.1']).map((value) => value?.name);
 const keyed = new Map<string, number>([[String(four.block), 1]]);
@@ -36,7 +40,7 @@ try {
 } catch (error) {
   if (error instanceof IpNetworkError && error.code === 'prefix') error.index?.toFixed();
 }
-export { either, numbers, size, nothing, relation, sorted, flags, name, names, keyed, blocks };
+export { range, texts, rows, either, numbers, size, nothing, relation, sorted, flags, name, names, keyed, blocks };
 
 // @ts-expect-error a number is no text
 IpNetwork.parse(10);

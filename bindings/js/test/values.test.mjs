@@ -15,7 +15,7 @@ test('values are frozen', () => {
   for (const value of values) {
     assert.ok(Object.isFrozen(value));
     assert.throws(() => { value.more = 1; }, TypeError);
-    assert.deepEqual(Object.keys(value), []);
+    assert.deepEqual(Object.keys(value), ['sent']);
   }
   assert.throws(() => { values[0].prefix = 8; }, TypeError);
 });
@@ -71,6 +71,52 @@ test('texts are keys', () => {
   assert.equal('in ' + IpNetwork.parse('10.0.0.0/8'), 'in 10.0.0.0/8');
   assert.throws(() => IpNetwork.parse('9.0.0.0/8') < IpNetwork.parse('10.0.0.0/8'), /compare/);
   assert.throws(() => Number(IpAddress.parse('9.0.0.0')), /compare/);
+});
+
+test('no value becomes an empty object', () => {
+  const { AddressColumn, AddressSet, NetworkColumn, PrefixTable } = ipnetwork;
+  const texts = ['10.0.0.1', '-'];
+  const values = [
+    [IpNetwork.parse('10.1.9.32/16'), '"10.1.9.32/16"'], [IpAddress.parse('::1'), '"::1"'],
+    [new AddressSet(['10.0.0.0/9', '10.128.0.0/9', '::1']), '["10.0.0.0/8","::1/128"]'],
+    [new AddressSet(), '[]'],
+    [new PrefixTable([['10.1.9.32/8', 5], ['::', [1]]]), '[["10.0.0.0/8",5],["::/128",[1]]]'],
+    [AddressColumn.read(texts), '["10.0.0.1",null]'],
+    [NetworkColumn.read(texts), '["10.0.0.1/32",null]'],
+  ];
+  for (const [value, json] of values) {
+    assert.equal(JSON.stringify(value), json);
+    for (const sent of [value, { value }, [value]]) {
+      assert.throws(
+        () => structuredClone(sent), { name: 'DataCloneError', message: /is sent as its text/ },
+      );
+    }
+  }
+});
+
+test('what the console shows', () => {
+  const { AddressColumn, AddressSet, NetworkColumn, PrefixTable } = ipnetwork;
+  assert.equal(
+    inspect(new AddressSet(['10.0.0.0/9', '10.128.0.0/9', '2001:db8::/32'])),
+    'AddressSet(2) { 10.0.0.0/8, 2001:db8::/32 }',
+  );
+  assert.equal(inspect(new AddressSet()), 'AddressSet(0) {}');
+  const many = Array.from({ length: 1000 }, (_, i) => `10.${i >> 8}.${i & 255}.1`);
+  assert.equal(
+    inspect(new AddressSet(many)),
+    'AddressSet(1000) { 10.0.0.1/32, 10.0.1.1/32, 10.0.2.1/32, 10.0.3.1/32, 10.0.4.1/32, '
+      + '... 995 more }',
+  );
+  assert.equal(
+    inspect(new PrefixTable([['10.0.0.0/8', 'a'], ['::/0', { b: 1 }]])),
+    "PrefixTable(2) { 10.0.0.0/8 => 'a', ::/0 => { b: 1 } }",
+  );
+  assert.equal(inspect(AddressColumn.read(['::1', 'x'])), 'AddressColumn(2) [ ::1, undefined ]');
+  assert.equal(inspect([NetworkColumn.read(['::1'])]), '[ NetworkColumn(1) [ ::1/128 ] ]');
+  const [set, table] = [new AddressSet(many), new PrefixTable()];
+  set.free();
+  table.free();
+  assert.equal(inspect([set, table]), '[ AddressSet(freed), PrefixTable(freed) ]');
 });
 
 test('order and equality', () => {

@@ -1,0 +1,25 @@
+/** The name of the method by which Node's console shows a value. */
+export const INSPECT = Symbol.for('nodejs.util.inspect.custom');
+
+/**
+ * What each value has as a property of its own. `structuredClone` and `postMessage` copy such
+ * properties, and not what a class keeps for itself: of a symbol there is no copy, so that they
+ * refuse the value, and do not give an empty object.
+ */
+export const SENT = Symbol('a value of ipnetwork, which is sent as its text,');
+
+const MOST_SHOWN = 5;
+
+/** The class of a value, how many members it has, and the first of them. */
+export function shownList(value, count, members, [open, close] = '{}') {
+  const shown = [];
+  for (const member of members) {
+    if (shown.length === MOST_SHOWN) {
+      shown.push(`... ${count - MOST_SHOWN} more`);
+      break;
+    }
+    shown.push(String(member));
+  }
+  const list = shown.length === 0 ? '' : ` ${shown.join(', ')} `;
+  return `${value.constructor.name}(${count}) ${open}${list}${close}`;
+}
