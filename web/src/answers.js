@@ -7,6 +7,7 @@ import {
   Ipv6Address,
   NetworkColumn,
   PrefixTable,
+  summarizeRange,
 } from "../../bindings/out/js/index.mjs";
 
 /** What the page shows of a network of the package, which is its `value`. */
@@ -23,15 +24,34 @@ function shown(value) {
     mask: value.mask.toString(),
     size: value.size,
     octets: value.address.octets,
+    number: BigInt(value.address.number),
+    maskNumber: BigInt(value.mask.number),
     low: BigInt(first.number),
     high: BigInt(last.number),
   };
 }
 
-/** The `network` that a text names, or the `code` of the cause for which it is refused. */
+// An IPv4 address and a mask after it, and two addresses with a dash between them.
+const MASKED = /^(\S+)\s+(\d+\.\d+\.\d+\.\d+)$/;
+const RANGE = /^([^\s/-]+)\s*-\s*([^\s/-]+)$/;
+
+// The text of a network as the package takes it.
+const plain = (text) => text.replace(MASKED, "$1/$2");
+
+/**
+ * The `network` that a text names, the `range` of two addresses, or the `code` of the cause for
+ * which it is refused.
+ */
 export function read(text) {
   try {
-    return { network: shown(IpNetwork.parse(text)) };
+    const ends = RANGE.exec(text);
+    if (ends !== null) {
+      const blocks = summarizeRange(ends[1], ends[2]);
+      const [first, last] = [blocks[0].first, blocks.at(-1).last];
+      const texts = blocks.map(String);
+      return { range: { first: `${first}`, last: `${last}`, texts, size: sizeOf(blocks) } };
+    }
+    return { network: shown(IpNetwork.parse(plain(text))) };
   } catch (error) {
     if (error instanceof IpNetworkError) {
       return { code: error.code };
@@ -59,31 +79,65 @@ export function part(network, prefix, number) {
  * For each block the rows of the networks that lie in it; none if each has one network to itself,
  * which is so if there are as many blocks as networks, since no block is without one.
  */
-function rowsOf(blocks, column) {
+function rowsOf(blocks, column, rowOf) {
   if (blocks.length === column.length - column.refused) {
     return [];
   }
   const rows = blocks.map(() => []);
   const table = new PrefixTable(blocks.map((block, index) => [block, index]));
-  [...column].forEach((network, row) => {
+  [...column].forEach((network, at) => {
     if (network !== undefined) {
-      rows[table.lookup(network.address).value].push(row);
+      const found = rows[table.lookup(network.address).value];
+      // The networks of a range come one after the other.
+      if (found[found.length - 1] !== rowOf[at]) {
+        found.push(rowOf[at]);
+      }
     }
   });
   table.free();
   return rows;
 }
 
-/** The rows that name no network, each with its cause. */
-function refusedOf(column) {
+/** The rows that name no network and no range, each with its cause. */
+function refusedOf(column, rowOf, ranges) {
   const refused = [];
-  for (let row = 0; row < column.length && refused.length < column.refused; row += 1) {
-    const code = column.codeAt(row);
+  for (let at = 0; at < column.length && refused.length < column.refused; at += 1) {
+    const code = column.codeAt(at);
     if (code !== undefined) {
-      refused.push({ row, code });
+      refused.push({ row: rowOf[at], code });
     }
   }
-  return refused;
+  return ranges.length === 0 ? refused : [...refused, ...ranges].sort((a, b) => a.row - b.row);
+}
+
+/**
+ * The texts of networks that entries stand for, the row of the entry of each, and the rows and
+ * causes of ranges that are none.
+ */
+function expanded(entries) {
+  const found = { texts: [], rowOf: [], refused: [] };
+  entries.forEach((entry, row) => {
+    const { code, range } = entry.includes("-") ? read(entry) : {};
+    if (range === undefined && code !== undefined && RANGE.test(entry)) {
+      found.refused.push({ row, code });
+      return;
+    }
+    for (const text of range?.texts ?? [plain(entry)]) {
+      found.texts.push(text);
+      found.rowOf.push(row);
+    }
+  });
+  return found;
+}
+
+/** The rows that have no address in common with a network. */
+function apart(column, rowOf, network) {
+  const rows = new Map();
+  [...column].forEach((each, at) => {
+    const isApart = each === undefined || !each.overlaps(network.value);
+    rows.set(rowOf[at], isApart && rows.get(rowOf[at]) !== false);
+  });
+  return [...rows.keys()].filter((row) => rows.get(row));
 }
 
 /** The number of addresses of blocks that have none in common. */
@@ -101,11 +155,13 @@ function shownOfV4(blocks) {
 }
 
 /**
- * Reads the networks that texts name. `refused` has the row and the cause of each text that names
- * none; `set` has the addresses of the others, `texts` its blocks; `joined` has of each block that
- * several rows make its text and these rows; `v4` and `v6` are what the set has of each family.
+ * Reads the networks and ranges that entries name. `refused` has the row and the cause of each that
+ * names none; `set` has the addresses of the others, `texts` its blocks; `joined` has of each block
+ * that several rows make its text and these rows; `v4` and `v6` are what the set has of each
+ * family; `apart` gives the rows that have no address in common with a network.
  */
-export function readList(texts) {
+export function readList(entries) {
+  const { texts, rowOf, refused } = expanded(entries);
   const column = NetworkColumn.read(texts);
   const isNetwork = (network) => network !== undefined;
   const set = new AddressSet(column.refused > 0 ? [...column].filter(isNetwork) : column);
@@ -113,12 +169,13 @@ export function readList(texts) {
   const ofV4 = blocks.findIndex((block) => block.family === 6);
   const v4 = ofV4 < 0 ? blocks : blocks.slice(0, ofV4);
   const names = blocks.map(String);
-  const joined = rowsOf(blocks, column)
+  const joined = rowsOf(blocks, column, rowOf)
     .map((rows, index) => ({ text: names[index], rows }))
     .filter(({ rows }) => rows.length > 1);
   return {
-    refused: refusedOf(column),
+    refused: refusedOf(column, rowOf, refused),
     set,
+    apart: (network) => apart(column, rowOf, network),
     texts: names,
     joined,
     v4: shownOfV4(v4),
@@ -130,13 +187,31 @@ function ends(block) {
   return { low: BigInt(block.first.number), high: BigInt(block.last.number) };
 }
 
-/** What a list leaves free of a network: the fewest blocks, their size, and the parts in use. */
+/**
+ * What a list leaves free of a network: the fewest blocks, their size, and the parts in use; and
+ * how a part of it is used.
+ */
 export function free(network, list) {
   const whole = new AddressSet([network.value]);
   const left = whole.difference(list.set);
+  const used = whole.intersection(list.set);
   return {
     texts: left.toJSON(),
     size: left.size,
-    used: [...whole.intersection(list.set).blocks()].map(ends),
+    used: [...used.blocks()].map(ends),
+    useOf: ({ value }) => {
+      const isUsed = used.covers(value);
+      return left.covers(value) ? "free" : isUsed ? "in use" : "partly in use";
+    },
+  };
+}
+
+/** What two lists have: only the first, only the second, and both, each as texts and a size. */
+export function compared(one, other) {
+  const told = (set) => ({ texts: set.toJSON(), size: set.size });
+  return {
+    first: told(one.set.difference(other.set)),
+    second: told(other.set.difference(one.set)),
+    both: told(one.set.intersection(other.set)),
   };
 }

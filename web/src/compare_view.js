@@ -1,7 +1,7 @@
 // Two networks: how they relate as sets of addresses, and where they lie.
 import { addressText, read, relation } from "./answers.js";
 import { around, ends, namedTrack } from "./bars.js";
-import { descriptions, element, mark, named, say } from "./elements.js";
+import { descriptions, element, mark, named, say, whenTyped } from "./elements.js";
 import { keep } from "./links.js";
 import { addresses, cause, percent } from "./words.js";
 
@@ -49,13 +49,19 @@ function sizes(one, other) {
   return descriptions(pairs);
 }
 
+// A network, and of a range the cause for which it is none.
+function networkOf(text) {
+  const { code, network } = read(text);
+  return network === undefined ? { code: code ?? "address" } : { network };
+}
+
 function show() {
   const fields = FIELDS.map(named);
   const texts = fields.map((field) => field.value.trim());
   const place = named("compare-answer");
   keep([["compare", texts[0]], ["with", texts[1]]]);
   place.replaceChildren();
-  const found = texts.map((text) => (text === "" ? {} : read(text)));
+  const found = texts.map((text) => (text === "" ? {} : networkOf(text)));
   found.forEach(({ code }, index) => mark(fields[index], code !== undefined));
   const refused = found.findIndex(({ code }) => code !== undefined);
   if (refused >= 0) {
@@ -75,7 +81,7 @@ function show() {
 /** Answers the question of a link, and from then on what is typed. */
 export const compareView = {
   begin() {
-    FIELDS.forEach((id) => named(id).addEventListener("input", show));
+    whenTyped(FIELDS.map(named), show);
   },
   open(fields) {
     named("compare-first").value = fields.get("compare") ?? "";

@@ -1,6 +1,6 @@
 // A pasted list: the least list with its addresses, what was joined, and what each wrong line is.
 import { readList } from "./answers.js";
-import { element, mark, named, readable, say } from "./elements.js";
+import { element, mark, named, readable, say, whenTyped } from "./elements.js";
 import { keep } from "./links.js";
 import { coverage, coveredByOctet, drawMap } from "./map.js";
 import { counted, grouped, percent, shortCause } from "./words.js";
@@ -132,7 +132,7 @@ function show() {
 /** Answers the question of a link, and from then on what is typed. */
 export const listView = {
   begin() {
-    named("list-text").addEventListener("input", show);
+    whenTyped([named("list-text")], show);
     matchMedia("(prefers-color-scheme: dark)").addEventListener("change", () => {
       document.querySelector("canvas.map")?.redraw();
     });

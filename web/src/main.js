@@ -2,6 +2,7 @@
 import { compareView } from "./compare_view.js";
 import { fieldsOf } from "./links.js";
 import { listView } from "./list_view.js";
+import { listsView } from "./lists_view.js";
 import { networkView } from "./network_view.js";
 import { splitView } from "./split_view.js";
 
@@ -9,6 +10,7 @@ const VIEWS = new Map([
   ["network", networkView],
   ["compare", compareView],
   ["list", listView],
+  ["lists", listsView],
   ["split", splitView],
 ]);
 

@@ -1,25 +1,46 @@
 // A network in parts of one size, and the blocks of it that are free.
 import { addressText, free, part, read, readList } from "./answers.js";
 import { ends, track } from "./bars.js";
-import { button, element, mark, named, readable, say } from "./elements.js";
+import {
+  button, copying, element, mark, named, readable, save, say, whenTyped,
+} from "./elements.js";
 import { keep } from "./links.js";
 import { entries } from "./list_view.js";
 import { addresses, cause, counted, grouped, percent, sizeText } from "./words.js";
 
-// How many parts are shown at once.
+// How many parts are shown at once, and the most that are copied and saved.
 const SHOWN = 64n;
+const SAVED = 65536n;
 let begin = 0n;
 
-function rowOf(network, prefix, number) {
+const HEADS = ["Number", "Network", "First address", "Last address"];
+
+// What the table has of a part; of parts whose use is known, that too.
+function cellsOf({ network, prefix, useOf }, number) {
   const one = part(network, prefix, number);
-  return element(
-    "tr",
-    {},
-    element("td", { class: "number" }, grouped(number + 1n)),
-    element("td", {}, one.text),
-    element("td", {}, one.first),
-    element("td", {}, one.last),
-  );
+  const cells = [grouped(number + 1n), one.text, one.first, one.last];
+  return useOf === undefined ? cells : [...cells, useOf(one)];
+}
+
+const headsOf = ({ useOf }) => (useOf === undefined ? HEADS : [...HEADS, "State"]);
+
+function rowOf(asked, number) {
+  const cells = cellsOf(asked, number);
+  const use = cells[HEADS.length];
+  const names = headsOf(asked);
+  const cell = (text, at) =>
+    element("td", { class: at === 0 ? "number" : undefined, "data-name": names[at] }, text);
+  const isFree = use === undefined || use === "free";
+  return element("tr", isFree ? {} : { class: "used" }, ...cells.map(cell));
+}
+
+// The lines of all parts, without their numbers, with a tab between what a line has.
+function linesOf(asked) {
+  const lines = [headsOf(asked).slice(1).join("\t")];
+  for (let number = 0n; number < asked.count; number += 1n) {
+    lines.push(cellsOf(asked, number).slice(1).join("\t"));
+  }
+  return lines;
 }
 
 // A button that turns to other parts; it is off if there are none.
@@ -30,21 +51,21 @@ function turning(text, isOff, act) {
 }
 
 // The rows of the parts from `begin` on, with buttons to those before and after them.
-function table(network, prefix, count, place) {
+function table(asked, place) {
+  const { network, count } = asked;
   const end = begin + SHOWN < count ? begin + SHOWN : count;
   const body = element("tbody");
   for (let number = begin; number < end; number += 1n) {
-    body.append(rowOf(network, prefix, number));
+    body.append(rowOf(asked, number));
   }
-  const names = ["Number", "Network", "First address", "Last address"];
-  const heads = names.map((name, at) =>
+  const heads = headsOf(asked).map((name, at) =>
     element("th", at === 0 ? { scope: "col", class: "number" } : { scope: "col" }, name));
   const head = element("thead", {}, element("tr", {}, ...heads));
   // The button that was pressed is another one then, or off: the keyboard goes on at the new one.
   const turn = (to, at) => () => {
     begin = to < 0n ? 0n : to;
-    table(network, prefix, count, place);
-    const buttons = place.querySelectorAll("button");
+    table(asked, place);
+    const buttons = place.querySelectorAll(".turns button");
     (buttons[at].disabled ? buttons[1 - at] : buttons[at]).focus();
   };
   const region = { class: "table", tabindex: "0", role: "region", "aria-label": "Parts" };
@@ -55,7 +76,7 @@ function table(network, prefix, count, place) {
     place.append(
       element(
         "div",
-        { class: "buttons" },
+        { class: "buttons turns" },
         turning("Earlier", begin === 0n, turn(begin - SHOWN, 0)),
         turning("Later", end === count, turn(begin + SHOWN, 1)),
         element("span", { role: "status" }, shown),
@@ -64,12 +85,26 @@ function table(network, prefix, count, place) {
   }
 }
 
-function parts(network, prefix) {
+function parts(network, prefix, found) {
   const count = 1n << BigInt(prefix - network.prefix);
+  const asked = { network, prefix, count, useOf: found?.useOf };
   const place = element("div");
   begin = 0n;
-  table(network, prefix, count, place);
-  return [element("h3", {}, `${counted(count, "part")} of prefix length ${prefix}`), place];
+  table(asked, place);
+  const title = element("h3", {}, `${counted(count, "part")} of prefix length ${prefix}`);
+  if (count > SAVED) {
+    return [title, place];
+  }
+  const all = button("Save all as a file", () => save("split-parts.txt", linesOf(asked)));
+  const copyAll = copying("all parts", () => `${linesOf(asked).join("\n")}\n`);
+  return [title, element("div", { class: "buttons" }, copyAll, all), place];
+}
+
+// The lines in use that have no address of the network.
+function outside(found, lines) {
+  const texts = found.outside.map((row) => `line ${lines.numbers[row]}: ${lines.texts[row]}`);
+  const label = `In use, but outside the network: ${grouped(texts.length)}`;
+  return texts.length === 0 ? [] : [readable("split-outside", label, texts)];
 }
 
 function freeParts(network, found) {
@@ -114,6 +149,10 @@ function sentence(network, prefix, found, refusedAt) {
   }
   if (found !== undefined) {
     words.push(`${grouped(found.size)} of its addresses are free.`);
+    if (found.outside.length > 0) {
+      const count = found.outside.length;
+      words.push(`${counted(count, "line")} in use ${count === 1 ? "is" : "are"} outside it.`);
+    }
   }
   return words.join(" ");
 }
@@ -132,9 +171,9 @@ function show() {
     return;
   }
   const { code, network } = read(text);
-  if (code !== undefined) {
+  if (network === undefined) {
     mark(networkField, true);
-    say("split-status", `Refused: ${cause(code)}.`, true);
+    say("split-status", `Refused: ${cause(code ?? "address")}.`, true);
     return;
   }
   const { prefix, wrong } = prefixOf(prefixField.value.trim(), network);
@@ -147,21 +186,20 @@ function show() {
   const list = lines.texts.length > 0 ? readList(lines.texts) : undefined;
   const refused = list?.refused[0];
   const refusedAt = refused && { line: lines.numbers[refused.row], code: refused.code };
-  const found = list && !refused ? free(network, list) : undefined;
+  const found = list && !refused
+    ? { ...free(network, list), outside: list.apart(network) } : undefined;
   mark(usedField, refused !== undefined);
   say("split-status", sentence(network, prefix, found, refusedAt), refused !== undefined);
   if (refused === undefined) {
-    place.append(...(found ? freeParts(network, found) : []));
-    place.append(...(prefix === undefined ? [] : parts(network, prefix)));
+    place.append(...(found ? [...outside(found, lines), ...freeParts(network, found)] : []));
+    place.append(...(prefix === undefined ? [] : parts(network, prefix, found)));
   }
 }
 
 /** Answers the question of a link, and from then on what is typed. */
 export const splitView = {
   begin() {
-    ["split-network", "split-prefix", "split-used"].forEach((id) => {
-      named(id).addEventListener("input", show);
-    });
+    whenTyped(["split-network", "split-prefix", "split-used"].map(named), show);
   },
   open(fields) {
     named("split-network").value = fields.get("split") ?? "";

@@ -4,12 +4,14 @@ const CAUSES = {
   format: "more than one slash",
   address: "no IPv4 or IPv6 address before the slash",
   prefix: "no prefix length of the address's family after the slash",
+  range: "the first address of the range comes after the last, or is of the other family",
 };
 
 const SHORT_CAUSES = {
   format: "more than one slash",
   address: "no address",
   prefix: "no prefix length",
+  range: "no range",
 };
 
 /** Why a text is refused. */
@@ -44,14 +46,17 @@ export function sizeText(size) {
   return isPower && bits >= 10 ? `${grouped(size)} (2^${bits})` : grouped(size);
 }
 
-/** A share of the whole in percent, which says so where it is less than what is shown. */
+/** A share of the whole in percent: 0 or 100 only where it is nothing or all. */
 export function percent(part, whole) {
-  const millionths = Number((part * 100000000n) / whole) / 1000000;
-  if (part === 0n) {
-    return "0 %";
+  if (part === 0n || part === whole) {
+    return part === 0n ? "0 %" : "100 %";
   }
-  if (millionths < 0.01) {
+  const share = Number((part * 100000000n) / whole) / 1000000;
+  if (share < 0.01) {
     return "less than 0.01 %";
   }
-  return `${millionths < 10 ? millionths.toFixed(2) : millionths.toFixed(1)} %`;
+  if (share >= 99.99) {
+    return "more than 99.99 %";
+  }
+  return `${share < 10 || share >= 99.9 ? share.toFixed(2) : share.toFixed(1)} %`;
 }
