@@ -1,11 +1,15 @@
-/* Which addresses of standard input, one a line, a list of networks holds. The list is a file with one network a
- * line; empty lines and lines that begin with '#' say nothing.
+/* Which addresses of standard input, one a line, a list of networks has, and the longest network that has each. The list
+ * is a file with one network a line; empty lines and lines that begin with '#' say nothing.
  *
  *   allow LIST < ADDRESSES
  *
- * It prints each address and whether it is allowed. The status is 0; or 2, with the reason on standard error, where
- * the list or standard input cannot be read to its end, an answer cannot be written, memory is out, or a line of the
- * list is no network: then it says why not. Nothing is printed to standard output before the whole list has been read. */
+ * An IPv4-mapped address, as a socket of both families tells an IPv4 peer, is also looked for as the IPv4 address that it
+ * stands for: as it is, it is in no IPv4 network. A list of what is denied has to be asked in the same way.
+ *
+ * It prints each address and whether it is allowed. The status is 0; or 2, with the reason on standard error, where the
+ * list or standard input cannot be read to its end, an answer cannot be written, memory is out, or lines of the list are
+ * no networks: then it says of each of them why not. Nothing is printed to standard output before the whole list has been
+ * read. */
 #define _POSIX_C_SOURCE 200809L
 #include "ipnetwork.h"
 
@@ -20,9 +24,21 @@ struct line {
     size_t room, length;
 };
 
+/* The networks of one family as they are read; their table, the blocks with the place of the network of each; and the
+ * ranges of the table, beside each the place of its longest network, with their index. */
+struct fours {
+    ipnetwork_v4 *networks, *blocks, *ranges;
+    size_t count, room, *places, *beside, range_count, index_length;
+    uint32_t *index;
+};
+struct sixes {
+    ipnetwork_v6 *networks, *blocks, *ranges;
+    size_t count, room, *places, *beside, range_count, index_length;
+    uint32_t *index;
+};
 struct list {
-    ipnetwork_ip *networks;
-    size_t count, room;
+    struct fours fours;
+    struct sixes sixes;
 };
 
 /* Whether there is a next line. A line that a failed read cut short is none: its front may name another network. */
@@ -44,18 +60,34 @@ static int was_read(FILE *file, const char *name) {
     return 0;
 }
 
-/* Whether the list has a place for one network more. */
-static int has_place(struct list *list) {
-    if (list->count < list->room)
-        return 1;
-    size_t room = list->room == 0 ? 16 : 2 * list->room;
-    ipnetwork_ip *more = realloc(list->networks, room * sizeof *more);
-    if (more == NULL) {
+/* An array with a place for one struct more; NULL if memory is out, and then the array is as it was. */
+static void *grown(void *array, size_t count, size_t *room, size_t size) {
+    if (count < *room)
+        return array;
+    size_t more = *room == 0 ? 16 : 2 * *room;
+    void *place = realloc(array, more * size);
+    if (place != NULL)
+        *room = more;
+    return place;
+}
+
+/* Whether a network was kept. */
+static int keep(const ipnetwork_ip *network, struct list *list) {
+    struct fours *fours = &list->fours;
+    struct sixes *sixes = &list->sixes;
+    void *place = network->family == 4 ? grown(fours->networks, fours->count, &fours->room, sizeof network->v4)
+                                       : grown(sixes->networks, sixes->count, &sixes->room, sizeof network->v6);
+    if (place == NULL) {
         perror("allow");
         return 0;
     }
-    list->networks = more;
-    list->room = room;
+    if (network->family == 4) {
+        fours->networks = place;
+        fours->networks[fours->count++] = network->v4;
+    } else {
+        sixes->networks = place;
+        sixes->networks[sixes->count++] = network->v6;
+    }
     return 1;
 }
 
@@ -69,19 +101,20 @@ static void tell_refusal(const char *name, size_t number, const struct line *lin
 
 /* Whether the list was read, and each line of it is a network. */
 static int read_list(FILE *file, const char *name, struct list *list, struct line *line) {
+    int refused = 0;
     for (size_t number = 1; next_line(file, line); number++) {
         if (line->length == 0 || line->text[0] == '#')
             continue;
-        if (!has_place(list))
-            return 0;
-        ipnetwork_fault fault = ipnetwork_read_with_cause(line->text, line->length, &list->networks[list->count]);
+        ipnetwork_ip network;
+        ipnetwork_fault fault = ipnetwork_read_with_cause(line->text, line->length, &network);
         if (fault != IPNETWORK_OK) {
             tell_refusal(name, number, line, fault);
+            refused = 1;
+        } else if (!keep(&network, list)) {
             return 0;
         }
-        list->count += 1;
     }
-    return was_read(file, name);
+    return was_read(file, name) && !refused;
 }
 
 /* The same of the file of this name. */
@@ -96,32 +129,90 @@ static int open_list(const char *name, struct list *list, struct line *line) {
     return done;
 }
 
-/* Whether a network of the list holds the address, which is a network of a single member. */
-static int is_allowed(const struct list *list, const ipnetwork_ip *address) {
-    const uint8_t *octets = address->family == 4 ? address->v4.address : address->v6.address;
-    size_t length = address->family == 4 ? sizeof address->v4.address : sizeof address->v6.address;
-    for (size_t i = 0; i < list->count; i++) {
-        uint8_t answer;
-        if (ipnetwork_contains(&list->networks[i], octets, length, &answer) == IPNETWORK_OK && answer == 1)
-            return 1;
-    }
+/* Memory for so many elements, not NULL for none. */
+static void *memory(size_t count, size_t size) { return malloc(count == 0 ? 1 : count * size); }
+
+/* Whether the ranges of a list were made, by which it is asked: a list that is asked once needs none. */
+static int make_fours(struct fours *list) {
+    size_t count = list->count, most = 2 * count;
+    if (ipnetwork_index_size(most, &list->index_length) != IPNETWORK_OK)
+        return 0;
+    list->blocks = memory(count, sizeof *list->blocks);
+    list->places = memory(count, sizeof *list->places);
+    list->ranges = memory(most, sizeof *list->ranges);
+    list->beside = memory(most, sizeof *list->beside);
+    list->index = memory(list->index_length, sizeof *list->index);
+    return list->blocks && list->places && list->ranges && list->beside && list->index &&
+           ipnetwork_v4_table_make(list->networks, count, list->blocks, count, list->places, count) == IPNETWORK_OK &&
+           ipnetwork_v4_ranges_make_numbered(list->blocks, count, list->places, count, list->ranges, most, list->beside,
+                                             most, &list->range_count) == IPNETWORK_OK &&
+           ipnetwork_v4_index_make(list->ranges, list->range_count, list->index, list->index_length) == IPNETWORK_OK;
+}
+
+static int make_sixes(struct sixes *list) {
+    size_t count = list->count, most = 2 * count;
+    if (ipnetwork_index_size(most, &list->index_length) != IPNETWORK_OK)
+        return 0;
+    list->blocks = memory(count, sizeof *list->blocks);
+    list->places = memory(count, sizeof *list->places);
+    list->ranges = memory(most, sizeof *list->ranges);
+    list->beside = memory(most, sizeof *list->beside);
+    list->index = memory(list->index_length, sizeof *list->index);
+    return list->blocks && list->places && list->ranges && list->beside && list->index &&
+           ipnetwork_v6_table_make(list->networks, count, list->blocks, count, list->places, count) == IPNETWORK_OK &&
+           ipnetwork_v6_ranges_make_numbered(list->blocks, count, list->places, count, list->ranges, most, list->beside,
+                                             most, &list->range_count) == IPNETWORK_OK &&
+           ipnetwork_v6_index_make(list->ranges, list->range_count, list->index, list->index_length) == IPNETWORK_OK;
+}
+
+static int make_ranges(struct list *list) {
+    if (make_fours(&list->fours) && make_sixes(&list->sixes))
+        return 1;
+    fprintf(stderr, "allow: no memory for the ranges of the list\n");
     return 0;
 }
 
-static const char *answer_to(const struct line *line, const struct list *list) {
-    ipnetwork_ip address;
-    if (memchr(line->text, '/', line->length) != NULL ||
-        ipnetwork_read(line->text, line->length, &address) != IPNETWORK_OK)
-        return "no address";
-    return is_allowed(list, &address) ? "allowed" : "not allowed";
+/* Whether a network of the list has an address; then the text of the longest is put. */
+static int has(const struct list *list, const ipnetwork_address *address, char text[IPNETWORK_V6_TEXT]) {
+    const struct fours *fours = &list->fours;
+    const struct sixes *sixes = &list->sixes;
+    size_t length;
+    ipnetwork_place found =
+        address->length == 4
+            ? ipnetwork_v4_ranges_place(fours->ranges, fours->range_count, fours->beside, fours->range_count,
+                                        fours->index, fours->index_length, address->octets)
+            : ipnetwork_v6_ranges_place(sixes->ranges, sixes->range_count, sixes->beside, sixes->range_count,
+                                        sixes->index, sixes->index_length, address->octets);
+    if (found.place == IPNETWORK_NO_PLACE)
+        return 0;
+    if (address->length == 4)
+        return ipnetwork_v4_canonical(&fours->networks[found.place], text, IPNETWORK_V6_TEXT, &length) == IPNETWORK_OK;
+    return ipnetwork_v6_canonical(&sixes->networks[found.place], text, IPNETWORK_V6_TEXT, &length) == IPNETWORK_OK;
+}
+
+/* The same of an address as it is, and as the IPv4 address that it stands for. */
+static int is_allowed(const struct list *list, const ipnetwork_address *address, char text[IPNETWORK_V6_TEXT]) {
+    ipnetwork_address unmapped;
+    return has(list, address, text) ||
+           (ipnetwork_address_unmapped(address, &unmapped) == IPNETWORK_OK && has(list, &unmapped, text));
+}
+
+static void answer(const struct line *line, const struct list *list) {
+    ipnetwork_address address;
+    char text[IPNETWORK_V6_TEXT];
+    fwrite(line->text, 1, line->length, stdout);
+    if (ipnetwork_address_read(line->text, line->length, &address) != IPNETWORK_OK)
+        puts(" no address");
+    else if (is_allowed(list, &address, text))
+        printf(" allowed by %s\n", text);
+    else
+        puts(" not allowed");
 }
 
 /* Whether standard input was read to its end, and the answer to each line of it was written. */
 static int answer_all(const struct list *list, struct line *line) {
-    while (next_line(stdin, line)) {
-        fwrite(line->text, 1, line->length, stdout);
-        printf(" %s\n", answer_to(line, list));
-    }
+    while (next_line(stdin, line))
+        answer(line, list);
     if (!was_read(stdin, "standard input"))
         return 0;
     if (fflush(stdout) == 0 && !ferror(stdout))
@@ -130,15 +221,24 @@ static int answer_all(const struct list *list, struct line *line) {
     return 0;
 }
 
+static void leave(struct list *list, struct line *line) {
+    struct fours *fours = &list->fours;
+    struct sixes *sixes = &list->sixes;
+    void *all[] = {fours->networks, fours->blocks, fours->ranges, fours->places, fours->beside, fours->index,
+                   sixes->networks, sixes->blocks, sixes->ranges, sixes->places, sixes->beside, sixes->index,
+                   line->text};
+    for (size_t at = 0; at < sizeof all / sizeof *all; at++)
+        free(all[at]);
+}
+
 int main(int count, char **words) {
     if (count != 2) {
         fprintf(stderr, "usage: allow LIST < ADDRESSES\n");
         return 2;
     }
-    struct list list = {NULL, 0, 0};
+    struct list list = {0};
     struct line line = {NULL, 0, 0};
-    int done = open_list(words[1], &list, &line) && answer_all(&list, &line);
-    free(line.text);
-    free(list.networks);
+    int done = open_list(words[1], &list, &line) && make_ranges(&list) && answer_all(&list, &line);
+    leave(&list, &line);
     return done ? 0 : 2;
 }

@@ -21,7 +21,7 @@ import tempfile
 
 HERE = pathlib.Path(__file__).resolve().parent
 HEADER = HERE / "ipnetwork.h"
-CALL = re.compile(r"^(?:IPNETWORK_CHECKED\w*(?:\([^)]*\))? )?(\w+) (ipnetwork_\w+)\(([^;]*)\);", re.M)
+CALL = re.compile(r"^(?:IPNETWORK_CHECKED\w*(?:\(\([^)]*\)\))? )?(\w+) (ipnetwork_\w+)\(([^;]*)\);", re.M)
 # Calls, and parameters of theirs: the answer is the same, whichever comes first. Of rooms, each has to be enough.
 SAME = [
     (r"v[46]_overlaps", {"one", "other"}),

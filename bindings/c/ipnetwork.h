@@ -1,8 +1,9 @@
 /* IP networks in CIDR notation, IPv4 and IPv6: read from texts, printed, and asked about their sets of addresses.
  *
- * Every call returns an ipnetwork_fault: IPNETWORK_OK, which is 0, or why there is no result; except the two that tell a
- * version, and the two that return an ipnetwork_place. Results are written through the last pointers. After a fault nothing has been written, except that after
- * IPNETWORK_SHORT_BUFFER a call with a pointer for the length of texts, or for the number of blocks, has written that.
+ * Every function returns an ipnetwork_fault: IPNETWORK_OK, which is 0, or why there is no result; except the two that
+ * return a version, and the two that return an ipnetwork_place. Results are written through the last pointers. After a
+ * fault nothing has been written, except that after IPNETWORK_SHORT_BUFFER a call with a pointer for the length of texts,
+ * or for the number of blocks, has written that.
  * A prefix length that the caller has filled is checked by each call that looks at it: one past the width is
  * IPNETWORK_PREFIX, and never trusted. The searches of sets, tables and ranges do not look at every one, or at none.
  *
@@ -65,22 +66,22 @@ enum {
     IPNETWORK_NO_SET = 10       /* a list that is not the least one of a set, as aggregate leaves it */
 };
 
-/* IPNETWORK_CHECKED: the fault has to be looked at, and no pointer is NULL. IPNETWORK_CHECKED_AT: of these arguments
- * none is NULL, and the others may be beside a length of 0. IPNETWORK_CHECKED_FAULT: each may be beside a length of 0.
+/* IPNETWORK_CHECKED: the fault has to be looked at, and no pointer is NULL. IPNETWORK_CHECKED_AT: of the arguments of these
+ * numbers none is NULL, and the others may be beside a length of 0. IPNETWORK_CHECKED_FAULT: each may be beside a length of 0.
  * IPNETWORK_ALONE: no other pointer reaches it. */
 #if defined(__GNUC__)
 #define IPNETWORK_CHECKED __attribute__((warn_unused_result, nonnull))
-#define IPNETWORK_CHECKED_AT(...) __attribute__((warn_unused_result, nonnull(__VA_ARGS__)))
+#define IPNETWORK_CHECKED_AT(numbers) __attribute__((warn_unused_result, nonnull numbers))
 #define IPNETWORK_CHECKED_FAULT __attribute__((warn_unused_result))
 #else
 #define IPNETWORK_CHECKED
-#define IPNETWORK_CHECKED_AT(...)
+#define IPNETWORK_CHECKED_AT(numbers)
 #define IPNETWORK_CHECKED_FAULT
 #endif
-#if defined(__cplusplus)
-#define IPNETWORK_ALONE
-#else
+#if !defined(__cplusplus) && defined(__STDC_VERSION__) && __STDC_VERSION__ >= 199901L
 #define IPNETWORK_ALONE restrict
+#else
+#define IPNETWORK_ALONE
 #endif
 
 /* An IPv4 network: an address, host bits included, and a prefix length of 0 to 32. */
@@ -121,7 +122,7 @@ uint32_t ipnetwork_abi_minor_version(void);
 /* What a fault says in a few words, "unknown fault" for a number that is none, and a zero byte after it, in the front
  * of a buffer of buffer_length bytes, of which IPNETWORK_FAULT_TEXT are enough. *text_length and
  * IPNETWORK_SHORT_BUFFER are as in the canonical calls. */
-IPNETWORK_CHECKED_AT(4) ipnetwork_fault ipnetwork_fault_text(ipnetwork_fault fault, char *IPNETWORK_ALONE buffer,
+IPNETWORK_CHECKED_AT((4)) ipnetwork_fault ipnetwork_fault_text(ipnetwork_fault fault, char *IPNETWORK_ALONE buffer,
                                                               size_t buffer_length,
                                                               size_t *IPNETWORK_ALONE text_length);
 
@@ -130,20 +131,20 @@ IPNETWORK_CHECKED_AT(4) ipnetwork_fault ipnetwork_fault_text(ipnetwork_fault fau
  * full width, 32 or 128. An IPv4 address is four decimals without leading zeros (RFC 3986, section 3.2.2), an IPv6
  * address has the forms of RFC 4291, section 2.2. Host bits are kept. For any other text the fault is
  * IPNETWORK_FORMAT, IPNETWORK_ADDRESS or IPNETWORK_PREFIX, the first that applies. */
-IPNETWORK_CHECKED_AT(3) ipnetwork_fault ipnetwork_v4_read(const char *text, size_t text_length,
+IPNETWORK_CHECKED_AT((3)) ipnetwork_fault ipnetwork_v4_read(const char *text, size_t text_length,
                                                            ipnetwork_v4 *IPNETWORK_ALONE network);
-IPNETWORK_CHECKED_AT(3) ipnetwork_fault ipnetwork_v6_read(const char *text, size_t text_length,
+IPNETWORK_CHECKED_AT((3)) ipnetwork_fault ipnetwork_v6_read(const char *text, size_t text_length,
                                                            ipnetwork_v6 *IPNETWORK_ALONE network);
 
 /* The network of either family that a text names; the struct of the other family is all zeros. For any other text the
  * fault is IPNETWORK_ADDRESS, whatever is wrong with it. */
-IPNETWORK_CHECKED_AT(3) ipnetwork_fault ipnetwork_read(const char *text, size_t text_length,
+IPNETWORK_CHECKED_AT((3)) ipnetwork_fault ipnetwork_read(const char *text, size_t text_length,
                                                         ipnetwork_ip *IPNETWORK_ALONE network);
 
 /* The same with the cause: for any other text the fault is IPNETWORK_FORMAT if it holds two or more '/'; else
  * IPNETWORK_ADDRESS if what stands before the '/', or the whole text if there is none, is an address of neither family;
  * else IPNETWORK_PREFIX. */
-IPNETWORK_CHECKED_AT(3) ipnetwork_fault ipnetwork_read_with_cause(const char *text, size_t text_length,
+IPNETWORK_CHECKED_AT((3)) ipnetwork_fault ipnetwork_read_with_cause(const char *text, size_t text_length,
                                                                    ipnetwork_ip *IPNETWORK_ALONE network);
 
 /* The network of this address, host bits kept, and this prefix length. IPNETWORK_PREFIX past the width. */
@@ -157,10 +158,10 @@ IPNETWORK_CHECKED ipnetwork_fault ipnetwork_v6_new(const uint8_t address[16], ui
  * *text_length is the length of the text, without the zero byte. IPNETWORK_SHORT_BUFFER if buffer_length is not
  * greater than that: then *text_length is written all the same, and the buffer is not. A buffer of no bytes, at
  * any pointer or NULL, asks only for the length. */
-IPNETWORK_CHECKED_AT(1, 4) ipnetwork_fault ipnetwork_v4_canonical(const ipnetwork_v4 *network,
+IPNETWORK_CHECKED_AT((1, 4)) ipnetwork_fault ipnetwork_v4_canonical(const ipnetwork_v4 *network,
                                                                    char *IPNETWORK_ALONE buffer, size_t buffer_length,
                                                                    size_t *IPNETWORK_ALONE text_length);
-IPNETWORK_CHECKED_AT(1, 4) ipnetwork_fault ipnetwork_v6_canonical(const ipnetwork_v6 *network,
+IPNETWORK_CHECKED_AT((1, 4)) ipnetwork_fault ipnetwork_v6_canonical(const ipnetwork_v6 *network,
                                                                    char *IPNETWORK_ALONE buffer, size_t buffer_length,
                                                                    size_t *IPNETWORK_ALONE text_length);
 
@@ -175,12 +176,12 @@ IPNETWORK_CHECKED ipnetwork_fault ipnetwork_v6_contains(const ipnetwork_v6 *netw
  * the address number i. There are address_count addresses, of 4 or 16 octets each, one after the other.
  * IPNETWORK_SHORT_BUFFER if answer_count, for how many answers there is room, is less than address_count. Answers
  * past address_count are not written. */
-IPNETWORK_CHECKED_AT(1) ipnetwork_fault ipnetwork_v4_contains_column(const ipnetwork_v4 *network,
+IPNETWORK_CHECKED_AT((1)) ipnetwork_fault ipnetwork_v4_contains_column(const ipnetwork_v4 *network,
                                                                      const uint8_t *addresses,
                                                                      size_t address_count,
                                                                      uint8_t *IPNETWORK_ALONE answers,
                                                                      size_t answer_count);
-IPNETWORK_CHECKED_AT(1) ipnetwork_fault ipnetwork_v6_contains_column(const ipnetwork_v6 *network,
+IPNETWORK_CHECKED_AT((1)) ipnetwork_fault ipnetwork_v6_contains_column(const ipnetwork_v6 *network,
                                                                      const uint8_t *addresses,
                                                                      size_t address_count,
                                                                      uint8_t *IPNETWORK_ALONE answers,
@@ -188,23 +189,23 @@ IPNETWORK_CHECKED_AT(1) ipnetwork_fault ipnetwork_v6_contains_column(const ipnet
 
 /* Whether an address is a member of one of network_count networks, in any order, host bits or not: *answer is 1 or 0,
  * and 0 if there are none. IPNETWORK_PREFIX if the prefix length of one is past the width. */
-IPNETWORK_CHECKED_AT(3, 4) ipnetwork_fault ipnetwork_v4_list_contains(const ipnetwork_v4 *networks,
+IPNETWORK_CHECKED_AT((3, 4)) ipnetwork_fault ipnetwork_v4_list_contains(const ipnetwork_v4 *networks,
                                                                       size_t network_count, const uint8_t address[4],
                                                                       uint8_t *IPNETWORK_ALONE answer);
-IPNETWORK_CHECKED_AT(3, 4) ipnetwork_fault ipnetwork_v6_list_contains(const ipnetwork_v6 *networks,
+IPNETWORK_CHECKED_AT((3, 4)) ipnetwork_fault ipnetwork_v6_list_contains(const ipnetwork_v6 *networks,
                                                                       size_t network_count, const uint8_t address[16],
                                                                       uint8_t *IPNETWORK_ALONE answer);
 
 /* The same of either family, for an address of 4 or 16 octets. No address of the other family is a member: not even
  * an IPv4-mapped IPv6 address of an IPv4 network. IPNETWORK_NO_FAMILY comes before IPNETWORK_PREFIX. */
-IPNETWORK_CHECKED_AT(1, 4) ipnetwork_fault ipnetwork_contains(const ipnetwork_ip *network, const uint8_t *address,
+IPNETWORK_CHECKED_AT((1, 4)) ipnetwork_fault ipnetwork_contains(const ipnetwork_ip *network, const uint8_t *address,
                                                                size_t address_length, uint8_t *IPNETWORK_ALONE answer);
 
 /* The same questions of either family. Each is IPNETWORK_NO_FAMILY if a struct has a family that is neither 4 nor 6,
  * else IPNETWORK_PREFIX if its prefix length is past the width of that family; of two structs the first is judged
  * first. Networks of different families share no address, and none is a subnet of the other; each IPv4 network comes
  * before each IPv6 network. For ipnetwork_canonical IPNETWORK_V6_TEXT bytes are enough. */
-IPNETWORK_CHECKED_AT(1, 4) ipnetwork_fault ipnetwork_canonical(const ipnetwork_ip *network,
+IPNETWORK_CHECKED_AT((1, 4)) ipnetwork_fault ipnetwork_canonical(const ipnetwork_ip *network,
                                                                 char *IPNETWORK_ALONE buffer, size_t buffer_length,
                                                                 size_t *IPNETWORK_ALONE text_length);
 IPNETWORK_CHECKED ipnetwork_fault ipnetwork_network(const ipnetwork_ip *network,
@@ -221,7 +222,7 @@ IPNETWORK_CHECKED ipnetwork_fault ipnetwork_compare(const ipnetwork_ip *one, con
 
 /* The address of either family that a text names, in the forms that ipnetwork_read takes before a '/'; for any other
  * text, with a '/' or a zone, IPNETWORK_ADDRESS. */
-IPNETWORK_CHECKED_AT(3) ipnetwork_fault ipnetwork_address_read(const char *text, size_t text_length,
+IPNETWORK_CHECKED_AT((3)) ipnetwork_fault ipnetwork_address_read(const char *text, size_t text_length,
                                                                 ipnetwork_address *IPNETWORK_ALONE address);
 
 /* The address that an IPv4-mapped one, of ::ffff:0:0/96, stands for (RFC 4291, section 2.5.5.2), and any other as it is.
@@ -236,7 +237,7 @@ IPNETWORK_CHECKED ipnetwork_fault ipnetwork_v6_unmapped(const uint8_t address[16
 /* The canonical text of an address, and a zero byte after it: as ipnetwork_canonical prints the address of a network,
  * into a buffer of which IPNETWORK_ADDRESS_TEXT bytes are enough. IPNETWORK_NO_FAMILY if the struct's length is neither
  * 4 nor 16. */
-IPNETWORK_CHECKED_AT(1, 4) ipnetwork_fault ipnetwork_address_canonical(const ipnetwork_address *address,
+IPNETWORK_CHECKED_AT((1, 4)) ipnetwork_fault ipnetwork_address_canonical(const ipnetwork_address *address,
     char *IPNETWORK_ALONE buffer, size_t buffer_length, size_t *IPNETWORK_ALONE text_length);
 
 /* The least member (the address with its host bits cleared), the greatest (with them set), and the mask. */
@@ -290,10 +291,10 @@ IPNETWORK_CHECKED ipnetwork_fault ipnetwork_v6_compare(const ipnetwork_v6 *one, 
  * fewest blocks with the same addresses, in ascending order and without host bits. *block_count is how many they are;
  * which networks stand after them is not specified. The union of lists is the aggregate of one array that has them all.
  * IPNETWORK_PREFIX if the prefix length of one is past the width. */
-IPNETWORK_CHECKED_AT(3) ipnetwork_fault ipnetwork_v4_aggregate(ipnetwork_v4 *IPNETWORK_ALONE networks,
+IPNETWORK_CHECKED_AT((3)) ipnetwork_fault ipnetwork_v4_aggregate(ipnetwork_v4 *IPNETWORK_ALONE networks,
                                                                 size_t network_count,
                                                                 size_t *IPNETWORK_ALONE block_count);
-IPNETWORK_CHECKED_AT(3) ipnetwork_fault ipnetwork_v6_aggregate(ipnetwork_v6 *IPNETWORK_ALONE networks,
+IPNETWORK_CHECKED_AT((3)) ipnetwork_fault ipnetwork_v6_aggregate(ipnetwork_v6 *IPNETWORK_ALONE networks,
                                                                 size_t network_count,
                                                                 size_t *IPNETWORK_ALONE block_count);
 
@@ -301,9 +302,9 @@ IPNETWORK_CHECKED_AT(3) ipnetwork_fault ipnetwork_v6_aggregate(ipnetwork_v6 *IPN
  * another list 1 is right too, but 0 says nothing: ipnetwork_v4_list_contains and ipnetwork_v6_list_contains take any
  * list. Not every struct is looked at: IPNETWORK_PREFIX exactly if the prefix length of the last one whose own address
  * is this one or comes before it is past the width, as far as these addresses ascend. That of no set's is. */
-IPNETWORK_CHECKED_AT(3, 4) ipnetwork_fault ipnetwork_v4_set_contains(const ipnetwork_v4 *blocks, size_t block_count,
+IPNETWORK_CHECKED_AT((3, 4)) ipnetwork_fault ipnetwork_v4_set_contains(const ipnetwork_v4 *blocks, size_t block_count,
     const uint8_t address[4], uint8_t *IPNETWORK_ALONE answer);
-IPNETWORK_CHECKED_AT(3, 4) ipnetwork_fault ipnetwork_v6_set_contains(const ipnetwork_v6 *blocks, size_t block_count,
+IPNETWORK_CHECKED_AT((3, 4)) ipnetwork_fault ipnetwork_v6_set_contains(const ipnetwork_v6 *blocks, size_t block_count,
     const uint8_t address[16], uint8_t *IPNETWORK_ALONE answer);
 
 /* A table of network_count networks, in any order, host bits or not, for the next calls: the block of each in the front
@@ -326,9 +327,9 @@ IPNETWORK_CHECKED_FAULT ipnetwork_fault ipnetwork_v6_table_make(const ipnetwork_
  * That the list is a table is not checked: of another list the block at *index has the address too, but there may be a
  * longer one, and IPNETWORK_NO_MEMBER says nothing. Not every struct is looked at: IPNETWORK_PREFIX at the first one
  * that the search comes to whose prefix length is past the width. */
-IPNETWORK_CHECKED_AT(3, 4) ipnetwork_fault ipnetwork_v4_table_find(const ipnetwork_v4 *blocks, size_t block_count,
+IPNETWORK_CHECKED_AT((3, 4)) ipnetwork_fault ipnetwork_v4_table_find(const ipnetwork_v4 *blocks, size_t block_count,
     const uint8_t address[4], size_t *IPNETWORK_ALONE index);
-IPNETWORK_CHECKED_AT(3, 4) ipnetwork_fault ipnetwork_v6_table_find(const ipnetwork_v6 *blocks, size_t block_count,
+IPNETWORK_CHECKED_AT((3, 4)) ipnetwork_fault ipnetwork_v6_table_find(const ipnetwork_v6 *blocks, size_t block_count,
     const uint8_t address[16], size_t *IPNETWORK_ALONE index);
 
 /* The same of many addresses in one call: indexes[i] and faults[i] are what ipnetwork_v4_table_find or
@@ -360,13 +361,13 @@ IPNETWORK_CHECKED_FAULT ipnetwork_fault ipnetwork_v6_index_make(const ipnetwork_
 /* What ipnetwork_v4_set_contains and ipnetwork_v6_set_contains answer, and what ipnetwork_v4_table_find and
  * ipnetwork_v6_table_find find, with the same faults, by an index of the blocks. The index only says where the search
  * begins. Whatever it holds, the answer is that of the list: an index of another list costs time and nothing else. */
-IPNETWORK_CHECKED_AT(5, 6) ipnetwork_fault ipnetwork_v4_index_contains(const ipnetwork_v4 *blocks, size_t block_count,
+IPNETWORK_CHECKED_AT((5, 6)) ipnetwork_fault ipnetwork_v4_index_contains(const ipnetwork_v4 *blocks, size_t block_count,
     const uint32_t *index, size_t index_length, const uint8_t address[4], uint8_t *IPNETWORK_ALONE answer);
-IPNETWORK_CHECKED_AT(5, 6) ipnetwork_fault ipnetwork_v6_index_contains(const ipnetwork_v6 *blocks, size_t block_count,
+IPNETWORK_CHECKED_AT((5, 6)) ipnetwork_fault ipnetwork_v6_index_contains(const ipnetwork_v6 *blocks, size_t block_count,
     const uint32_t *index, size_t index_length, const uint8_t address[16], uint8_t *IPNETWORK_ALONE answer);
-IPNETWORK_CHECKED_AT(5, 6) ipnetwork_fault ipnetwork_v4_index_find(const ipnetwork_v4 *blocks, size_t block_count,
+IPNETWORK_CHECKED_AT((5, 6)) ipnetwork_fault ipnetwork_v4_index_find(const ipnetwork_v4 *blocks, size_t block_count,
     const uint32_t *index, size_t index_length, const uint8_t address[4], size_t *IPNETWORK_ALONE place);
-IPNETWORK_CHECKED_AT(5, 6) ipnetwork_fault ipnetwork_v6_index_find(const ipnetwork_v6 *blocks, size_t block_count,
+IPNETWORK_CHECKED_AT((5, 6)) ipnetwork_fault ipnetwork_v6_index_find(const ipnetwork_v6 *blocks, size_t block_count,
     const uint32_t *index, size_t index_length, const uint8_t address[16], size_t *IPNETWORK_ALONE place);
 
 /* The same of many addresses in one call: answers[i], or places[i], and faults[i] are what the call for one address leaves
@@ -400,11 +401,11 @@ IPNETWORK_CHECKED_FAULT ipnetwork_fault ipnetwork_v6_index_find_column(const ipn
  * IPNETWORK_PREFIX if the prefix length of a struct is past the width, else IPNETWORK_SHORT_BUFFER if range_room or
  * place_room, for how many there is room, is less than 2 * block_count: then nothing is written. The time is that of
  * a sort, and of as many calls of ipnetwork_v4_table_find as there are ranges. */
-#define IPNETWORK_NO_PLACE SIZE_MAX
-IPNETWORK_CHECKED_AT(7) ipnetwork_fault ipnetwork_v4_ranges_make(const ipnetwork_v4 *blocks, size_t block_count,
+#define IPNETWORK_NO_PLACE ((size_t)-1)
+IPNETWORK_CHECKED_AT((7)) ipnetwork_fault ipnetwork_v4_ranges_make(const ipnetwork_v4 *blocks, size_t block_count,
     ipnetwork_v4 *IPNETWORK_ALONE ranges, size_t range_room, size_t *IPNETWORK_ALONE places, size_t place_room,
     size_t *IPNETWORK_ALONE range_count);
-IPNETWORK_CHECKED_AT(7) ipnetwork_fault ipnetwork_v6_ranges_make(const ipnetwork_v6 *blocks, size_t block_count,
+IPNETWORK_CHECKED_AT((7)) ipnetwork_fault ipnetwork_v6_ranges_make(const ipnetwork_v6 *blocks, size_t block_count,
     ipnetwork_v6 *IPNETWORK_ALONE ranges, size_t range_room, size_t *IPNETWORK_ALONE places, size_t place_room,
     size_t *IPNETWORK_ALONE range_count);
 
@@ -412,10 +413,10 @@ IPNETWORK_CHECKED_AT(7) ipnetwork_fault ipnetwork_v6_ranges_make(const ipnetwork
  * numbers: with the places of a table, as ipnetwork_v4_table_make and ipnetwork_v6_table_make leave them, that of the
  * block's network in the caller's list. IPNETWORK_SHORT_BUFFER, before any other fault, if number_count is less than
  * block_count. The next calls take these numbers as they take places; a number IPNETWORK_NO_PLACE is taken for none. */
-IPNETWORK_CHECKED_AT(9) ipnetwork_fault ipnetwork_v4_ranges_make_numbered(const ipnetwork_v4 *blocks, size_t block_count,
+IPNETWORK_CHECKED_AT((9)) ipnetwork_fault ipnetwork_v4_ranges_make_numbered(const ipnetwork_v4 *blocks, size_t block_count,
     const size_t *numbers, size_t number_count, ipnetwork_v4 *IPNETWORK_ALONE ranges, size_t range_room,
     size_t *IPNETWORK_ALONE beside, size_t beside_room, size_t *IPNETWORK_ALONE range_count);
-IPNETWORK_CHECKED_AT(9) ipnetwork_fault ipnetwork_v6_ranges_make_numbered(const ipnetwork_v6 *blocks, size_t block_count,
+IPNETWORK_CHECKED_AT((9)) ipnetwork_fault ipnetwork_v6_ranges_make_numbered(const ipnetwork_v6 *blocks, size_t block_count,
     const size_t *numbers, size_t number_count, ipnetwork_v6 *IPNETWORK_ALONE ranges, size_t range_room,
     size_t *IPNETWORK_ALONE beside, size_t beside_room, size_t *IPNETWORK_ALONE range_count);
 
@@ -425,23 +426,23 @@ IPNETWORK_CHECKED_AT(9) ipnetwork_fault ipnetwork_v6_ranges_make_numbered(const 
  * or if IPNETWORK_NO_PLACE, or nothing, stands beside it: then *place is not written. The index only says where the search
  * begins: whatever it holds, the answer is that of the ranges and places. These are not checked: of others *place is what
  * the places say, of ranges in another order maybe that beside another one. If the table changes, make them again. */
-IPNETWORK_CHECKED_AT(7, 8) ipnetwork_fault ipnetwork_v4_ranges_find(const ipnetwork_v4 *ranges, size_t range_count,
+IPNETWORK_CHECKED_AT((7, 8)) ipnetwork_fault ipnetwork_v4_ranges_find(const ipnetwork_v4 *ranges, size_t range_count,
     const size_t *places, size_t place_count, const uint32_t *index, size_t index_length, const uint8_t address[4],
     size_t *IPNETWORK_ALONE place);
-IPNETWORK_CHECKED_AT(7, 8) ipnetwork_fault ipnetwork_v6_ranges_find(const ipnetwork_v6 *ranges, size_t range_count,
+IPNETWORK_CHECKED_AT((7, 8)) ipnetwork_fault ipnetwork_v6_ranges_find(const ipnetwork_v6 *ranges, size_t range_count,
     const size_t *places, size_t place_count, const uint32_t *index, size_t index_length, const uint8_t address[16],
     size_t *IPNETWORK_ALONE place);
 
 /* Return what the calls above write, and IPNETWORK_NO_PLACE where they find none. For one address this is the fastest. */
-IPNETWORK_CHECKED_AT(7) ipnetwork_place ipnetwork_v4_ranges_place(const ipnetwork_v4 *ranges, size_t range_count,
+IPNETWORK_CHECKED_AT((7)) ipnetwork_place ipnetwork_v4_ranges_place(const ipnetwork_v4 *ranges, size_t range_count,
     const size_t *places, size_t place_count, const uint32_t *index, size_t index_length, const uint8_t address[4]);
-IPNETWORK_CHECKED_AT(7) ipnetwork_place ipnetwork_v6_ranges_place(const ipnetwork_v6 *ranges, size_t range_count,
+IPNETWORK_CHECKED_AT((7)) ipnetwork_place ipnetwork_v6_ranges_place(const ipnetwork_v6 *ranges, size_t range_count,
     const size_t *places, size_t place_count, const uint32_t *index, size_t index_length, const uint8_t address[16]);
 
 /* ipnetwork_v4_ranges_find and ipnetwork_v6_ranges_find of many addresses in one call: found[i] and faults[i] are what they
- * leave and return of the address number i, so that an address without a block leaves its place as it was, and stops nothing. There are
- * address_count addresses, of 4 or 16 octets each, one after the other. What comes after the last of found and faults is
- * not written. IPNETWORK_SHORT_BUFFER if there is room for fewer of them than addresses: then nothing is written. */
+ * leave and return of the address number i, so that an address without a block leaves its place as it was, and stops
+ * nothing. There are address_count addresses, of 4 or 16 octets each, one after the other. What comes after the last of
+ * found and faults is not written. IPNETWORK_SHORT_BUFFER if there is room for fewer of them than addresses: then nothing is written. */
 IPNETWORK_CHECKED_FAULT ipnetwork_fault ipnetwork_v4_ranges_find_column(const ipnetwork_v4 *ranges, size_t range_count,
     const size_t *places, size_t place_count, const uint32_t *index, size_t index_length, const uint8_t *addresses,
     size_t address_count, size_t *IPNETWORK_ALONE found, size_t found_count, uint8_t *IPNETWORK_ALONE faults,
@@ -459,22 +460,22 @@ IPNETWORK_CHECKED_FAULT ipnetwork_fault ipnetwork_v6_ranges_find_column(const ip
  * written all the same, and blocks is not. If room is 0, blocks may be NULL. IPNETWORK_PREFIX if the prefix length of a
  * struct is past the width, else IPNETWORK_NO_SET if one of the lists is not that of a set. Both sets may be one array;
  * blocks is another. */
-IPNETWORK_CHECKED_AT(7) ipnetwork_fault ipnetwork_v4_union(const ipnetwork_v4 *first, size_t first_count,
+IPNETWORK_CHECKED_AT((7)) ipnetwork_fault ipnetwork_v4_union(const ipnetwork_v4 *first, size_t first_count,
     const ipnetwork_v4 *second, size_t second_count, ipnetwork_v4 *IPNETWORK_ALONE blocks, size_t room,
     size_t *IPNETWORK_ALONE block_count);
-IPNETWORK_CHECKED_AT(7) ipnetwork_fault ipnetwork_v6_union(const ipnetwork_v6 *first, size_t first_count,
+IPNETWORK_CHECKED_AT((7)) ipnetwork_fault ipnetwork_v6_union(const ipnetwork_v6 *first, size_t first_count,
     const ipnetwork_v6 *second, size_t second_count, ipnetwork_v6 *IPNETWORK_ALONE blocks, size_t room,
     size_t *IPNETWORK_ALONE block_count);
-IPNETWORK_CHECKED_AT(7) ipnetwork_fault ipnetwork_v4_intersection(const ipnetwork_v4 *first, size_t first_count,
+IPNETWORK_CHECKED_AT((7)) ipnetwork_fault ipnetwork_v4_intersection(const ipnetwork_v4 *first, size_t first_count,
     const ipnetwork_v4 *second, size_t second_count, ipnetwork_v4 *IPNETWORK_ALONE blocks, size_t room,
     size_t *IPNETWORK_ALONE block_count);
-IPNETWORK_CHECKED_AT(7) ipnetwork_fault ipnetwork_v6_intersection(const ipnetwork_v6 *first, size_t first_count,
+IPNETWORK_CHECKED_AT((7)) ipnetwork_fault ipnetwork_v6_intersection(const ipnetwork_v6 *first, size_t first_count,
     const ipnetwork_v6 *second, size_t second_count, ipnetwork_v6 *IPNETWORK_ALONE blocks, size_t room,
     size_t *IPNETWORK_ALONE block_count);
-IPNETWORK_CHECKED_AT(7) ipnetwork_fault ipnetwork_v4_difference(const ipnetwork_v4 *first, size_t first_count,
+IPNETWORK_CHECKED_AT((7)) ipnetwork_fault ipnetwork_v4_difference(const ipnetwork_v4 *first, size_t first_count,
     const ipnetwork_v4 *second, size_t second_count, ipnetwork_v4 *IPNETWORK_ALONE blocks, size_t room,
     size_t *IPNETWORK_ALONE block_count);
-IPNETWORK_CHECKED_AT(7) ipnetwork_fault ipnetwork_v6_difference(const ipnetwork_v6 *first, size_t first_count,
+IPNETWORK_CHECKED_AT((7)) ipnetwork_fault ipnetwork_v6_difference(const ipnetwork_v6 *first, size_t first_count,
     const ipnetwork_v6 *second, size_t second_count, ipnetwork_v6 *IPNETWORK_ALONE blocks, size_t room,
     size_t *IPNETWORK_ALONE block_count);
 
@@ -483,9 +484,9 @@ IPNETWORK_CHECKED_AT(7) ipnetwork_fault ipnetwork_v6_difference(const ipnetwork_
  * 62 for IPv4, and 254 for IPv6. *block_count is how many they are. IPNETWORK_SHORT_BUFFER if that is more than room:
  * then *block_count is written all the same, and blocks is not. If room is 0, blocks may be NULL. IPNETWORK_NO_RANGE if
  * first comes after last. */
-IPNETWORK_CHECKED_AT(1, 2, 5) ipnetwork_fault ipnetwork_v4_range_to_blocks(const uint8_t first[4], const uint8_t last[4],
+IPNETWORK_CHECKED_AT((1, 2, 5)) ipnetwork_fault ipnetwork_v4_range_to_blocks(const uint8_t first[4], const uint8_t last[4],
     ipnetwork_v4 *IPNETWORK_ALONE blocks, size_t room, size_t *IPNETWORK_ALONE block_count);
-IPNETWORK_CHECKED_AT(1, 2, 5) ipnetwork_fault ipnetwork_v6_range_to_blocks(const uint8_t first[16],
+IPNETWORK_CHECKED_AT((1, 2, 5)) ipnetwork_fault ipnetwork_v6_range_to_blocks(const uint8_t first[16],
     const uint8_t last[16], ipnetwork_v6 *IPNETWORK_ALONE blocks, size_t room, size_t *IPNETWORK_ALONE block_count);
 
 /* The block number n of this prefix length within a network, counted from 0 in ascending order; for IPv6 n is 16
@@ -526,20 +527,20 @@ IPNETWORK_CHECKED_FAULT ipnetwork_fault ipnetwork_address_read_column(const char
  * width. IPNETWORK_SHORT_BUFFER if that is more than room, if offset_count, for how many offsets there is room, is not
  * greater than network_count, or if the texts have more than 2147483647 bytes, which is past Arrow's offsets: then
  * *texts_length is written all the same, and nothing else. */
-IPNETWORK_CHECKED_AT(7) ipnetwork_fault ipnetwork_v4_print_column(const ipnetwork_v4 *networks, size_t network_count,
+IPNETWORK_CHECKED_AT((7)) ipnetwork_fault ipnetwork_v4_print_column(const ipnetwork_v4 *networks, size_t network_count,
     char *IPNETWORK_ALONE texts, size_t room, uint32_t *IPNETWORK_ALONE offsets, size_t offset_count,
     size_t *IPNETWORK_ALONE texts_length);
-IPNETWORK_CHECKED_AT(7) ipnetwork_fault ipnetwork_v6_print_column(const ipnetwork_v6 *networks, size_t network_count,
+IPNETWORK_CHECKED_AT((7)) ipnetwork_fault ipnetwork_v6_print_column(const ipnetwork_v6 *networks, size_t network_count,
     char *IPNETWORK_ALONE texts, size_t room, uint32_t *IPNETWORK_ALONE offsets, size_t offset_count,
     size_t *IPNETWORK_ALONE texts_length);
 
 /* The same of networks of either family, as ipnetwork_canonical prints each, and of addresses, as
  * ipnetwork_address_canonical does. If a row is refused by that call, the fault is that of the first such row,
  * IPNETWORK_NO_FAMILY or IPNETWORK_PREFIX, and nothing is written. */
-IPNETWORK_CHECKED_AT(7) ipnetwork_fault ipnetwork_print_column(const ipnetwork_ip *networks, size_t network_count,
+IPNETWORK_CHECKED_AT((7)) ipnetwork_fault ipnetwork_print_column(const ipnetwork_ip *networks, size_t network_count,
     char *IPNETWORK_ALONE texts, size_t room, uint32_t *IPNETWORK_ALONE offsets, size_t offset_count,
     size_t *IPNETWORK_ALONE texts_length);
-IPNETWORK_CHECKED_AT(7) ipnetwork_fault ipnetwork_address_print_column(const ipnetwork_address *addresses, size_t address_count,
+IPNETWORK_CHECKED_AT((7)) ipnetwork_fault ipnetwork_address_print_column(const ipnetwork_address *addresses, size_t address_count,
     char *IPNETWORK_ALONE texts, size_t room, uint32_t *IPNETWORK_ALONE offsets, size_t offset_count,
     size_t *IPNETWORK_ALONE texts_length);
 

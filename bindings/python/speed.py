@@ -164,6 +164,7 @@ def routes(kind, address, width, rng):
     texts = list(map(str, asked))
     table, column = Table(networks), ipnetwork.read_address_column(*laid(texts))[0]
     calls = {"Table.find_column of addresses that are read": lambda: table.find_column(column), "Table.find_column of a list of str": lambda: table.find_column(texts)}
+    calls["Table.find(read_address(text)) of each str"] = lambda: [table.find(ipnetwork.read_address(text)) for text in texts]
     try:
         from radix import Radix
     except ImportError:

@@ -58,7 +58,10 @@ def core_calls():
         yield functools.partial(
             core.longest_key, test_memory.ROUTES._values, b"\x10\x08", b"\x20", asked
         )
-    for asked in test_memory.ASKED:
+    for text in ("10.1.9.32", "2001:db8::1"):
+        yield functools.partial(core.read_address, text)
+    for asked in test_memory.ASKED[:3]:
+        yield functools.partial(core.unmapped, asked)
         yield functools.partial(core.table_find, asked_table, asked)
     for version, rows in ((4, fours), (6, sixes)):
         yield functools.partial(core.aggregate, version, rows * 3)

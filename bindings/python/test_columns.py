@@ -183,9 +183,8 @@ class Columns(unittest.TestCase):
             self.assertEqual(find(numpy.array(pairs, kind), table, numbers=6).tolist(), [1, -1, -1])
         self.assertEqual(is_member(numpy.array([], "u4"), which, numbers=4).tolist(), [])
         for column, numbers in (
-            (numpy.array(each), 4),
-            (each, 4),
             (["10.1.2.3"], 4),
+            (numpy.array([True, False]), 4),
             (numpy.array(each, "f8"), 4),
             (numpy.array([each], "u4"), 4),
             (numpy.array(each, "u8"), 6),
@@ -194,11 +193,84 @@ class Columns(unittest.TestCase):
         ):
             with self.assertRaises(TypeError):
                 is_member(column, which, numbers=numbers)
+        # Numbers with a sign are taken if they are those of addresses.
+        for given in (numpy.array(each, "i8"), each):
+            self.assertEqual(is_member(given, which, numbers=4).tolist(), [True, False, False, False])
+        self.assertEqual(is_member(numpy.array([5, 10], "i1"), which, numbers=4).tolist(), [False, False])
+        self.assertEqual(is_member(numpy.array(pairs, "i8"), which, numbers=6).tolist(), [True, False, False])
+        for wrong, numbers in (([1, -1], 4), ([1, 2**32], 4), ([[0, 1], [-1, 0]], 6), ([[0, 1], [0, -1]], 6)):
+            with self.assertRaisesRegex(ValueError, f"row 1: .* IPv{numbers} address"):
+                is_member(numpy.array(wrong, "i8"), which, numbers=numbers)
         with self.assertRaisesRegex(ValueError, "row 1: 4294967296"):
             is_member(numpy.array([1, 2**32], "u8"), which, numbers=4)
         for numbers in (0, 32, "4"):
             with self.assertRaises(ValueError):
                 is_member(numpy.array(each, "u4"), which, numbers=numbers)
+
+    def test_numbers_that_are_missing(self):
+        four, six = IPv4Network("10.1.0.0/16"), ip_network("2001:db8::/32")
+        which = AddressSet([four, six, ip_network("0.0.0.0/8"), ip_network("::/8")])
+        tables = Table([four, six], "ab"), PrefixTable({four: "a", six: "b"})
+        inside = int(ipaddress.IPv4Address("10.1.2.3"))
+        sixes = [divmod(int(ipaddress.IPv6Address("2001:db8::1")), 2**64), (0, 0), (0, 7)]
+        hidden = numpy.array([False, True, False])
+        fours = numpy.array([inside, 0, 7], "u4")
+        columns = [
+            (numpy.ma.masked_array(fours, hidden), 4, None),
+            (numpy.ma.masked_array(fours, numpy.ma.nomask), 4, 0),
+            (fours, 4, 0),
+            (fours, 4, hidden),
+            (fours, 4, hidden.tolist()),
+            (numpy.array([inside, -1, 7]), 4, -1),
+            (numpy.array([inside, 2**32 - 1, 7], "u4"), 4, 2**32 - 1),
+            (numpy.ma.masked_array(numpy.array([inside, -5, 7]), hidden), 4, None),
+            (numpy.array(sixes, "u8"), 6, (0, 0)),
+            (numpy.array(sixes, "u8"), 6, hidden),
+            (numpy.ma.masked_array(numpy.array(sixes, "u8"), [[False, False], [False, True], [False, False]]), 6, None),
+        ]
+        if pandas is not None:
+            columns.append((pandas.Series([inside, None, 7], dtype="UInt32"), 4, None))
+            columns.append((pandas.Series([inside, None, 7], dtype="Int64"), 4, None))
+            columns.append((pandas.Series([inside, -1, 7]), 4, -1))
+        for column, numbers, missing in columns:
+            addresses, present = read_addresses(column, numbers=numbers, missing=missing)
+            self.assertEqual(present.tolist(), [True, False, True], column)
+            self.assertEqual(addresses[1].tolist(), [0] * 17)
+            self.assertEqual(is_member(column, which, numbers=numbers, missing=missing).tolist(), [True, False, True])
+            found = find(column, tables[0], numbers=numbers, missing=missing)
+            self.assertEqual(found.tolist(), [int(numbers == 6), -1, -1])
+            for table in tables:
+                joined = table.join(column, "none", numbers=numbers, missing=missing)
+                self.assertEqual(list(joined), ["ab"[numbers == 6], "none", "none"])
+        self.assertEqual(tables[0].join(fours, numbers=4), ["a", None, None])
+        for column, numbers, missing in (
+            (fours, 4, [True, False]),
+            (fours, 4, "0"),
+            (fours, 4, (0, 0)),
+            (fours, 4, 0.5),
+            (fours, 4, True),
+            (numpy.array(sixes, "u8"), 6, 0),
+            (["10.1.2.3"], None, 0),
+        ):
+            for call in (lambda: is_member(column, which, numbers=numbers, missing=missing), lambda: tables[0].join(column, numbers=numbers, missing=missing)):
+                with self.assertRaises(TypeError):
+                    call()
+        # A masked array of texts, too, has no address where it is masked.
+        texts = numpy.ma.masked_array(["10.1.2.3", "10.1.2.4"], [False, True])
+        self.assertEqual(is_member(texts, which).tolist(), [True, False])
+
+    @unittest.skipIf(pandas is None, "pandas is not here")
+    def test_joined_series(self):
+        four = ip_network("10.1.0.0/16")
+        log = pandas.Series(["8.8.8.8", "10.1.2.3", None], index=["x", "y", "z"])
+        for table in (Table([four], ["a"]), PrefixTable({four: "a"})):
+            joined = table.join(log, "none")
+            self.assertIsInstance(joined, pandas.Series)
+            self.assertEqual(joined.to_dict(), {"x": "none", "y": "a", "z": "none"})
+            self.assertEqual(table.join(log[:0]).index.tolist(), [])
+            self.assertEqual(table.join(log.tolist()), [None, "a", None])
+            numbers = pandas.Series([int(ipaddress.IPv4Address("10.1.2.3")), 0], index=[7, 9])
+            self.assertEqual(table.join(numbers, "none", numbers=4).to_dict(), {7: "a", 9: "none"})
 
     def test_packed(self):
         packed = numpy.frombuffer(b"".join(ipaddress.IPv4Address(row << 24).packed for row in range(256)), numpy.uint8)

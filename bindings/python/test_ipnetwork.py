@@ -179,9 +179,16 @@ class Questions(unittest.TestCase):
         self.assertIn(IPv4Address("74.125.227.4"), net)
         self.assertNotIn(IPv4Address("74.125.228.4"), net)
         self.assertNotIn(IPv6Address("::ffff:74.125.227.4"), net)
-        # A network is no member of a network, as in ipaddress, and an interface is its address.
+        # A network of one address is that address, any other is no member, and an interface is its
+        # address.
         self.assertNotIn(net, net)
-        self.assertNotIn(ipaddress.ip_network("74.125.227.4/32"), net)
+        self.assertNotIn(ipaddress.ip_network("74.125.227.4/31"), net)
+        for given in (ip_network("74.125.227.4"), ipaddress.ip_network("74.125.227.4/32")):
+            self.assertIn(given, net)
+            self.assertNotIn(given, IPv4Network("74.125.228.0/25"))
+            self.assertNotIn(given, IPv6Network("::/0"))
+        self.assertIn(ip_network("2001:db8::1"), IPv6Network("2001:db8::/32"))
+        self.assertNotIn(ipaddress.ip_network("2001:db8::1%eth0/128"), IPv6Network("2001:db8::/32"))
         self.assertIn(ipaddress.ip_interface("74.125.227.4/8"), net)
         for given in ("74.125.227.4", 1, None, b"\x4a\x7d\xe3\x04"):
             with self.assertRaises(TypeError):
@@ -372,7 +379,8 @@ class Questions(unittest.TestCase):
         self.assertEqual((len(again), again.find_column(addresses)), (len(table), table.find_column(addresses)))
         self.assertIsNone(Table([ip_network("::/0")]).find(IPv6Address("fe80::1%eth0")))
         self.assertIsNone(Table([]).find(IPv4Address("10.0.0.1")))
-        self.assertIsNone(Table([ip_network("::/0")]).find(ip_network("::/0")))
+        with self.assertRaises(TypeError):
+            Table([ip_network("::/0")]).find(ip_network("::/0"))
         self.assertEqual(Table([]).find_column(b""), b"")
         with self.assertRaises(ValueError):
             table.find_column(bytes(16))

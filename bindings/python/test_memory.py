@@ -2,6 +2,7 @@
 
 import array
 import gc
+import ipaddress
 import pickle
 import sys
 import tracemalloc
@@ -89,7 +90,7 @@ CALLS = {
     "longest": lambda: [ROUTES.longest(asked) for asked in ASKED + NETWORKS],
     "changed": changed,
     "joined": lambda: (JOINED.join(TEXT_ROWS), ROUTES.join(TEXT_ROWS), ROUTES.join(ROWS)),
-    "tables": lambda: (Table(NETWORKS), TABLE.find_column(ROWS), list(map(TABLE.find, ASKED))),
+    "tables": lambda: (Table(NETWORKS), TABLE.find_column(ROWS), list(map(TABLE.find, ASKED[:3]))),
     "addresses read": lambda: ipnetwork.read_address_column(TEXTS, OFFSETS),
     "networks read": lambda: IPv4Network.read_column(TEXTS, OFFSETS),
     "read, 64 bits": lambda: ipnetwork.read_address_column(TEXTS, WIDE),
@@ -97,6 +98,9 @@ CALLS = {
     "columns": lambda: (SET.contains_column(ROWS), NETWORKS[0].contains_column(bytes(8))),
     "addresses printed": lambda: ipnetwork.print_address_column(ROWS[:51]),
     "networks printed": lambda: IPv4Network.print_column(bytes(10)),
+    "addresses": lambda: [ipnetwork.read_address(text) for text in ("10.1.2.3", "2001:db8::1")],
+    "alone": lambda: [each in NETWORKS[0] for each in (ip_network("10.1.2.3"), ipaddress.ip_network("::1"))],
+    "unmapped": lambda: (list(map(ipnetwork.unmapped, ASKED[:3])), ipnetwork._core.unmapped_rows(ROWS)),
     "laid": lambda: [ipnetwork._core.layout(rows, None) for rows in LAID],
     "ipaddress": lambda: IPv4Network.from_ipaddress(NETWORKS[2].to_ipaddress()),
     "pickled": lambda: pickle.loads(pickle.dumps(NETWORKS)),
@@ -113,6 +117,11 @@ REFUSED = {
     "family": lambda: NETWORKS[0].subnet_of(NETWORKS[1]),
     "set": lambda: "10.0.0.1" in SET,
     "table": lambda: TABLE.find("10.0.0.1"),
+    "network of a table": lambda: TABLE.find(NETWORKS[0]),
+    "address read": lambda: ipnetwork.read_address("fe80::1%eth0"),
+    "no address read": lambda: ipnetwork.read_address(b"::1"),
+    "unmapped": lambda: ipnetwork.unmapped("::1"),
+    "packed in a column": lambda: ROUTES.join([b"\n\1\2\3"]),
     "part": lambda: SET.contains_column(bytes(16)),
     "row": lambda: SET.contains_column(bytes(16) + b"\5"),
     "row of a table": lambda: TABLE.find_column(bytes(16) + b"\5"),

@@ -136,8 +136,8 @@ class Operations(unittest.TestCase):
                     list(some.contains_column(column)), [int(place >= 0) for place in wanted]
                 )
                 self.assertEqual(memoryview(table.find_column(column)).cast("q").tolist(), wanted)
-                ranges, _, index = table._search[:3] if width == 32 else table._search[3:]
-                blocks, own = some._search[:2] if width == 32 else some._search[2:]
+                ranges, _, index = table._search[:3] if width == 32 else table._search[3:6]
+                blocks, own = some._search[:2] if width == 32 else some._search[2:4]
                 self.assertEqual(index, ipnetwork._core.index(kind.version, ranges))
                 self.assertEqual(own, ipnetwork._core.index(kind.version, blocks))
                 step = width // 8 + 1  # a table has at most two ranges for each network

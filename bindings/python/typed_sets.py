@@ -18,8 +18,10 @@ from ipnetwork import (
     Table,
     from_ipaddress,
     ip_network,
+    read_address,
     read_address_column,
     summarize_address_range,
+    unmapped,
 )
 
 Either = Union[IPv4Network, IPv6Network]
@@ -61,9 +63,21 @@ plain, table = Table([network]), Table([network], [1.5])
 place: Union[int, None] = plain.find(address)
 values: list[Union[float, None]] = table.join(["10.1.2.3"])
 
+asked: Union[IPv4Address, IPv6Address] = unmapped(read_address("::ffff:10.1.2.3"))
+same: IPv4Address = unmapped(address)
+within: bool = asked in one or network in one or TheirNetwork("10.0.0.0/8") in one or asked in network
+denied = AddressSet([network], mapped=True), Table([network], mapped=True), PrefixTable(routes, mapped=True)
+place = plain.find(network)
+joined_numbers: list[Union[str, None]] = routes.join(array.array("L", [7]), numbers=4, missing=0)
+
 four: IPv4Network = from_ipaddress(IPv4Interface("10.0.0.1/8"))
 fours: Iterator[IPv4Network] = summarize_address_range(address, address)
 
+"10.1.2.3" in one  # type: ignore[operator]
+b"10.1.2.3" in network  # type: ignore[operator]
+plain.find("10.1.2.3")  # type: ignore[arg-type]
+read_address(b"10.1.2.3")  # type: ignore[arg-type]
+unmapped("10.1.2.3")  # type: ignore[call-overload]
 one | {network}  # type: ignore[operator]
 one <= {network}  # type: ignore[operator]
 one.covers(address)  # type: ignore[arg-type]

@@ -14,10 +14,14 @@ the addresses that share the first bits of its address, as many as the prefix le
 questions are about the members. Networks are hashable, equal if address and prefix length are, and
 ordered by address and then by prefix length, so that they can be sorted. ``a <= b`` is that order,
 as in ``ipaddress``; whether a is part of b is ``a.subnet_of(b)``. Addresses are those of
-``ipaddress``.
+``ipaddress``, which ``read_address`` reads. What asks about an address takes a network of one
+address as that address; only in a ``PrefixTable`` a network is a key.
 
-A server that listens on IPv4 and IPv6 by one socket is told of an IPv4 peer as ``::ffff:10.1.9.32``,
-an IPv4-mapped IPv6 address, which is in no IPv4 network: it passes a list of what is denied. So ask
+>>> read_address("10.1.255.255") in network, ip_network("10.1.255.255") in network
+(True, True)
+
+A server that listens on IPv4 and IPv6 by one socket is told of an IPv4 peer as
+``::ffff:10.1.9.32``, an IPv4-mapped IPv6 address, which is in no IPv4 network: it passes a list of what is denied. So ask
 about ``unmapped(address)``, or give a set or a table ``mapped=True``, by which such an address
 counts as the IPv4 address.
 
@@ -48,6 +52,7 @@ from ._networks import (
     collapse_addresses,
     from_ipaddress,
     ip_network,
+    read_address,
     summarize_address_range,
     unmapped,
 )
@@ -75,6 +80,7 @@ __all__ = [
     "from_ipaddress",
     "ip_network",
     "print_address_column",
+    "read_address",
     "read_address_column",
     "summarize_address_range",
     "unmapped",

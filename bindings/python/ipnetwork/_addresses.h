@@ -163,9 +163,52 @@ static int address_of(State *state, PyObject *object, ipnetwork_address *address
     return NO_ADDRESS;
 }
 
+/* The name of the type of an object, with that of its module unless that is `builtins`. */
+static PyObject *type_name(PyObject *object) {
+    PyObject *type = (PyObject *)Py_TYPE(object), *name = PyObject_GetAttrString(type, "__qualname__"), *whole = NULL;
+    PyObject *module = name == NULL ? NULL : PyObject_GetAttrString(type, "__module__");
+    if (module != NULL)
+        whole = PyUnicode_Check(module) && PyUnicode_CompareWithASCIIString(module, "builtins") != 0
+                    ? PyUnicode_FromFormat("%U.%U", module, name)
+                    : again(name);
+    Py_XDECREF(name), Py_XDECREF(module);
+    return whole;
+}
+
+/* Raises a TypeError with the name of the type of an object in it, by `%U`. */
+static void wrong_type(const char *words, PyObject *object) {
+    PyObject *name = type_name(object);
+    if (name != NULL) PyErr_Format(PyExc_TypeError, words, name);
+    Py_XDECREF(name);
+}
+
 /* Raises the TypeError of what is no address. */
 static void no_address(PyObject *object) {
-    PyErr_Format(PyExc_TypeError, "an address is IPv4Address or IPv6Address, not %R", (PyObject *)Py_TYPE(object));
+    wrong_type("an address is IPv4Address or IPv6Address of ipaddress, not %U"
+               ": read_address reads a text", object);
+}
+
+/* The same as `address_of`, but that a network of one address is that address; of another network NO_ADDRESS. */
+static int alone_of(State *state, PyObject *object, ipnetwork_address *address) {
+    int kind = address_of(state, object, address);
+    if (kind != NO_ADDRESS) return kind;
+    if (PyObject_TypeCheck(object, state->network_type)) {
+        const ipnetwork_ip *held = &((Network *)object)->held;
+        uint8_t width = held->family == 4 ? 4 : 16;
+        if ((held->family == 4 ? held->v4.prefix : held->v6.prefix) != width * 8) return NO_ADDRESS;
+        memcpy(address->octets, held->family == 4 ? held->v4.address : held->v6.address, width);
+        address->length = width;
+        return IS_ADDRESS;
+    }
+    int network = PyObject_IsInstance(object, state->base_network);
+    if (network <= 0) return network < 0 ? HAS_RAISED : NO_ADDRESS;
+    PyObject *least = PyObject_GetAttrString(object, "network_address");
+    PyObject *length = least == NULL ? NULL : PyObject_GetAttrString(object, "prefixlen");
+    long prefix = length == NULL ? -1 : PyLong_AsLong(length);
+    kind = prefix == -1 ? HAS_RAISED : address_of(state, least, address);
+    Py_XDECREF(least), Py_XDECREF(length);
+    if (kind == IS_ADDRESS && prefix != address->length * 8) return NO_ADDRESS;
+    return kind == HAS_RAISED && !PyErr_Occurred() ? NO_ADDRESS : kind;
 }
 
 /* The answer of `in` about what has no octets: an address with a zone and a network are no members; else TypeError. */
@@ -176,6 +219,24 @@ static int no_member(State *state, PyObject *object, int kind) {
     if (network != 0) return network < 0 ? -1 : 0;
     no_address(object);
     return -1;
+}
+
+/* read_address(text) */
+static PyObject *read_address(PyObject *module, PyObject *text) {
+    State *state = PyModule_GetState(module);
+    ipnetwork_address address;
+    ipnetwork_fault fault;
+    Py_ssize_t length;
+    if (!PyUnicode_Check(text))
+        return wrong_type("the text of an address is str, not %U", text), NULL;
+    const char *bytes = PyUnicode_AsUTF8AndSize(text, &length);
+    if (bytes == NULL) {
+        if (!PyErr_ExceptionMatches(PyExc_UnicodeEncodeError)) return NULL;
+        PyErr_Clear(); /* half a surrogate pair, which is no address */
+    }
+    fault = bytes == NULL ? IPNETWORK_ADDRESS : ipnetwork_address_read(bytes, (size_t)length, &address);
+    if (fault != IPNETWORK_OK) return raise_fault(state, fault, text), NULL;
+    return address_object(state, address.octets, address.length);
 }
 
 #endif

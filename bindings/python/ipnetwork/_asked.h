@@ -43,9 +43,8 @@ static int asked_of(State *state, PyObject *given, ipnetwork_ip *held) {
     int network = PyObject_IsInstance(given, state->base_network);
     if (network > 0) return asked_of_theirs(state, given, held);
     if (network == 0)
-        PyErr_Format(PyExc_TypeError,
-                     "what is asked about is an address of ipaddress, or a network, not %R",
-                     (PyObject *)Py_TYPE(given));
+        wrong_type("what is asked about is an address of ipaddress, or a network, not %U"
+                   ": read_address and ip_network read a text", given);
     return HAS_RAISED;
 }
 

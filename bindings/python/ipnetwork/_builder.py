@@ -77,8 +77,10 @@ class AddressSetBuilder:
     __slots__ = ("__weakref__", "_lock", "_made", "_steps")
 
     def __init__(self, networks: Iterable[Either] = (), *, mapped: bool = False) -> None:
-        given = isinstance(networks, AddressSet) and (networks.mapped or not mapped)
-        self._made = networks if given else AddressSet(networks, mapped=mapped)
+        if isinstance(networks, AddressSet) and (networks.mapped or not mapped):
+            self._made = networks
+        else:
+            self._made = AddressSet(networks, mapped=mapped)
         self._steps: list[_Step] = []
         self._lock = new_lock()
 

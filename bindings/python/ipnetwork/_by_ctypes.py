@@ -11,6 +11,7 @@ import ctypes
 from ipaddress import IPv4Address, IPv4Network, IPv6Address, IPv6Network
 from typing import Union
 
+from ._by_ctypes_addresses import read_address, type_name, unmapped
 from ._by_ctypes_library import answered, library
 from ._by_ctypes_lists import (
     aggregate,
@@ -34,6 +35,7 @@ from ._by_ctypes_networks import (
     V4,
     V6,
     Network,
+    alone,
     ip_network,
     no_member,
     of_packed,
@@ -41,7 +43,6 @@ from ._by_ctypes_networks import (
     prefix_of_mask,
     register,
     subnet_at,
-    unmapped,
 )
 
 __all__ = [
@@ -61,6 +62,7 @@ __all__ = [
     "print_rows",
     "range_rows",
     "ranges",
+    "read_address",
     "read_rows",
     "register",
     "set_contains",
@@ -84,7 +86,8 @@ def _asked(given: object) -> Union[bytes, None]:
         address, prefix = given.network_address, given.prefixlen
     elif not isinstance(given, (IPv4Address, IPv6Address)):
         raise TypeError(
-            f"what is asked about is an address of ipaddress, or a network, not {type(given)!r}"
+            "what is asked about is an address of ipaddress, or a network, not "
+            f"{type_name(given)}: read_address and ip_network read a text"
         )
     if getattr(address, "_scope_id", None) is not None:
         return None
@@ -148,9 +151,10 @@ def table_find(
     search: tuple[bytes, bytes, bytes, bytes, bytes, bytes, bool], address: object
 ) -> int:
     """The number of the longest network that has an address, or -1."""
+    address = alone(address)
     if not isinstance(address, (IPv4Address, IPv6Address)):
         no_member(address)
-        return -1
+        raise TypeError(f"{address!r} has more than one address, and one is asked about")
     if getattr(address, "_scope_id", None) is not None:
         return -1
     packed = (unmapped(address) if search[6] else address).packed

@@ -221,7 +221,13 @@ def _no_text(row: object, missing: object) -> bytes:
 def _bytes_of(row: object, missing: object) -> bytes:
     if isinstance(row, str):
         return row.encode("utf-8")
-    return row if isinstance(row, bytes) else _no_text(row, missing)
+    if not isinstance(row, bytes):
+        return _no_text(row, missing)
+    if len(row) in (4, 16):  # as a packed address: taken as a text only if it is that of an address
+        held = (ctypes.c_ubyte * ADDRESS)()
+        if library.ipnetwork_address_read(row, len(row), ctypes.byref(held)):
+            raise _OtherRow
+    return row
 
 
 def layout(rows: list[object], missing: object) -> Union[tuple[bytearray, bytearray], None]:

@@ -14,9 +14,10 @@ from functools import cached_property
 from ipaddress import IPv4Address, IPv4Network, IPv6Address, IPv6Network
 from typing import TYPE_CHECKING, ClassVar, Generic, SupportsIndex, TypeVar, Union
 
+from ._by_ctypes_addresses import no_address, type_name
 from ._by_ctypes_library import V4 as StructV4
 from ._by_ctypes_library import V6 as StructV6
-from ._by_ctypes_library import Either, answered, flat, library, unmapped_octets
+from ._by_ctypes_library import Either, answered, flat, library
 from ._errors import error
 
 if TYPE_CHECKING:
@@ -31,9 +32,22 @@ _Kind = TypeVar("_Kind", bound="Network[IPv4Address] | Network[IPv6Address]")
 def _bytes(given: str) -> bytes:
     if isinstance(given, str):
         return given.encode("utf-8", "surrogatepass")
+    hint = ""
+    if hasattr(given, "network_address") or hasattr(given, "network"):
+        hint = ": from_ipaddress takes it"
+    elif hasattr(given, "packed"):
+        hint = ": str of it is one"
     raise TypeError(
-        f"a network is given as str, or as bytes of a packed address, not as {type(given)!r}"
+        "a network is given as str, or as bytes of a packed address, not as "
+        f"{type_name(given)}{hint}"
     )
+
+
+def alone(given: object) -> object:
+    """The address of a network of one address; all else as it is."""
+    if isinstance(given, (Network, IPv4Network, IPv6Network)) and given.num_addresses == 1:
+        return given.network_address
+    return given
 
 
 def no_member(address: object) -> bool:
@@ -42,22 +56,6 @@ def no_member(address: object) -> bool:
     if isinstance(address, (IPv4Address, IPv6Address, Network, IPv4Network, IPv6Network)):
         return False
     raise no_address(address)
-
-
-def no_address(given: object) -> TypeError:
-    """The error of what is no address."""
-    return TypeError(f"an address is IPv4Address or IPv6Address, not {type(given)!r}")
-
-
-def unmapped(address: Union[IPv4Address, IPv6Address]) -> Union[IPv4Address, IPv6Address]:
-    """The IPv4 address that an IPv4-mapped one stands for; any other, and one with a zone, as it
-    is."""
-    if not isinstance(address, (IPv4Address, IPv6Address)):
-        raise no_address(address)
-    if address.version == 6 and address._scope_id is None:
-        octets = unmapped_octets(address.packed)
-        return address if octets is None else IPv4Address(octets)
-    return address
 
 
 class Network(Generic[Address]):
@@ -157,8 +155,9 @@ class Network(Generic[Address]):
         return map(self._address, range(int(self.network_address), int(self.broadcast_address) + 1))
 
     def __contains__(self, address: object) -> bool:
-        """Whether an address is a member. None of the other family is, none with a zone, and no
-        network."""
+        """Whether an address is a member, or that of a network of one address. None of the other
+        family is, none with a zone, and no network of more addresses."""
+        address = alone(address)
         if isinstance(address, self._address):
             if getattr(address, "_scope_id", None) is not None:
                 return False

@@ -4,13 +4,22 @@
 
 #include "_addresses.h"
 
+/* Whether bytes are as many as a packed address has, and no text of one: then they are not taken for a text. */
+static int may_be_packed(const char *bytes, Py_ssize_t length) {
+    ipnetwork_address address;
+    return (length == 4 || length == 16) && ipnetwork_address_read(bytes, (size_t)length, &address) != IPNETWORK_OK;
+}
+
 /* The bytes of a row that is no str: of bytes their own, and none of None, of NaN and of what stands
  * for a missing row; NULL of any other. */
 static const char *other_bytes(PyObject *row, PyObject *missing, Py_ssize_t *length) {
     char *bytes;
     *length = 0;
     if (row == Py_None || row == missing) return "";
-    if (PyBytes_Check(row)) return PyBytes_AsStringAndSize(row, &bytes, length) < 0 ? NULL : bytes;
+    if (PyBytes_Check(row)) {
+        if (PyBytes_AsStringAndSize(row, &bytes, length) < 0) return NULL;
+        return may_be_packed(bytes, *length) ? NULL : bytes;
+    }
     if (!PyFloat_Check(row)) return NULL;
     double number = PyFloat_AsDouble(row);
     return number != number ? "" : NULL;

@@ -130,6 +130,10 @@ static PyMethodDef calls[] = {
                "4 or 16 packed bytes. FormatError of a text with two or more slashes; else\n"
                "AddressError if what stands before the slash is an address of neither family; else\n"
                "PrefixError.")},
+    {"read_address", read_address, METH_O,
+     OF_MODULE("read_address", "text",
+               "The address of either family that a text names, as an IPv4Address or an IPv6Address of\n"
+               "``ipaddress``. AddressError of any other text, one with a zone too.")},
     {"of_packed", of_packed, METH_VARARGS,
      OF_MODULE("of_packed", "kind, packed, prefixlen",
                "The network of a packed address and a prefix length, in a class of networks.")},

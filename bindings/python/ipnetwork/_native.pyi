@@ -1,7 +1,7 @@
 """What `_native.c` and `_by_ctypes.py` have, for type checkers."""
 
 from collections.abc import Iterator
-from ipaddress import IPv4Address, IPv6Address
+from ipaddress import IPv4Address, IPv4Network, IPv6Address, IPv6Network
 from typing import Any, Generic, SupportsIndex, TypeVar, Union
 
 from _typeshed import ReadableBuffer
@@ -9,6 +9,7 @@ from _typeshed import ReadableBuffer
 Address = TypeVar("Address", IPv4Address, IPv6Address)
 _Self = TypeVar("_Self", bound="Network[IPv4Address] | Network[IPv6Address]")
 _Kind = TypeVar("_Kind")
+_Asked = Union[IPv4Address, IPv6Address, "V4", "V6", IPv4Network, IPv6Network]
 _Set = tuple[bytes, bytes, bytes, bytes, bool]
 _Search = tuple[bytes, bytes, bytes, bytes, bytes, bytes, bool]
 
@@ -40,9 +41,9 @@ class Network(Generic[Address]):
         """The member of this number in order, counted from 0, or from the end where it is negative."""
     def __iter__(self) -> Iterator[Address]:
         """The members, each once, in ascending order."""
-    def __contains__(self, address: object) -> bool:
-        """Whether an address is a member. None of the other family is, none with a zone, and no
-        network."""
+    def __contains__(self, address: _Asked) -> bool:
+        """Whether an address is a member, or that of a network of one address. None of the other
+        family is, none with a zone, and no network of more addresses."""
     def contains_column(self, packed: ReadableBuffer) -> bytearray:
         """For each packed address of a column of the family a byte: 1 if it is a member of the network, else 0."""
     def subnet_of(self, other: Network[Address]) -> bool:
@@ -61,6 +62,7 @@ class Network(Generic[Address]):
 class V4(Network[IPv4Address]): ...
 class V6(Network[IPv6Address]): ...
 
+def read_address(text: str, /) -> Union[IPv4Address, IPv6Address]: ...
 def register(four: type[V4], six: type[V6], /) -> None: ...
 def of_packed(kind: type[_Kind], packed: bytes, prefixlen: SupportsIndex, /) -> _Kind: ...
 def of_rows(kind: type[_Kind], rows: bytes, /) -> list[_Kind]: ...

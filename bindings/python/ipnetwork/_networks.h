@@ -24,6 +24,8 @@ static State *state_of(PyTypeObject *type) {
 static PyObject *allocated(State *state, PyTypeObject *type) {
     PyObject *made = PyType_GenericAlloc(type, 0);
     if (made == NULL) return NULL;
+    /* Nothing that a network keeps leads back to it, so that the collector need not look at it; a subclass may keep more. */
+    if ((PyObject *)type == state->v4_class || (PyObject *)type == state->v6_class) PyObject_GC_UnTrack(made);
     ((Network *)made)->state = state;
     ((Network *)made)->held.family = PyType_IsSubtype(type, state->v6_type) ? 6 : 4;
     return made;
@@ -47,7 +49,11 @@ static ipnetwork_fault put(ipnetwork_ip *held, const uint8_t *octets, uint8_t pr
 /* The bytes of a str, as they are read by the library: a new reference, or NULL with an exception. */
 static PyObject *bytes_of_text(PyObject *text) {
     if (PyUnicode_Check(text)) return PyUnicode_AsEncodedString(text, "utf-8", "surrogatepass");
-    PyErr_Format(PyExc_TypeError, "a network is given as str, or as bytes of a packed address, not as %R", (PyObject *)Py_TYPE(text));
+#define WORDS "a network is given as str, or as bytes of a packed address, not as %U"
+    int theirs = PyObject_HasAttrString(text, "network_address") || PyObject_HasAttrString(text, "network");
+    wrong_type(theirs                                     ? WORDS ": from_ipaddress takes it"
+               : PyObject_HasAttrString(text, "packed") ? WORDS ": str of it is one"
+                                                          : WORDS, text);
     return NULL;
 }
 
@@ -168,7 +174,7 @@ static int network_contains(PyObject *object, PyObject *given) {
     ipnetwork_address address;
     uint8_t answer;
     State *state = ((Network *)object)->state;
-    int kind = address_of(state, given, &address);
+    int kind = alone_of(state, given, &address);
     if (kind != IS_ADDRESS) return no_member(state, given, kind);
     if (!answered(ipnetwork_contains(&((Network *)object)->held, address.octets, address.length, &answer))) return -1;
     return answer;

@@ -3,11 +3,12 @@
 from __future__ import annotations
 
 from collections.abc import Iterable, Iterator
+from copy import deepcopy
 from ipaddress import IPv4Address, IPv4Interface, IPv6Address, IPv6Interface
 from ipaddress import IPv4Network as TheirV4
 from ipaddress import IPv6Network as TheirV6
 from operator import index
-from typing import TYPE_CHECKING, ClassVar, Generic, SupportsIndex, TypeVar, Union, overload
+from typing import TYPE_CHECKING, Any, ClassVar, Generic, SupportsIndex, TypeVar, Union, overload
 
 from ._chosen import core
 from ._errors import error
@@ -124,6 +125,14 @@ class _Network(Generic[Address]):
         """
         return core.print_rows(cls.version, networks, offset_bits)
 
+    def __copy__(self) -> Self:
+        """The network itself, which does not change."""
+        return self if type(self) in _UNCHANGED else copied(self)
+
+    def __deepcopy__(self, memo: dict[int, Any]) -> Self:
+        """The same: so are its parts."""
+        return self if type(self) in _UNCHANGED else copied(self, memo)
+
     def __format__(self, spec: str) -> str:
         """The canonical text, laid out as ``str`` is."""
         return format(str(self), spec)
@@ -199,7 +208,19 @@ class IPv6Network(_Network[IPv6Address], core.V6):
         raise TypeError(f"{given!r} is no IPv6 network or interface of ipaddress")
 
 
+def copied(given: _Kind, memo: Union[dict[int, Any], None] = None) -> _Kind:
+    """Another object of what a pickle keeps of one; a deep copy, if the objects that were copied
+    already are given."""
+    reduced: Any = given.__reduce__()
+    make, arguments, *more = reduced
+    made: _Kind = make(*arguments)
+    if more and more[0]:
+        made.__dict__.update(more[0] if memo is None else deepcopy(more[0], memo))
+    return made
+
+
 core.register(IPv4Network, IPv6Network)
+_UNCHANGED = (IPv4Network, IPv6Network)
 Either = Union[IPv4Network, IPv6Network]
 _Net = TypeVar("_Net", IPv4Network, IPv6Network)
 
@@ -216,6 +237,10 @@ else:
 
 if TYPE_CHECKING:
 
+    def read_address(text: str) -> EitherAddress:
+        """The address of either family that a text names; AddressError of any other text, one with
+        a zone too."""
+
     @overload
     def unmapped(address: IPv4Address) -> IPv4Address:
         ...
@@ -229,7 +254,7 @@ if TYPE_CHECKING:
         any other address as it is, as is one with a zone."""
 
 else:
-    unmapped = core.unmapped
+    read_address, unmapped = core.read_address, core.unmapped
 
 
 def unmapped_network(asked: _Asked) -> Union[_Asked, IPv4Network]:
@@ -245,7 +270,14 @@ def no_network(given: object) -> TypeError:
     """The error of what is no network of this package."""
     kind = type(given)
     name = kind.__name__ if kind.__module__ == "builtins" else f"{kind.__module__}.{kind.__name__}"
-    return TypeError(f"a network is IPv4Network or IPv6Network of ipnetwork, not {name}")
+    hint = ""
+    if isinstance(given, (str, bytes)):
+        hint = ": ip_network reads one"
+    elif isinstance(given, (TheirV4, TheirV6, IPv4Interface, IPv6Interface)):
+        hint = ": from_ipaddress makes one of it"
+    elif isinstance(given, (IPv4Address, IPv6Address)):
+        hint = ": IPv4Network.of and IPv6Network.of make one of it"
+    return TypeError(f"a network is IPv4Network or IPv6Network of ipnetwork, not {name}{hint}")
 
 
 def family(network: _Net) -> type[_Net]:
@@ -255,6 +287,14 @@ def family(network: _Net) -> type[_Net]:
     if isinstance(network, IPv6Network):
         return IPv6Network
     raise no_network(network)
+
+
+def checked(rows: bytes, version: int) -> bytes:
+    """These bytes, if they are the structs of networks of a family; else ValueError."""
+    step, longest = (5, 32) if version == 4 else (17, 128)
+    if len(rows) % step or max(rows[step - 1 :: step], default=0) > longest:
+        raise ValueError(f"these bytes are no IPv{version} networks")
+    return rows
 
 
 def of_rows(rows: bytes, version: int) -> Iterator[Either]:

@@ -3,32 +3,30 @@
 from __future__ import annotations
 
 from collections.abc import ItemsView, Iterable, Iterator, Mapping, MutableMapping, ValuesView
-from functools import partial
 from ipaddress import IPv4Address, IPv6Address, ip_address
 from ipaddress import IPv4Network as TheirV4
 from ipaddress import IPv6Network as TheirV6
+from itertools import accumulate
 from typing import TYPE_CHECKING, Any, NamedTuple, TypeVar, Union, overload
 
 from ._chosen import core
+from ._joins import Joins, Value
 from ._lock import new_lock
 from ._networks import (
     Either,
     EitherAddress,
     IPv4Network,
     IPv6Network,
+    checked,
     no_network,
     unmapped,
     unmapped_network,
 )
-from ._rows import addresses_of
 from ._tables import Search, blocks_of
 
 if TYPE_CHECKING:
     from _typeshed import ReadableBuffer
 
-    from ._rows import Given
-
-Value = TypeVar("Value")
 _Default = TypeVar("_Default")
 #: What a table can be asked about.
 Asked = Union[Either, TheirV4, TheirV6, EitherAddress]
@@ -55,7 +53,7 @@ class _Ready(NamedTuple):
     keys: list[bytes]
 
 
-class PrefixTable(MutableMapping[Either, Value]):
+class PrefixTable(Joins[Value], MutableMapping[Either, Value]):
     """A value for each of some networks of either family, asked for the longest that has an
     address.
 
@@ -78,7 +76,18 @@ class PrefixTable(MutableMapping[Either, Value]):
     [IPv4Network('10.0.0.0/8'), IPv4Network('10.1.0.0/16')]
     """
 
-    __slots__ = ("__weakref__", "_asked", "_fours", "_lock", "_mapped", "_ready", "_sixes", "_values")
+    __slots__ = (
+        "__weakref__",
+        "_asked",
+        "_fours",
+        "_lock",
+        "_mapped",
+        "_ready",
+        "_sixes",
+        "_values",
+    )
+
+    _mapped: bool
 
     def __init__(
         self,
@@ -128,8 +137,10 @@ class PrefixTable(MutableMapping[Either, Value]):
 
     def _found(self, asked: object) -> Union[tuple[bytes, Value], None]:
         """The key of the longest network that has all of what is asked about, and its value."""
-        if self._mapped:
-            asked = unmapped(asked) if isinstance(asked, IPv6Address) else unmapped_network(asked)
+        if self._mapped and isinstance(asked, IPv6Address):
+            asked = unmapped(asked)
+        elif self._mapped:
+            asked = unmapped_network(asked)
         ready = self._ready
         if ready is not None and isinstance(asked, _ADDRESSES):
             number = core.table_find(ready.search, asked)
@@ -284,25 +295,8 @@ class PrefixTable(MutableMapping[Either, Value]):
         found = self._found(asked)
         return None if found is None else (_network(found[0]), found[1])
 
-    @overload
-    def join(self, column: Given) -> list[Union[Value, None]]:
-        ...
-
-    @overload
-    def join(self, column: Given, default: _Default) -> list[Union[Value, _Default]]:
-        ...
-
-    def join(self, column: Given, default: object = None) -> list[Any]:
-        """For each row of a column the value of the longest network that has its address, or the
-        default, if none has it or the row has no address. The column is a list, an array or a
-        Series of rows, as ``ipnetwork.columns`` takes it, or of the bytes that
-        ``read_address_column`` gives.
-
-        >>> table = PrefixTable({ip_network("10.0.0.0/8"): "lab", ip_network("::/0"): "office"})
-        >>> table.join(["10.1.2.3", "8.8.8.8", "no address", "2001:db8::1"])
-        ['lab', None, None, 'office']
-        """
-        addresses = addresses_of(column)
+    def _joined(self, addresses: ReadableBuffer, default: object) -> list[Any]:
+        """The value for each address of a column, or the default."""
         self._lock.acquire()
         try:
             ready = self._search_for(memoryview(addresses).nbytes // 17)
@@ -355,8 +349,45 @@ class PrefixTable(MutableMapping[Either, Value]):
         return f"{type(self).__name__}({{{each}}}{', mapped=True' * self._mapped})"
 
     def __reduce__(self) -> tuple[Any, ...]:
-        made = partial(type(self), mapped=True) if self._mapped else type(self)
-        return made, (), getattr(self, "__dict__", None), None, iter(self.items())
+        keys, attributes = list(self._values), getattr(self, "__dict__", None)
+        widths = bytes(map(len, keys))
+        state = b"".join(keys), widths, list(self._values.values()), attributes
+        return _empty, (type(self), self._mapped), state
+
+    def __setstate__(self, state: Any) -> None:
+        """Puts what a pickle has into an empty table: the bytes of its networks, how many each has,
+        their values, and what a subclass has besides; a pickle of 0.1.0 has only that."""
+        if isinstance(state, dict):
+            self.__dict__.update(state)
+            return
+        rows, widths, values, attributes = state
+        ends = list(accumulate(widths, initial=0))
+        keys = [rows[start:end] for start, end in zip(ends, ends[1:])]
+        fours, sixes = _lengths(keys, 4), _lengths(keys, 6)
+        if len({*keys}) != len(values) or len(keys) != len(values) or ends[-1] != len(rows):
+            raise ValueError("there is not one value for each network of the table")
+        self._fours, self._sixes = fours, sixes
+        self._values.update(zip(keys, values))
+        if attributes:
+            self.__dict__.update(attributes)
+
+
+def _empty(kind: type[PrefixTable[Value]], mapped: bool) -> PrefixTable[Value]:
+    """A table without networks, which a pickle fills."""
+    made = kind.__new__(kind)
+    PrefixTable.__init__(made, mapped=mapped)
+    return made
+
+
+def _lengths(keys: list[bytes], version: int) -> bytes:
+    """The prefix lengths of the keys of a family, in descending order; ValueError of keys that are
+    no networks without host bits."""
+    step = 5 if version == 4 else 17
+    those = sorted(key for key in keys if len(key) == step)
+    blocks, _ = core.table_make(version, checked(b"".join(those), version))
+    if blocks != b"".join(those) or any(len(key) not in (5, 17) for key in keys):
+        raise ValueError("a key of the table is no network without host bits")
+    return bytes(sorted({key[-1] for key in those}, reverse=True))
 
 
 class _Items(ItemsView[Either, Value]):

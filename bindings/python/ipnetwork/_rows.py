@@ -6,7 +6,7 @@ import sys
 from collections.abc import Iterator, Mapping
 from ipaddress import IPv4Address, IPv4Network, IPv6Address, IPv6Network
 from numbers import Real
-from typing import TYPE_CHECKING, Any, Protocol, TypeVar, Union, cast
+from typing import TYPE_CHECKING, Any, Literal, Protocol, TypeVar, Union, cast
 
 from ._chosen import core
 
@@ -39,6 +39,25 @@ if TYPE_CHECKING:
     Given = Union[Column, bytes, bytearray, memoryview]
     #: Those addresses in any buffer, or a list or a tuple of rows.
     Packed = Union[ReadableBuffer, Rows[Row]]
+    #: What asks about one address takes: an address, or a network of one.
+    AnyAddress = Union[_Address, _Network]
+    #: Of which family the numbers of a column are, if it is one of numbers.
+    Numbers = Union[Literal[4, 6], None]
+    #: Which rows of a column of numbers have none: an array of truth values, or a number.
+    Missing = Any
+
+    class _Indexed(Protocol):
+        """A Series of pandas."""
+
+        @property
+        def index(self) -> Any:
+            ...
+
+        @property
+        def iloc(self) -> Any:
+            ...
+
+    Series = TypeVar("Series", bound=_Indexed)
 
 
 _NETWORKS = (core.V4, core.V6, IPv4Network, IPv6Network)
@@ -58,11 +77,24 @@ def rows_of(given: object) -> list[object]:
     return rows
 
 
+def _names_address(text: bytes) -> bool:
+    try:
+        core.read_address(text.decode("ascii"))
+    except ValueError:
+        return False
+    return True
+
+
 def _text(number: int, row: object, missing: tuple[object, ...]) -> Union[str, bytes, None]:
     if isinstance(row, str):
         # A text with half a surrogate pair, which has no UTF-8, is no address; "?" neither.
         return row.encode("utf-8", "replace").decode()
     if isinstance(row, bytes):
+        if len(row) in (4, 16) and not _names_address(row):
+            raise TypeError(
+                f"row {number}: bytes are a text in ASCII, and these {len(row)} are none of an "
+                "address: a packed address is given as ipaddress.ip_address makes it of its bytes"
+            )
         return row
     if any(row is each for each in missing) or (isinstance(row, Real) and row != row):
         return None
@@ -100,13 +132,29 @@ def laid_out(column: Column) -> tuple[bytearray, bytearray]:
     return laid
 
 
-def addresses_of(column: Given) -> Union[bytes, bytearray, memoryview]:
+def addresses_of(
+    column: Given, numbers: Numbers = None, missing: Missing = None
+) -> Union[bytes, bytearray, memoryview]:
     """The addresses of a column, each of 17 bytes, as ``read_address_column`` gives them. A buffer
     of bytes has them already."""
+    if numbers is not None or missing is not None:
+        from .columns import read_addresses  # needs NumPy
+
+        given: Any = column
+        return read_addresses(given, numbers=numbers, missing=missing)[0].data
     if isinstance(column, (bytes, bytearray, memoryview)):
         return column
     texts, offsets = laid_out(column)
     return core.read_rows(0, texts, memoryview(offsets).cast("I"))[0]
+
+
+def like(column: object, values: list[Any]) -> Any:
+    """The values as a Series with the index of the column, if that is a Series of pandas; else as
+    they are."""
+    pandas = sys.modules.get("pandas")
+    if pandas is None or not isinstance(column, pandas.Series):
+        return values
+    return pandas.Series(values, index=column.index, dtype=None if values else object)
 
 
 def packed(column: Packed) -> ReadableBuffer:

@@ -3,7 +3,6 @@
 from __future__ import annotations
 
 from collections.abc import Iterable, Iterator
-from functools import partial
 from ipaddress import IPv4Network as TheirV4
 from ipaddress import IPv6Network as TheirV6
 from typing import TYPE_CHECKING, Literal, Union
@@ -14,6 +13,8 @@ from ._networks import (
     EitherAddress,
     IPv4Network,
     IPv6Network,
+    checked,
+    copied,
     no_network,
     of_rows,
     range_rows,
@@ -24,7 +25,7 @@ from ._rows import packed
 if TYPE_CHECKING:
     from typing import Any
 
-    from ._rows import Packed
+    from ._rows import AnyAddress, Packed
 
 _ALL_FOURS, _ALL_SIXES = bytes(5), bytes(17)  # 0.0.0.0/0 and ::/0
 _ALL_MAPPED = bytes(10) + b"\xff\xff" + bytes(4) + b"\x60"  # ::ffff:0:0/96
@@ -140,8 +141,8 @@ class AddressSet:
         for first, last in ranges:
             blocks = range_rows(first, last)
             rows[first.version].append(blocks)
-        blocks = (core.aggregate(each, b"".join(rows[each])) for each in (4, 6))
-        return AddressSet._of(*blocks, bool(mapped))
+        fours, sixes = core.aggregate(4, b"".join(rows[4])), core.aggregate(6, b"".join(rows[6]))
+        return AddressSet._of(fours, sixes, bool(mapped))
 
     def _operated(self, operation: str, other: AddressSet) -> AddressSet:
         return AddressSet._of(
@@ -156,7 +157,7 @@ class AddressSet:
             operation, 6, self._sixes, other._sixes
         )
 
-    def __contains__(self, asked: object) -> bool:
+    def __contains__(self, asked: Union[AnyAddress, TheirV4, TheirV6]) -> bool:
         """Whether an address is one of the set, or each address of a network. None with a zone
         is."""
         if self._mapped:
@@ -326,9 +327,26 @@ class AddressSet:
     def __repr__(self) -> str:
         return f"{type(self).__name__}({list(self)!r}{', mapped=True' * self._mapped})"
 
+    def __copy__(self) -> AddressSet:
+        """The set itself, which does not change; of a subclass another object."""
+        return self if type(self) is AddressSet else copied(self)
+
+    def __deepcopy__(self, memo: dict[int, Any]) -> AddressSet:
+        """The same: so are its networks."""
+        return self if type(self) is AddressSet else copied(self, memo)
+
     def __reduce__(self) -> tuple[Any, ...]:
-        made = partial(type(self), mapped=True) if self._mapped else type(self)
-        return made, (list(self),), getattr(self, "__dict__", None)
+        held = type(self), self._fours, self._sixes, self._mapped
+        return _unpickled, held, getattr(self, "__dict__", None)
+
+
+def _unpickled(kind: type[AddressSet], fours: bytes, sixes: bytes, mapped: bool) -> AddressSet:
+    """The set that a pickle has as the bytes of its blocks."""
+    made = kind.__new__(kind)
+    made._sixes = core.aggregate(6, checked(sixes, 6))
+    made._mapped, made._search = bool(mapped), None
+    made._fours = core.aggregate(4, checked(fours, 4))
+    return made
 
 
 def _is_mapped(networks: Iterable[Either]) -> bool:

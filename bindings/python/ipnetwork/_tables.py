@@ -2,23 +2,23 @@
 
 from __future__ import annotations
 
+import sys
 from array import array
 from collections.abc import Iterable, Sequence
-from functools import partial
-from typing import TYPE_CHECKING, Generic, NamedTuple, TypeVar, Union, overload
+from typing import TYPE_CHECKING, NamedTuple, TypeVar, Union, overload
 
 from ._chosen import core
-from ._networks import Either, IPv4Network, IPv6Network, no_network, of_rows
-from ._rows import addresses_of, packed
+from ._joins import Joins, Value
+from ._networks import Either, IPv4Network, IPv6Network, checked, copied, no_network
+from ._rows import packed
 
 if TYPE_CHECKING:
     from typing import Any
 
     from _typeshed import ReadableBuffer
 
-    from ._rows import Given, Packed
+    from ._rows import AnyAddress, Packed
 
-Value = TypeVar("Value")
 _Default = TypeVar("_Default")
 
 
@@ -39,7 +39,8 @@ class _Blocks(NamedTuple):
 
 class Search(NamedTuple):
     """The ranges of addresses that have the same longest network, the number of that network, or
-    -1, and an index of the ranges; and whether an IPv4-mapped address counts as the IPv4 address."""
+    -1, and an index of the ranges; and whether an IPv4-mapped address counts as the IPv4
+    address."""
 
     fours: bytes
     four_numbers: bytes
@@ -54,10 +55,10 @@ class Search(NamedTuple):
         return core.table_find_column(self, addresses)
 
     def join(
-        self, column: Given, values: Sequence[Value], default: _Default
+        self, addresses: ReadableBuffer, values: Sequence[Value], default: _Default
     ) -> list[Union[Value, _Default]]:
-        """For each row of a column the value of the number that is found, or the default."""
-        numbers = memoryview(self.find_column(addresses_of(column))).cast("q")
+        """For each address of a column the value of the number that is found, or the default."""
+        numbers = memoryview(self.find_column(addresses)).cast("q")
         return [default if number < 0 else values[number] for number in numbers]
 
 
@@ -80,13 +81,18 @@ def _made(version: int, rows: list[bytes], numbers: array[int]) -> tuple[bytes, 
     return blocks, array("q", [numbers[at] for at in memoryview(places).cast("N")]).tobytes()
 
 
+def split(rows: bytes, step: int) -> list[bytes]:
+    """The structs that these bytes are."""
+    return [rows[at : at + step] for at in range(0, len(rows), step)]
+
+
 def _row(network: Either) -> bytes:
     if not isinstance(network, (IPv4Network, IPv6Network)):
         raise no_network(network)
     return network._row
 
 
-class Table(Generic[Value]):
+class Table(Joins[Value]):
     """Networks of either family, in any order, host bits or not, asked for the longest one that has
     an address, and values that belong to them, if they are given. It does not change;
     ``PrefixTable`` does.
@@ -156,9 +162,9 @@ class Table(Generic[Value]):
         """Whether an IPv4-mapped address that is asked about counts as the IPv4 address."""
         return self._mapped
 
-    def find(self, address: object) -> Union[int, None]:
+    def find(self, address: AnyAddress) -> Union[int, None]:
         """The number of the longest network that has an address; None if none has it, as none has
-        one with a zone."""
+        one with a zone. A network of one address is that address, and any other a TypeError."""
         number = core.table_find(self._search or self._made(), address)
         return None if number < 0 else number
 
@@ -175,32 +181,51 @@ class Table(Generic[Value]):
         """
         return core.table_find_column(self._search or self._made(), packed(addresses))
 
-    @overload
-    def join(self, column: Given) -> list[Union[Value, None]]:
-        ...
-
-    @overload
-    def join(self, column: Given, default: _Default) -> list[Union[Value, _Default]]:
-        ...
-
-    def join(self, column: Given, default: object = None) -> list[Any]:
-        """For each row of a column the value of the longest network that has its address, or the
-        default, if none has it or the row has no address. The column is a list, an array or a
-        Series of rows, as ``ipnetwork.columns`` takes it, or of the bytes that
-        ``read_address_column`` gives. ValueError if the table was made without values."""
+    def _joined(self, addresses: ReadableBuffer, default: object) -> list[Any]:
         if self._values is None:
             raise ValueError("the table has no values: they are the second argument of Table")
-        return self._made().join(column, self._values, default)
+        return self._made().join(addresses, self._values, default)
 
     def __len__(self) -> int:
         """How many networks there are."""
         return (len(self._blocks.four_numbers) + len(self._blocks.six_numbers)) // 8
 
+    def __copy__(self) -> Table[Value]:
+        """The table itself, which does not change; of a subclass another object."""
+        return self if type(self) is Table else copied(self)
+
     def __reduce__(self) -> tuple[Any, ...]:
         fours, four_numbers, sixes, six_numbers = self._blocks
-        rows: list[Either] = [*of_rows(fours, 4), *of_rows(sixes, 6)]
-        numbers = [*memoryview(four_numbers).cast("q"), *memoryview(six_numbers).cast("q")]
-        each = [rows[place] for place in sorted(range(len(rows)), key=numbers.__getitem__)]
-        given = (each,) if self._values is None else (each, self._values)
-        made = partial(type(self), mapped=True) if self._mapped else type(self)
-        return made, given, getattr(self, "__dict__", None)
+        blocks = fours, _little(four_numbers), sixes, _little(six_numbers)
+        held = type(self), blocks, self._values, self._mapped
+        return _unpickled, held, getattr(self, "__dict__", None)
+
+
+def _little(numbers: bytes) -> bytes:
+    """Numbers of 64 bits with the lowest byte first, from the order of the machine or to it."""
+    if sys.byteorder == "little":
+        return numbers
+    other = array("q", numbers)
+    other.byteswap()
+    return other.tobytes()
+
+
+def _unpickled(
+    kind: type[Table[Value]],
+    blocks: tuple[bytes, bytes, bytes, bytes],
+    values: Union[list[Value], None],
+    mapped: bool,
+) -> Table[Value]:
+    """The table that a pickle has as the bytes of its blocks, and of the number of each."""
+    fours, four_numbers, sixes, six_numbers = blocks
+    rows = split(checked(fours, 4), 5) + split(checked(sixes, 6), 17)
+    numbers = array("q", _little(four_numbers) + _little(six_numbers))
+    each = dict(zip(numbers, rows))
+    if not len(each) == len(rows) == len(numbers) or each.keys() != set(range(len(rows))):
+        raise ValueError("there is not one number for each network of the table")
+    if values is not None and len(values) != len(rows):
+        raise ValueError(f"there are {len(values)} values for {len(rows)} networks")
+    made = kind.__new__(kind)
+    made._values, made._mapped, made._search = values, bool(mapped), None
+    made._blocks = blocks_of([each[number] for number in range(len(rows))])
+    return made

@@ -13,21 +13,29 @@ A column is a list, an array of NumPy or a Series of pandas, and each row of it 
 - None, NaN, pandas.NA or pandas.NaT: a row without a text, and so without an address.
 
 Any other row is a TypeError that says its number and its type; a ``str`` or a table in place of a
-column is a TypeError too. Numbers are taken only where ``numbers`` is given. With 4 the column is
-an array of unsigned numbers, each an IPv4 address as ``int`` has it; with 6 an array of two
-unsigned numbers of 64 bits in each row, an IPv6 address, its higher half first. A column in Arrow's
-layout needs none of this: its buffers go to ``ipnetwork.read_address_column`` as they are.
+column is a TypeError too, as are ``bytes`` of the length of a packed address, 4 or 16, that are no
+text of one. A column in Arrow's layout needs none of this: its buffers go to
+``ipnetwork.read_address_column`` as they are.
+
+Numbers are taken only where ``numbers`` is given. With 4 the column is an array of whole numbers,
+each an IPv4 address as ``int`` has it; with 6 an array of two whole numbers of 64 bits in each row,
+an IPv6 address, its higher half first. A number that is none of an address is a ValueError. A row
+that is masked in a masked array, or missing in a Series of pandas, has no address, and so has one
+that ``missing`` names: as an array with a truth value for each row, or as the number, with 6 the
+pair of numbers, that stands for none.
 
 >>> from ipaddress import ip_address
 >>> is_member([ip_address("10.1.9.32"), b"10.0.0.1", None], tens).tolist()
 [True, True, False]
->>> is_member(numpy.array([0x0A010920], numpy.uint32), tens, numbers=4).tolist()
-[True]
+>>> is_member(numpy.array([0x0A010920, 0], numpy.uint32), tens, numbers=4).tolist()
+[True, False]
+>>> read_addresses(numpy.array([0x0A010920, -1]), numbers=4, missing=-1)[1].tolist()
+[True, False]
 """
 
 from __future__ import annotations
 
-from typing import TYPE_CHECKING, Any, Literal, Union
+from typing import TYPE_CHECKING, Any, Union
 
 import numpy
 
@@ -38,9 +46,7 @@ from ._rows import laid_out
 if TYPE_CHECKING:
     from numpy.typing import NDArray
 
-    from ._rows import Column
-
-    Numbers = Union[Literal[4, 6], None]
+    from ._rows import Column, Missing, Numbers
 
 __all__ = ["find", "is_member", "layout", "read_addresses"]
 
@@ -59,31 +65,73 @@ def layout(texts: Column) -> tuple[bytearray, NDArray[numpy.uint32]]:
     return whole, numpy.frombuffer(offsets, numpy.uint32)
 
 
-def _of_numbers(given: object, numbers: int) -> NDArray[numpy.uint8]:
-    """The addresses whose numbers an array has, as ``read_addresses`` gives them."""
+def _array_of(given: Any) -> tuple[NDArray[Any], NDArray[numpy.bool_]]:
+    """The numbers of a column, and which of them are masked, or are missing in pandas."""
+    if isinstance(given, numpy.ma.MaskedArray):
+        masked: Any = numpy.ma
+        return masked.getdata(given), masked.getmaskarray(given)
+    nullable = getattr(getattr(given, "dtype", None), "numpy_dtype", None)
+    if nullable is not None and nullable.kind in "iu" and hasattr(given, "isna"):
+        return given.to_numpy(dtype=nullable, na_value=0), numpy.asarray(given.isna(), numpy.bool_)
     array = numpy.asarray(given)
-    if numbers == 4:
-        fits, width, wanted = array.ndim == 1, 4, "unsigned numbers"
-    elif numbers == 6:
-        fits, width = array.shape[1:] == (2,) and array.dtype.itemsize == 8, 16
-        wanted = "unsigned numbers of 64 bits, two in each row"
-    else:
+    return array, numpy.zeros(array.shape, numpy.bool_)
+
+
+def _of_each_row(truths: NDArray[numpy.bool_]) -> NDArray[numpy.bool_]:
+    """Whether one of the numbers of each row is true."""
+    told: NDArray[numpy.bool_] = truths if truths.ndim == 1 else truths.any(axis=1)
+    return told
+
+
+def _missing(array: NDArray[Any], missing: Missing, numbers: int) -> NDArray[numpy.bool_]:
+    """Which rows of an array of numbers have none, as ``missing`` says."""
+    wanted = numpy.asarray(missing)
+    if wanted.dtype == numpy.bool_ and wanted.shape == array.shape[:1]:
+        return wanted
+    if wanted.dtype.kind not in "iu" or wanted.shape != array.shape[1:]:
+        pair = "a number" if numbers == 4 else "a pair of numbers, the higher half first"
+        raise TypeError(f"missing is {pair}, or an array with a truth value for each row")
+    there = wanted.astype(array.dtype)  # a number that is none of the type is in no row
+    same: NDArray[numpy.bool_] = (array == there) & (there.astype(object) == wanted.astype(object))
+    told: NDArray[numpy.bool_] = same if same.ndim == 1 else same.all(axis=1)
+    return told
+
+
+def _of_numbers(
+    given: object, numbers: int, missing: Missing
+) -> tuple[NDArray[numpy.uint8], NDArray[numpy.bool_]]:
+    """The addresses whose numbers a column has, as ``read_addresses`` gives them."""
+    if numbers not in (4, 6):
         raise ValueError(f"numbers is 4 or 6, for the family of the addresses, not {numbers!r}")
-    if array.dtype.kind != "u" or not fits:
+    array, hidden = _array_of(given)
+    if numbers == 4:
+        fits, width, wanted = array.ndim == 1, 4, "whole numbers"
+    else:
+        fits, width = array.shape[1:] == (2,) and array.dtype.itemsize == 8, 16
+        wanted = "whole numbers of 64 bits, two in each row"
+    if array.dtype.kind not in "iu" or not fits:
         given_is = f"one of {array.dtype} and of shape {array.shape}"
         raise TypeError(f"numbers={numbers} takes an array of {wanted}, not {given_is}")
-    if numbers == 4 and array.dtype.itemsize > 4 and (array > 0xFFFFFFFF).any():
-        row = int(numpy.argmax(array > 0xFFFFFFFF))
-        raise ValueError(f"row {row}: {array[row]} is not the number of an IPv4 address")
-    highest_first = numpy.ascontiguousarray(array, ">u4" if numbers == 4 else ">u8")
+    absent = _of_each_row(hidden)
+    if missing is not None:
+        absent = absent | _missing(array, missing, numbers)
+    wrong = array < 0
+    if numbers == 4 and array.dtype.itemsize > 4:
+        wrong = wrong | (array > 0xFFFFFFFF)
+    wrong = _of_each_row(wrong) & ~absent
+    if wrong.any():
+        row = int(numpy.argmax(wrong))
+        raise ValueError(f"row {row}: {array[row]} is not the number of an IPv{numbers} address")
+    highest_first = array.astype(">u4" if numbers == 4 else ">u8", order="C")
     rows = numpy.zeros((len(array), _ROW), numpy.uint8)
     rows[:, :width] = highest_first.view(numpy.uint8).reshape(-1, width)
     rows[:, 16] = width
-    return rows
+    rows[absent] = 0
+    return rows, ~absent
 
 
 def read_addresses(
-    texts: Column, *, numbers: Numbers = None, mapped: bool = False
+    texts: Column, *, numbers: Numbers = None, missing: Missing = None, mapped: bool = False
 ) -> tuple[NDArray[numpy.uint8], NDArray[numpy.bool_]]:
     """The addresses of a column, and whether there is one in each row. An address is 17 bytes, as
     ``ipnetwork.read_address_column`` gives them. With ``mapped``, an IPv4-mapped address is the
@@ -94,8 +142,10 @@ def read_addresses(
     ([8, 8, 8, 8], [True, False])
     """
     if numbers is not None:
-        packed = _of_numbers(texts, numbers)
-        return _unmapped(packed, mapped), numpy.ones(len(packed), numpy.bool_)
+        packed, present = _of_numbers(texts, numbers, missing)
+        return _unmapped(packed, mapped), present
+    if missing is not None:
+        raise TypeError("missing is for a column of numbers: give numbers too")
     whole, offsets = layout(texts)
     addresses, faults = read_address_column(whole, offsets.data, mapped=mapped)
     rows = numpy.frombuffer(addresses, numpy.uint8).reshape(-1, _ROW)
@@ -109,10 +159,12 @@ def _unmapped(rows: NDArray[numpy.uint8], mapped: bool) -> NDArray[numpy.uint8]:
     return numpy.frombuffer(core.unmapped_rows(rows.data), numpy.uint8).reshape(-1, _ROW)
 
 
-def _addresses(given: Column, numbers: Numbers, mapped: bool) -> NDArray[numpy.uint8]:
+def _addresses(
+    given: Column, numbers: Numbers, missing: Missing, mapped: bool
+) -> NDArray[numpy.uint8]:
     """The addresses of a column, or those that ``read_addresses`` gave."""
-    if numbers is not None or not isinstance(given, numpy.ndarray):
-        return read_addresses(given, numbers=numbers, mapped=mapped)[0]
+    if numbers is not None or missing is not None or not isinstance(given, numpy.ndarray):
+        return read_addresses(given, numbers=numbers, missing=missing, mapped=mapped)[0]
     if given.dtype != numpy.uint8 or given.ndim != 2:
         return read_addresses(given, mapped=mapped)[0]
     if given.shape[1] != _ROW:
@@ -125,6 +177,7 @@ def is_member(
     which: Union[AddressSet, IPv4Network, IPv6Network],
     *,
     numbers: Numbers = None,
+    missing: Missing = None,
     mapped: bool = False,
 ) -> NDArray[numpy.bool_]:
     """Whether each row of a column is an address of a set, or of a network. The column is as the
@@ -137,12 +190,17 @@ def is_member(
     [True]
     """
     chosen = which if isinstance(which, AddressSet) else AddressSet([which])
-    addresses = _addresses(given, numbers, mapped)
+    addresses = _addresses(given, numbers, missing, mapped)
     return numpy.frombuffer(chosen.contains_column(addresses.data), numpy.bool_)
 
 
 def find(
-    given: Column, table: Table[Any], *, numbers: Numbers = None, mapped: bool = False
+    given: Column,
+    table: Table[Any],
+    *,
+    numbers: Numbers = None,
+    missing: Missing = None,
+    mapped: bool = False,
 ) -> NDArray[numpy.int64]:
     """Of each row of a column the number of the longest network of a table that has the address,
     or -1. The column is as for ``is_member``.
@@ -156,5 +214,5 @@ def find(
         raise TypeError(
             f"find takes a Table, not {type(table).__name__}: a PrefixTable gives values, by join"
         )
-    addresses = _addresses(given, numbers, mapped)
+    addresses = _addresses(given, numbers, missing, mapped)
     return numpy.frombuffer(table.find_column(addresses.data), numpy.int64)

@@ -1,0 +1,73 @@
+"""A column joined with the values of a table."""
+
+from __future__ import annotations
+
+from typing import TYPE_CHECKING, Any, Generic, TypeVar, Union, overload
+
+from ._rows import addresses_of, like
+
+if TYPE_CHECKING:
+    from _typeshed import ReadableBuffer
+
+    from ._rows import Given, Missing, Numbers, Series
+
+Value = TypeVar("Value")
+_Default = TypeVar("_Default")
+
+
+class Joins(Generic[Value]):
+    """What tables with values have in common."""
+
+    __slots__ = ()
+
+    def _joined(self, addresses: ReadableBuffer, default: object) -> list[Any]:
+        """The value for each address of a column, or the default."""
+        raise NotImplementedError
+
+    @overload
+    def join(
+        self,
+        column: Series,
+        default: object = ...,
+        *,
+        numbers: Numbers = ...,
+        missing: Missing = ...,
+    ) -> Series:
+        ...
+
+    @overload
+    def join(
+        self, column: Given, *, numbers: Numbers = ..., missing: Missing = ...
+    ) -> list[Union[Value, None]]:
+        ...
+
+    @overload
+    def join(
+        self,
+        column: Given,
+        default: _Default,
+        *,
+        numbers: Numbers = ...,
+        missing: Missing = ...,
+    ) -> list[Union[Value, _Default]]:
+        ...
+
+    def join(
+        self,
+        column: Any,
+        default: object = None,
+        *,
+        numbers: Numbers = None,
+        missing: Missing = None,
+    ) -> Any:
+        """For each row of a column the value of the longest network that has its address, or the
+        default, if none has it or the row has no address: as a list; of a Series of pandas as a
+        Series with its index. The column is a list, an array or a Series of rows, with ``numbers``
+        one of numbers, as ``ipnetwork.columns`` takes it, or of the bytes that
+        ``read_address_column`` gives. ValueError of a ``Table`` that was made without values.
+
+        >>> table = PrefixTable({ip_network("10.0.0.0/8"): "lab", ip_network("::/0"): "office"})
+        >>> table.join(["10.1.2.3", "8.8.8.8", "no address", "2001:db8::1"])
+        ['lab', None, None, 'office']
+        """
+        return like(column, self._joined(addresses_of(column, numbers, missing), default))
