@@ -1,6 +1,8 @@
 package ipnetwork
 
 import (
+	"encoding/json"
+	"errors"
 	"fmt"
 	"math/rand"
 	"net/netip"
@@ -206,6 +208,35 @@ func TestAskedAtOnce(t *testing.T) {
 		}(worker)
 	}
 	wait.Wait()
+}
+
+// A list of JSON that has a text of no network is refused, with the element that it is.
+func TestSetOfJSON(t *testing.T) {
+	var rules struct{ Denied Set }
+	list := `{"Denied": ["10.0.0.0/9", "2001:db8::/32", "10.128.0.0/9"]}`
+	equal(t, "read", json.Unmarshal([]byte(list), &rules), nil)
+	text, err := json.Marshal(rules)
+	equal(t, "printed", fmt.Sprint(string(text), err), `{"Denied":["10.0.0.0/8","2001:db8::/32"]} <nil>`)
+	for list, wanted := range map[string]string{
+		`["10.0.0.0/8", "10/8"]`:          `element 1, "10/8": no address`,
+		`["10.0.0.0/33"]`:                 `element 0, "10.0.0.0/33": no prefix length of the family`,
+		`["::/0", "::/0", "::/0/0", "x"]`: `element 2, "::/0/0": more than one slash`,
+		`["::/0", null]`:                  `element 1, "": no address`,
+	} {
+		err := json.Unmarshal([]byte(list), &rules.Denied)
+		var element *ElementError
+		equal(t, list, fmt.Sprint(err), wanted)
+		equal(t, list, errors.As(err, &element) && errors.Is(err, element.Fault), true)
+	}
+	equal(t, "a number", json.Unmarshal([]byte(`[7]`), &rules.Denied) != nil, true)
+	equal(t, "null", json.Unmarshal([]byte(`{"Denied": null}`), &rules), nil)
+	equal(t, "as it was", fmt.Sprint(rules.Denied.Networks()), "[10.0.0.0/8 2001:db8::/32]")
+	equal(t, "none", json.Unmarshal([]byte(`[]`), &rules.Denied), nil)
+	text, err = json.Marshal(rules.Denied)
+	equal(t, "none", fmt.Sprint(string(text), err), "[] <nil>")
+	denied := rules.Denied.Mapped()
+	equal(t, "mapped", json.Unmarshal([]byte(`["10.0.0.0/8"]`), &denied), nil)
+	equal(t, "mapped", denied.Contains(netip.MustParseAddr("::ffff:10.1.2.3")), true)
 }
 
 // panics reports whether a question panics.
