@@ -155,6 +155,27 @@ def table(database, rows, rng):
                 differ("a scan", network, scanned, wanted)
 
 
+def longest(database, rng):
+    """Lists of random networks, and the longest of each that has random addresses: by a look at each network."""
+    for width, kind, of in (32, ipaddress.IPv4Network, IPv4Address), (128, ipaddress.IPv6Network, IPv6Address):
+        start = number(rng, width)
+        made = [kind((near(rng, width, start), rng.randrange(width + 1)), strict=False) for _ in range(300)]
+        database.execute("DROP TABLE IF EXISTS nets")
+        database.execute("CREATE TABLE nets(net TEXT)")
+        database.executemany("INSERT INTO nets VALUES (?)", ((str(network),) for network in made))
+        asked = [of(near(rng, width, start)) for _ in range(300)]
+        asked += [end for network in made for end in (network.network_address, network.broadcast_address)]
+        for address in asked:
+            having = [(network.prefixlen, row) for row, network in enumerate(made, 1) if address in network]
+            prefix, row = max(having, default=(None, None))
+            wanted = (row, str(made[row - 1].network_address), prefix) if having else None
+            own = database.execute("SELECT * FROM cidr_longest('nets', ?)", (str(address),)).fetchone()
+            if own is not None:
+                own = own[0], str(kind(own[1]).network_address), own[2]
+            if own != wanted:
+                differ("the longest network", address, own, wanted)
+
+
 def main():
     rows = int(sys.argv[2]) if len(sys.argv) > 2 else 100_000
     rng = random.Random(int(sys.argv[3]) if len(sys.argv) > 3 else 1)
@@ -167,6 +188,8 @@ def main():
     print(f"SQLite: {rows} networks, no and yes of has and covers: {seen}")
     if min(no, yes) * 5 < rows or min(map(min, seen)) * 20 < rows:
         raise SystemExit("too few of a kind")
+    longest(database, rng)
+    print("SQLite: the longest network that has an address is that which a look at each finds")
     table(database, rows, rng)
     print(f"SQLite: an index of {rows} addresses finds between the ends of 300 networks what ipaddress says")
 

@@ -1,8 +1,9 @@
 /* Functions of SQL on IP networks in CIDR notation: a loadable extension of SQLite over the library for C. README.md
  * beside this file says what each answers.
  *
- * Nothing is kept between calls, and nothing is allocated here: answers and messages are made on the stack, and SQLite
- * copies them. The one variable is the pointer to SQLite's own functions that sqlite3ext.h asks each extension for. */
+ * Nothing is kept between statements, and nothing is allocated here but what longest.h keeps for one: answers and
+ * messages are made on the stack, and SQLite copies them. The one variable is the pointer to SQLite's own functions that
+ * sqlite3ext.h asks each extension for. */
 #include "ipnetwork.h"
 
 #include <sqlite3ext.h>
@@ -130,6 +131,15 @@ static int take_address(sqlite3_context *context, sqlite3_value **values, int ar
     return fault == IPNETWORK_OK;
 }
 
+/* Whether these bytes are a blob of give_address: then what address it is. */
+static int address_of_blob(const uint8_t *blob, size_t length, ipnetwork_address *address) {
+    if ((length != 5 || blob[0] != 4) && (length != 17 || blob[0] != 6))
+        return 0;
+    address->length = (uint8_t)(length - 1);
+    memcpy(address->octets, blob + 1, address->length);
+    return 1;
+}
+
 /* Whether an argument, which is a blob, is one of give_address; if not, the call ends in an error. */
 static int take_blob(sqlite3_context *context, sqlite3_value **values, int argument, ipnetwork_address *address) {
     const uint8_t *blob = sqlite3_value_blob(values[argument]);
@@ -138,15 +148,13 @@ static int take_blob(sqlite3_context *context, sqlite3_value **values, int argum
         sqlite3_result_error_nomem(context);
         return 0;
     }
-    if ((length != 5 || blob[0] != 4) && (length != 17 || blob[0] != 6)) {
+    if (!address_of_blob(blob, (size_t)length, address)) {
         char message[MESSAGE];
         sqlite3_snprintf(MESSAGE, message, "%s, argument %d: a blob of %d bytes that is no address",
                          name_of_call(context), argument + 1, length);
         sqlite3_result_error(context, message, -1);
         return 0;
     }
-    address->length = (uint8_t)(length - 1);
-    memcpy(address->octets, blob + 1, address->length);
     return 1;
 }
 
@@ -301,6 +309,8 @@ static const struct function functions[] = {
     {"cidr_addr_or_null", 1, answer_addr_or_null},
 };
 
+#include "longest.h"
+
 /* What SQLite calls for each of them. The result is NULL if an argument is. */
 static void call(sqlite3_context *context, int count, sqlite3_value **values) {
     const struct function *function = sqlite3_user_data(context);
@@ -324,5 +334,5 @@ int sqlite3_cidr_init(sqlite3 *database, char **message, const sqlite3_api_routi
         if (status != SQLITE_OK)
             return status;
     }
-    return SQLITE_OK;
+    return sqlite3_create_module(database, "cidr_longest", &longest_module, NULL);
 }

@@ -52,8 +52,8 @@ by_index() {
 by_index "SELECT client FROM log WHERE address BETWEEN cidr_first('10.1.0.0/16') AND cidr_last('10.1.0.0/16')"
 by_index "SELECT client FROM network JOIN log ON address BETWEEN cidr_first(network.text) AND cidr_last(network.text)"
 by_index "SELECT client FROM network CROSS JOIN log ON address BETWEEN network.first AND network.last"
-by_index "SELECT client, name FROM log LEFT JOIN (SELECT log.rowid AS number, text AS name, max(cidr_prefix(text))
-    FROM network CROSS JOIN log ON address BETWEEN first AND last GROUP BY log.rowid) ON number = log.rowid"
+by_index "SELECT log.rowid, text, max(cidr_prefix(text))
+    FROM network CROSS JOIN log ON address BETWEEN first AND last GROUP BY log.rowid"
 echo "SQLite: by the index of a log of a million rows, the same rows as by a look at each"
 
 # The example of README.md, which is run from the top.

@@ -242,6 +242,57 @@ static void schemas(sqlite3 *database) {
     free(said);
 }
 
+/* The longest network of a list: of both families, of equal ones the last, with rows that have none. */
+static void longest_of_list(sqlite3 *database) {
+    static const struct row asked[] = {
+        {"'nets', '10.1.2.3'", "'4 10.1.0.0/16 16'"},
+        {"'nets', '10.2.0.0'", "'1 10.0.0.0/8 8'"},
+        {"'nets', cidr_addr('2001:db8::1')", "'6 2001:db8::/48 48'"},
+        {"'nets', '2001:DB8:1::'", "'5 2001:db8::/32 32'"},
+        {"'nets', '::ffff:10.1.2.3'", "'7 ::ffff:0.0.0.0/96 96'"},
+        {"'nets', cidr_unmapped('::ffff:10.1.2.3')", "'4 10.1.0.0/16 16'"},
+        {"'nets', '11.0.0.0'", "NULL"},
+        {"'nets', '2001:db9::'", "NULL"},
+        {"'nets', NULL", "NULL"},
+        {"NULL, '::'", "NULL"},
+        {"'no \"list\"', '10.1.2.3'", "'1 10.0.0.0/7 7'"},
+        {"'empty', '10.1.2.3'", "NULL"},
+        {"'none', '10.1.2.3'", "error: cidr_longest: no such table: none"},
+        {"'nets', '10.1.2.3/32'", "error: cidr_longest, argument 2: no address: '10.1.2.3/32'"},
+        {"'nets', 167772160", "error: cidr_longest, argument 2: an integer, not a text or a blob"},
+        {"'nets', x'0a010203'", "error: cidr_longest, argument 2: a blob of 4 bytes that is no address"},
+        {"'nets', x''", "error: cidr_longest, argument 2: a blob of 0 bytes that is no address"},
+        {"'wrong', '10.1.2.3'", "error: cidr_longest, row 2 of wrong: no address: '10/8'"},
+        {"'numbers', '10.1.2.3'", "error: cidr_longest, row 1 of numbers: an integer, not a text"},
+        {"'nets'", "error: cidr_longest takes a list and an address"},
+    };
+    run(database, "CREATE TABLE nets(net TEXT, name TEXT);"
+        "INSERT INTO nets VALUES ('10.0.0.0/8', 'a'), ('10.1.9.32/16', 'b'), (NULL, 'none'), ('10.1.0.0/16', 'c'),"
+        " ('2001:db8::/32', 'd'), ('2001:db8::/48', 'e'), ('::ffff:0:0/96', 'f');"
+        "CREATE TABLE \"no \"\"list\"\"\"(net); INSERT INTO \"no \"\"list\"\"\" VALUES ('10.0.0.0/7');"
+        "CREATE TABLE empty(net); CREATE TABLE numbers(net); INSERT INTO numbers VALUES (10);"
+        "CREATE TABLE wrong(net); INSERT INTO wrong VALUES ('::'), ('10/8');"
+        "CREATE VIEW hidden AS SELECT number FROM cidr_longest('nets', '::');");
+    for (size_t i = 0; i < sizeof asked / sizeof *asked; i++) {
+        char *expression = sqlite3_mprintf("(SELECT number || ' ' || network || ' ' || prefix FROM cidr_longest(%s))",
+                                           asked[i].expression);
+        need(expression != NULL, "no memory");
+        expect(database, expression, asked[i].answer);
+        sqlite3_free(expression);
+    }
+    expect(database, "(SELECT group_concat(client || ' ' || name) FROM log"
+           " JOIN cidr_longest('nets', address) AS found JOIN nets ON nets.rowid = found.number)",
+           "'10.1.9.32 c,2001:db8::1 e,10.200.0.1 a'");
+    /* Each list is read, and each change of one. */
+    expect(database, "(SELECT group_concat(list || ' ' || number) FROM"
+           " (SELECT column1 AS list FROM (VALUES ('nets'), ('empty'), ('no \"list\"'), ('nets')))"
+           " JOIN cidr_longest(list, '10.1.2.3'))", "'nets 4,no \"list\" 1,nets 4'");
+    run(database, "UPDATE nets SET net = '10.1.2.0/24' WHERE name = 'a'");
+    expect(database, "(SELECT number FROM cidr_longest('nets', '10.1.2.3'))", "1");
+    expect(database, "(SELECT number FROM hidden)", "error: unsafe use of virtual table \"cidr_longest\"");
+    run(database, "UPDATE nets SET net = '10.0.0.0/8' WHERE name = 'a'; DROP VIEW hidden");
+}
+
 /* Requests for memory, of which one can be refused: the number left before it, or -1 for none. */
 static sqlite3_mem_methods memory;
 static _Thread_local int left = -1;
@@ -268,7 +319,14 @@ static void short_of_memory(sqlite3 *database) {
         {"cidr_unmapped(X'0600000000000000000000FFFF0A010920')", "X'040A010920'"},
         {"cidr_text_or_null('10.1.9.32/255.255.0.0')", "'10.1.9.32/16'"},
         {"cidr_addr_or_null('10.1.9.32')", "X'040A010920'"},
+        {"(SELECT number || network FROM cidr_longest('nets', '10.1.2.3'))", "'410.1.0.0/16'"},
+        {"(SELECT number FROM cidr_longest('nets', cidr_addr('2001:db8::')))", "6"},
+        {"(SELECT number FROM cidr_longest('wrong', '::'))", "error: cidr_longest, row 2 of wrong: no address: '10/8'"},
     };
+    /* A connection keeps the room of a message for later ones. Without such room SQLite itself tells a status in the
+     * place of a message, and goes on: a message that is longer than those below comes before them. */
+    expect(database, "cidr_text('" NINES "/')",
+           "error: cidr_text, argument 1: no address: '" NINES "', the first 60 of 61 bytes");
     for (size_t i = 0; i < sizeof asked / sizeof *asked; i++) {
         char *sql = sqlite3_mprintf("SELECT quote(%s)", asked[i].expression);
         need(sql != NULL, "no memory");
@@ -322,6 +380,7 @@ int main(int count, char **words) {
             each_message(database);
         longest = longest < 100000 ? longest : 100000;
         schemas(database);
+        longest_of_list(database);
         short_of_memory(database);
         /* Loaded again, it answers as before. */
         need(sqlite3_load_extension(database, extension, NULL, NULL) == SQLITE_OK, "not loaded again");

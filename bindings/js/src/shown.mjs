@@ -6,7 +6,7 @@ export const INSPECT = Symbol.for('nodejs.util.inspect.custom');
  * properties, and not what a class keeps for itself: of a symbol there is no copy, so that they
  * refuse the value, and do not give an empty object.
  */
-export const SENT = Symbol('a value of ipnetwork, which is sent as its text,');
+export const SENT = Symbol('a value of ipnetwork, which is sent as its text');
 
 const MOST_SHOWN = 5;
 
