@@ -117,7 +117,9 @@ for (const [words, size] of Object.entries(SIZES)) {
   const built = Math.round(size / 1000);
   if (!found.test(page)) throw new Error(`README.md does not say: ${words} .. KB`);
   const [, said] = page.match(found);
-  if (Number(said) !== built) console.log(`README.md says ${words} ${said} KB: it has ${built}`);
+  if (Number(said) !== built && instancePath === undefined) {
+    console.log(`README.md says ${words} ${said} KB: it has ${built}`);
+  }
   page = page.replace(found, `${words} ${built} KB`);
 }
 write('README.md', page);

@@ -2,7 +2,7 @@
  * beside this file says what each answers.
  *
  * Nothing is kept between statements, and nothing is allocated here but what longest.h keeps for one: answers and
- * messages are made on the stack, and SQLite copies them. The one variable is the pointer to SQLite's own functions that
+ * messages are made on the stack, and SQLite copies them. The one variable is the pointer to SQLite's functions that
  * sqlite3ext.h asks each extension for. */
 #include "ipnetwork.h"
 

@@ -323,8 +323,7 @@ static void short_of_memory(sqlite3 *database) {
         {"(SELECT number FROM cidr_longest('nets', cidr_addr('2001:db8::')))", "6"},
         {"(SELECT number FROM cidr_longest('wrong', '::'))", "error: cidr_longest, row 2 of wrong: no address: '10/8'"},
     };
-    /* A connection keeps the room of a message for later ones. Without such room SQLite itself tells a status in the
-     * place of a message, and goes on: a message that is longer than those below comes before them. */
+    /* A connection keeps the room of a message. Without room it tells a status: a longer message comes first. */
     expect(database, "cidr_text('" NINES "/')",
            "error: cidr_text, argument 1: no address: '" NINES "', the first 60 of 61 bytes");
     for (size_t i = 0; i < sizeof asked / sizeof *asked; i++) {
