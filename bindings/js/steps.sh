@@ -68,7 +68,7 @@ fi
 
 if node js/other_readings.mjs --there; then
     node js/other_readings.mjs --check
-    if [ "$all" = yes ]; then
+    if [ "$measure" = yes ]; then
         step "speed from JavaScript"
         node js/speed.mjs
     fi

@@ -278,7 +278,7 @@ class Columns(unittest.TestCase):
         for column in (packed, packed.reshape(-1, 4), packed.copy()):
             self.assertEqual(numpy.flatnonzero(numpy.frombuffer(network.contains_column(column), bool)).tolist(), [10, 11])
 
-    @unittest.skipIf(frames is None, "dask is not here")
+    @unittest.skipIf(frames is None, "there is no dask here")
     def test_dask(self):
         log = frames.from_pandas(pandas.DataFrame({"address": TEXTS, "row": range(len(TEXTS))}), 3)
         wanted = is_member(TEXTS, WHICH).tolist()
@@ -291,7 +291,7 @@ class Columns(unittest.TestCase):
             with self.assertRaises(TypeError):
                 call()
 
-    @unittest.skipIf(pandas is None, "pandas is not here")
+    @unittest.skipIf(pandas is None, "there is no pandas here")
     def test_frame(self):
         log = pandas.DataFrame({"address": TEXTS, "row": range(len(TEXTS))})
         kept = log[is_member(log.address, WHICH)]

@@ -385,7 +385,7 @@ class Joined(unittest.TestCase):
         try:
             import pandas
         except ImportError:
-            self.skipTest("pandas is not here")
+            self.skipTest("there is no pandas here")
         log = pandas.DataFrame(
             {"address": ["10.1.2.3", "8.8.8.8", None], "bytes": [1, 2, 3]}, index=[5, 6, 7]
         )

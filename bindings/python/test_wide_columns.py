@@ -116,7 +116,7 @@ class Wide(unittest.TestCase):
             with self.assertRaises(TypeError):
                 read_address_column(b"::", given)
 
-    @unittest.skipIf(numpy is None, "NumPy is not here")
+    @unittest.skipIf(numpy is None, "there is no NumPy here")
     def test_arrays(self):
         whole = numpy.frombuffer(b"10.1.2.38.8.8.8::1x", numpy.uint8)
         wanted = read_address_column(whole, array.array("I", [0, 8, 15, 18, 19]))

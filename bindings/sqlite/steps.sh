@@ -79,7 +79,7 @@ else
     skip "SQLite: beside ipaddress" "module sqlite3 that loads extensions in $python" "python3"
 fi
 
-if [ "$all" = yes ]; then
+if [ "$measure" = yes ]; then
     step "speed from SQLite"
     rm -f out/log.db
     sqlite3 out/log.db ".load out/cidr" ".read sqlite/log.sql"
