@@ -25,6 +25,10 @@
 #                                         programs of make static, with PLAIN=1 what make plain builds
 #   make uninstall PREFIX=/usr DESTDIR=/tmp/package
 #   make deb                              Debian packages of what is built, in bindings/out/deb
+#   make dist                             what is handed out, of what stands proved, in the folder dist: archives and packages for
+#                                         Linux on x86-64 and ARM64, wheels, crates and more, with checksums (scripts/dist)
+#   make dist-plain                       the same as plain Rust, which is built for it
+#   make tools                            installs the packages of Debian that tests need (tests/debian-packages.txt)
 #   make check-install                    installs into a new folder, compiles the example of C there and removes it again
 #
 # PREFIX is where the files are looked for when they are used, DESTDIR what stands before it while they are copied.
@@ -231,6 +235,19 @@ uninstall:
 deb:
 	$(call tools,python3 $(if $(ARM64),aarch64-linux-gnu-gcc,cc objdump) dpkg-deb)
 	scripts/deb $(if $(ARM64),$(OUT)/deb/arm64 arm64,$(OUT)/deb)
+
+# With LOG=FILE, PROVED.txt has the verdicts of a log.
+.PHONY: dist dist-plain tools
+dist:
+	$(call tools,python3 git cc)
+	scripts/dist --whole $(if $(LOG),--log $(LOG))
+
+dist-plain:
+	$(call tools,python3 git cc cargo)
+	scripts/dist --plain $(if $(LOG),--log $(LOG))
+
+tools:
+	scripts/tools
 
 check-install:
 	bindings/check_install

@@ -17,6 +17,7 @@ folder, and `build_wheel.py FOLDER` builds the extension alone, for tests.
 """
 
 import base64
+import gzip
 import hashlib
 import io
 import os
@@ -230,11 +231,14 @@ def build_sdist(sdist_directory, config_settings=None):
         **_proved(),
         **_rust(),
     }
-    with tarfile.open(pathlib.Path(sdist_directory) / f"{base}.tar.gz", "w:gz", format=tarfile.PAX_FORMAT) as archive:
+    held = io.BytesIO()
+    with tarfile.open(fileobj=held, mode="w", format=tarfile.PAX_FORMAT) as archive:
         for path, content in files.items():
             member = tarfile.TarInfo(f"{base}/{path}")
             member.size = len(content)
             archive.addfile(member, io.BytesIO(content))
+    # Without the time, so that the same files give the same bytes.
+    (pathlib.Path(sdist_directory) / f"{base}.tar.gz").write_bytes(gzip.compress(held.getvalue(), mtime=0))
     return f"{base}.tar.gz"
 
 
