@@ -17,12 +17,11 @@ from ._networks import (
     EitherAddress,
     IPv4Network,
     IPv6Network,
-    checked,
     no_network,
     unmapped,
     unmapped_network,
 )
-from ._tables import Search, blocks_of
+from ._tables import Search, blocks_of, lengths_of
 
 if TYPE_CHECKING:
     from _typeshed import ReadableBuffer
@@ -363,7 +362,7 @@ class PrefixTable(Joins[Value], MutableMapping[Either, Value]):
         rows, widths, values, attributes = state
         ends = list(accumulate(widths, initial=0))
         keys = [rows[start:end] for start, end in zip(ends, ends[1:])]
-        fours, sixes = _lengths(keys, 4), _lengths(keys, 6)
+        fours, sixes = lengths_of(keys, 4), lengths_of(keys, 6)
         if len({*keys}) != len(values) or len(keys) != len(values) or ends[-1] != len(rows):
             raise ValueError("there is not one value for each network of the table")
         self._fours, self._sixes = fours, sixes
@@ -377,17 +376,6 @@ def _empty(kind: type[PrefixTable[Value]], mapped: bool) -> PrefixTable[Value]:
     made = kind.__new__(kind)
     PrefixTable.__init__(made, mapped=mapped)
     return made
-
-
-def _lengths(keys: list[bytes], version: int) -> bytes:
-    """The prefix lengths of the keys of a family, in descending order; ValueError of keys that are
-    no networks without host bits."""
-    step = 5 if version == 4 else 17
-    those = sorted(key for key in keys if len(key) == step)
-    blocks, _ = core.table_make(version, checked(b"".join(those), version))
-    if blocks != b"".join(those) or any(len(key) not in (5, 17) for key in keys):
-        raise ValueError("a key of the table is no network without host bits")
-    return bytes(sorted({key[-1] for key in those}, reverse=True))
 
 
 class _Items(ItemsView[Either, Value]):

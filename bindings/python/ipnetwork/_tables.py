@@ -86,6 +86,17 @@ def split(rows: bytes, step: int) -> list[bytes]:
     return [rows[at : at + step] for at in range(0, len(rows), step)]
 
 
+def lengths_of(keys: list[bytes], version: int) -> bytes:
+    """The prefix lengths of the keys of a family, in descending order; ValueError of keys that are
+    no networks without host bits."""
+    step = 5 if version == 4 else 17
+    those = sorted(key for key in keys if len(key) == step)
+    blocks, _ = core.table_make(version, checked(b"".join(those), version))
+    if blocks != b"".join(those) or any(len(key) not in (5, 17) for key in keys):
+        raise ValueError("a key of the table is no network without host bits")
+    return bytes(sorted({key[-1] for key in those}, reverse=True))
+
+
 def _row(network: Either) -> bytes:
     if not isinstance(network, (IPv4Network, IPv6Network)):
         raise no_network(network)
