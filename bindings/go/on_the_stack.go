@@ -33,8 +33,13 @@ func callText(function *[0]byte, call *C.text_call) {
 // search is without an answer, and has a fault, if the address has a zone or is none. The numbers are those of the ranges of
 // a table, and none of a set.
 func (held *lists) search(function *[0]byte, fourNumbers, sixNumbers []int, address netip.Addr) C.search_answer {
-	call := C.search_call{lists: C.both_lists{start(held.fours), size(held.fours), start(held.fourIndex), size(held.fourIndex),
-		start(held.sixes), size(held.sixes), start(held.sixIndex), size(held.sixIndex), held.asMapped()}}
+	call := C.search_call{lists: C.both_lists{
+		fours: start(held.fours), four_count: size(held.fours),
+		four_index: start(held.fourIndex), four_index_length: size(held.fourIndex),
+		sixes: start(held.sixes), six_count: size(held.sixes),
+		six_index: start(held.sixIndex), six_index_length: size(held.sixIndex),
+		mapped: held.asMapped(),
+	}}
 	if !give(address, &call.address) {
 		return C.search_answer{fault: C.IPNETWORK_NO_FAMILY}
 	}

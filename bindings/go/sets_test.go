@@ -216,7 +216,7 @@ func TestSetOfJSON(t *testing.T) {
 	list := `{"Denied": ["10.0.0.0/9", "2001:db8::/32", "10.128.0.0/9"]}`
 	equal(t, "read", json.Unmarshal([]byte(list), &rules), nil)
 	text, err := json.Marshal(rules)
-	equal(t, "printed", fmt.Sprint(string(text), err), `{"Denied":["10.0.0.0/8","2001:db8::/32"]} <nil>`)
+	equal(t, "printed", fmt.Sprint(string(text), err), `{"Denied":["10.0.0.0/8","2001:db8::/32"]}<nil>`)
 	for list, wanted := range map[string]string{
 		`["10.0.0.0/8", "10/8"]`:          `element 1, "10/8": no address`,
 		`["10.0.0.0/33"]`:                 `element 0, "10.0.0.0/33": no prefix length of the family`,
@@ -233,7 +233,7 @@ func TestSetOfJSON(t *testing.T) {
 	equal(t, "as it was", fmt.Sprint(rules.Denied.Networks()), "[10.0.0.0/8 2001:db8::/32]")
 	equal(t, "none", json.Unmarshal([]byte(`[]`), &rules.Denied), nil)
 	text, err = json.Marshal(rules.Denied)
-	equal(t, "none", fmt.Sprint(string(text), err), "[] <nil>")
+	equal(t, "none", fmt.Sprint(string(text), err), "[]<nil>")
 	denied := rules.Denied.Mapped()
 	equal(t, "mapped", json.Unmarshal([]byte(`["10.0.0.0/8"]`), &denied), nil)
 	equal(t, "mapped", denied.Contains(netip.MustParseAddr("::ffff:10.1.2.3")), true)
