@@ -184,6 +184,8 @@ def is_member(
     module says, or of addresses as ``read_addresses`` gives them. With ``mapped``, or of a set with
     it, an IPv4-mapped address counts as the IPv4 address.
 
+    >>> from ipnetwork import ip_network
+    >>> tens = AddressSet([ip_network("10.0.0.0/8")])
     >>> is_member(["::ffff:10.1.9.32"], tens).tolist()
     [False]
     >>> is_member(["::ffff:10.1.9.32"], tens, mapped=True).tolist()
