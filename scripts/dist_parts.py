@@ -71,11 +71,13 @@ class Machine:
         makes = "make" if own else "make arm64"
         library = TOP / "crates/ipnetwork_c/out/libipnetwork_c.a" if own else OUT / "aarch64/libipnetwork_c.a"
         of_this_commit("ipnetwork_c", library, makes)
-        folder.mkdir()
-        shutil.copy(library, folder)
         if own:
             run(["make", "-s", "shared"])
-        shutil.copy(OUT / SHARED if own else OUT / "aarch64" / SHARED, folder)
+        shared = OUT / SHARED if own else OUT / "aarch64" / SHARED
+        of_this_commit("ipnetwork_c", shared, makes)
+        folder.mkdir()
+        shutil.copy(library, folder)
+        shutil.copy(shared, folder)
         for program in PROGRAMS:
             try:
                 self.take_program(program, makes)
