@@ -203,12 +203,11 @@ static PyObject *index_of(PyObject *module, PyObject *arguments) {
     return list_index_object(width, blocks, (size_t)length / (width + 1));
 }
 
-/* Whether what stands at a place of a tuple is True, put where the last argument says; 0 with TypeError if nothing does. */
+/* Whether what stands at a place of a tuple is True, put where the last argument says; 0 with IndexError if nothing does. */
 static int truth_at(PyObject *given, Py_ssize_t place, int *truth) {
-    PyObject *item = PyTuple_Check(given) && place < PyTuple_Size(given) ? PyTuple_GetItem(given, place) : NULL;
-    if (item == NULL) return PyErr_SetString(PyExc_TypeError, "a search ends with a truth value"), 0;
+    PyObject *item = PyTuple_GetItem(given, place);
     *truth = item == Py_True;
-    return 1;
+    return item != NULL;
 }
 
 /* The blocks of a set of addresses of both families, as `aggregate` and `operate` leave them, with their indexes; and

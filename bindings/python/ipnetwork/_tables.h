@@ -158,24 +158,33 @@ static ipnetwork_fault numbers_of(const searched_list *ranges, const int64_t *nu
     return fault;
 }
 
-/* The number of the longest network of each of so many rows, at most AT_ONCE, or -1; a row without an address has none.
- * IPNETWORK_NO_FAMILY where there is neither an address of 4 or 16 octets nor none, in the row that is told. */
-static ipnetwork_fault table_has_rows(const Table *table, const ipnetwork_address *addresses, size_t count,
-                                      int64_t *told, size_t *row) {
-    Asked fours, sixes;
-    uint8_t octets[16]; /* a call that is not made takes so many */
-    fours.count = sixes.count = 0;
+/* Puts the addresses of so many rows among those of their families, and -1 beside each; with `mapped`, which is known where
+ * it is compiled, an IPv4-mapped one as the IPv4 address. IPNETWORK_NO_FAMILY where there is neither an address of 4 or 16
+ * octets nor none, in the row that is told. */
+__attribute__((always_inline)) static inline ipnetwork_fault by_family(const ipnetwork_address *addresses, size_t count,
+                                                                       int mapped, Asked *fours, Asked *sixes,
+                                                                       int64_t *told, size_t *row) {
+    uint8_t octets[4];
     for (*row = 0; *row < count; ++*row) {
         const ipnetwork_address *address = &addresses[*row];
         told[*row] = -1;
-        if (address->length == 4) ask(&fours, *row, address->octets, 4);
-        else if (address->length == 16 && table->mapped
-                 && ipnetwork_v6_unmapped(address->octets, octets) == IPNETWORK_OK)
-            ask(&fours, *row, octets, 4);
-        else if (address->length == 16) ask(&sixes, *row, address->octets, 16);
+        if (address->length == 4) ask(fours, *row, address->octets, 4);
+        else if (address->length == 16 && mapped && ipnetwork_v6_unmapped(address->octets, octets) == IPNETWORK_OK)
+            ask(fours, *row, octets, 4);
+        else if (address->length == 16) ask(sixes, *row, address->octets, 16);
         else if (address->length != 0) return IPNETWORK_NO_FAMILY;
     }
-    ipnetwork_fault fault = numbers_of(&table->fours, table->four_numbers, &fours, told);
+    return IPNETWORK_OK;
+}
+
+/* The number of the longest network of each of so many rows, at most AT_ONCE, or -1; a row without an address has none. */
+static ipnetwork_fault table_has_rows(const Table *table, const ipnetwork_address *addresses, size_t count,
+                                      int64_t *told, size_t *row) {
+    Asked fours, sixes;
+    fours.count = sixes.count = 0;
+    ipnetwork_fault fault = table->mapped ? by_family(addresses, count, 1, &fours, &sixes, told, row)
+                                          : by_family(addresses, count, 0, &fours, &sixes, told, row);
+    if (fault == IPNETWORK_OK) fault = numbers_of(&table->fours, table->four_numbers, &fours, told);
     return fault != IPNETWORK_OK ? fault : numbers_of(&table->sixes, table->six_numbers, &sixes, told);
 }
 
