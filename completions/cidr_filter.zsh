@@ -19,7 +19,7 @@ _arguments \
     '*-n[before a line print its number in its FILE and a colon]' \
     '*-h[print no name before a line]' \
     '*--longest[before a line print the longest network that holds its address]' \
-    '*--bad[a line without an address]:value:(drop keep stop report)' \
+    '*--bad=[a line without an address]:value:(drop keep stop report)' \
     '--quiet[do not show on a terminal how much was read]' \
     '(- *)--help[print this text]' \
     '(- *)--version[print the version]' \

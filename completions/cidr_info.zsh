@@ -2,7 +2,7 @@
 # Completion of zsh for cidr_info: its options.
 _arguments \
     '*--json[print an object a NETWORK]' \
-    '*--in[the status says whether each NETWORK lies within this network]:text: ' \
+    '*--in=[the status says whether each NETWORK lies within this network]:text: ' \
     '--quiet[do not show on a terminal how much was read]' \
     '(- *)--help[print this text]' \
     '(- *)--version[print the version]' \

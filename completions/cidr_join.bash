@@ -1,6 +1,12 @@
 # Completion of bash for cidr_join: its options, and files.
 _cidr_join() {
     local word="${COMP_WORDS[COMP_CWORD]}" before="${COMP_WORDS[COMP_CWORD - 1]}"
+    # A value behind a =, which is a word of its own here.
+    if [ "$word" = = ]; then
+        word=
+    elif [ "$before" = = ]; then
+        before="${COMP_WORDS[COMP_CWORD - 2]}"
+    fi
     case "$before" in
         --bad) COMPREPLY=($(compgen -W "drop keep stop report" -- "$word")) ;;
         -k | -d | --after | --group) COMPREPLY=() ;;

@@ -13,7 +13,7 @@ _arguments \
     '*--network[print the network in place of its value]' \
     '*--tally[print how many lines have each value]' \
     '*--group[before a line print the block of length N that has its address]:lengths: ' \
-    '*--bad[a line without an address]:value:(drop keep stop report)' \
+    '*--bad=[a line without an address]:value:(drop keep stop report)' \
     '--quiet[do not show on a terminal how much was read]' \
     '(- *)--help[print this text]' \
     '(- *)--version[print the version]' \

@@ -1,28 +1,26 @@
 #compdef cidr_merge
-# Completion of zsh for cidr_merge: the operation, its options, and files.
-if (( CURRENT == 2 )); then
-    _values 'operation' \
-        'union[the addresses of any list]' \
-        'common[the addresses of both sides]' \
-        'minus[those of the first side that the second has not]' \
-        'differ[those of one side and not of both]' \
-        'list[each address of any list]' \
-        'split[the networks of any list, cut to a length]' \
-        'check[the wrong entries of the lists]' \
-        'overlaps[the entries that overlap]' \
-        'find[the entries that have an address]' \
-        '--quiet[show no progress on a terminal]' '--help[print the help]' '--version[print the version]'
-elif [[ $words[2] == split ]]; then
-    _arguments '--prefix=[the prefix length]:length:' '*--skip-bad[pass over refused lines]' \
-        '--json[read documents of JSON]' '--strict[refuse strings that are no entries]' '*:list:_files'
-elif [[ $words[2] == check ]]; then
-    _arguments '--strict[tell host bits and repeated entries too]' '*:list:_files'
-elif [[ $words[2] == (overlaps|find) ]]; then
-    _files
+# Completion of zsh for cidr_merge: the task, its options, and files.
+local at=2
+[[ $words[2] == --quiet ]] && at=3
+if (( CURRENT <= at )); then
+    _values 'task' \
+        'union[the addresses of any of the files]' \
+        'common[of both sides]' \
+        'minus[of the first side and not of the second]' \
+        'differ[what one side has and the other has not]' \
+        'list[each address of any of the files]' \
+        'split[the networks of union, in pieces of length N]' \
+        'check[wrong entries]' \
+        'overlaps[wrong entries, and each pair that overlaps]' \
+        'find[the entries that have one of the addresses]' \
+        '--quiet[do not show on a terminal how much was read]' \
+        '--help[print this text]' \
+        '--version[print the version]'
 else
-    _arguments '*--ranges[print ranges]' '*--count[print how many addresses]' \
-        '--format=[print as another program reads it]:form:(plain range netmask wildcard csv nft ipset json addresses)' \
-        '--set=[the beginning of the names of sets]:name:' '--table=[the table of nftables]:name:' \
-        '*--skip-bad[pass over refused lines]' '*--json[read documents of JSON]' \
-        '*--strict[refuse strings that are no entries]' '*:list:_files'
+    case $words[at] in
+    (union|common|minus|differ|list) _arguments '*--ranges[print FIRST - LAST for each run of addresses]' '*--count[print v4 BLOCKS ADDRESSES and v6 BLOCKS ADDRESSES]' '*--format=[print plain, range, netmask, wildcard, csv, nft, ipset, json or addresses]:value:(plain range netmask wildcard csv nft ipset json addresses)' '*--set=[fill NAME_ipv4 and NAME_ipv6]:text: ' '*--table=[of this table of nft]:text: ' '*--skip-bad[report refused lines]' '*--json[take its strings that are entries]' '*--strict[refuse others]' '*:list:_files' ;;
+    (split) _arguments '*--prefix=[the networks of union, in pieces of length N]:text: ' '*--skip-bad[report refused lines]' '*--json[take its strings that are entries]' '*--strict[refuse others]' '*:list:_files' ;;
+    (check) _arguments '*--strict[host bits, overlaps too]' '*:list:_files' ;;
+    (*) _files ;;
+    esac
 fi
