@@ -9,6 +9,8 @@ use Rattle.cidr_merge.specs.SetNames.{Names}
 use Rattle.cidr_merge.specs.declared.exports.Export.{Export}
 use Rattle.cidr_merge.specs.declared.exports.Export.TheVariants.{Netmask, Wildcard, Csv, Nft, Ipset}
 use Rattle.cidr_merge.specs.declared.exports.Export.TheVariants.{Json, Addresses}
+use Rattle.cidr_merge.specs.declared.exports.Frame.{Frame}
+use Rattle.cidr_merge.specs.declared.exports.Frame.TheVariants.{Head, FamilyHead, Opening, FamilyFoot, Foot}
 use Rattle.cidr_merge.specs.declared.exports.Version.{Version}
 use Rattle.cidr_merge.specs.declared.exports.Version.TheVariants.{V4, V6}
 
@@ -25,61 +27,30 @@ abbrev pub made : Version → List ℕ
 made V4 = codes " hash:net family inet maxelem 4294967295 -exist\n"
 made V6 = codes " hash:net family inet6 maxelem 4294967295 -exist\n"
 
--- nftables: a table is made, if it is not there
-abbrev pub nft_table : List ℕ → List ℕ
-nft_table table = concat (codes "add table inet " ∷ table ∷ codes "\n" ∷ [])
-
--- ---- what stands around the blocks: nothing, where a form is not named
-
--- before everything else
-abbrev pub head : Names → Export → List ℕ
-head names Csv = codes "family,network,first,last\n"
-head names Nft = nft_table names.table
-head names Json = codes "["
-head names _ = []
-
--- after everything else
-abbrev pub foot : Export → List ℕ
-foot Json = codes "\n]\n"
-foot _ = []
-
--- nftables: a set is made, if it is not there, and loses its elements; it gets others
-abbrev pub nft_set : List ℕ → List ℕ → List ℕ → List ℕ → List ℕ
-nft_set table set word addresses = concat
-    (codes "add set inet " ∷ table ∷ codes " " ∷ set ∷ word ∷ codes " { type " ∷ addresses
-    ∷ codes "; flags interval; }\nflush set inet " ∷ table ∷ codes " " ∷ set ∷ word ∷ codes "\n" ∷ [])
-
-abbrev pub nft_elements : List ℕ → List ℕ → List ℕ → List ℕ
-nft_elements table set word =
-    concat (codes "add element inet " ∷ table ∷ codes " " ∷ set ∷ word ∷ codes " {\n\t" ∷ [])
-
--- ipset: a set is made, if it is not there, and a new one without elements, which takes the place of the old one
-abbrev pub ipset_sets : List ℕ → List ℕ → List ℕ → List ℕ
-ipset_sets set word made = concat
-    (codes "create " ∷ set ∷ word ∷ made ∷ codes "create " ∷ set ∷ word ∷ codes "_new" ∷ made
-    ∷ codes "flush " ∷ set ∷ word ∷ codes "_new\n" ∷ [])
-
-abbrev pub ipset_swap : List ℕ → List ℕ → List ℕ
-ipset_swap set word = concat
-    (codes "swap " ∷ set ∷ word ∷ codes "_new " ∷ set ∷ word
-    ∷ codes "\ndestroy " ∷ set ∷ word ∷ codes "_new\n" ∷ [])
-
--- before the blocks of a family, even if there is none
-abbrev pub family_head : Names → Export → Version → List ℕ
-family_head names Nft version = nft_set names.table names.set (family_word version) (address_type version)
-family_head names Ipset version = ipset_sets names.set (family_word version) (made version)
-family_head names _ version = []
-
--- after them, even if there is none
-abbrev pub family_foot : Names → Export → Version → List ℕ
-family_foot names Ipset version = ipset_swap names.set (family_word version)
-family_foot names _ version = []
-
--- before the first block of a family: in an array it may follow blocks of the other family
-abbrev pub opening : Names → Export → Version → Bool → List ℕ
-opening names Nft version follows = nft_elements names.table names.set (family_word version)
-opening names Json version follows = if follows then codes ",\n" else codes "\n"
-opening names _ version _ = []
+-- what stands around the blocks: nothing, where a form is not named. nftables makes a table and sets, if they are not
+-- there, and sets lose their elements and get others; ipset makes a set, if it is not there, and a new one without
+-- elements, which takes the place of the old one. The blocks of a family may follow those of the other
+abbrev pub frame_text : Names → Export → Frame → List ℕ
+frame_text names Csv Head = codes "family,network,first,last\n"
+frame_text names Json Head = codes "["
+frame_text names Json (Opening version true) = codes ",\n"
+frame_text names Json (Opening version false) = codes "\n"
+frame_text names Json Foot = codes "\n]\n"
+frame_text names Nft Head = concat (codes "add table inet " ∷ names.table ∷ codes "\n" ∷ [])
+frame_text names Nft (FamilyHead version) = concat
+    (codes "add set inet " ∷ names.table ∷ codes " " ∷ names.set ∷ family_word version ∷ codes " { type "
+    ∷ address_type version ∷ codes "; flags interval; }\nflush set inet " ∷ names.table ∷ codes " " ∷ names.set
+    ∷ family_word version ∷ codes "\n" ∷ [])
+frame_text names Nft (Opening version follows) = concat
+    (codes "add element inet " ∷ names.table ∷ codes " " ∷ names.set ∷ family_word version ∷ codes " {\n\t" ∷ [])
+frame_text names Ipset (FamilyHead version) = concat
+    (codes "create " ∷ names.set ∷ family_word version ∷ made version ∷ codes "create " ∷ names.set
+    ∷ family_word version ∷ codes "_new" ∷ made version ∷ codes "flush " ∷ names.set ∷ family_word version
+    ∷ codes "_new\n" ∷ [])
+frame_text names Ipset (FamilyFoot version) = concat
+    (codes "swap " ∷ names.set ∷ family_word version ∷ codes "_new " ∷ names.set ∷ family_word version
+    ∷ codes "\ndestroy " ∷ names.set ∷ family_word version ∷ codes "_new\n" ∷ [])
+frame_text names _ _ = []
 
 -- between two blocks of a family
 abbrev pub separator : Export → List ℕ
@@ -156,14 +127,14 @@ following names export version family block = separator export ++ element names 
 abbrev pub listed : {w : ℕ} → Names → Export → Version → Family w → Bool → List Network → List ℕ
 listed names export version family follows [] = []
 listed names export version family follows (block ∷ blocks) =
-    opening names export version follows ++ element names export version family block
+    frame_text names export (Opening version follows) ++ element names export version family block
     ++ flat_map (following names export version family) blocks ++ closing export
 
 -- with what stands there even if there is none
 abbrev pub family_text : {w : ℕ} → Names → Export → Version → Family w → Bool → List Network → List ℕ
 family_text names export version family follows blocks =
-    family_head names export version ++ listed names export version family follows blocks
-    ++ family_foot names export version
+    frame_text names export (FamilyHead version) ++ listed names export version family follows blocks
+    ++ frame_text names export (FamilyFoot version)
 
 abbrev pub is_any : {X : Type 0} → List X → Bool
 is_any [] = false
@@ -172,5 +143,6 @@ is_any (x ∷ xs) = true
 -- the blocks of both families
 abbrev pub export_text : Names → Export → List Network → List Network → List ℕ
 export_text names export v4 v6 =
-    head names export ++ family_text names export V4 v4_family false v4
-    ++ family_text names export V6 v6_family (is_any v4) v6 ++ foot export
+    frame_text names export Head ++ family_text names export V4 v4_family false v4
+    ++ family_text names export V6 v6_family (is_any v4) v6
+    ++ frame_text names export Foot

@@ -7,10 +7,7 @@ ghost use Rattle.cidr_merge.specs.Private.Printing.{PrintsBlocks};
 ghost use Rattle.cidr_merge.specs.Private.Sweeps.{blocks_left};
 
 use crate::elements::print_element;
-use crate::exports::{
-    Export, Version, around_blocks, put_family_foot, put_family_head, put_foot, put_head,
-    put_opening,
-};
+use crate::exports::{Export, Frame, Version, around_blocks, put_frame};
 use crate::set_names::SetNames;
 use crate::sweep::Sweep;
 use ipnetwork::{Address, Ipv4Network, Ipv6Network, Network};
@@ -31,10 +28,10 @@ pub(crate) fn print_export<W: Write>(
         (export_text names.now export (blocks_left v4.entry) (blocks_left v6.entry))) }
     ensures failed { output.new.failed ≡ (output.old.failed || is_err result) }
 {
-    put_head(export, names, output)?;
+    put_frame(export, names, Frame::Head, output)?;
     let follows = print_family(export, names, Version::V4, false, v4, output)?;
     print_family(export, names, Version::V6, follows, v6, output)?;
-    put_foot(export, output)
+    put_frame(export, names, Frame::Foot, output)
 }
 
 // Prints the blocks of a family, which may follow blocks of the other, and tells whether any was
@@ -52,9 +49,9 @@ fn print_family<A: Address, W: Write>(
         follows (blocks_left blocks.entry) output.old output.new) }
     ensures failed { output.new.failed ≡ (output.old.failed || is_err result) }
 {
-    put_family_head(export, names, version, output)?;
+    put_frame(export, names, Frame::FamilyHead(version), output)?;
     let any = print_listed(export, names, version, follows, blocks, output)?;
-    put_family_foot(export, names, version, output)?;
+    put_frame(export, names, Frame::FamilyFoot(version), output)?;
     Ok(any)
 }
 
@@ -75,7 +72,7 @@ fn print_listed<A: Address, W: Write>(
     let Some(block) = blocks.next_block() else {
         return Ok(follows);
     };
-    put_opening(export, names, version, follows, output)?;
+    put_frame(export, names, Frame::Opening(version, follows), output)?;
     print_element(export, names, version, block, output)?;
     print_following(export, names, version, blocks, output)?;
     let (_, closing) = around_blocks(export);

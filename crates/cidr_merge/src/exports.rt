@@ -1,11 +1,10 @@
 //! Forms that other programs read, and the texts that stand around the blocks in each.
 ghost use Rattle.std.specs.Prelude.{◌≡◌};
 ghost use Rattle.program.specs.Putting.{PutsOrFails};
-ghost use Rattle.cidr_merge.specs.Exports.{head, foot, family_head, family_foot, opening};
-ghost use Rattle.cidr_merge.specs.Exports.{separator, closing, family_word, address_type, made};
-ghost use Rattle.cidr_merge.specs.Exports.{nft_table, nft_set, nft_elements, ipset_sets, ipset_swap};
+ghost use Rattle.cidr_merge.specs.Exports.{frame_text, separator, closing};
+ghost use Rattle.cidr_merge.specs.Exports.{family_word, address_type, made};
 
-use crate::set_names::{Name, SetNames};
+use crate::set_names::SetNames;
 use lines::fault::RunFault;
 use lines::output::Output;
 use program::putting::put_all;
@@ -75,187 +74,98 @@ fn made(version: Version) -> &'static str
     }
 }
 
-/// Writes what stands before everything else.
-pub(crate) fn put_head<W: Write>(
+/// What stands around the blocks of an export.
+#[derive(Clone, Copy, Debug, PartialEq, Eq)]
+pub enum Frame {
+    /// Before everything else.
+    Head,
+    /// Before the blocks of a family, even if there is none.
+    FamilyHead(Version),
+    /// Before the first block of a family, which may follow blocks of the other.
+    Opening(Version, bool),
+    /// After the blocks of a family, even if there is none.
+    FamilyFoot(Version),
+    /// After everything else.
+    Foot,
+}
+
+/// Writes what stands around the blocks.
+pub(crate) fn put_frame<W: Write>(
     export: Export,
     names: &SetNames,
+    frame: Frame,
     output: &mut Output<'_, W>,
 ) -> Result<(), RunFault>
-    ensures { PutsOrFails result output.old output.new (head names.now export) }
+    ensures { PutsOrFails result output.old output.new (frame_text names.now export frame) }
 {
-    match export {
-        Export::Csv => put_all(&["family,network,first,last\n"], output),
-        Export::Nft => put_table(names.table, output),
-        Export::Json => put_all(&["["], output),
-        _ => Ok(()),
-    }
-}
-
-// Writes what makes a table of nftables, if it is not there.
-fn put_table<W: Write>(table: Name, output: &mut Output<'_, W>) -> Result<(), RunFault>
-    ensures { PutsOrFails result output.old output.new (nft_table table.bytes) }
-{
-    put_all(&["add table inet ", table.as_str(), "\n"], output)
-}
-
-/// Writes what stands after everything else.
-pub(crate) fn put_foot<W: Write>(export: Export, output: &mut Output<'_, W>) -> Result<(), RunFault>
-    ensures { PutsOrFails result output.old output.new (foot export) }
-{
-    match export {
-        Export::Json => put_all(&["\n]\n"], output),
-        _ => Ok(()),
-    }
-}
-
-/// Writes what stands before the blocks of a family, even if there is none.
-pub(crate) fn put_family_head<W: Write>(
-    export: Export,
-    names: &SetNames,
-    version: Version,
-    output: &mut Output<'_, W>,
-) -> Result<(), RunFault>
-    ensures { PutsOrFails result output.old output.new (family_head names.now export version) }
-{
-    match export {
-        Export::Nft => put_nft_set(names.table, names.set, version, output),
-        Export::Ipset => put_ipset_sets(names.set, version, output),
-        _ => Ok(()),
-    }
-}
-
-// Writes what makes a set of nftables, if it is not there, and takes its elements away.
-fn put_nft_set<W: Write>(
-    table: Name,
-    set: Name,
-    version: Version,
-    output: &mut Output<'_, W>,
-) -> Result<(), RunFault>
-    ensures { PutsOrFails result output.old output.new
-        (nft_set table.bytes set.bytes (family_word version) (address_type version)) }
-{
+    let (table, set) = (names.table, names.set);
     let table = table.as_str();
     let set = set.as_str();
-    let word = family_word(version);
-    put_all(
-        &[
-            "add set inet ",
-            table,
-            " ",
-            set,
-            word,
-            " { type ",
-            address_type(version),
-            "; flags interval; }\nflush set inet ",
-            table,
-            " ",
-            set,
-            word,
-            "\n",
-        ],
-        output,
-    )
-}
-
-// Writes what makes a set of ipset, if it is not there, and a new one without elements.
-fn put_ipset_sets<W: Write>(
-    set: Name,
-    version: Version,
-    output: &mut Output<'_, W>,
-) -> Result<(), RunFault>
-    ensures { PutsOrFails result output.old output.new
-        (ipset_sets set.bytes (family_word version) (made version)) }
-{
-    let set = set.as_str();
-    let word = family_word(version);
-    let made = made(version);
-    put_all(
-        &[
-            "create ", set, word, made, "create ", set, word, "_new", made, "flush ", set, word,
-            "_new\n",
-        ],
-        output,
-    )
-}
-
-/// Writes what stands after the blocks of a family, even if there is none.
-pub(crate) fn put_family_foot<W: Write>(
-    export: Export,
-    names: &SetNames,
-    version: Version,
-    output: &mut Output<'_, W>,
-) -> Result<(), RunFault>
-    ensures { PutsOrFails result output.old output.new (family_foot names.now export version) }
-{
-    match export {
-        Export::Ipset => put_ipset_swap(names.set, version, output),
+    match (export, frame) {
+        (Export::Csv, Frame::Head) => put_all(&["family,network,first,last\n"], output),
+        (Export::Json, Frame::Head) => put_all(&["["], output),
+        (Export::Json, Frame::Opening(_, true)) => put_all(&[",\n"], output),
+        (Export::Json, Frame::Opening(_, false)) => put_all(&["\n"], output),
+        (Export::Json, Frame::Foot) => put_all(&["\n]\n"], output),
+        (Export::Nft, Frame::Head) => put_all(&["add table inet ", table, "\n"], output),
+        (Export::Nft, Frame::FamilyHead(version)) => {
+            let (word, addresses) = (family_word(version), address_type(version));
+            put_all(
+                &[
+                    "add set inet ",
+                    table,
+                    " ",
+                    set,
+                    word,
+                    " { type ",
+                    addresses,
+                    "; flags interval; }\nflush set inet ",
+                    table,
+                    " ",
+                    set,
+                    word,
+                    "\n",
+                ],
+                output,
+            )
+        }
+        (Export::Nft, Frame::Opening(version, _)) => {
+            let word = family_word(version);
+            put_all(
+                &["add element inet ", table, " ", set, word, " {\n\t"],
+                output,
+            )
+        }
+        (Export::Ipset, Frame::FamilyHead(version)) => {
+            let (word, made) = (family_word(version), made(version));
+            put_all(
+                &[
+                    "create ", set, word, made, "create ", set, word, "_new", made, "flush ", set,
+                    word, "_new\n",
+                ],
+                output,
+            )
+        }
+        (Export::Ipset, Frame::FamilyFoot(version)) => {
+            let word = family_word(version);
+            put_all(
+                &[
+                    "swap ",
+                    set,
+                    word,
+                    "_new ",
+                    set,
+                    word,
+                    "\ndestroy ",
+                    set,
+                    word,
+                    "_new\n",
+                ],
+                output,
+            )
+        }
         _ => Ok(()),
     }
-}
-
-// Writes what puts the new set of ipset in the place of the old one.
-fn put_ipset_swap<W: Write>(
-    set: Name,
-    version: Version,
-    output: &mut Output<'_, W>,
-) -> Result<(), RunFault>
-    ensures { PutsOrFails result output.old output.new
-        (ipset_swap set.bytes (family_word version)) }
-{
-    let set = set.as_str();
-    let word = family_word(version);
-    put_all(
-        &[
-            "swap ",
-            set,
-            word,
-            "_new ",
-            set,
-            word,
-            "\ndestroy ",
-            set,
-            word,
-            "_new\n",
-        ],
-        output,
-    )
-}
-
-/// Writes what stands before the first block of a family, which may follow blocks of the other.
-pub(crate) fn put_opening<W: Write>(
-    export: Export,
-    names: &SetNames,
-    version: Version,
-    follows: bool,
-    output: &mut Output<'_, W>,
-) -> Result<(), RunFault>
-    ensures { PutsOrFails result output.old output.new (opening names.now export version follows) }
-{
-    match export {
-        Export::Nft => put_nft_opening(names.table, names.set, version, output),
-        Export::Json if follows => put_all(&[",\n"], output),
-        Export::Json => put_all(&["\n"], output),
-        _ => Ok(()),
-    }
-}
-
-// Writes what stands before the elements that a set of nftables gets.
-fn put_nft_opening<W: Write>(
-    table: Name,
-    set: Name,
-    version: Version,
-    output: &mut Output<'_, W>,
-) -> Result<(), RunFault>
-    ensures { PutsOrFails result output.old output.new
-        (nft_elements table.bytes set.bytes (family_word version)) }
-{
-    let table = table.as_str();
-    let set = set.as_str();
-    let word = family_word(version);
-    put_all(
-        &["add element inet ", table, " ", set, word, " {\n\t"],
-        output,
-    )
 }
 
 /// What stands between two blocks of a family, and after the last one.

@@ -2,7 +2,7 @@
 
 //! Forms that other programs read, and the texts that stand around the blocks in each.
 
-use crate::set_names::{Name, SetNames};
+use crate::set_names::SetNames;
 use cidr_programs::lines::fault::RunFault;
 use cidr_programs::lines::output::Output;
 use cidr_programs::program::putting::put_all;
@@ -66,163 +66,96 @@ fn made(version: Version) -> &'static str {
     }
 }
 
-/// Writes what stands before everything else.
-pub(crate) fn put_head<W: Write>(
+/// What stands around the blocks of an export.
+#[derive(Clone, Copy, Debug, PartialEq, Eq)]
+pub enum Frame {
+    /// Before everything else.
+    Head,
+    /// Before the blocks of a family, even if there is none.
+    FamilyHead(Version),
+    /// Before the first block of a family, which may follow blocks of the other.
+    Opening(Version, bool),
+    /// After the blocks of a family, even if there is none.
+    FamilyFoot(Version),
+    /// After everything else.
+    Foot,
+}
+
+/// Writes what stands around the blocks.
+pub(crate) fn put_frame<W: Write>(
     export: Export,
     names: &SetNames,
+    frame: Frame,
     output: &mut Output<'_, W>,
 ) -> Result<(), RunFault> {
-    match export {
-        Export::Csv => put_all(&["family,network,first,last\n"], output),
-        Export::Nft => put_table(names.table, output),
-        Export::Json => put_all(&["["], output),
-        _ => Ok(()),
-    }
-}
-
-// Writes what makes a table of nftables, if it is not there.
-fn put_table<W: Write>(table: Name, output: &mut Output<'_, W>) -> Result<(), RunFault> {
-    put_all(&["add table inet ", table.as_str(), "\n"], output)
-}
-
-/// Writes what stands after everything else.
-pub(crate) fn put_foot<W: Write>(export: Export, output: &mut Output<'_, W>) -> Result<(), RunFault> {
-    match export {
-        Export::Json => put_all(&["\n]\n"], output),
-        _ => Ok(()),
-    }
-}
-
-/// Writes what stands before the blocks of a family, even if there is none.
-pub(crate) fn put_family_head<W: Write>(
-    export: Export,
-    names: &SetNames,
-    version: Version,
-    output: &mut Output<'_, W>,
-) -> Result<(), RunFault> {
-    match export {
-        Export::Nft => put_nft_set(names.table, names.set, version, output),
-        Export::Ipset => put_ipset_sets(names.set, version, output),
-        _ => Ok(()),
-    }
-}
-
-// Writes what makes a set of nftables, if it is not there, and takes its elements away.
-fn put_nft_set<W: Write>(
-    table: Name,
-    set: Name,
-    version: Version,
-    output: &mut Output<'_, W>,
-) -> Result<(), RunFault> {
+    let (table, set) = (names.table, names.set);
     let table = table.as_str();
     let set = set.as_str();
-    let word = family_word(version);
-    put_all(
-        &[
-            "add set inet ",
-            table,
-            " ",
-            set,
-            word,
-            " { type ",
-            address_type(version),
-            "; flags interval; }\nflush set inet ",
-            table,
-            " ",
-            set,
-            word,
-            "\n",
-        ],
-        output,
-    )
-}
-
-// Writes what makes a set of ipset, if it is not there, and a new one without elements.
-fn put_ipset_sets<W: Write>(
-    set: Name,
-    version: Version,
-    output: &mut Output<'_, W>,
-) -> Result<(), RunFault> {
-    let set = set.as_str();
-    let word = family_word(version);
-    let made = made(version);
-    put_all(
-        &[
-            "create ", set, word, made, "create ", set, word, "_new", made, "flush ", set, word,
-            "_new\n",
-        ],
-        output,
-    )
-}
-
-/// Writes what stands after the blocks of a family, even if there is none.
-pub(crate) fn put_family_foot<W: Write>(
-    export: Export,
-    names: &SetNames,
-    version: Version,
-    output: &mut Output<'_, W>,
-) -> Result<(), RunFault> {
-    match export {
-        Export::Ipset => put_ipset_swap(names.set, version, output),
+    match (export, frame) {
+        (Export::Csv, Frame::Head) => put_all(&["family,network,first,last\n"], output),
+        (Export::Json, Frame::Head) => put_all(&["["], output),
+        (Export::Json, Frame::Opening(_, true)) => put_all(&[",\n"], output),
+        (Export::Json, Frame::Opening(_, false)) => put_all(&["\n"], output),
+        (Export::Json, Frame::Foot) => put_all(&["\n]\n"], output),
+        (Export::Nft, Frame::Head) => put_all(&["add table inet ", table, "\n"], output),
+        (Export::Nft, Frame::FamilyHead(version)) => {
+            let (word, addresses) = (family_word(version), address_type(version));
+            put_all(
+                &[
+                    "add set inet ",
+                    table,
+                    " ",
+                    set,
+                    word,
+                    " { type ",
+                    addresses,
+                    "; flags interval; }\nflush set inet ",
+                    table,
+                    " ",
+                    set,
+                    word,
+                    "\n",
+                ],
+                output,
+            )
+        }
+        (Export::Nft, Frame::Opening(version, _)) => {
+            let word = family_word(version);
+            put_all(
+                &["add element inet ", table, " ", set, word, " {\n\t"],
+                output,
+            )
+        }
+        (Export::Ipset, Frame::FamilyHead(version)) => {
+            let (word, made) = (family_word(version), made(version));
+            put_all(
+                &[
+                    "create ", set, word, made, "create ", set, word, "_new", made, "flush ", set,
+                    word, "_new\n",
+                ],
+                output,
+            )
+        }
+        (Export::Ipset, Frame::FamilyFoot(version)) => {
+            let word = family_word(version);
+            put_all(
+                &[
+                    "swap ",
+                    set,
+                    word,
+                    "_new ",
+                    set,
+                    word,
+                    "\ndestroy ",
+                    set,
+                    word,
+                    "_new\n",
+                ],
+                output,
+            )
+        }
         _ => Ok(()),
     }
-}
-
-// Writes what puts the new set of ipset in the place of the old one.
-fn put_ipset_swap<W: Write>(
-    set: Name,
-    version: Version,
-    output: &mut Output<'_, W>,
-) -> Result<(), RunFault> {
-    let set = set.as_str();
-    let word = family_word(version);
-    put_all(
-        &[
-            "swap ",
-            set,
-            word,
-            "_new ",
-            set,
-            word,
-            "\ndestroy ",
-            set,
-            word,
-            "_new\n",
-        ],
-        output,
-    )
-}
-
-/// Writes what stands before the first block of a family, which may follow blocks of the other.
-pub(crate) fn put_opening<W: Write>(
-    export: Export,
-    names: &SetNames,
-    version: Version,
-    follows: bool,
-    output: &mut Output<'_, W>,
-) -> Result<(), RunFault> {
-    match export {
-        Export::Nft => put_nft_opening(names.table, names.set, version, output),
-        Export::Json if follows => put_all(&[",\n"], output),
-        Export::Json => put_all(&["\n"], output),
-        _ => Ok(()),
-    }
-}
-
-// Writes what stands before the elements that a set of nftables gets.
-fn put_nft_opening<W: Write>(
-    table: Name,
-    set: Name,
-    version: Version,
-    output: &mut Output<'_, W>,
-) -> Result<(), RunFault> {
-    let table = table.as_str();
-    let set = set.as_str();
-    let word = family_word(version);
-    put_all(
-        &["add element inet ", table, " ", set, word, " {\n\t"],
-        output,
-    )
 }
 
 /// What stands between two blocks of a family, and after the last one.
