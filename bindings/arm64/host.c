@@ -50,16 +50,26 @@ __attribute__((constructor)) static void keep(int given, char **arguments) {
     words = arguments;
 }
 
-/* Puts an argument at the start of a buffer and returns its length; -1 where there is no such argument, and -2 where it
- * does not fit, and then the buffer is full. The first one is the name of the program. */
-ssize_t rattle_arg(size_t number, unsigned char *buffer, size_t room) {
+/* Puts a text at the start of a buffer and returns its length; -1 where there is none, and -2 where it does not fit, and then
+ * the buffer is full. */
+static ssize_t put(const char *text, unsigned char *buffer, size_t room) {
     size_t length = 0;
-    if (number >= count || words[number] == NULL)
+    if (text == NULL)
         return -1;
-    for (const char *word = words[number]; word[length] != 0; length++) {
+    for (; text[length] != 0; length++) {
         if (length == room)
             return -2;
-        buffer[length] = (unsigned char)word[length];
+        buffer[length] = (unsigned char)text[length];
     }
     return (ssize_t)length;
+}
+
+/* An argument. The first one is the name of the program. */
+ssize_t rattle_arg(size_t number, unsigned char *buffer, size_t room) {
+    return put(number < count ? words[number] : NULL, buffer, room);
+}
+
+/* An environment variable. Its name ends with a 0. */
+ssize_t rattle_env(const unsigned char *name, unsigned char *buffer, size_t room) {
+    return put(getenv((const char *)name), buffer, room);
 }

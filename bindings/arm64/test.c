@@ -4,6 +4,7 @@
 #include <stddef.h>
 #include <stdint.h>
 #include <stdio.h>
+#include <stdlib.h>
 #include <string.h>
 #include <sys/types.h>
 
@@ -18,6 +19,7 @@ void rattle_dealloc(void *place);
 int rattle_errno(void);
 void rattle_set_errno(int error);
 ssize_t rattle_arg(size_t number, unsigned char *buffer, size_t room);
+ssize_t rattle_env(const unsigned char *name, unsigned char *buffer, size_t room);
 
 static int passed, failed;
 
@@ -84,11 +86,24 @@ static void arguments(void) {
     CHECK(rattle_arg(3, buffer, 8) == -1 && rattle_arg(SIZE_MAX, buffer, 8) == -1);
 }
 
+/* Likewise of an environment variable. */
+static void environment(void) {
+    unsigned char buffer[8] = "........";
+    setenv("FOUR", "four", 1);
+    setenv("NONE", "", 1);
+    CHECK(rattle_env((const unsigned char *)"FOUR", buffer, 0) == -2);
+    CHECK(rattle_env((const unsigned char *)"NONE", buffer, 0) == 0);
+    CHECK(rattle_env((const unsigned char *)"FOUR", buffer, 3) == -2 && memcmp(buffer, "fou.....", 8) == 0);
+    CHECK(rattle_env((const unsigned char *)"FOUR", buffer, 4) == 4 && memcmp(buffer, "four....", 8) == 0);
+    CHECK(rattle_env((const unsigned char *)"FIVE", buffer, 8) == -1);
+}
+
 int main(void) {
     memory();
     changed();
     errors();
     arguments();
+    environment();
     printf("%d passed, %d failed\n", passed, failed);
     return failed != 0;
 }

@@ -2,7 +2,11 @@
 use crate::messages::number_text;
 use arrayvec::ArrayString;
 use std::cell::Cell;
+use std::env::FillError;
+use std::fs;
 use std::io::{IsTerminal, Write};
+use std::os::unix::fs::FileTypeExt;
+use std::rt::Env;
 use std::time::Instant;
 
 /// How many milliseconds a reading takes before anything is shown of it.
@@ -15,8 +19,9 @@ const PAUSE: u128 = 500;
 const SHOWN_MAX: usize = 80;
 
 /// How many lines and bytes were read, in one line of standard error that is written over and over:
-/// shown if standard error is a terminal, from two seconds after the start on, at most twice a
-/// second.
+/// shown if standard error is a terminal and standard output no pipe, from two seconds after the
+/// start on, at most twice a second. So of several programs in a pipeline the last one shows it. If
+/// the environment variable `NO_PROGRESS` is set and not empty, nothing is shown.
 ///
 /// ```
 /// let progress = program::progress::Progress::new(&rt, true);
@@ -43,7 +48,11 @@ impl<'a> Progress<'a> {
     /// let _ = program::progress::Progress::new(&rt, false);
     /// ```
     pub fn new(rt: &'a HostRuntime, is_quiet: bool) -> Progress<'a> {
-        let began = if !is_quiet && rt.stderr().is_terminal() {
+        let began = if !is_quiet
+            && rt.stderr().is_terminal()
+            && !is_turned_off(rt)
+            && !is_piped(rt)
+        {
             Instant::now(rt).ok()
         } else {
             None
@@ -108,6 +117,22 @@ impl<'a> Progress<'a> {
         }
         self.stands.set(true);
         let _ = self.rt.stderr().write_all(text.as_bytes());
+    }
+}
+
+// Whether the environment says that nothing is to be shown.
+fn is_turned_off(rt: &HostRuntime) -> bool {
+    !matches!(
+        rt.var("NO_PROGRESS", &mut [0]),
+        Ok(0) | Err(FillError::NotPresent)
+    )
+}
+
+// Whether standard output is a pipe. Where the system has no name for it, it is taken for none.
+fn is_piped(rt: &HostRuntime) -> bool {
+    match fs::metadata(rt, "/dev/stdout") {
+        Ok(metadata) => metadata.file_type().is_fifo(),
+        Err(_) => false,
     }
 }
 

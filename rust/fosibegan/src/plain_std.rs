@@ -22,6 +22,8 @@ pub mod fs;
 #[cfg(feature = "std")]
 pub mod io;
 #[cfg(feature = "std")]
+pub mod os;
+#[cfg(feature = "std")]
 pub mod rt;
 #[cfg(feature = "std")]
 pub mod time;

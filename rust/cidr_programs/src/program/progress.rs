@@ -6,7 +6,11 @@ use fosibegan::plain_std::rt::HostRuntime;
 use crate::program::messages::number_text;
 use fosibegan::plain_std::arrayvec::ArrayString;
 use std::cell::Cell;
+use fosibegan::plain_std::env::FillError;
+use fosibegan::plain_std::fs;
 use fosibegan::plain_std::io::{IsTerminal, Write};
+use fosibegan::plain_std::os::unix::fs::FileTypeExt;
+use fosibegan::plain_std::rt::Env;
 use fosibegan::plain_std::time::Instant;
 
 /// How many milliseconds a reading takes before anything is shown of it.
@@ -19,8 +23,9 @@ const PAUSE: u128 = 500;
 const SHOWN_MAX: usize = 80;
 
 /// How many lines and bytes were read, in one line of standard error that is written over and over:
-/// shown if standard error is a terminal, from two seconds after the start on, at most twice a
-/// second.
+/// shown if standard error is a terminal and standard output no pipe, from two seconds after the
+/// start on, at most twice a second. So of several programs in a pipeline the last one shows it. If
+/// the environment variable `NO_PROGRESS` is set and not empty, nothing is shown.
 ///
 /// ```
 /// # use cidr_programs::in_examples::*;
@@ -50,7 +55,11 @@ impl<'a> Progress<'a> {
     /// let _ = cidr_programs::program::progress::Progress::new(&rt, false);
     /// ```
     pub fn new(rt: &'a HostRuntime, is_quiet: bool) -> Progress<'a> {
-        let began = if !is_quiet && rt.stderr().is_terminal() {
+        let began = if !is_quiet
+            && rt.stderr().is_terminal()
+            && !is_turned_off(rt)
+            && !is_piped(rt)
+        {
             Instant::now(rt).ok()
         } else {
             None
@@ -119,6 +128,22 @@ impl<'a> Progress<'a> {
         }
         self.stands.set(true);
         let _ = self.rt.stderr().write_all(text.as_bytes());
+    }
+}
+
+// Whether the environment says that nothing is to be shown.
+fn is_turned_off(rt: &HostRuntime) -> bool {
+    !matches!(
+        rt.var("NO_PROGRESS", &mut [0]),
+        Ok(0) | Err(FillError::NotPresent)
+    )
+}
+
+// Whether standard output is a pipe. Where the system has no name for it, it is taken for none.
+fn is_piped(rt: &HostRuntime) -> bool {
+    match fs::metadata(rt, "/dev/stdout") {
+        Ok(metadata) => metadata.file_type().is_fifo(),
+        Err(_) => false,
     }
 }
 

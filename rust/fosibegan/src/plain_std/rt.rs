@@ -46,6 +46,14 @@ impl Env for HostRuntime {
         Ok(bytes.len())
     }
 
+    fn var(&self, name: &str, buf: &mut [u8]) -> Result<usize, FillError> {
+        let value = std::env::var_os(name).ok_or(FillError::NotPresent)?;
+        let bytes = value.as_encoded_bytes();
+        let room = buf.get_mut(..bytes.len()).ok_or(FillError::TooLong)?;
+        room.copy_from_slice(bytes);
+        Ok(bytes.len())
+    }
+
     fn words(&self) -> io::Result<Vec<String>> {
         std::env::args_os().map(|word| text(word.as_encoded_bytes())).collect()
     }
