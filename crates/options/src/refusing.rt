@@ -10,12 +10,13 @@ use crate::table::Row;
 use lines::output::Output;
 use program::ending::FAILED;
 use program::messages::tell;
+use program::usage::tell_shown;
 use std::io::Write;
 
 /// Reports what is wrong with a command line, and how the program is used, and returns the exit status 2.
 ///
 /// The first line is `PROGRAM: PROBLEM`, `PROGRAM: WORD: PROBLEM` or `PROGRAM: OPTION: VALUE PROBLEM`, by what the fault is
-/// about, where an empty word is shown as `''`; the second is the usage.
+/// about, where an empty word is shown as `''` and control characters are escaped; the second is the usage.
 ///
 /// ```
 /// use options::faults::{Subject, about};
@@ -96,13 +97,10 @@ fn tell_text<E: Write>(text: &Text<'_>, errors: &mut Output<'_, E>)
     tell(text.as_str(), errors);
 }
 
-// Writes a word as it is shown: an empty one as two quotes.
+// Writes a word as it is shown.
 fn tell_word<E: Write>(word: &Text<'_>, errors: &mut Output<'_, E>)
     ensures { Reports errors.old errors.new (shown word.now) }
 {
-    if word.as_str().is_empty() {
-        tell("''", errors);
-    } else {
-        tell_text(word, errors);
-    }
+    let text = word.as_str();
+    tell_shown(text.as_bytes(), errors);
 }

@@ -1,5 +1,5 @@
 -- Values at which a misreading of the definitions would show. Each of these computes.
-use Rattle.std.proofs.Common.{◌≡◌, ◌-◌, ◌^◌, ◌<◌, ℕ, List, ◌∷◌, [], true, false, inl, inr, refl, ap, arith}
+use Rattle.std.proofs.Common.{◌≡◌, ◌-◌, ◌^◌, ◌<◌, ℕ, List, ◌∷◌, ◌++◌, [], true, false, inl, inr, refl, ap, arith}
 use Rattle.std.specs.Prelude.{codes, map, String, None, Some, Ok, Err, if◌then◌else◌, bytes_eq}
 use Rattle.std.specs.Fmt.{digits}
 use Rattle.std.specs.String.{string_bytes}
@@ -13,13 +13,12 @@ use Rattle.lists.specs.Private.Readings.{end_of}
 use Rattle.lists.specs.Reading.{ReadsList, StopsAt, StopsAtText}
 use Rattle.program.specs.Runs.{text_asked}
 use Rattle.program.specs.Reported.{fault_text, more_text}
-use Rattle.program.specs.Usage.{subject_text, usage_text, fault_of, arguments_text}
+use Rattle.program.specs.Usage.{shown, fault_of, arguments_text}
 use Rattle.program.specs.Words.{is, is_only, begins_with, without_first}
 use Rattle.program.specs.declared.arguments.ArgumentsFault.TheVariants as arguments
 use Rattle.lists.specs.declared.named.ReadFault.TheVariants.{Open, Read, OutOfMemory}
 use Rattle.lists.specs.declared.opening.OpenFault.{OpenFault}
 use Rattle.lists.specs.declared.opening.OpenFault.TheVariants as causes
-use Rattle.program.specs.declared.usage.Subject.TheVariants.{CommandLine, Word, Value}
 
 -- ---- what is told
 
@@ -84,19 +83,9 @@ memory_for_a_text number text before refused stops = (stops.1, stops.2)
 
 -- ---- what is told of a command line
 
-pub an_empty_word : {Z : Type 0} (word : String Z) → string_bytes word ≡ [] → subject_text (word ∷ []) (Word 0) ≡ codes "'': "
-an_empty_word word e = rw e
-
-pub a_word : {Z : Type 0} (minus option : String Z) → string_bytes option ≡ codes "-x"
-    → usage_text (codes "p") (codes "usage: p\n") (minus ∷ option ∷ []) (Word 1) (codes "not an option") ≡ codes "p: -x: not an option\nusage: p\n"
-a_word minus option e = rw e
-
-pub the_value_of_an_option : {Z : Type 0} (option value : String Z) → string_bytes option ≡ codes "-k" → string_bytes value ≡ codes "0"
-    → usage_text (codes "p") (codes "usage: p\n") (option ∷ value ∷ []) (Value 0 1) (codes "is no number") ≡ codes "p: -k: 0 is no number\nusage: p\n"
-the_value_of_an_option option value o v = rw (o, v)
-
-pub no_word : {Z : Type 0} (words : List (String Z)) → usage_text (codes "p") (codes "usage: p\n") words CommandLine (codes "no FILE") ≡ codes "p: no FILE\nusage: p\n"
-no_word words = refl
+pub words_as_they_are_shown : map shown ([] ∷ codes "-x" ∷ (27 ∷ codes "[2J" ++ 194 ∷ 155 ∷ []) ∷ [])
+    ≡ codes "''" ∷ codes "-x" ∷ codes "\\x1b[2J\\xc2\\x9b" ∷ []
+words_as_they_are_shown = refl
 
 pub an_argument_that_is_no_text : arguments_text arguments.NotText (codes "p") (codes "usage: p\n") ≡ codes "p: an argument is not UTF-8\nusage: p\n"
 an_argument_that_is_no_text = refl

@@ -295,16 +295,6 @@ some_pending held =
 
 -- ---- that it ends
 
-pub less_to_hand : (was now : LogReader) → now.room ≡ was.room → (buffered now).ended ≡ (buffered was).ended
-    → (buffered now).bytes ≡ (buffered was).bytes
-    → work (buffered now) < work (buffered was) → left now < left was
-less_to_hand was now room same bytes less = by _ _
-    (ap (λ n. (n + (if (buffered now).ended then 0 else 1)) * (length (buffered now).bytes + 2)) room
-    ∙ ap (λ e. (was.room + (if e then 0 else 1)) * (length (buffered now).bytes + 2)) same
-    ∙ ap (λ b. (was.room + (if (buffered was).ended then 0 else 1)) * (length b + 2)) bytes) where
-      by : (a b : ℕ) → a ≡ b → a + work (buffered now) < b + work (buffered was)
-      by a b e = omega (arith, e, less)
-
 work_bound : (held : Buffered) → work held ≤ length held.bytes + 1
 work_bound held =
     let one : (if held.dropped then 1 else 0) ≤ 1 = elim held.dropped as

@@ -1,6 +1,6 @@
 //! Text of others, as it is printed: without what a terminal obeys.
 ghost use Rattle.std.specs.Prelude.{◌≡◌, ◌<◌};
-ghost use Rattle.program.specs.Escapes.{is_control, hex_digit, printed, escaped};
+ghost use Rattle.program.specs.Escapes.{is_control, first_of, hex_digit, printed, escaped};
 ghost use Rattle.program.specs.Messages.{Reports};
 
 use crate::messages::{tell, tell_bytes};
@@ -8,7 +8,7 @@ use lines::output::Output;
 use std::io::Write;
 
 /// Writes bytes, of which control characters are escaped: `\x1b` stands for the byte 27. The tab stays. Of UTF-8 the
-/// characters from U+0080 to U+009F are escaped too. If a write fails, now or earlier, the rest is lost.
+/// characters from U+0080 to U+009F are escaped too, both of their bytes. If a write fails, now or earlier, the rest is lost.
 ///
 /// ```
 /// let (mut slice, mut room) = ([0; 16], [0; 9]);
@@ -22,17 +22,29 @@ pub fn tell_escaped<W: Write>(bytes: &[u8], output: &mut Output<'_, W>)
     ensures { Reports output.old output.new (escaped bytes.now) }
 {
     let mut before = 0;
-    for byte in bytes {
-        tell_byte(before, *byte, output);
-        before = *byte;
+    let mut at = 0;
+    while at < bytes.len() {
+        tell_byte(before, bytes[at], first_of(&bytes[at + 1..]), output);
+        before = bytes[at];
+        at += 1;
     }
 }
 
-// Writes a byte that follows another, or 0.
-fn tell_byte<W: Write>(before: u8, byte: u8, output: &mut Output<'_, W>)
-    ensures { Reports output.old output.new (printed before byte) }
+// The first byte, or 0.
+fn first_of(bytes: &[u8]) -> u8
+    ensures { result ≡ first_of bytes.now }
 {
-    if is_control(before, byte) {
+    match bytes.first() {
+        Some(byte) => *byte,
+        None => 0,
+    }
+}
+
+// Writes a byte between two others, or 0.
+fn tell_byte<W: Write>(before: u8, byte: u8, next: u8, output: &mut Output<'_, W>)
+    ensures { Reports output.old output.new (printed before byte next) }
+{
+    if is_control(before, byte, next) {
         tell("\\x", output);
         tell_bytes(&[hex_digit(byte / 16), hex_digit(byte % 16)], output);
     } else {
@@ -40,13 +52,14 @@ fn tell_byte<W: Write>(before: u8, byte: u8, output: &mut Output<'_, W>)
     }
 }
 
-// Whether a byte that follows another, or 0, is a control character, or the end of one in UTF-8.
-fn is_control(before: u8, byte: u8) -> bool
-    ensures { result ≡ is_control before byte }
+// Whether a byte between two others, or 0, is a control character, or one of the two bytes of one in UTF-8.
+fn is_control(before: u8, byte: u8, next: u8) -> bool
+    ensures { result ≡ is_control before byte next }
 {
     let is_ascii = byte < 32 && byte != b'\t' || byte == 127;
-    let is_other = byte >= 128 && byte < 160 && (before < 128 || before == 194);
-    is_ascii || is_other
+    let is_last = byte >= 128 && byte < 160 && (before < 128 || before == 194);
+    let is_first = byte == 194 && next >= 128 && next < 160;
+    is_ascii || is_last || is_first
 }
 
 // A digit of base 16.

@@ -8,12 +8,13 @@ use crate::options::table::Row;
 use crate::lines::output::Output;
 use crate::program::ending::FAILED;
 use crate::program::messages::tell;
+use crate::program::usage::tell_shown;
 use fosibegan::plain_std::io::Write;
 
 /// Reports what is wrong with a command line, and how the program is used, and returns the exit status 2.
 ///
 /// The first line is `PROGRAM: PROBLEM`, `PROGRAM: WORD: PROBLEM` or `PROGRAM: OPTION: VALUE PROBLEM`, by what the fault is
-/// about, where an empty word is shown as `''`; the second is the usage.
+/// about, where an empty word is shown as `''` and control characters are escaped; the second is the usage.
 ///
 /// ```
 /// # use cidr_programs::in_examples::*;
@@ -83,11 +84,8 @@ fn tell_text<E: Write>(text: &Text<'_>, errors: &mut Output<'_, E>) {
     tell(text.as_str(), errors);
 }
 
-// Writes a word as it is shown: an empty one as two quotes.
+// Writes a word as it is shown.
 fn tell_word<E: Write>(word: &Text<'_>, errors: &mut Output<'_, E>) {
-    if word.as_str().is_empty() {
-        tell("''", errors);
-    } else {
-        tell_text(word, errors);
-    }
+    let text = word.as_str();
+    tell_shown(text.as_bytes(), errors);
 }

@@ -1,94 +1,31 @@
 // Written by scripts/plain out of crates/program/src/usage.rt
 
-//! What a program reports about a command line that it does not take.
+//! What a program reports about a command line that it does not take, or cannot read.
 
-use fosibegan::plain_std::string::String;
 use crate::program::arguments::ArgumentsFault;
 use crate::program::ending::FAILED;
+use crate::program::escapes::tell_escaped;
 use crate::program::messages::tell;
-use crate::program::words::text_at;
 use crate::lines::output::Output;
 use fosibegan::plain_std::io::Write;
 
-/// Which words of a command line a fault is about.
+/// Writes a word as it is shown: an empty one as two quotes, another without what a terminal obeys.
 ///
 /// ```
 /// # use cidr_programs::in_examples::*;
-/// use cidr_programs::program::usage::Subject;
-///
-/// assert!(Subject::Word(1) != Subject::Value { option: 0, value: 1 });
+/// let (mut slice, mut room) = ([0; 16], [0; 2]);
+/// let mut errors = cidr_programs::lines::output::Output::new(room.as_mut_slice(), &mut slice);
+/// cidr_programs::program::usage::tell_shown(b"", &mut errors);
+/// assert_eq!(errors.finish(), Ok(()));
+/// drop(errors);
+/// assert_eq!(room, *b"''");
 /// ```
-#[derive(Clone, Copy, Debug, PartialEq, Eq)]
-pub enum Subject {
-    /// None of them.
-    CommandLine,
-    /// The word at this index.
-    Word(usize),
-    /// The value of an option.
-    Value {
-        /// The index of the option.
-        option: usize,
-        /// The index of its value.
-        value: usize,
-    },
-}
-
-/// Reports what is wrong with a command line, and how the program is used, and returns the exit status 2.
-///
-/// The first line is `PROGRAM: PROBLEM`, `PROGRAM: WORD: PROBLEM` or `PROGRAM: OPTION: VALUE PROBLEM`, by what the fault is
-/// about, where an empty word is shown as `''`; the second is the usage.
-///
-/// ```
-/// # use cidr_programs::in_examples::*;
-/// use cidr_programs::program::usage::{Subject, refuse_usage};
-///
-/// let mut slice = [0; 64];
-/// let mut errors = cidr_programs::lines::output::Output::new(Vec::new(Global), &mut slice);
-/// let (usage, nothing) = ("usage: sum FILE\n", Subject::CommandLine);
-/// assert_eq!(refuse_usage("sum", usage, &[], nothing, "no FILE", &mut errors), 2);
-/// ```
-pub fn refuse_usage<E: Write>(
-    program: &str,
-    usage: &str,
-    words: &[String],
-    subject: Subject,
-    problem: &str,
-    errors: &mut Output<'_, E>,
-) -> u8 {
-    tell(program, errors);
-    tell(": ", errors);
-    tell_subject(words, subject, errors);
-    tell(problem, errors);
-    tell("\n", errors);
-    tell(usage, errors);
-    FAILED
-}
-
-// Writes the words that a fault is about, before what is wrong with them.
-fn tell_subject<E: Write>(words: &[String], subject: Subject, errors: &mut Output<'_, E>) {
-    match subject {
-        Subject::CommandLine => tell("", errors),
-        Subject::Word(place) => {
-            tell_word(words, place, errors);
-            tell(": ", errors);
-        }
-        Subject::Value { option, value } => {
-            tell_word(words, option, errors);
-            tell(": ", errors);
-            tell_word(words, value, errors);
-            tell(" ", errors);
-        }
+pub fn tell_shown<E: Write>(word: &[u8], errors: &mut Output<'_, E>) {
+    if word.is_empty() {
+        tell("''", errors);
+    } else {
+        tell_escaped(word, errors);
     }
-}
-
-// Writes the word at an index as it is shown.
-fn tell_word<E: Write>(words: &[String], place: usize, errors: &mut Output<'_, E>) {
-    tell(shown(text_at(words, place)), errors);
-}
-
-// A word as it is shown: an empty one as two quotes.
-fn shown(word: &str) -> &str {
-    if word.is_empty() { "''" } else { word }
 }
 
 /// Reports why the arguments cannot be read, and returns the exit status 2.
