@@ -15,8 +15,8 @@ use Rattle.ipnetwork_family.specs.declared.error.CidrFault.TheVariants.{Format, 
 use Rattle.ipnetwork.specs.IpNetworkText.{IsIpCause}
 use Rattle.ipnetwork.specs.Computed.IpNetworkText.{ip_network_of}
 use Rattle.ipnetwork.specs.declared.ip_network.IpNetwork.{IpNetwork}
-use Rattle.program.specs.Escapes.{escaped}
-use Rattle.cidr_info.specs.Refusals.{word_text, place_text, cause_by, cause_text}
+use Rattle.program.specs.Usage.{shown}
+use Rattle.cidr_info.specs.Refusals.{place_text, cause_by, plain_text}
 use Rattle.cidr_info.specs.Words.{Saying, if_read, network_in}
 
 -- the place of a line
@@ -24,8 +24,8 @@ pub line_place : (said : Saying) (line : ℕ) → line ≡ said.line → 0 < lin
 line_place said line same some =
     let text = codes "-:" ++ decimal line in
     let e : nat_lt 0 line ≡ true = grind (arith, nat_tests) in
-    subst (λ (n : ℕ). text ≡ (if nat_lt 0 n then codes "-:" ++ decimal n else word_text said.text)) same
-    (subst (λ (b : Bool). text ≡ (if b then text else word_text said.text)) (sym e) refl)
+    subst (λ (n : ℕ). text ≡ (if nat_lt 0 n then codes "-:" ++ decimal n else shown said.text)) same
+    (subst (λ (b : Bool). text ≡ (if b then text else shown said.text)) (sym e) refl)
 
 -- what is told of a text of no network by each of its causes
 abbrev pub IsComputed : List ℕ → Type 0
@@ -39,16 +39,16 @@ one_named : (a : IpAddr) (named : Option IpAddr) → Ok a ≡ answer_from kinds.
 one_named a (Some b) e = refl
 one_named a None e = absurd (search rules)
 
-one_slash : (text word : List ℕ) → slashes text ≤ 1 → cause_by (ip_of (before_slash text)) ≡ word → cause_text text ≡ word
+one_slash : (text word : List ℕ) → slashes text ≤ 1 → cause_by (ip_of (before_slash text)) ≡ word → plain_text text ≡ word
 one_slash text word few same =
     let e : nat_lt 1 (slashes text) ≡ false = grind (arith, nat_tests) in
     subst (λ (b : Bool). (if b then codes "format" else cause_by (ip_of (before_slash text))) ≡ word) (sym e) same
 
-pub no_address : (text : List ℕ) → IsComputed (before_slash text) → IsIpCause text Addr → codes "address" ≡ cause_text text
+pub no_address : (text : List ℕ) → IsComputed (before_slash text) → IsIpCause text Addr → codes "address" ≡ plain_text text
 no_address text computed cause =
     sym (one_slash text (codes "address") cause.0 (none_named (ip_of (before_slash text)) ((computed (Err kinds.Ip)).0 (refl, cause.1))))
 
-pub no_prefix : (text : List ℕ) → IsComputed (before_slash text) → IsIpCause text Prefix → codes "prefix" ≡ cause_text text
+pub no_prefix : (text : List ℕ) → IsComputed (before_slash text) → IsIpCause text Prefix → codes "prefix" ≡ plain_text text
 no_prefix text computed cause =
     sym (one_slash text (codes "prefix") cause.0 (one_named cause.1.0 (ip_of (before_slash text)) ((computed (Ok cause.1.0)).0 cause.1.1)))
 

@@ -24,4 +24,4 @@ pairs = (in_network, in_network, codes "--in is given more than once")
 
 -- the table has these, of which none has to be given, and this is told if there is no NETWORK
 abbrev pub IsOptions : Table → Type 0
-IsOptions table = IsTable table entries pairs [] (codes "no NETWORK is given")
+IsOptions table = IsTable table entries pairs [] (codes "no NETWORK is given; - is standard input")

@@ -5,9 +5,11 @@ use Rattle.ipnetwork_addr.specs.Computed.Either.{ip_of}
 use Rattle.ipnetwork_addr.specs.declared.ip.IpAddr.{IpAddr}
 use Rattle.ipnetwork.specs.declared.ip_network.IpNetwork.{IpNetwork}
 use Rattle.ipnetwork_family.specs.NetworkText.{slashes, before_slash}
+use Rattle.lists.specs.Encodings.{encoding_of, encoding_text}
+use Rattle.lists.specs.declared.encoding.Encoding.{Encoding}
 use Rattle.lists.specs.declared.bytes.BytesFault.{BytesFault}
 use Rattle.lists.specs.declared.bytes.BytesFault.TheVariants as faults
-use Rattle.program.specs.Escapes.{escaped}
+use Rattle.program.specs.Usage.{shown}
 use Rattle.cidr_info.specs.Words.{Saying}
 
 -- why a text names no network, in a word: it has several slashes, what stands before the first is no address, or what
@@ -16,18 +18,21 @@ abbrev pub cause_by : Option IpAddr → List ℕ
 cause_by None = codes "address"
 cause_by (Some address) = codes "prefix"
 
-abbrev pub cause_text : List ℕ → List ℕ
-cause_text text = if nat_lt 1 (slashes text) then codes "format" else cause_by (ip_of (before_slash text))
+abbrev pub plain_text : List ℕ → List ℕ
+plain_text text = if nat_lt 1 (slashes text) then codes "format" else cause_by (ip_of (before_slash text))
 
--- a word of the command line, without what a terminal obeys; an empty one as two quotes
-abbrev pub word_text : List ℕ → List ℕ
-word_text [] = codes "''"
-word_text (byte ∷ bytes) = escaped (byte ∷ bytes)
+-- or its encoding, if it is no plain text
+abbrev pub told_text : Option Encoding → List ℕ → List ℕ
+told_text None text = plain_text text
+told_text (Some encoding) text = encoding_text encoding
+
+abbrev pub cause_text : List ℕ → List ℕ
+cause_text text = told_text (encoding_of text) text
 
 -- where a text stands: the word, or `-` and the number of its line
 abbrev pub place_text : Saying → List ℕ
 place_text said =
-    if nat_lt 0 said.line then codes "-:" ++ decimal said.line else word_text said.text
+    if nat_lt 0 said.line then codes "-:" ++ decimal said.line else shown said.text
 
 -- what is reported of a text that names no network
 abbrev pub refusal_text : Saying → List ℕ

@@ -2,15 +2,15 @@
 ghost use Rattle.std.specs.Prelude.{◌≡◌, None};
 ghost use Rattle.program.specs.Messages.{Reports};
 ghost use Rattle.cidr_info.specs.Words.{network_in};
-ghost use Rattle.cidr_info.specs.Refusals.{refusal_text, if_refused, refusals_text, place_text, cause_text, input_fault_text};
+ghost use Rattle.cidr_info.specs.Refusals.{refusal_text, if_refused, refusals_text, place_text, plain_text, cause_text, input_fault_text};
 
 use crate::help::PROGRAM;
 use crate::said::Said;
 use ipnetwork::{CidrFault, cause, laws};
 use lines::output::Output;
-use lists::BytesFault;
-use program::escapes::tell_escaped;
+use lists::{BytesFault, encoding_of};
 use program::messages::{tell, tell_number};
+use program::usage::tell_shown;
 use std::io::Write;
 
 /// Reports each of these texts that names no network.
@@ -53,17 +53,26 @@ fn tell_place<E: Write>(said: &Said<'_>, errors: &mut Output<'_, E>)
     if line > 0 {
         tell("-:", errors);
         tell_number(line, errors);
-    } else if said.text().is_empty() {
-        tell("''", errors);
     } else {
-        tell_escaped(said.text(), errors);
+        tell_shown(said.text(), errors);
     }
 }
 
-// Why a text names no network, in a word.
+// Why a text names no network, in a word, or what it is, if it is no plain text.
 fn cause_word(text: &[u8]) -> &'static str
     requires { network_in text.now ≡ None }
     ensures { result.now ≡ cause_text text.now }
+{
+    match encoding_of(text) {
+        Some(encoding) => encoding.text(),
+        None => plain_word(text),
+    }
+}
+
+// Why a plain text names no network, in a word.
+fn plain_word(text: &[u8]) -> &'static str
+    requires { network_in text.now ≡ None }
+    ensures { result.now ≡ plain_text text.now }
 {
     // Do nothing: the proof of this body needs the laws.
     laws::ip_network_reading_is_computed();

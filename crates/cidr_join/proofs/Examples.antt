@@ -114,7 +114,7 @@ pub blanks : filter is_blank (range_with_len 0 256) ≡ 9 ∷ 13 ∷ 32 ∷ []
 blanks = refl
 
 pub causes_in_words : map cause_text (causes.Entry faults.Format ∷ causes.Entry faults.Address ∷ causes.Entry faults.Prefix ∷ causes.Entry faults.Range ∷ causes.Value ∷ causes.Twice ∷ causes.Length ∷ [])
-    ≡ codes "format" ∷ codes "address" ∷ codes "prefix" ∷ codes "range" ∷ codes "value" ∷ codes "repetition" ∷ codes "length" ∷ []
+    ≡ codes "format" ∷ codes "address" ∷ codes "prefix" ∷ codes "range" ∷ codes "value: there is none" ∷ codes "repetition" ∷ codes "length" ∷ []
 causes_in_words = refl
 
 -- ---- what is printed

@@ -3,6 +3,7 @@ use Rattle.std.specs.Prelude.{◌≡◌, ◌≢◌, ◌≤◌, ◌<◌, ◌==◌
 use Rattle.std.specs.Prelude.{length, take, drop, Option, None, Some, Result, Ok, Err, if◌then◌else◌, codes}
 use Rattle.std.specs.List.{prefix_len}
 use Rattle.lists.specs.Entries.{ReadsEntry}
+use Rattle.lists.specs.Faults.{entry_fault_text}
 use Rattle.lists.specs.Lines.{trimmed_by}
 use Rattle.lists.specs.declared.entry.Entry.{Entry}
 use Rattle.lists.specs.declared.entry.EntryFault.{EntryFault}
@@ -104,12 +105,9 @@ ReadsRoute line (Ok None) = SaysNothing line
 ReadsRoute line (Ok (Some said)) = Says line said.entry said.value
 ReadsRoute line (Err cause) = LineFaults line cause
 
--- a cause in a word
+-- a cause in a few words
 abbrev pub cause_text : Cause → List ℕ
-cause_text (causes.Entry faults.Format) = codes "format"
-cause_text (causes.Entry faults.Address) = codes "address"
-cause_text (causes.Entry faults.Prefix) = codes "prefix"
-cause_text (causes.Entry faults.Range) = codes "range"
-cause_text causes.Value = codes "value"
+cause_text (causes.Entry fault) = entry_fault_text fault
+cause_text causes.Value = codes "value: there is none"
 cause_text causes.Twice = codes "repetition"
 cause_text causes.Length = codes "length"

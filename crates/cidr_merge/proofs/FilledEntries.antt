@@ -26,7 +26,7 @@ use Rattle.lists.specs.declared.fault.LineFault.TheVariants as faults
 use Rattle.cidr_merge.specs.EntriesWithin.{HasAllOf}
 use Rattle.cidr_merge.specs.NumberedLines.{NumberedLine, as_said, entry_or_none, is_range}
 use Rattle.cidr_merge.specs.NumberedLines.{network_entry, numbered_lines, range_between, reading_of}
-use Rattle.cidr_merge.specs.NumberedLines.{some_entry, text_entry}
+use Rattle.cidr_merge.specs.NumberedLines.{plain_entry, some_entry, text_entry, told_entry}
 use Rattle.cidr_merge.specs.Overlaps.{Listed, ends_of, entries_by, is_up_to, line_entries, listed}
 use Rattle.cidr_merge.specs.Overlaps.{lists_entries}
 use Rattle.cidr_merge.proofs.ListedOrder.{of_le, le_of, up_to_all, up_to_itself}
@@ -108,11 +108,19 @@ network_filled text (Ok (networks.V4 n)) = of_le (low 32 n) (high 32 n) (low_bef
 network_filled text (Ok (networks.V6 n)) = of_le (low 128 n) (high 128 n) (low_before_high 128 n)
 network_filled text (Err cause) = tt
 
-text_filled : (text : List ℕ) → IsFilledText (text_entry text)
-text_filled text =
+plain_filled : (text : List ℕ) → IsFilledText (plain_entry text)
+plain_filled text =
     one_of_two (nat_lt (position_or_len is_dash text) (length text)) _ _
     (λ dash. range_filled (ip_of (trimmed (before_first is_dash text)))
     (ip_of (trimmed (after_first is_dash text)))) (network_filled text (ip_network_of text))
+
+told_filled : (text : List ℕ) (r : Result Entry EntryFault) → IsFilledText r
+    → IsFilledText (told_entry text r)
+told_filled text (Ok entry) h = h
+told_filled text (Err cause) h = tt
+
+text_filled : (text : List ℕ) → IsFilledText (text_entry text)
+text_filled text = told_filled text (plain_entry text) (plain_filled text)
 
 -- what a line says
 abbrev AreFilledBy : Result (Option Entry) LineFault → Type 0

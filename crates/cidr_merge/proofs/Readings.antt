@@ -20,7 +20,7 @@ use Rattle.ipnetwork.specs.Computed.IpNetworks.{is_ip_member}
 use Rattle.ipnetwork.specs.IpNetworks.{IpMember}
 use Rattle.ipnetwork.specs.IpNetworkText.{NamesIpNetwork, ReadsIpNetwork}
 use Rattle.ipnetwork.specs.declared.ip_network.IpNetwork.{IpNetwork}
-use Rattle.lists.specs.Entries.{entry_text, is_dash, HasDash, IsEntryCause, IsRange, NamesEntry}
+use Rattle.lists.specs.Entries.{entry_text, is_dash, HasDash, IsEntryCause, IsPlainCause, IsRange, NamesEntry}
 use Rattle.lists.specs.Lines.{trimmed}
 use Rattle.lists.specs.declared.entry.Entry.{Entry}
 use Rattle.lists.specs.declared.entry.Entry.TheVariants.{Network, Range}
@@ -30,7 +30,7 @@ use Rattle.lists.specs.declared.fault.LineFault.TheVariants as faults
 use Rattle.cidr_merge.specs.Laws.{EntriesHaveWhatTheyName, LinesAreReadAsComputed}
 use Rattle.cidr_merge.specs.NumberedLines.{address_or_prefix, as_said, entry_or_none, is_range}
 use Rattle.cidr_merge.specs.NumberedLines.{network_entry, network_fault, range_between, reading_of}
-use Rattle.cidr_merge.specs.NumberedLines.{said_by, some_entry, text_entry}
+use Rattle.cidr_merge.specs.NumberedLines.{plain_entry, said_by, some_entry, text_entry, told_entry}
 
 -- ---- tests
 
@@ -84,27 +84,27 @@ module _ (networks : (text : List ℕ) (result : Result IpNetwork CidrFault)
     by (Err cause) e = ap (network_entry text) e
 
   -- with a `-` a text names a range, and without one a network
-  with_dash : (text : List ℕ) → HasDash text → text_entry text
+  with_dash : (text : List ℕ) → HasDash text → plain_entry text
       ≡ range_between (ip_of (trimmed (before_first is_dash text)))
       (ip_of (trimmed (after_first is_dash text)))
   with_dash text dash = rw (lt-ltb (position_or_len is_dash text) (length text) dash)
 
   without_dash : (text : List ℕ) → ¬ (HasDash text)
-      → text_entry text ≡ network_entry text (ip_network_of text)
+      → plain_entry text ≡ network_entry text (ip_network_of text)
   without_dash text none = rw (no_less (position_or_len is_dash text) (length text) none)
 
   ends_are : (text : List ℕ) (first last : IpAddr) → HasDash text
       → NamesIp (trimmed (before_first is_dash text)) first
       → NamesIp (trimmed (after_first is_dash text)) last
-      → text_entry text ≡ range_between (Some first) (Some last)
+      → plain_entry text ≡ range_between (Some first) (Some last)
   ends_are text first last dash before after =
       with_dash text dash ∙ ap (λ o. range_between o (ip_of (trimmed (after_first is_dash text))))
       (address_is _ first before) ∙ ap (range_between (Some first)) (address_is _ last after)
 
-  entry_is : (text : List ℕ) (entry : Entry) → NamesEntry text entry → text_entry text ≡ Ok entry
-  entry_is text (Network n) (none, named) =
+  plain_entry_is : (text : List ℕ) (entry : Entry) → NamesEntry text entry → plain_entry text ≡ Ok entry
+  plain_entry_is text (Network n) (none, named) =
       without_dash text none ∙ ap (network_entry text) (network_is text n named)
-  entry_is text (Range first last) (dash, ends, range) =
+  plain_entry_is text (Range first last) (dash, ends, range) =
       ends_are text first last dash ends.0 ends.1
       ∙ ap (λ (b : Bool). if b then Ok (Range first last) else Err causes.Range)
       (range_is first last range)
@@ -123,7 +123,7 @@ module _ (networks : (text : List ℕ) (result : Result IpNetwork CidrFault)
   ))
 
   no_network_named : (text : List ℕ) → ¬ (HasDash text)
-      → ((entry : Entry) → ¬ (NamesEntry text entry)) → text_entry text ≡ Err (network_fault text)
+      → ((entry : Entry) → ¬ (NamesEntry text entry)) → plain_entry text ≡ Err (network_fault text)
   no_network_named text dash none =
       without_dash text dash ∙ no_network text (λ n named. none (Network n) (dash, named))
 
@@ -134,25 +134,34 @@ module _ (networks : (text : List ℕ) (result : Result IpNetwork CidrFault)
       ap (λ (b : Bool). if b then causes.Format else address_or_prefix (ip_of (before_slash text)))
       (no_less 1 (slashes text) (λ l. omega (arith, l, few))) ∙ ap address_or_prefix e
 
-  fault_is : (text : List ℕ) (fault : EntryFault) → IsEntryCause text fault
-      → ((entry : Entry) → ¬ (NamesEntry text entry)) → text_entry text ≡ Err fault
-  fault_is text causes.Format (dash, several) none =
+  plain_cause_is : (text : List ℕ) (cause : EntryFault) → IsPlainCause text cause
+      → ((entry : Entry) → ¬ (NamesEntry text entry)) → plain_entry text ≡ Err cause
+  plain_cause_is text causes.Format (dash, several) none =
       no_network_named text dash none
       ∙ ap (λ (b : Bool). Err (if b then causes.Format
       else address_or_prefix (ip_of (before_slash text))))
       (lt-ltb 1 (slashes text) several)
-  fault_is text causes.Address (inl (dash, (few, nobody))) none =
+  plain_cause_is text causes.Address (inl (dash, (few, nobody))) none =
       no_network_named text dash none
       ∙ ap Err (few_slashes text None few (no_address (before_slash text) nobody))
-  fault_is text causes.Address (inr (dash, nobody)) none =
+  plain_cause_is text causes.Address (inr (dash, nobody)) none =
       with_dash text dash ∙ no_ends text _ _ refl refl nobody
-  fault_is text causes.Prefix (dash, (few, (a, named, bad))) none =
+  plain_cause_is text causes.Prefix (dash, (few, (a, named, bad))) none =
       no_network_named text dash none
       ∙ ap Err (few_slashes text (Some a) few (address_is (before_slash text) a named))
-  fault_is text causes.Range (dash, (first, last, ends, bad)) none =
+  plain_cause_is text causes.Range (dash, (first, last, ends, bad)) none =
       ends_are text first last dash ends.0 ends.1
       ∙ ap (λ (b : Bool). if b then Ok (Range first last) else Err causes.Range)
       (no_range first last bad)
+  plain_cause_is text (causes.Encoding encoding) h none = absurd h
+
+  entry_is : (text : List ℕ) (entry : Entry) → NamesEntry text entry → text_entry text ≡ Ok entry
+  entry_is text entry named = ap (told_entry text) (plain_entry_is text entry named)
+
+  fault_is : (text : List ℕ) (fault : EntryFault) → IsEntryCause text fault
+      → ((entry : Entry) → ¬ (NamesEntry text entry)) → text_entry text ≡ Err fault
+  fault_is text fault (cause, is, e) none =
+      ap (told_entry text) (plain_cause_is text cause is none) ∙ ap Err (sym e)
 
   -- ---- lines
 

@@ -67,7 +67,7 @@ pub sides_before_names : {Z : Type 0}
     × Have Z (codes "minus" ∷ codes "-" ∷ codes "--" ∷ codes "-" ∷ []) (codes "-: standard input can be read only once")
     × Have Z (codes "union" ∷ [] ∷ codes "--" ∷ codes "b" ∷ []) (codes "--: " ++ one_side)
     × Have Z (codes "differ" ∷ codes "a" ∷ codes "--" ∷ codes "--" ∷ []) (codes "--: only one -- is taken")
-    × Have Z (codes "union" ∷ codes "--ranges" ∷ []) (codes "union: no FILE")
+    × Have Z (codes "union" ∷ codes "--ranges" ∷ []) (codes "union: no FILE; - is standard input")
     × Have Z (codes "minus" ∷ codes "a" ∷ []) (codes "minus: no -- with a FILE behind it")
     × Have Z (codes "minus" ∷ [] ∷ codes "--" ∷ codes "--count" ∷ []) (codes "--: no FILE after it")
     × Have Z (codes "find" ∷ codes "--" ∷ codes "a" ∷ []) (codes "--: no ADDRESS before it")

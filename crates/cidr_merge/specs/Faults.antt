@@ -138,7 +138,7 @@ together_fault table task items =
 abbrev pub sides_fault : Task → List ℕ → ℕ → ℕ → ℕ → Option Fault
 sides_fault task name dashes first second =
     if not (is_two_sided task) then (if nat_lt 0 dashes then Some (at (codes "--") one_side)
-    else if first == 0 then Some (at name (codes "no FILE")) else None)
+    else if first == 0 then Some (at name (codes "no FILE; - is standard input")) else None)
     else if dashes == 0 then Some (at name (codes "no -- with a FILE behind it"))
     else if nat_lt 1 dashes then Some (at (codes "--") (codes "only one -- is taken"))
     else if first == 0 then Some (at (codes "--") (no_first task))

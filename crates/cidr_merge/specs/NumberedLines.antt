@@ -10,7 +10,8 @@ use Rattle.ipnetwork_family.specs.NetworkText.{slashes, before_slash}
 use Rattle.ipnetwork_family.specs.declared.error.CidrFault.{CidrFault}
 use Rattle.ipnetwork.specs.Computed.IpNetworkText.{ip_network_of}
 use Rattle.ipnetwork.specs.declared.ip_network.IpNetwork.{IpNetwork}
-use Rattle.lists.specs.Entries.{entry_text, is_dash}
+use Rattle.lists.specs.Encodings.{encoding_of}
+use Rattle.lists.specs.Entries.{entry_text, is_dash, told_cause}
 use Rattle.lists.specs.Lines.{trimmed}
 use Rattle.lists.specs.declared.entry.Entry.{Entry}
 use Rattle.lists.specs.declared.entry.Entry.TheVariants.{Network, Range}
@@ -66,13 +67,21 @@ abbrev pub network_entry : List ℕ → Result IpNetwork CidrFault → Result En
 network_entry text (Ok n) = Ok (Network n)
 network_entry text (Err cause) = Err (network_fault text)
 
--- the entry that a text names: with a `-` a range, and else a network
-abbrev pub text_entry : List ℕ → Result Entry EntryFault
-text_entry text =
+-- the entry that a plain text names: with a `-` a range, and else a network
+abbrev pub plain_entry : List ℕ → Result Entry EntryFault
+plain_entry text =
     if nat_lt (position_or_len is_dash text) (length text)
     then range_between (ip_of (trimmed (before_first is_dash text)))
     (ip_of (trimmed (after_first is_dash text)))
     else network_entry text (ip_network_of text)
+
+-- and any text: of one that names none, the encoding is told, if it has another
+abbrev pub told_entry : List ℕ → Result Entry EntryFault → Result Entry EntryFault
+told_entry text (Ok entry) = Ok entry
+told_entry text (Err cause) = Err (told_cause (encoding_of text) cause)
+
+abbrev pub text_entry : List ℕ → Result Entry EntryFault
+text_entry text = told_entry text (plain_entry text)
 
 abbrev pub some_entry : Result Entry EntryFault → Result (Option Entry) EntryFault
 some_entry (Ok entry) = Ok (Some entry)

@@ -17,10 +17,6 @@ pub strings_joined : (strict : Bool) (before between after : ReadLists) (some ot
 strings_joined strict before between after [] others h k = subst (λ (l : ReadLists). TakesStrings strict l others after) h k
 strings_joined strict before between after (text ∷ some) others h k = (h.0, h.1, strings_joined strict h.0 between after some others h.2 k)
 
--- one string
-pub one_string : (strict : Bool) (before after : ReadLists) (text : List ℕ) → TakesString strict before text after → TakesStrings strict before (text ∷ []) after
-one_string strict before after text h = (after, h, refl)
-
 module _ (known : KnownLists) (strict : Bool) (name : List ℕ) (number : ℕ) (before : ReadLists) where
   -- its bytes were not read
   pub stops_unread : (fault : BytesFault) → BytesStop known name 1073741824 fault → StopsAtDocument known strict number name before (not_read number fault) before

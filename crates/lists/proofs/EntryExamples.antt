@@ -1,7 +1,9 @@
 -- Values at which a misreading of the definitions would show.
-use Rattle.std.proofs.Common.{◌≡◌, ◌≢◌, ℕ, true, false, refl}
-use Rattle.std.specs.Prelude.{codes}
+use Rattle.std.proofs.Common.{◌≡◌, ◌≢◌, ◌∷◌, ◌++◌, [], ℕ, true, false, map, refl}
+use Rattle.std.specs.Prelude.{codes, None, Some}
 use Rattle.std.proofs.lemmas.Bool.{ne_eqb}
+use Rattle.lists.specs.Encodings.{encoding_of}
+use Rattle.lists.specs.declared.encoding.Encoding.TheVariants.{ByteOrderMark, Utf16, Gzip, Nul}
 use Rattle.lists.specs.Lines.{is_blank, begins_comment}
 use Rattle.lists.specs.Entries.{entry_text}
 
@@ -21,3 +23,12 @@ no_other_comment byte sign semicolon = rw (ne_eqb byte 35 sign, ne_eqb byte 59 s
 
 pub what_is_left_of_a_line : entry_text (codes " \t::1 \t# ;") ≡ codes "::1"
 what_is_left_of_a_line = refl
+
+-- a mark counts at the beginning and as a whole, a NUL byte anywhere
+pub encodings : map encoding_of ((239 ∷ 187 ∷ 191 ∷ codes "::") ∷ (255 ∷ 254 ∷ []) ∷ (254 ∷ 255 ∷ 0 ∷ []) ∷ (31 ∷ 139 ∷ 0 ∷ []) ∷ (codes "::" ++ 0 ∷ []) ∷ [])
+    ≡ Some ByteOrderMark ∷ Some Utf16 ∷ Some Utf16 ∷ Some Gzip ∷ Some Nul ∷ []
+encodings = refl
+
+pub no_encodings : map encoding_of ((239 ∷ 187 ∷ []) ∷ (32 ∷ 239 ∷ 187 ∷ 191 ∷ []) ∷ (255 ∷ []) ∷ (254 ∷ 254 ∷ []) ∷ (139 ∷ 31 ∷ []) ∷ codes "::" ∷ [] ∷ [])
+    ≡ None ∷ None ∷ None ∷ None ∷ None ∷ None ∷ None ∷ []
+no_encodings = refl

@@ -8,9 +8,9 @@ use Rattle.std.proofs.lemmas.List.Sums.{position_or_len_is}
 use Rattle.byte_search.specs.Bytes.{IsAbsent, IsNext}
 use Rattle.ipnetwork.specs.IpNetworkText.{NamesIpNetwork}
 use Rattle.ipnetwork.specs.declared.ip_network.IpNetwork.{IpNetwork}
-use Rattle.lists.specs.Entries.{NamesEntry, ReadsText, HasDash, IsRange, is_dash}
+use Rattle.lists.specs.Entries.{NamesEntry, HasDash, IsRange, is_dash}
 use Rattle.lists.proofs.Readings.{OneAddress}
-use Rattle.lists.specs.Private.Parts.{ReadsNetworkText, ReadsRange}
+use Rattle.lists.specs.Private.Parts.{ReadsNetworkText, ReadsPlain, ReadsRange}
 use Rattle.lists.specs.declared.entry.Entry.{Entry}
 use Rattle.lists.specs.declared.entry.Entry.TheVariants.{Network, Range}
 use Rattle.lists.specs.declared.entry.EntryFault.{EntryFault}
@@ -24,11 +24,12 @@ rest_of text from = take_all (length text - from) (drop from text) (omega (arith
 abbrev AtFirst : List ℕ → Result Entry EntryFault → Type 0
 AtFirst text result = ReadsRange (take (position_or_len is_dash text) text) (drop (position_or_len is_dash text + 1) text) result
 
-with_dash : OneAddress → (text : List ℕ) → HasDash text → (result : Result Entry EntryFault) → AtFirst text result → ReadsText text result
+with_dash : OneAddress → (text : List ℕ) → HasDash text → (result : Result Entry EntryFault) → AtFirst text result → ReadsPlain text result
 with_dash address text dash (Ok (Range first last)) named = (dash, named.0, named.1)
 with_dash address text dash (Ok (Network n)) named = absurd named
 with_dash address text dash (Err faults.Format) fault = absurd fault
 with_dash address text dash (Err faults.Prefix) fault = absurd fault
+with_dash address text dash (Err (faults.Encoding encoding)) fault = absurd fault
 with_dash address text dash (Err faults.Address) fault = (inr (dash, fault), none)
   where
     none : (entry : Entry) → ¬ (NamesEntry text entry)
@@ -43,7 +44,7 @@ with_dash address text dash (Err faults.Range) fault = ((dash, fault), none)
         let other = address _ last fault.1 ends.1 fault.2.1 in
         fault.3 (subst (λ a. IsRange a fault.1) one (subst (λ a. IsRange first a) other range))
 
-pub range_read : OneAddress → (text : List ℕ) (at : ℕ) → IsNext 45 text 0 at → (result : Result Entry EntryFault) → ReadsRange (take at text) (drop (at + 1) text) result → ReadsText text result
+pub range_read : OneAddress → (text : List ℕ) (at : ℕ) → IsNext 45 text 0 at → (result : Result Entry EntryFault) → ReadsRange (take at text) (drop (at + 1) text) result → ReadsPlain text result
 range_read address text at next result read =
     let place = position_or_len_is is_dash text at 0 (omega (arith, next.within)) (λ k below. ne_eqb _ _ (next.between k (omega arith) below)) (λ within. eq-eqb _ _ next.there) in
     with_dash address text (omega (arith, next.within, place)) result (subst (λ n. ReadsRange (take n text) (drop (n + 1) text) result) (sym place) read)
@@ -52,15 +53,16 @@ nothing : (text : List ℕ) → ¬ (HasDash text) → ((n : IpNetwork) → ¬ (N
 nothing text dashless none (Network n) (without, named) = none n named
 nothing text dashless none (Range first last) (dash, ends, range) = dashless dash
 
-without_dash : (text : List ℕ) → ¬ (HasDash text) → (result : Result Entry EntryFault) → ReadsNetworkText text result → ReadsText text result
+without_dash : (text : List ℕ) → ¬ (HasDash text) → (result : Result Entry EntryFault) → ReadsNetworkText text result → ReadsPlain text result
 without_dash text dashless (Ok (Network n)) named = (dashless, named)
 without_dash text dashless (Ok (Range first last)) named = absurd named
 without_dash text dashless (Err faults.Format) (cause, none) = ((dashless, cause), nothing text dashless none)
 without_dash text dashless (Err faults.Address) (cause, none) = (inl (dashless, cause), nothing text dashless none)
 without_dash text dashless (Err faults.Prefix) (cause, none) = ((dashless, cause), nothing text dashless none)
 without_dash text dashless (Err faults.Range) (cause, none) = absurd cause
+without_dash text dashless (Err (faults.Encoding encoding)) (cause, none) = absurd cause
 
-pub network_read : (text : List ℕ) → IsAbsent 45 text 0 (length text) → (result : Result Entry EntryFault) → ReadsNetworkText text result → ReadsText text result
+pub network_read : (text : List ℕ) → IsAbsent 45 text 0 (length text) → (result : Result Entry EntryFault) → ReadsNetworkText text result → ReadsPlain text result
 network_read text absent result read =
     let place = position_or_len_is is_dash text (length text) 0 (omega arith) (λ k below. ne_eqb _ _ (absent k (omega arith) below)) (λ past. absurd (omega (arith, past))) in
     without_dash text (λ dash. absurd (omega (arith, place, dash))) result read

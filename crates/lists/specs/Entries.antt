@@ -7,7 +7,9 @@ use Rattle.ipnetwork_addr.specs.declared.ip.IpAddr.{IpAddr}
 use Rattle.ipnetwork_addr.specs.declared.ip.IpAddr.TheVariants.{V4, V6}
 use Rattle.ipnetwork.specs.IpNetworkText.{NamesIpNetwork, IsIpCause}
 use Rattle.ipnetwork_family.specs.declared.error.CidrFault.TheVariants as causes
+use Rattle.lists.specs.Encodings.{encoding_of}
 use Rattle.lists.specs.Lines.{before_comment, trimmed}
+use Rattle.lists.specs.declared.encoding.Encoding.{Encoding}
 use Rattle.lists.specs.declared.entry.Entry.{Entry}
 use Rattle.lists.specs.declared.entry.Entry.TheVariants as entries
 use Rattle.lists.specs.declared.entry.EntryFault.{EntryFault}
@@ -43,18 +45,29 @@ NamesEntry text (entries.Network n) = ¬ (HasDash text) × NamesIpNetwork text n
 -- a range, with one
 NamesEntry text (entries.Range first last) = HasDash text × NamesBoth text first last × IsRange first last
 
--- why a text names no entry
-abbrev pub IsEntryCause : List ℕ → EntryFault → Type 0
+-- why a text names no entry, as a plain text
+abbrev pub IsPlainCause : List ℕ → EntryFault → Type 0
 -- it contains two or more `/`
-IsEntryCause text faults.Format = ¬ (HasDash text) × IsIpCause text causes.Format
+IsPlainCause text faults.Format = ¬ (HasDash text) × IsIpCause text causes.Format
 -- else what stands before the `/` is an address of neither family; or an end of a range is not an address
-IsEntryCause text faults.Address = (¬ (HasDash text) × IsIpCause text causes.Addr)
+IsPlainCause text faults.Address = (¬ (HasDash text) × IsIpCause text causes.Addr)
     ⊎ (HasDash text × ((first last : IpAddr) → ¬ (NamesBoth text first last)))
 -- else what stands after the `/` is not a suffix of that address's family
-IsEntryCause text faults.Prefix = ¬ (HasDash text) × IsIpCause text causes.Prefix
+IsPlainCause text faults.Prefix = ¬ (HasDash text) × IsIpCause text causes.Prefix
 -- both ends are addresses, of two families, or the last before the first
-IsEntryCause text faults.Range = HasDash text
+IsPlainCause text faults.Range = HasDash text
     × ((first : IpAddr) × (last : IpAddr) × NamesBoth text first last × ¬ (IsRange first last))
+IsPlainCause text (faults.Encoding encoding) = ⊥
+
+-- the encoding is told in place of the cause, if the text has one
+abbrev pub told_cause : Option Encoding → EntryFault → EntryFault
+told_cause None cause = cause
+told_cause (Some encoding) cause = faults.Encoding encoding
+
+-- why a text names no entry
+abbrev pub IsEntryCause : List ℕ → EntryFault → Type 0
+IsEntryCause text fault = (cause : EntryFault) × IsPlainCause text cause
+    × (fault ≡ told_cause (encoding_of text) cause)
 
 -- the entry that a text names, or the cause if it names none
 abbrev pub ReadsText : List ℕ → Result Entry EntryFault → Type 0

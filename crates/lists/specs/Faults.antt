@@ -1,12 +1,18 @@
--- Why a line is refused, in a word.
+-- Why a line is refused, in a word or two.
 use Rattle.std.specs.Prelude.{ℕ, List, codes}
-use Rattle.lists.specs.declared.entry.EntryFault.TheVariants.{Format, Address, Prefix, Range}
+use Rattle.lists.specs.Encodings.{encoding_text}
+use Rattle.lists.specs.declared.entry.EntryFault.{EntryFault}
+use Rattle.lists.specs.declared.entry.EntryFault.TheVariants.{Format, Address, Prefix, Range, Encoding}
 use Rattle.lists.specs.declared.fault.LineFault.{LineFault}
 use Rattle.lists.specs.declared.fault.LineFault.TheVariants.{Entry, Length}
 
+abbrev pub entry_fault_text : EntryFault → List ℕ
+entry_fault_text Format = codes "format"
+entry_fault_text Address = codes "address"
+entry_fault_text Prefix = codes "prefix"
+entry_fault_text Range = codes "range"
+entry_fault_text (Encoding encoding) = encoding_text encoding
+
 abbrev pub line_fault_text : LineFault → List ℕ
-line_fault_text (Entry Format) = codes "format"
-line_fault_text (Entry Address) = codes "address"
-line_fault_text (Entry Prefix) = codes "prefix"
-line_fault_text (Entry Range) = codes "range"
+line_fault_text (Entry fault) = entry_fault_text fault
 line_fault_text Length = codes "length"

@@ -3,6 +3,7 @@ pub mod Added
 pub mod Bytes
 pub mod DocumentLaws
 pub mod Documents
+pub mod Encodings
 pub mod Entries
 pub mod Faults
 pub mod KnownLists

@@ -1,8 +1,11 @@
 //! What a line of a list says.
-ghost use Rattle.lists.specs.Entries.{ReadsEntry, ReadsText};
-ghost use Rattle.lists.specs.Private.Parts.{ReadsNetworkText};
+ghost use Rattle.std.specs.Prelude.{◌≡◌};
+ghost use Rattle.lists.specs.Entries.{ReadsEntry, ReadsText, told_cause};
+ghost use Rattle.lists.specs.Faults.{entry_fault_text};
+ghost use Rattle.lists.specs.Private.Parts.{ReadsNetworkText, ReadsPlain};
 
 use crate::comment::without_comment;
+use crate::encoding::{Encoding, encoding_of};
 use crate::laws as list_laws;
 use crate::range::read_range;
 use crate::trimming::{Blank, trim};
@@ -46,6 +49,27 @@ pub enum EntryFault {
     Prefix,
     /// The ends of a range are of two families, or its last address is before its first.
     Range,
+    /// The entry is no plain text.
+    Encoding(Encoding),
+}
+
+impl EntryFault {
+    /// The fault in a word, `format`, `address`, `prefix` or `range`, or as the encoding is named.
+    ///
+    /// ```
+    /// assert_eq!(rt; EntryFault::Prefix.text(), "prefix");
+    /// ```
+    pub fn text(self) -> &'static str
+        ensures { result.now ≡ entry_fault_text self }
+    {
+        match self {
+            EntryFault::Format => "format",
+            EntryFault::Address => "address",
+            EntryFault::Prefix => "prefix",
+            EntryFault::Range => "range",
+            EntryFault::Encoding(encoding) => encoding.text(),
+        }
+    }
 }
 
 /// What a line says. The line is given without its line end. `None` if there is nothing but blanks and a comment.
@@ -88,6 +112,26 @@ fn read_line(line: &[u8]) -> Result<Option<Entry>, EntryFault>
 /// The entry that a text names.
 pub(crate) fn read_text(text: &[u8]) -> Result<Entry, EntryFault>
     ensures { ReadsText text.now result }
+{
+    match read_plain(text) {
+        Ok(entry) => Ok(entry),
+        Err(cause) => Err(told_cause(encoding_of(text), cause)),
+    }
+}
+
+/// The cause that is told of a text of this encoding, or of a plain one.
+fn told_cause(encoding: Option<Encoding>, cause: EntryFault) -> EntryFault
+    ensures { result ≡ told_cause encoding cause }
+{
+    match encoding {
+        Some(encoding) => EntryFault::Encoding(encoding),
+        None => cause,
+    }
+}
+
+/// The entry that a text names, or why it names none as a plain text.
+fn read_plain(text: &[u8]) -> Result<Entry, EntryFault>
+    ensures { ReadsPlain text.now result }
 {
     // Does nothing. The proof needs the law: other addresses of the same ends would be other ranges.
     laws::ip_text_names_one();

@@ -21,7 +21,7 @@ pub enum LineFault {
 }
 
 impl LineFault {
-    /// The fault in one word: `format`, `address`, `prefix`, `range` or `length`.
+    /// The fault in a word, `length` or that of the entry, or as its encoding is named.
     ///
     /// ```
     /// assert_eq!(rt; LineFault::Entry(EntryFault::Prefix).text(), "prefix");
@@ -31,10 +31,7 @@ impl LineFault {
         ensures { result.now ≡ line_fault_text self }
     {
         match self {
-            LineFault::Entry(EntryFault::Format) => "format",
-            LineFault::Entry(EntryFault::Address) => "address",
-            LineFault::Entry(EntryFault::Prefix) => "prefix",
-            LineFault::Entry(EntryFault::Range) => "range",
+            LineFault::Entry(fault) => fault.text(),
             LineFault::Length => "length",
         }
     }

@@ -7,6 +7,7 @@
 mod bytes;
 mod comment;
 mod document;
+mod encoding;
 mod entry;
 mod fault;
 pub mod laws;
@@ -23,6 +24,7 @@ mod trimming;
 
 pub use bytes::{BytesFault, read_bytes};
 pub use document::{DOCUMENT_MAX, read_document};
+pub use encoding::{Encoding, encoding_of};
 pub use entry::{Entry, EntryFault, read_entry};
 pub use fault::LineFault;
 pub use list_reader::ListReader;

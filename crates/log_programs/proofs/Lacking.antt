@@ -13,9 +13,3 @@ same_test zero zero e = refl
 same_test zero (suc count) e = absurd (omega (arith, e))
 same_test (suc told) zero e = absurd (omega (arith, e))
 same_test (suc told) (suc count) e = positive (suc told) (omega arith) ∙ sym (positive (suc count) (omega arith))
-
-pub lacking_same : (program : List ℕ) (area : Area) (name : List ℕ) (lines count : ℕ) (one other : Bool) → lines ≡ min count (2 ^ 64 - 1) → one ≡ other
-    → lacking_told program area name lines one ≡ lacking_told program area name count other
-lacking_same program area name lines count one other e f =
-    ap (λ (b : Bool). if b && not one then no_address_text program area name else []) (same_test lines count e)
-    ∙ ap (λ (b : Bool). if nat_lt 0 count && not b then no_address_text program area name else []) f

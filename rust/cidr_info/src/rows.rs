@@ -33,6 +33,6 @@ pub(crate) fn table() -> Table<'static> {
         rows: &ROWS,
         pairs: &PAIRS,
         needs: &[],
-        lacking: "no NETWORK is given",
+        lacking: "no NETWORK is given; - is standard input",
     }
 }

@@ -6,9 +6,9 @@ use crate::help::PROGRAM;
 use crate::said::Said;
 use fosibegan::ipnetwork::{CidrFault, cause};
 use cidr_programs::lines::output::Output;
-use cidr_programs::lists::BytesFault;
-use cidr_programs::program::escapes::tell_escaped;
+use cidr_programs::lists::{BytesFault, encoding_of};
 use cidr_programs::program::messages::{tell, tell_number};
+use cidr_programs::program::usage::tell_shown;
 use fosibegan::plain_std::io::Write;
 
 /// Reports each of these texts that names no network.
@@ -43,15 +43,21 @@ fn tell_place<E: Write>(said: &Said<'_>, errors: &mut Output<'_, E>)
     if line > 0 {
         tell("-:", errors);
         tell_number(line, errors);
-    } else if said.text().is_empty() {
-        tell("''", errors);
     } else {
-        tell_escaped(said.text(), errors);
+        tell_shown(said.text(), errors);
     }
 }
 
-// Why a text names no network, in a word.
+// Why a text names no network, in a word, or what it is, if it is no plain text.
 fn cause_word(text: &[u8]) -> &'static str {
+    match encoding_of(text) {
+        Some(encoding) => encoding.text(),
+        None => plain_word(text),
+    }
+}
+
+// Why a plain text names no network, in a word.
+fn plain_word(text: &[u8]) -> &'static str {
     // Do nothing: the proof of this body needs the laws.
     match cause(text) {
         Some(CidrFault::Format) => "format",

@@ -19,14 +19,11 @@ pub enum Cause {
 }
 
 impl Cause {
-    /// The cause in a word.
+    /// The cause in a few words.
     pub(crate) fn text(self) -> &'static str {
         match self {
-            Cause::Entry(EntryFault::Format) => "format",
-            Cause::Entry(EntryFault::Address) => "address",
-            Cause::Entry(EntryFault::Prefix) => "prefix",
-            Cause::Entry(EntryFault::Range) => "range",
-            Cause::Value => "value",
+            Cause::Entry(fault) => fault.text(),
+            Cause::Value => "value: there is none",
             Cause::Twice => "repetition",
             Cause::Length => "length",
         }

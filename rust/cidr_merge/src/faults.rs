@@ -173,7 +173,7 @@ fn sides_fault<'a>(
         if dashes > 0 {
             Some(at("--", ONE_SIDE))
         } else if first == 0 {
-            Some(at(name, "no FILE"))
+            Some(at(name, "no FILE; - is standard input"))
         } else {
             None
         }

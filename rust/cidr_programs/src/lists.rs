@@ -9,6 +9,7 @@ mod bytes;
 mod comment;
 #[cfg(feature = "serde")]
 mod document;
+mod encoding;
 mod entry;
 mod fault;
 mod list_reader;
@@ -26,6 +27,7 @@ mod trimming;
 pub use bytes::{BytesFault, read_bytes};
 #[cfg(feature = "serde")]
 pub use document::{DOCUMENT_MAX, read_document};
+pub use encoding::{Encoding, encoding_of};
 pub use entry::{Entry, EntryFault, read_entry};
 pub use fault::LineFault;
 pub use list_reader::ListReader;

@@ -4,7 +4,7 @@ use Rattle.ipnetwork.specs.IpNetworkText.{NamesIpNetwork, IsIpCause}
 use Rattle.ipnetwork.specs.declared.ip_network.IpNetwork.{IpNetwork}
 use Rattle.ipnetwork_addr.specs.declared.ip.IpAddr.{IpAddr}
 use Rattle.ipnetwork_family.specs.declared.error.CidrFault.TheVariants as causes
-use Rattle.lists.specs.Entries.{NamesEnds, IsRange}
+use Rattle.lists.specs.Entries.{NamesEnds, IsRange, NamesEntry, IsPlainCause}
 use Rattle.lists.specs.declared.entry.Entry.{Entry}
 use Rattle.lists.specs.declared.entry.Entry.TheVariants as entries
 use Rattle.lists.specs.declared.entry.EntryFault.{EntryFault}
@@ -21,6 +21,7 @@ IsNetworkFault text faults.Format = IsIpCause text causes.Format
 IsNetworkFault text faults.Address = IsIpCause text causes.Addr
 IsNetworkFault text faults.Prefix = IsIpCause text causes.Prefix
 IsNetworkFault text faults.Range = ⊥
+IsNetworkFault text (faults.Encoding encoding) = ⊥
 
 -- the network that the text names, or why it names none
 abbrev pub ReadsNetworkText : List ℕ → Result Entry EntryFault → Type 0
@@ -37,6 +38,7 @@ IsRangeOf before after (entries.Range first last) = NamesEnds before after first
 abbrev pub IsRangeFault : List ℕ → List ℕ → EntryFault → Type 0
 IsRangeFault before after faults.Format = ⊥
 IsRangeFault before after faults.Prefix = ⊥
+IsRangeFault before after (faults.Encoding encoding) = ⊥
 IsRangeFault before after faults.Address = (first last : IpAddr) → ¬ (NamesEnds before after first last)
 IsRangeFault before after faults.Range = (first : IpAddr) × (last : IpAddr) × NamesEnds before after first last
     × ¬ (IsRange first last)
@@ -44,3 +46,8 @@ IsRangeFault before after faults.Range = (first : IpAddr) × (last : IpAddr) × 
 -- the range of these ends, or why there is none
 abbrev pub ReadsRange : List ℕ → List ℕ → Result Entry EntryFault → Type 0
 ReadsRange before after result = MatchResult result (IsRangeOf before after) (IsRangeFault before after)
+
+-- the entry that a text names, or why it names none as a plain text
+abbrev pub ReadsPlain : List ℕ → Result Entry EntryFault → Type 0
+ReadsPlain text result = MatchResult result (NamesEntry text) (λ cause. IsPlainCause text cause
+    × ((entry : Entry) → ¬ (NamesEntry text entry)))

@@ -3,6 +3,7 @@
 //! What a line of a list says.
 
 use crate::lists::comment::without_comment;
+use crate::lists::encoding::{Encoding, encoding_of};
 use crate::lists::range::read_range;
 use crate::lists::trimming::{Blank, trim};
 use fosibegan::byte_search::find_from;
@@ -49,6 +50,26 @@ pub enum EntryFault {
     Prefix,
     /// The ends of a range are of two families, or its last address is before its first.
     Range,
+    /// The entry is no plain text.
+    Encoding(Encoding),
+}
+
+impl EntryFault {
+    /// The fault in a word, `format`, `address`, `prefix` or `range`, or as the encoding is named.
+    ///
+    /// ```
+    /// # use cidr_programs::in_examples::*;
+    /// assert_eq!(EntryFault::Prefix.text(), "prefix");
+    /// ```
+    pub fn text(self) -> &'static str {
+        match self {
+            EntryFault::Format => "format",
+            EntryFault::Address => "address",
+            EntryFault::Prefix => "prefix",
+            EntryFault::Range => "range",
+            EntryFault::Encoding(encoding) => encoding.text(),
+        }
+    }
 }
 
 /// What a line says. The line is given without its line end. `None` if there is nothing but blanks and a comment.
@@ -89,6 +110,22 @@ fn read_line(line: &[u8]) -> Result<Option<Entry>, EntryFault> {
 
 /// The entry that a text names.
 pub(crate) fn read_text(text: &[u8]) -> Result<Entry, EntryFault> {
+    match read_plain(text) {
+        Ok(entry) => Ok(entry),
+        Err(cause) => Err(told_cause(encoding_of(text), cause)),
+    }
+}
+
+/// The cause that is told of a text of this encoding, or of a plain one.
+fn told_cause(encoding: Option<Encoding>, cause: EntryFault) -> EntryFault {
+    match encoding {
+        Some(encoding) => EntryFault::Encoding(encoding),
+        None => cause,
+    }
+}
+
+/// The entry that a text names, or why it names none as a plain text.
+fn read_plain(text: &[u8]) -> Result<Entry, EntryFault> {
     // Does nothing. The proof needs the law: other addresses of the same ends would be other ranges.
     match find_from(text, 0, b'-') {
         Some(at) => read_range(&text[..at], &text[at + 1..]),

@@ -25,7 +25,7 @@ pub enum LineFault {
 }
 
 impl LineFault {
-    /// The fault in one word: `format`, `address`, `prefix`, `range` or `length`.
+    /// The fault in a word, `length` or that of the entry, or as its encoding is named.
     ///
     /// ```
     /// # use cidr_programs::in_examples::*;
@@ -34,10 +34,7 @@ impl LineFault {
     /// ```
     pub fn text(self) -> &'static str {
         match self {
-            LineFault::Entry(EntryFault::Format) => "format",
-            LineFault::Entry(EntryFault::Address) => "address",
-            LineFault::Entry(EntryFault::Prefix) => "prefix",
-            LineFault::Entry(EntryFault::Range) => "range",
+            LineFault::Entry(fault) => fault.text(),
             LineFault::Length => "length",
         }
     }

@@ -1,13 +1,16 @@
-use Rattle.std.proofs.Common.{◌+◌, take, subst}
-use Rattle.lists.specs.Private.Parts.{ReadsRange}
-use Rattle.lists.proofs.Parts.{range_read, network_read, rest_of}
+use Rattle.std.proofs.Common.{◌∙◌, ap}
+use Rattle.std.specs.Prelude.{Option}
+use Rattle.lists.specs.Entries.{told_cause}
+use Rattle.lists.specs.declared.encoding.Encoding.{Encoding}
 use Rattle.lists.proofs.entry.read_text.Goals as goal
 
-pub returns-in-Some : goal.returns-in-Some
-returns-in-Some c =
-    let text = c.args.text.now in
-    range_read c.ip_text_names_one.ensures text c.in-Some.at c.in-Some.ensures c.read_range.result
-    (subst (λ rest. ReadsRange (take c.in-Some.at text) rest c.read_range.result) (rest_of text (c.in-Some.at + 1)) c.read_range.ensures)
-
-pub returns-in-None : goal.returns-in-None
-returns-in-None c = network_read c.args.text.now c.in-None.ensures c.read_network.result c.read_network.ensures
+pub returns-in-Err : goal.returns-in-Err
+returns-in-Err c =
+    let cause = c.in-Err.cause in (
+      (
+        cause,
+        c.in-Err.ensures.0,
+        c.told_cause.ensures ∙ ap (λ (e : Option Encoding). told_cause e cause) c.encoding_of.ensures,
+      ),
+      c.in-Err.ensures.1,
+    )

@@ -4,7 +4,7 @@ use Rattle.ipnetwork.specs.IpNetworkText.{IsIpCause}
 use Rattle.ipnetwork_family.specs.NetworkText.{before_slash}
 use Rattle.ipnetwork_family.specs.declared.error.CidrFault.{CidrFault}
 use Rattle.cidr_info.proofs.Places.{no_address, no_prefix, named_not}
-use Rattle.cidr_info.proofs.telling.cause_word.Goals as goal
+use Rattle.cidr_info.proofs.telling.plain_word.Goals as goal
 
 pub returns-in-Some-Prefix : goal.returns-in-Some-Prefix
 returns-in-Some-Prefix c =
