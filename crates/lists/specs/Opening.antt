@@ -1,15 +1,16 @@
 -- Why a file cannot be opened.
 use Rattle.std.specs.Prelude.{ℕ, List, codes}
 use Rattle.std.specs.declared.io.ErrorKind.{ErrorKind}
-use Rattle.std.specs.declared.io.ErrorKind.TheVariants.{NotFound, PermissionDenied, IsADirectory}
+use Rattle.std.specs.declared.io.ErrorKind.TheVariants.{NotFound, PermissionDenied, IsADirectory, Deadlock}
 use Rattle.lists.specs.declared.opening.OpenFault.{OpenFault}
-use Rattle.lists.specs.declared.opening.OpenFault.TheVariants.{Missing, Denied, Directory, Other}
+use Rattle.lists.specs.declared.opening.OpenFault.TheVariants.{Missing, Denied, Directory, Output, Other}
 
--- the cause that the kind of the system's error names
+-- the cause that the kind of the system's error names. A file that is also the output would be read without end
 abbrev pub cause_of : ErrorKind → OpenFault
 cause_of NotFound = Missing
 cause_of PermissionDenied = Denied
 cause_of IsADirectory = Directory
+cause_of Deadlock = Output
 cause_of kind = Other
 
 -- what is reported of a file that cannot be opened, after its name
@@ -17,4 +18,5 @@ abbrev pub open_fault_text : OpenFault → List ℕ
 open_fault_text Missing = codes ": cannot open: no such file\n"
 open_fault_text Denied = codes ": cannot open: permission denied\n"
 open_fault_text Directory = codes ": cannot open: is a directory\n"
+open_fault_text Output = codes ": input file is also the output\n"
 open_fault_text Other = codes ": cannot open\n"

@@ -43,6 +43,27 @@ pub trait OpenLists {
         ensures missed { IfErr result
             (λ error. (known self.now).may_miss name.now (cause_of (error_kind error))) };
 
+    /// Opens the file of this name to be read while its lines are written. It may be refused if it is the one that is
+    /// written, which would then never end. An implementation that does not say so opens it as a list.
+    ///
+    /// ```
+    /// use lists::OpenLists;
+    ///
+    /// let system = program::system::System::new(&rt);
+    /// assert!(rt; system.open_input("-").is_ok());
+    /// assert!(rt; system.open_input("no such file").is_err());
+    /// ```
+    fn open_input(&self, name: &str) -> io::Result<Self::List>
+        ensures bytes { IfOk result (λ list. (bytes : Bytes ℕ)
+            → (known self.now).bytes_of name.now ≡ Some bytes
+            → Self.List.remaining list ≡ Some bytes) }
+        ensures opened { (known self.now).may_open name.now (is_ok result) }
+        ensures missed { IfErr result
+            (λ error. (known self.now).may_miss name.now (cause_of (error_kind error))) }
+    {
+        self.open(name)
+    }
+
     /// Closes the list of this name. The contract records whether a read of it failed.
     ///
     /// ```

@@ -23,6 +23,8 @@ pub enum OpenFault {
     Denied,
     /// It is a directory.
     Directory,
+    /// It is also the output.
+    Output,
     /// Another cause.
     Other,
 }
@@ -34,6 +36,7 @@ impl OpenFault {
     /// use std::io::ErrorKind;
     ///
     /// assert_eq!(rt; OpenFault::of(ErrorKind::PermissionDenied), OpenFault::Denied);
+    /// assert_eq!(rt; OpenFault::of(ErrorKind::Deadlock), OpenFault::Output);
     /// ```
     pub fn of(kind: ErrorKind) -> OpenFault
         ensures { result ≡ cause_of kind }
@@ -42,6 +45,7 @@ impl OpenFault {
             ErrorKind::NotFound => OpenFault::Missing,
             ErrorKind::PermissionDenied => OpenFault::Denied,
             ErrorKind::IsADirectory => OpenFault::Directory,
+            ErrorKind::Deadlock => OpenFault::Output,
             _ => OpenFault::Other,
         }
     }
@@ -59,6 +63,7 @@ impl OpenFault {
             OpenFault::Missing => ": cannot open: no such file\n",
             OpenFault::Denied => ": cannot open: permission denied\n",
             OpenFault::Directory => ": cannot open: is a directory\n",
+            OpenFault::Output => ": input file is also the output\n",
             OpenFault::Other => ": cannot open\n",
         }
     }
@@ -82,5 +87,27 @@ pub fn open_list<L: OpenLists>(lists: &L, name: &str) -> Result<Watched<L::List>
     match lists.open(name) {
         Ok(list) => Ok(Watched::new(list)),
         Err(error) => Err(OpenFault::of(error.kind())),
+    }
+}
+
+/// Opens the file of this name to be read while its lines are written, as `open_list` opens a list. A file that is also
+/// the output may be refused.
+///
+/// ```
+/// let system = program::system::System::new(&rt);
+/// assert!(rt; lists::open_input(&system, "-").is_ok());
+/// assert!(rt; lists::open_input(&system, "no such file").is_err());
+/// ```
+pub fn open_input<L: OpenLists>(lists: &L, name: &str) -> Result<Watched<L::List>, OpenFault>
+    ensures bytes { IfOk result (λ list. (bytes : List ℕ)
+        → (L.known lists.now).bytes_of name.now ≡ Some bytes
+        → L.List.remaining (device_of list) ≡ Some bytes) }
+    ensures opened { (L.known lists.now).may_open name.now (is_ok result) }
+    ensures missed { IfErr result (λ fault. (L.known lists.now).may_miss name.now fault) }
+    ensures failed { IfOk result (λ list. has_failed list ≡ false) }
+{
+    match lists.open_input(name) {
+        Ok(list) => Ok(Watched::new(list)),
+        Err(fault) => Err(OpenFault::of(fault.kind())),
     }
 }

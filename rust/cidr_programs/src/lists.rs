@@ -33,7 +33,7 @@ pub use fault::LineFault;
 pub use list_reader::ListReader;
 pub use named::{ReadFault, read_named, read_text};
 pub use open_lists::OpenLists;
-pub use opening::{OpenFault, open_list};
+pub use opening::{OpenFault, open_input, open_list};
 pub use read::{LINE_MAX, read_list};
 pub use refusals::{REFUSALS_MAX, Refusal, Refusals};
 pub use trimming::{Blank, ByteKind, front_len, trim};

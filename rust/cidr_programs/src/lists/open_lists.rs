@@ -35,6 +35,22 @@ pub trait OpenLists {
     /// ```
     fn open(&self, name: &str) -> io::Result<Self::List>;
 
+    /// Opens the file of this name to be read while its lines are written. It may be refused if it is the one that is
+    /// written, which would then never end. An implementation that does not say so opens it as a list.
+    ///
+    /// ```
+    /// # use cidr_programs::in_examples::*;
+    /// # let rt = HostRuntime::new();
+    /// use cidr_programs::lists::OpenLists;
+    ///
+    /// let system = program::system::System::new(&rt);
+    /// assert!(system.open_input("-").is_ok());
+    /// assert!(system.open_input("no such file").is_err());
+    /// ```
+    fn open_input(&self, name: &str) -> io::Result<Self::List> {
+        self.open(name)
+    }
+
     /// Closes the list of this name. The contract records whether a read of it failed.
     ///
     /// ```

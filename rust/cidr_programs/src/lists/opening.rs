@@ -23,6 +23,8 @@ pub enum OpenFault {
     Denied,
     /// It is a directory.
     Directory,
+    /// It is also the output.
+    Output,
     /// Another cause.
     Other,
 }
@@ -35,12 +37,14 @@ impl OpenFault {
     /// use fosibegan::plain_std::io::ErrorKind;
     ///
     /// assert_eq!(OpenFault::of(ErrorKind::PermissionDenied), OpenFault::Denied);
+    /// assert_eq!(OpenFault::of(ErrorKind::Deadlock), OpenFault::Output);
     /// ```
     pub fn of(kind: ErrorKind) -> OpenFault {
         match kind {
             ErrorKind::NotFound => OpenFault::Missing,
             ErrorKind::PermissionDenied => OpenFault::Denied,
             ErrorKind::IsADirectory => OpenFault::Directory,
+            ErrorKind::Deadlock => OpenFault::Output,
             _ => OpenFault::Other,
         }
     }
@@ -57,6 +61,7 @@ impl OpenFault {
             OpenFault::Missing => ": cannot open: no such file\n",
             OpenFault::Denied => ": cannot open: permission denied\n",
             OpenFault::Directory => ": cannot open: is a directory\n",
+            OpenFault::Output => ": input file is also the output\n",
             OpenFault::Other => ": cannot open\n",
         }
     }
@@ -75,5 +80,22 @@ pub fn open_list<L: OpenLists>(lists: &L, name: &str) -> Result<Watched<L::List>
     match lists.open(name) {
         Ok(list) => Ok(Watched::new(list)),
         Err(error) => Err(OpenFault::of(error.kind())),
+    }
+}
+
+/// Opens the file of this name to be read while its lines are written, as `open_list` opens a list. A file that is also
+/// the output may be refused.
+///
+/// ```
+/// # use cidr_programs::in_examples::*;
+/// # let rt = HostRuntime::new();
+/// let system = program::system::System::new(&rt);
+/// assert!(cidr_programs::lists::open_input(&system, "-").is_ok());
+/// assert!(cidr_programs::lists::open_input(&system, "no such file").is_err());
+/// ```
+pub fn open_input<L: OpenLists>(lists: &L, name: &str) -> Result<Watched<L::List>, OpenFault> {
+    match lists.open_input(name) {
+        Ok(list) => Ok(Watched::new(list)),
+        Err(fault) => Err(OpenFault::of(fault.kind())),
     }
 }
