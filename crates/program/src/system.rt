@@ -5,8 +5,9 @@ ghost use Rattle.lines.specs.Watched.{has_failed};
 use crate::progress::Progress;
 use lines::watched::Watched;
 use lists::OpenLists;
-use std::fs::File;
+use std::fs::{File, Metadata};
 use std::io::{ErrorKind, IsTerminal, Read, Stdin};
+use std::os::unix::fs::MetadataExt;
 use std::{fs, io};
 
 /// The files of the system, and its standard input under the name `-`.
@@ -120,6 +121,26 @@ fn is_directory(file: &File) -> bool {
     }
 }
 
+// The device and the number of the regular file that this is said of; none of anything else, as a terminal or a pipe.
+fn identity(said: io::Result<Metadata>) -> Option<(u64, u64)> {
+    match said {
+        Ok(metadata) if metadata.is_file() => Some((metadata.dev(), metadata.ino())),
+        _ => None,
+    }
+}
+
+// Whether what was opened is the regular file that standard output is, by what Linux says of open descriptors.
+fn is_output(rt: &HostRuntime, device: &Device) -> bool {
+    let Some(output) = identity(fs::metadata(rt, "/proc/self/fd/1")) else {
+        return false;
+    };
+    let input = match device {
+        Device::File(file) => file.metadata(),
+        Device::Input(_) => fs::metadata(rt, "/proc/self/fd/0"),
+    };
+    identity(input) == Some(output)
+}
+
 // Opens the file of this name, or standard input.
 fn device_of(rt: &HostRuntime, name: &str) -> io::Result<Device> {
     if name == "-" {
@@ -140,6 +161,14 @@ impl<'a> OpenLists for System<'a> {
             device: device_of(self.rt, name)?,
             progress: self.progress_of(name),
         })
+    }
+
+    fn open_input(&self, name: &str) -> io::Result<ShownDevice<'a>> {
+        let list = self.open(name)?;
+        if is_output(self.rt, &list.device) {
+            return Err(io::Error::from(ErrorKind::Deadlock));
+        }
+        Ok(list)
     }
 
     fn close(&self, _name: &str, list: Watched<ShownDevice<'a>>)

@@ -6,8 +6,9 @@ use fosibegan::plain_std::rt::HostRuntime;
 use crate::program::progress::Progress;
 use crate::lines::watched::Watched;
 use crate::lists::OpenLists;
-use fosibegan::plain_std::fs::File;
+use fosibegan::plain_std::fs::{File, Metadata};
 use fosibegan::plain_std::io::{ErrorKind, IsTerminal, Read, Stdin};
+use fosibegan::plain_std::os::unix::fs::MetadataExt;
 use fosibegan::plain_std::{fs, io};
 
 /// The files of the system, and its standard input under the name `-`.
@@ -128,6 +129,26 @@ fn is_directory(file: &File) -> bool {
     }
 }
 
+// The device and the number of the regular file that this is said of; none of anything else, as a terminal or a pipe.
+fn identity(said: io::Result<Metadata>) -> Option<(u64, u64)> {
+    match said {
+        Ok(metadata) if metadata.is_file() => Some((metadata.dev(), metadata.ino())),
+        _ => None,
+    }
+}
+
+// Whether what was opened is the regular file that standard output is, by what Linux says of open descriptors.
+fn is_output(rt: &HostRuntime, device: &Device) -> bool {
+    let Some(output) = identity(fs::metadata(rt, "/proc/self/fd/1")) else {
+        return false;
+    };
+    let input = match device {
+        Device::File(file) => file.metadata(),
+        Device::Input(_) => fs::metadata(rt, "/proc/self/fd/0"),
+    };
+    identity(input) == Some(output)
+}
+
 // Opens the file of this name, or standard input.
 fn device_of(rt: &HostRuntime, name: &str) -> io::Result<Device> {
     if name == "-" {
@@ -148,6 +169,14 @@ impl<'a> OpenLists for System<'a> {
             device: device_of(self.rt, name)?,
             progress: self.progress_of(name),
         })
+    }
+
+    fn open_input(&self, name: &str) -> io::Result<ShownDevice<'a>> {
+        let list = self.open(name)?;
+        if is_output(self.rt, &list.device) {
+            return Err(io::Error::from(ErrorKind::Deadlock));
+        }
+        Ok(list)
     }
 
     fn close(&self, _name: &str, list: Watched<ShownDevice<'a>>) {
