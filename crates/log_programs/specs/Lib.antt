@@ -1,4 +1,5 @@
 -- What the contracts of this crate cite.
+pub mod Closed
 pub mod Finding
 pub mod Lacking
 pub mod LogEnds

@@ -1,6 +1,7 @@
-//! What is reported of logs without addresses, and of lines that are too long. If a write fails, nothing else changes.
+//! What is reported of logs that cannot be opened, or have no addresses, and of lines that are too long. If a write fails, nothing else changes.
 ghost use Rattle.std.specs.Prelude.{◌≡◌, ◌++◌, ◌&&◌, [], not, nat_lt, codes, decimal, if◌then◌else◌};
 ghost use Rattle.program.specs.Messages.{Reports};
+ghost use Rattle.log_programs.specs.Closed.{closed_text};
 ghost use Rattle.log_programs.specs.Lacking.{lacking_told, no_address_text, area_text};
 ghost use Rattle.log_programs.specs.Seen.{counts_text, is_missed, long_text, seen_text};
 ghost use Rattle.log_programs.specs.WithoutAddress.{is_reported};
@@ -9,6 +10,7 @@ use crate::log_stats::LogStats;
 use crate::without_address::WithoutAddress;
 use line_addresses::{Area, Text};
 use lines::output::Output;
+use lists::OpenFault;
 use program::messages::{tell, tell_number};
 use std::io::Write;
 
@@ -143,6 +145,31 @@ pub fn tell_seen<E: Write>(
 {
     tell_missed(program, name, is_missed(bad, seen), seen.first_long, errors);
     tell_asked(program, name, is_asked(bad, seen.lines), seen, errors);
+}
+
+/// Reports in the name of a program that the log of this name cannot be opened, and why.
+///
+/// ```
+/// use lists::OpenFault;
+/// use log_programs::telling::tell_closed;
+///
+/// let (mut slice, mut room) = ([0; 64], [b'.'; 64]);
+/// let mut errors = lines::output::Output::new(room.as_mut_slice(), &mut slice);
+/// tell_closed("cidr_join", "log", OpenFault::Missing, &mut errors);
+/// assert_eq!(rt; errors.finish(), Ok(()));
+/// drop(errors);
+/// assert!(rt; room.starts_with(b"cidr_join: log: cannot open: no such file\n."));
+/// ```
+pub fn tell_closed<E: Write>(
+    program: &str,
+    name: &str,
+    fault: OpenFault,
+    errors: &mut Output<'_, E>,
+)
+    ensures { Reports errors.old errors.new (closed_text program.now name.now fault) }
+{
+    tell_head(program, name, errors);
+    tell(fault.text(), errors);
 }
 
 // Whether it is told of so many lines how many have no address.

@@ -1,11 +1,12 @@
 // Written by scripts/plain out of crates/log_programs/src/telling.rt
 
-//! What is reported of logs without addresses, and of lines that are too long. If a write fails, nothing else changes.
+//! What is reported of logs that cannot be opened, or have no addresses, and of lines that are too long. If a write fails, nothing else changes.
 
 use crate::log_programs::log_stats::LogStats;
 use crate::log_programs::without_address::WithoutAddress;
 use crate::line_addresses::{Area, Text};
 use crate::lines::output::Output;
+use crate::lists::OpenFault;
 use crate::program::messages::{tell, tell_number};
 use fosibegan::plain_std::io::Write;
 
@@ -125,6 +126,30 @@ pub fn tell_seen<E: Write>(
 ) {
     tell_missed(program, name, is_missed(bad, seen), seen.first_long, errors);
     tell_asked(program, name, is_asked(bad, seen.lines), seen, errors);
+}
+
+/// Reports in the name of a program that the log of this name cannot be opened, and why.
+///
+/// ```
+/// # use cidr_programs::in_examples::*;
+/// use cidr_programs::lists::OpenFault;
+/// use cidr_programs::log_programs::telling::tell_closed;
+///
+/// let (mut slice, mut room) = ([0; 64], [b'.'; 64]);
+/// let mut errors = cidr_programs::lines::output::Output::new(room.as_mut_slice(), &mut slice);
+/// tell_closed("cidr_join", "log", OpenFault::Missing, &mut errors);
+/// assert_eq!(errors.finish(), Ok(()));
+/// drop(errors);
+/// assert!(room.starts_with(b"cidr_join: log: cannot open: no such file\n."));
+/// ```
+pub fn tell_closed<E: Write>(
+    program: &str,
+    name: &str,
+    fault: OpenFault,
+    errors: &mut Output<'_, E>,
+) {
+    tell_head(program, name, errors);
+    tell(fault.text(), errors);
 }
 
 // Whether it is told of so many lines how many have no address.
