@@ -1,19 +1,21 @@
 -- Logs that are read in turn.
-use Rattle.std.proofs.Common.{◌≡◌, ◌+◌, ◌++◌, ◌∷◌, ◌∙◌, ◌||◌, [], ℕ, List, Bool, true, false, refl, sym, ap, subst, map, take, append_assoc, append-nil}
+use Rattle.std.proofs.Common.{◌≡◌, ◌+◌, ◌++◌, ◌∷◌, ◌∙◌, ◌||◌, ◌⊎◌, inl, inr, [], ℕ, List, Bool, true, false, refl, sym, ap, subst, map, take, append_assoc, append-nil, codes}
 use Rattle.std.specs.Prelude.{Option, Some, String}
 use Rattle.std.specs.String.{string_bytes}
 use Rattle.std.specs.Io.KnownBytes.{Consumes, IsAtEnd}
 use Rattle.lines.specs.Outputs.{Written}
 use Rattle.lists.specs.KnownLists.{KnownLists}
+use Rattle.lists.specs.declared.opening.OpenFault.{OpenFault}
 use Rattle.program.specs.LogLines.{LogLine, log_lines}
 use Rattle.program.specs.Messages.{Reports}
 use Rattle.program.proofs.LogNames.{all_of}
-use Rattle.program.proofs.Reported.{tells_more, tells_nothing, tells_same}
+use Rattle.program.proofs.Reported.{tells_more, tells_nothing}
+use Rattle.log_programs.specs.Closed.{closed_text}
 use Rattle.log_programs.specs.Seen.{is_missed}
 use Rattle.log_programs.specs.declared.log_stats.LogStats.{LogStats}
-use Rattle.log_programs.proofs.Failing.{or_assoc}
+use Rattle.log_programs.proofs.Failing.{or_assoc, or_none}
 use Rattle.cidr_join.specs.Addressed.{seen_of, ended_by}
-use Rattle.cidr_join.specs.Logs.{ReadsLogs}
+use Rattle.cidr_join.specs.Logs.{ReadsLog, MissesLog, ReadsLogs}
 use Rattle.cidr_join.specs.Private.Runs.{ReadsNames}
 use Rattle.cidr_join.specs.declared.join.Join.{Join}
 
@@ -26,21 +28,25 @@ module _ {A : Type 0} (Gives : List LogLine → List A → Type 0) (join : Join)
       (subst (λ (l : List A). ReadsLogs Gives join known second (l ++ b) t y) (sym f.0) g))
   logs_both (name ∷ first) second a b s t x y f g = (
     f.0,
-    f.1,
-    f.2 ++ b,
+    f.1 ++ b,
+    f.2,
     f.3 ++ t,
-    f.4 || y,
-    f.5,
+    f.4,
+    f.5 || y,
     f.6,
-    logs_both first second f.2 b f.3 t f.4 y f.7 g,
-    ap (λ (l : List A). l ++ b) f.8 ∙ append_assoc f.1 f.2 b,
-    ap (λ (l : List ℕ). l ++ t) f.9 ∙ append_assoc (ended_by join name (seen_of join (log_lines f.0))) f.3 t,
-    ap (λ (m : Bool). m || y) f.10 ∙ or_assoc (is_missed join.bad (seen_of join (log_lines f.0))) f.4 y,
+    logs_both first second f.1 b f.3 t f.5 y f.7 g,
+    ap (λ (l : List A). l ++ b) f.8 ∙ append_assoc f.0 f.1 b,
+    ap (λ (l : List ℕ). l ++ t) f.9 ∙ append_assoc f.2 f.3 t,
+    ap (λ (m : Bool). m || y) f.10 ∙ or_assoc f.4 f.5 y,
   )
 
 -- what is given by lines, and from one state to the next was done with it
 module _ {A S : Type 0} (Gives : List LogLine → List A → Type 0) (Done : S → S → List A → Type 0) (join : Join) (known : KnownLists) where
   -- ---- one log
+
+  one_log : (name : List ℕ) (all : List A) (text : List ℕ) (missed : Bool) → (ReadsLog Gives join known name all text missed ⊎ MissesLog known name all text missed)
+      → ReadsLogs Gives join known (name ∷ []) all text missed
+  one_log name all text missed is = (all, [], text, [], missed, false, is, (refl, refl, refl), sym (append-nil all), sym (append-nil text), or_none missed missed refl)
 
   pub name_read : {E : Type 0} (name : List ℕ) (remained remains : Option (List ℕ)) (has : (input : List ℕ) → known.bytes_of name ≡ Some input → remained ≡ Some input) → known.may_open name true
       → (old new : S) (errors told : Written E) (seen : LogStats) (missed : Bool) (read : List ℕ) → Consumes remained remains read → IsAtEnd remains → (all : List A) → Gives (log_lines read) all
@@ -48,14 +54,22 @@ module _ {A S : Type 0} (Gives : List LogLine → List A → Type 0) (Done : S �
       → Reports errors told (ended_by join name seen) → missed ≡ is_missed join.bad seen → ReadsNames Gives (Done old new) join known (name ∷ []) missed errors told
   name_read name remained remains has opened old new errors told seen missed read reads end all gives done sees tells misses = record {
     all = all;
-    text = ended_by join name (seen_of join (log_lines read)) ++ [];
-    reads = (read, all, [], [], false, all_of known name remained remains has opened read reads end, gives, (refl, refl, refl), sym (append-nil all), refl, or_nothing missed (is_missed join.bad (seen_of join (log_lines read))) (misses ∙ ap (is_missed join.bad) sees));
+    text = ended_by join name seen;
+    reads = one_log name all (ended_by join name seen) missed
+        (inl (read, all_of known name remained remains has opened read reads end, gives, ap (ended_by join name) sees, misses ∙ ap (is_missed join.bad) sees));
     is_done = done;
-    tells = tells_same errors told _ _ (ap (ended_by join name) sees ∙ sym (append-nil (ended_by join name (seen_of join (log_lines read))))) tells;
-  } where
-    or_nothing : (one other : Bool) → one ≡ other → one ≡ (other || false)
-    or_nothing one true e = e
-    or_nothing one false e = e
+    tells = tells;
+  }
+
+  pub name_missed : {E : Type 0} (name : List ℕ) (fault : OpenFault) (old : S) (errors told : Written E) → Done old old [] → known.may_open name false → known.may_miss name fault
+      → Reports errors told (closed_text (codes "cidr_join") name fault) → ReadsNames Gives (Done old old) join known (name ∷ []) true errors told
+  name_missed name fault old errors told done closed missed tells = record {
+    all = [];
+    text = closed_text (codes "cidr_join") name fault;
+    reads = one_log name [] (closed_text (codes "cidr_join") name fault) true (inr (fault, closed, missed, refl, refl, refl));
+    is_done = done;
+    tells = tells;
+  }
 
   -- ---- logs in turn
 

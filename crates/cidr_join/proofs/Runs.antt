@@ -7,7 +7,7 @@ use Rattle.std.specs.Io.KnownBytes.{Appends}
 use Rattle.lines.specs.Outputs.{Written, AppendsBeginning, FailsIn}
 use Rattle.program.proofs.LogNames.{some_first, names_apart, names_behind}
 use Rattle.program.proofs.LogStops.{told_log, written_behind, failed_behind, wrote_behind, wrote_same}
-use Rattle.program.proofs.Reported.{tells_more, tells_nothing, tells_same}
+use Rattle.program.proofs.Reported.{tells_more, tells_same}
 use Rattle.program.specs.Endings.{Ending, ending, Refuses, HasTold, HasWritten, status_of, end_text}
 use Rattle.program.specs.LogFaults.{log_fault_text, IfWrite, Wrote, HandsOn, StopsBy}
 use Rattle.program.specs.Messages.{Reports}
@@ -37,25 +37,11 @@ use Rattle.program.specs.declared.log_fault.LogFault.{LogFault}
 use Rattle.program.specs.declared.log_fault.LogFault.TheVariants as faults
 use Rattle.cidr_join.specs.declared.routes.Networks.{Networks}
 use Rattle.cidr_join.specs.declared.routes.Routes.{Routes}
-use Rattle.log_programs.specs.LogStats.{nothing}
-use Rattle.log_programs.specs.Seen.{seen_text}
 use Rattle.log_programs.specs.declared.log_stats.LogStats.{LogStats}
-use Rattle.log_programs.specs.declared.without_address.WithoutAddress.{WithoutAddress}
-use Rattle.log_programs.specs.declared.without_address.WithoutAddress.TheVariants as without
 use Rattle.cidr_join.proofs.LogsInTurn.{logs_both}
 use Rattle.cidr_join.proofs.TallyRows.{written_all, failed_all, ends_with}
 
 -- ---- a log that stops
-
--- of no lines nothing is told
-pub nothing_told : {E : Type 0} (join : Join) (name : List ℕ) (errors : Written E) → Reports errors errors (seen_by join name nothing)
-nothing_told join name errors = tells_same errors errors [] (seen_by join name nothing) (sym (none join.bad)) (tells_nothing errors) where
-  none : (bad : WithoutAddress) → seen_text (codes "cidr_join") name bad nothing ≡ []
-  none without.Unsaid = refl
-  none without.Drop = refl
-  none without.Keep = refl
-  none without.Stop = refl
-  none without.Report = refl
 
 module _ {W E : Type 0} (join : Join) (known : KnownLists) (name : List ℕ) (end : Ending W E) (two : end.status ≡ 2) (mid : Written W) (between : Written E) (old new : LogStats) (lines : List LogLine)
     (tells : Reports end.errors between (seen_by join name new)) where
@@ -100,7 +86,7 @@ module _ {W E : Type 0} (join : Join) (known : KnownLists) (name : List ℕ) (en
   pub name_stops : (fault : LogFault) → HaltsBy (EndsRunBy join) known name lines fault
       → IfWrite fault (IsTrue mid.failed × WritesBeginning join (begun (stand end.output old)) (stand mid new) lines) (JoinsLines join (begun (stand end.output old)) (stand mid new) lines)
       → StopsBy name new.lines fault (record end { output = mid; errors = between }) → StopsAtLog join known (name ∷ []) end
-  name_stops (faults.Open cause) halts d stops = handed (faults.Open cause) halts (λ text h. h) d stops
+  name_stops (faults.Open cause) halts d stops = absurd halts.0
   name_stops faults.Read halts d stops = handed faults.Read halts (λ text h. h) d stops
   name_stops faults.Write halts d stops = had_failed halts d stops
   name_stops faults.Address halts d stops = handed faults.Address halts (λ text h. h) d stops

@@ -4,7 +4,6 @@ use Rattle.std.specs.Prelude.{Option, Some, Err, IsTrue, String}
 use Rattle.std.specs.String.{string_bytes}
 use Rattle.lines.specs.Outputs.{Written}
 use Rattle.lists.specs.KnownLists.{KnownLists}
-use Rattle.lists.specs.declared.opening.OpenFault.{OpenFault}
 use Rattle.program.specs.LogFaults.{ended_by_write, log_fault_text}
 use Rattle.program.specs.Messages.{Reports}
 use Rattle.program.specs.LogLines.{LogLine}
@@ -22,7 +21,6 @@ use Rattle.cidr_join.specs.Private.TallyProgress.{CountsLines, CountsNames, Stop
 use Rattle.cidr_join.specs.declared.counts.Counts.{Counts}
 use Rattle.cidr_join.specs.declared.found.Found.{Found}
 use Rattle.cidr_join.specs.declared.join.Join.{Join}
-use Rattle.log_programs.specs.LogStats.{nothing}
 use Rattle.log_programs.specs.declared.log_stats.LogStats.{LogStats}
 use Rattle.cidr_join.specs.declared.tally_log.TallyFault.{TallyFault}
 use Rattle.cidr_join.specs.declared.tally_log.TallyFault.TheVariants as tallies
@@ -76,11 +74,6 @@ module _ (join : Join) (known : KnownLists) where
     name_stops (tallies.Log faults.Length) h = halted faults.Length refl h (halts_by known name remained remains has opened (EndsRunBy join) (CountsLines founds join old new seen) (λ (lines : List LogLine). ⊥) failed false fails faults.Length h)
     name_stops (tallies.Log faults.Endless) h = halted faults.Endless refl h (halts_by known name remained remains has opened (EndsRunBy join) (CountsLines founds join old new seen) (λ (lines : List LogLine). ⊥) failed false fails faults.Endless h)
     name_stops tallies.OutOfMemory h = inr (ran_out [] (name ∷ []) [] [] false (refl, refl, refl))
-
-  -- a log that was not opened
-  pub name_closed : (name : List ℕ) (seen : LogStats) → seen ≡ nothing → (cause : OpenFault) → known.may_open name false → known.may_miss name cause
-      → StopsTally join known (name ∷ []) (tally_fault_text join.bad name seen (tallies.Log (faults.Open cause)))
-  name_closed name seen none cause closed missed = at_log name [] [] (faults.Open cause) seen refl (tt, refl, closed, missed) refl none
 
   -- ---- logs in turn
 

@@ -1,8 +1,11 @@
 -- Logs that are read in turn.
-use Rattle.std.specs.Prelude.{◌≡◌, ℕ, ◌<◌, ◌≤◌, ◌||◌, Bool, true, false, List, [], ◌∷◌, ◌++◌, None, length}
+use Rattle.std.specs.Prelude.{◌≡◌, ℕ, ◌<◌, ◌≤◌, ◌||◌, ◌⊎◌, Bool, true, false, List, [], ◌∷◌, ◌++◌, None}
+use Rattle.std.specs.Prelude.{length, codes}
 use Rattle.lists.specs.KnownLists.{KnownLists}
+use Rattle.lists.specs.declared.opening.OpenFault.{OpenFault}
 use Rattle.cidr_join.specs.Addressed.{seen_of, ended_by}
 use Rattle.cidr_join.specs.Joins.{Joins, address_in}
+use Rattle.log_programs.specs.Closed.{closed_text}
 use Rattle.log_programs.specs.Seen.{is_missed}
 use Rattle.log_programs.specs.WithoutAddress.{is_stopped}
 use Rattle.program.specs.LogLines.{LogLine, log_lines}
@@ -11,26 +14,38 @@ use Rattle.cidr_join.specs.declared.join.Join.{Join}
 use Rattle.program.specs.declared.log_fault.LogFault.{LogFault}
 use Rattle.program.specs.declared.log_fault.LogFault.TheVariants as faults
 
--- the logs of these names were read to their ends: all this is given by their lines, one log after the other, this is
--- reported of what was seen of them, and whether a line is missed
+-- the log of this name was read to its end: all this is given by its lines, this is reported of what was seen of them,
+-- and whether one is missed
+abbrev pub ReadsLog : {A : Type 0} → (List LogLine → List A → Type 0) → Join → KnownLists → List ℕ → List A → List ℕ
+    → Bool → Type 0
+ReadsLog {A} Gives join known name all told missed = (read : List ℕ) × IsAllOf known name read
+    × Gives (log_lines read) all × (told ≡ ended_by join name (seen_of join (log_lines read)))
+    × (missed ≡ is_missed join.bad (seen_of join (log_lines read)))
+
+-- or it cannot be opened, which is reported with the cause, and nothing is given by it
+abbrev pub MissesLog : {A : Type 0} → KnownLists → List ℕ → List A → List ℕ → Bool → Type 0
+MissesLog {A} known name all told missed = (fault : OpenFault) × known.may_open name false × known.may_miss name fault
+    × (all ≡ []) × (told ≡ closed_text (codes "cidr_join") name fault) × (missed ≡ true)
+
+-- the logs of these names were read to their ends, or could not be opened, one after the other: all this is given by
+-- their lines, this is reported, and whether one could not be opened or a line of one is missed
 abbrev pub ReadsLogs : {A : Type 0} → (List LogLine → List A → Type 0) → Join → KnownLists → List (List ℕ) → List A
     → List ℕ → Bool → Type 0
 ReadsLogs {A} Gives join known [] all told missed = (all ≡ []) × (told ≡ []) × (missed ≡ false)
-ReadsLogs {A} Gives join known (name ∷ names) all told missed = (read : List ℕ) × (first : List A) × (others : List A)
-    × (texts : List ℕ) × (more : Bool)
-    × IsAllOf known name read × Gives (log_lines read) first × ReadsLogs Gives join known names others texts more
-    × (all ≡ first ++ others)
-    × (told ≡ ended_by join name (seen_of join (log_lines read)) ++ texts)
-    × (missed ≡ (is_missed join.bad (seen_of join (log_lines read)) || more))
+ReadsLogs {A} Gives join known (name ∷ names) all told missed = (first : List A) × (others : List A) × (text : List ℕ)
+    × (texts : List ℕ) × (is_missed : Bool) × (are_missed : Bool)
+    × (ReadsLog Gives join known name first text is_missed ⊎ MissesLog known name first text is_missed)
+    × ReadsLogs Gives join known names others texts are_missed
+    × (all ≡ first ++ others) × (told ≡ text ++ texts) × (missed ≡ (is_missed || are_missed))
 
 -- this is the output of their lines
 abbrev pub JoinsLogs : Join → KnownLists → List (List ℕ) → List ℕ → List ℕ → Bool → Type 0
 JoinsLogs join known names output told missed = ReadsLogs (Joins join) join known names output told missed
 
--- what ends a run, by the fault: a log that cannot be opened; or, if the option says so, a line, given without its end,
--- without an address, or one that is too long
+-- what ends a run, by the fault: a line, given without its end, without an address, or one that is too long, if the
+-- option says so
 abbrev pub EndsRunBy : Join → LogFault → List ℕ → Type 0
-EndsRunBy join (faults.Open cause) line = Unit {0}
+EndsRunBy join (faults.Open cause) line = ⊥
 EndsRunBy join faults.Read line = ⊥
 EndsRunBy join faults.Write line = ⊥
 EndsRunBy join faults.Address line = (length line ≤ 1048576) × (address_in join line ≡ None)

@@ -35,9 +35,9 @@ use Rattle.program.specs.declared.log_fault.LogFault.{LogFault}
 use Rattle.cidr_join.specs.declared.routes.Networks.{Networks}
 use Rattle.cidr_join.specs.declared.routes.Routes.{Routes}
 
--- a log was not joined to its end, and ended the run: those before it were joined, and its first lines; their outputs
--- were written, the cause was reported after what there is to report of those before it and of what was seen of these
--- lines, and the status is 2
+-- a log that was opened was not joined to its end, and ended the run: those before it were joined, and its first lines;
+-- their outputs were written, the cause was reported after what there is to report of those before it and of what was
+-- seen of these lines, and the status is 2
 pub record StopsAtLog {W E : Type 0} (join : Join) (known : KnownLists) (names : List (List ℕ))
     (end : Ending W E) : Type 0 where
   pub before : List (List ℕ)
@@ -57,15 +57,15 @@ pub record StopsAtLog {W E : Type 0} (join : Join) (known : KnownLists) (names :
   pub told : HasTold end (texts ++ (seen_by join name (seen_of join lines) ++ log_fault_text name (length lines) fault))
   pub status : end.status ≡ 2
 
--- all logs were joined to their ends
+-- all logs were joined to their ends, but those that could not be opened
 pub record JoinsAll {W E : Type 0} (join : Join) (known : KnownLists) (names : List (List ℕ))
     (end : Ending W E) : Type 0 where
   pub output : List ℕ
   pub texts : List ℕ
   pub missed : Bool
   pub joins : JoinsLogs join known names output texts missed
-  -- their output was written, what there is to report of them was reported, and the status is 0, or 2 if a line is
-  -- missed; or the writer failed, and that was reported after it
+  -- their output was written, what there is to report of them was reported, and the status is 0, or 2 if a log could
+  -- not be opened or a line is missed; or the writer failed, and that was reported after it
   pub ends : EndsWith output texts missed end
 
 -- the logs were joined, in turn

@@ -26,8 +26,8 @@ Marks join (line ∷ lines) marks = (found : Found) × (others : List (List ℕ)
     × (is_refused join.bad (asked_in join line) ≡ false) × Finds join (asked_in join line) found
     × Marks join lines others × (marks ≡ counted_for join (asked_in join line) found ++ others)
 
--- what is counted for the lines of the logs of these names, which were read to their ends, what is reported of what was
--- seen of them, and whether a line is missed
+-- what is counted for the lines of the logs of these names, which were read to their ends, or could not be opened, what
+-- is reported, and whether one could not be opened or a line is missed
 abbrev pub MarksLogs : Join → KnownLists → List (List ℕ) → List (List ℕ) → List ℕ → Bool → Type 0
 MarksLogs join known names marks told missed = ReadsLogs (Marks join) join known names marks told missed
 
@@ -35,8 +35,8 @@ MarksLogs join known names marks told missed = ReadsLogs (Marks join) join known
 abbrev pub IsOfReading : LogFault → Type 0
 IsOfReading fault = ended_by_write {T = Unit {0}} (Err fault) ≡ false
 
--- a log was not read to its end: those before it were, and its first lines; this is what is reported, after what there
--- is to report of those before it and of what was seen of these lines
+-- a log that was opened was not read to its end: those before it were, and its first lines; this is what is reported,
+-- after what there is to report of those before it and of what was seen of these lines
 pub record StopsAtName (join : Join) (known : KnownLists) (names : List (List ℕ)) (text : List ℕ) : Type 0 where
   pub before : List (List ℕ)
   pub name : List ℕ
@@ -69,7 +69,7 @@ pub record RunsOut (join : Join) (known : KnownLists) (names : List (List ℕ)) 
 abbrev pub StopsTally : Join → KnownLists → List (List ℕ) → List ℕ → Type 0
 StopsTally join known names text = StopsAtName join known names text ⊎ RunsOut join known names text
 
--- the status is 2 if a line is missed, and else 0
+-- the status is 2 if a log could not be opened or a line is missed, and else 0
 abbrev pub status_by : Bool → ℕ
 status_by missed = if missed then 2 else 0
 

@@ -47,11 +47,11 @@ with the value of the last behind it: -wk1, -flist; and so may --bad=keep. A FIL
 for standard input, as is no FILE at all. A line is printed as it was; a last line without a line
 feed gets one. A line has at most 1,048,576 bytes; a longer one is not printed and counts as one
 without an address, and the first of a FILE is reported. A line of the list has at most 1,024 bytes,
-and the list 1,073,741,824. A FILE with lines of which none has an address where it is looked for is
-reported.
+and the list 1,073,741,824. A FILE that cannot be opened is reported, and the others are read. So is
+a FILE with lines of which none has an address where it is looked for.
 
 Status: 0, or 2 on wrong usage, a refused line, one that is too long without --bad drop, a file that
-cannot be read, a failed write or out of memory.
+cannot be opened or read, a failed write or out of memory.
 
 Examples:
     cidr_join -f teams.txt access.log

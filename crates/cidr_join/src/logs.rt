@@ -13,12 +13,13 @@ use crate::telling::tell_unaddressed;
 use lines::output::Output;
 use lists::{OpenLists, open_list};
 use log_programs::log_stats::LogStats;
-use log_programs::telling::{is_missed, tell_seen};
-use program::log_fault::{LogFault, stop};
+use log_programs::telling::{is_missed, tell_closed, tell_seen};
+use program::log_fault::stop;
 use std::io::Write;
 
-/// Joins the logs of these names in their order, and returns whether a line of one is missed. If one does not come to its
-/// end, the cause is reported, and there is no answer. What was seen of the lines is reported of each.
+/// Joins the logs of these names in their order, and returns whether one could not be opened or a line of one is missed. If
+/// one that was opened does not come to its end, the cause is reported, and there is no answer. What was seen of the lines
+/// is reported of each.
 pub(crate) fn join_logs<L: OpenLists, W: Write, E: Write>(
     join: &Join<'_>,
     lists: &L,
@@ -45,7 +46,8 @@ pub(crate) fn join_logs<L: OpenLists, W: Write, E: Write>(
     Some(missed)
 }
 
-// Opens the log of this name and joins its lines, and returns whether one is missed, as `join_logs` does.
+// Opens the log of this name and joins its lines, and returns whether it could not be opened or one is missed, as
+// `join_logs` does.
 fn join_one<L: OpenLists, W: Write, E: Write>(
     join: &Join<'_>,
     lists: &L,
@@ -64,8 +66,8 @@ fn join_one<L: OpenLists, W: Write, E: Write>(
     let mut log = match open_list(lists, name) {
         Ok(log) => log,
         Err(cause) => {
-            stop(name, LogFault::Open(cause), 0, output, errors);
-            return None;
+            tell_closed(PROGRAM, name, cause, errors);
+            return Some(true);
         }
     };
     let mut seen = LogStats::new();

@@ -1,4 +1,4 @@
-//! Whether a line of the logs is missed.
+//! Whether a log or a line is missed.
 ghost use Rattle.std.specs.Prelude.{◌≡◌, ◌||◌};
 ghost use Rattle.cidr_join.specs.TallyRuns.{status_by};
 
@@ -11,7 +11,7 @@ pub(crate) fn either(first: bool, second: bool) -> bool
     first || second
 }
 
-/// The exit status by whether a line was missed.
+/// The exit status by whether a log or a line was missed.
 pub(crate) fn status(missed: bool) -> u8
     ensures { result ≡ status_by missed }
 {

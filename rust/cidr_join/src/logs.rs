@@ -11,12 +11,13 @@ use crate::telling::tell_unaddressed;
 use cidr_programs::lines::output::Output;
 use cidr_programs::lists::{OpenLists, open_list};
 use cidr_programs::log_programs::log_stats::LogStats;
-use cidr_programs::log_programs::telling::{is_missed, tell_seen};
-use cidr_programs::program::log_fault::{LogFault, stop};
+use cidr_programs::log_programs::telling::{is_missed, tell_closed, tell_seen};
+use cidr_programs::program::log_fault::stop;
 use fosibegan::plain_std::io::Write;
 
-/// Joins the logs of these names in their order, and returns whether a line of one is missed. If one does not come to its
-/// end, the cause is reported, and there is no answer. What was seen of the lines is reported of each.
+/// Joins the logs of these names in their order, and returns whether one could not be opened or a line of one is missed. If
+/// one that was opened does not come to its end, the cause is reported, and there is no answer. What was seen of the lines
+/// is reported of each.
 pub(crate) fn join_logs<L: OpenLists, W: Write, E: Write>(
     join: &Join<'_>,
     lists: &L,
@@ -36,7 +37,8 @@ pub(crate) fn join_logs<L: OpenLists, W: Write, E: Write>(
     Some(missed)
 }
 
-// Opens the log of this name and joins its lines, and returns whether one is missed, as `join_logs` does.
+// Opens the log of this name and joins its lines, and returns whether it could not be opened or one is missed, as
+// `join_logs` does.
 fn join_one<L: OpenLists, W: Write, E: Write>(
     join: &Join<'_>,
     lists: &L,
@@ -48,8 +50,8 @@ fn join_one<L: OpenLists, W: Write, E: Write>(
     let mut log = match open_list(lists, name) {
         Ok(log) => log,
         Err(cause) => {
-            stop(name, LogFault::Open(cause), 0, output, errors);
-            return None;
+            tell_closed(PROGRAM, name, cause, errors);
+            return Some(true);
         }
     };
     let mut seen = LogStats::new();

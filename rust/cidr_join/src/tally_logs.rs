@@ -15,10 +15,10 @@ use cidr_programs::lines::fault::RunFault;
 use cidr_programs::lines::output::Output;
 use cidr_programs::lists::{OpenLists, open_list};
 use cidr_programs::log_programs::log_stats::LogStats;
-use cidr_programs::log_programs::telling::{is_missed, tell_seen};
+use cidr_programs::log_programs::telling::{is_missed, tell_closed, tell_seen};
 use cidr_programs::log_programs::without_address::WithoutAddress;
 use cidr_programs::program::ending::{FAILED, end};
-use cidr_programs::program::log_fault::{LogFault, tell_log_fault};
+use cidr_programs::program::log_fault::tell_log_fault;
 use cidr_programs::program::memory::refuse_memory;
 use cidr_programs::program::messages::{number_text, tell};
 use cidr_programs::program::putting::put_both;
@@ -61,8 +61,9 @@ pub(crate) fn tally_logs<L: OpenLists, W: Write, E: Write>(
     end(written, status(missed), errors)
 }
 
-// Counts the lines of the logs of these names, and returns whether one is missed. If a log does not come to its end, the
-// cause is reported, and there is no answer. What was seen of the lines is reported of each.
+// Counts the lines of the logs of these names, and returns whether one could not be opened or a line is missed. If a log
+// that was opened does not come to its end, the cause is reported, and there is no answer. What was seen of the lines is
+// reported of each.
 fn tally_each<L: OpenLists, E: Write>(
     alloc: Global,
     join: &Join<'_>,
@@ -85,7 +86,8 @@ fn tally_each<L: OpenLists, E: Write>(
     Some(missed)
 }
 
-// Opens the log of this name and counts its lines, and returns whether one is missed, as `tally_each` does.
+// Opens the log of this name and counts its lines, and returns whether it could not be opened or one is missed, as
+// `tally_each` does.
 fn tally_one<L: OpenLists, E: Write>(
     alloc: Global,
     join: &Join<'_>,
@@ -99,9 +101,8 @@ fn tally_one<L: OpenLists, E: Write>(
     let mut log = match open_list(lists, name) {
         Ok(log) => log,
         Err(cause) => {
-            let fault = TallyFault::Log(LogFault::Open(cause));
-            tell_stop(join.bad, name, fault, &LogStats::new(), errors);
-            return None;
+            tell_closed(PROGRAM, name, cause, errors);
+            return Some(true);
         }
     };
     let mut seen = LogStats::new();

@@ -1,23 +1,18 @@
 use Rattle.std.proofs.Common.{List, ℕ}
 use Rattle.lines.specs.Watched.{device_of, has_failed}
-use Rattle.program.specs.declared.log_fault.LogFault.TheVariants.{Open}
 use Rattle.program.proofs.Reported.{tells_on}
 use Rattle.cidr_join.specs.TallyRuns.{Marks}
 use Rattle.cidr_join.specs.Private.TallyProgress.{CountsAll, tally_fault_text}
 use Rattle.cidr_join.specs.declared.counts.Counts.{Counts}
-use Rattle.cidr_join.specs.declared.tally_log.TallyFault.TheVariants.{Log}
-use Rattle.cidr_join.proofs.LogsInTurn.{name_read}
-use Rattle.cidr_join.proofs.TallyNames.{name_closed, name_stops}
+use Rattle.cidr_join.proofs.LogsInTurn.{name_missed, name_read}
+use Rattle.cidr_join.proofs.TallyLines.{counts_nothing}
+use Rattle.cidr_join.proofs.TallyNames.{name_stops}
 use Rattle.cidr_join.proofs.tally_logs.tally_one.Goals as goal
 
 pub returns-in-Err : goal.returns-in-Err
 returns-in-Err g c =
-    let known = g.L.OpenLists.known c.args.lists.now in
-    let cause = c.in-Err.cause in (
-      tally_fault_text c.args.join.now.bad c.args.name.now c.new.result (Log (Open cause)),
-      name_closed c.args.join.now known c.args.name.now c.new.result c.new.ensures cause c.in-Err.ensures.opened c.in-Err.ensures.missed,
-      c.tell_stop.ensures,
-    )
+    name_missed (Marks c.args.join.now) (λ (old new : Counts) (marks : List (List ℕ)). CountsAll c.args.numbered.now.founds.items marks old new) c.args.join.now (g.L.OpenLists.known c.args.lists.now) c.args.name.now
+    c.in-Err.cause c.args.counts.now c.args.errors.now c.tell_closed.new.errors (counts_nothing c.args.numbered.now.founds.items c.args.counts.now) c.in-Err.ensures.opened c.in-Err.ensures.missed c.tell_closed.ensures
 
 pub returns-in-Ok-end : goal.returns-in-Ok-end
 returns-in-Ok-end g c =
@@ -37,5 +32,5 @@ returns-in-Err-end g c =
       name_stops c.args.join.now (g.L.OpenLists.known c.args.lists.now) c.args.numbered.now.founds.items c.args.name.now (remaining (device_of c.in-Ok.log)) (remaining (device_of c.tally_log-end.new.reader))
           c.in-Ok.ensures.bytes c.in-Ok.ensures.opened c.args.counts.now c.tally_log-end.new.counts c.tally_log-end.new.seen
           (has_failed c.tally_log-end.new.reader) c.close.ensures.failed c.in-Err-end.fault c.in-Err-end.ensures.err,
-      c.tell_stop-in-Err-end.ensures,
+      c.tell_stop.ensures,
     )
