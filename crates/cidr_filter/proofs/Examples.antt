@@ -258,11 +258,14 @@ pub a_first_line_that_is_too_long : log_fault_text (codes "-") 0 faults.Length �
 unfolding digits
 a_first_line_that_is_too_long = refl
 
-pub a_log_that_is_missing : closed_text (codes "log") causes.Missing ≡ codes "log: cannot open: no such file\n"
+pub a_log_that_is_missing : closed_text (codes "log") causes.Missing ≡ codes "cidr_filter: log: cannot open: no such file\n"
 a_log_that_is_missing = refl
 
-pub a_directory : closed_text (codes "log") causes.Directory ≡ codes "log: cannot open: is a directory\n"
+pub a_directory : closed_text (codes "log") causes.Directory ≡ codes "cidr_filter: log: cannot open: is a directory\n"
 a_directory = refl
+
+pub a_log_that_is_the_output : closed_text (codes "log") causes.Output ≡ codes "cidr_filter: log: input file is also the output\n"
+a_log_that_is_the_output = refl
 
 pub a_field_without_addresses : lacking_by (areas.Field 8 32) (codes "log") 2 false ≡ codes "cidr_filter: log: no line has an address in field 8\n"
 unfolding digits

@@ -2,6 +2,7 @@
 use Rattle.std.specs.Prelude.{ℕ, Bool, true, false, List, ◌++◌, length, nat_lt, codes}
 use Rattle.cidr_filter.specs.Filters.{addresses_in}
 use Rattle.program.specs.LogLines.{LogLine}
+use Rattle.log_programs.specs.Closed as closed
 use Rattle.log_programs.specs.Lacking.{lacking_told}
 use Rattle.log_programs.specs.LogStats.{stats_of}
 use Rattle.log_programs.specs.Seen.{seen_text}
@@ -10,7 +11,6 @@ use Rattle.cidr_filter.specs.declared.filter.Filter.{Filter}
 use Rattle.line_addresses.specs.declared.area.Area.{Area}
 use Rattle.cidr_filter.specs.declared.filter.Verdict.{Verdict}
 use Rattle.cidr_filter.specs.declared.filter.Verdict.TheVariants as verdicts
-use Rattle.lists.specs.Opening.{open_fault_text}
 use Rattle.lists.specs.declared.opening.OpenFault.{OpenFault}
 
 -- whether a line, given without its end, has an address where it is looked for
@@ -41,4 +41,4 @@ ended_by filter name seen = seen_by filter name seen ++ lacking_by filter.area n
 
 -- what is reported of a log of this name that cannot be opened
 abbrev pub closed_text : List ℕ → OpenFault → List ℕ
-closed_text name fault = name ++ open_fault_text fault
+closed_text name fault = closed.closed_text (codes "cidr_filter") name fault

@@ -1,5 +1,6 @@
 //! Filters the logs of a run in turn.
-ghost use Rattle.std.specs.Prelude.{◌≡◌, ◌≤◌, ◌++◌, ◌||◌, ◌&&◌, ◌∷◌, [], decimal, length, map, nat_lt, is_err, OnOk, OnErr, MatchOption};
+ghost use Rattle.std.specs.Prelude.{◌≡◌, ◌≤◌, ◌++◌, ◌||◌, ◌&&◌, ◌∷◌, [], false, ℕ, List, Some, decimal, length, map, nat_lt, is_err, is_ok, IfOk, IfErr, OnOk, OnErr, MatchOption};
+ghost use Rattle.lines.specs.Watched.{device_of, has_failed};
 ghost use Rattle.std.specs.Io.KnownBytes.{Appends};
 ghost use Rattle.lines.specs.Outputs.{Writes, FailsIn};
 ghost use Rattle.program.specs.Endings.{ending};
@@ -9,17 +10,17 @@ ghost use Rattle.cidr_filter.specs.Stands.{stand};
 ghost use Rattle.cidr_filter.specs.Private.Runs.{FiltersNames};
 ghost use Rattle.program.specs.Putting.{PutsOrFails};
 
-use crate::filter::{Filter, Verdict};
+use crate::filter::{Filter, OutputMode, Verdict};
 use crate::help::PROGRAM;
 use crate::log::{Reached, Tally, filter_log};
 use crate::naming::label_of;
-use crate::telling::tell_closed;
 use line_addresses::Text;
 use lines::fault::RunFault;
 use lines::output::Output;
-use lists::{OpenLists, open_list};
+use lines::watched::Watched;
+use lists::{OpenFault, OpenLists, open_input, open_list};
 use log_programs::log_stats::LogStats;
-use log_programs::telling::{is_missed, tell_lacking, tell_seen};
+use log_programs::telling::{is_missed, tell_closed, tell_lacking, tell_seen};
 use program::ending::{FAILED, end};
 use program::log_fault::stop;
 use program::log_reader::LogReader;
@@ -113,6 +114,25 @@ fn either(first: bool, second: bool) -> bool
     first || second
 }
 
+// Opens the log of this name. If lines or their addresses are printed, it is not the file that they are written to.
+fn open_log<L: OpenLists>(
+    shows: OutputMode,
+    lists: &L,
+    name: &str,
+) -> Result<Watched<L::List>, OpenFault>
+    ensures bytes { IfOk result (λ list. (bytes : List ℕ)
+        → (L.known lists.now).bytes_of name.now ≡ Some bytes
+        → L.List.remaining (device_of list) ≡ Some bytes) }
+    ensures opened { (L.known lists.now).may_open name.now (is_ok result) }
+    ensures missed { IfErr result (λ fault. (L.known lists.now).may_miss name.now fault) }
+    ensures failed { IfOk result (λ list. has_failed list ≡ false) }
+{
+    match shows {
+        OutputMode::Lines | OutputMode::Addresses => open_input(lists, name),
+        _ => open_list(lists, name),
+    }
+}
+
 // Opens the log of this name and filters it, and returns whether it could not be opened, or a line of it is missed, as
 // `filter_each` does.
 fn filter_one<'a, L: OpenLists, W: Write, E: Write>(
@@ -132,10 +152,10 @@ fn filter_one<'a, L: OpenLists, W: Write, E: Write>(
         (stand output.old tally.old) (stand output.new tally.new) errors.old errors.new) }
     ensures filter { filter.new ≡ filter.old }
 {
-    let mut log = match open_list(lists, name) {
+    let mut log = match open_log(filter.shows, lists, name) {
         Ok(log) => log,
         Err(cause) => {
-            tell_closed(name, cause, errors);
+            tell_closed(PROGRAM, name, cause, errors);
             return Some(true);
         }
     };

@@ -1,18 +1,13 @@
-//! Messages on the error writer. If a write of one fails, nothing else changes.
+//! By which names and numbers refused lines are told.
 ghost use Rattle.std.specs.Prelude.{◌≡◌, ◌+◌, map, take, IfOk};
 ghost use Rattle.std.specs.String.{string_bytes};
-ghost use Rattle.program.specs.Messages.{Reports};
-ghost use Rattle.cidr_filter.specs.Addressed.{closed_text};
 ghost use Rattle.cidr_filter.specs.Reported.{is_text, is_text_at, texts_in, told_name};
 
 use crate::reading::{Source, source_of};
-use lines::output::Output;
-use lists::{OpenFault, Refusal};
+use lists::Refusal;
 use options::items::Item;
-use program::log_fault::tell_of;
 use program::telling::Places;
 use std::alloc::{AllocError, Global};
-use std::io::Write;
 
 /// Where refused lines stand, by the items of a command line: in a list, or in the text of an `-e`.
 #[derive(Clone, Copy)]
@@ -87,11 +82,4 @@ fn told_name(alloc: Global, item: &Item<'_>) -> Result<String, AllocError>
         Source::Text(_) => String::from_str(alloc, "-e"),
         Source::Nothing => Ok(String::new(alloc)),
     }
-}
-
-/// Reports that the log of this name cannot be opened, and why.
-pub(crate) fn tell_closed<E: Write>(name: &str, fault: OpenFault, errors: &mut Output<'_, E>)
-    ensures { Reports errors.old errors.new (closed_text name.now fault) }
-{
-    tell_of(name, fault.text(), errors);
 }

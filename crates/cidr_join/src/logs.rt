@@ -11,7 +11,7 @@ use crate::log::join_log;
 use crate::missing::either;
 use crate::telling::tell_unaddressed;
 use lines::output::Output;
-use lists::{OpenLists, open_list};
+use lists::{OpenLists, open_input};
 use log_programs::log_stats::LogStats;
 use log_programs::telling::{is_missed, tell_closed, tell_seen};
 use program::log_fault::stop;
@@ -63,7 +63,7 @@ fn join_one<L: OpenLists, W: Write, E: Write>(
         (λ missed. JoinsNames join.now (L.known lists.now) (name.now ∷ []) missed
         output.old output.new errors.old errors.new) }
 {
-    let mut log = match open_list(lists, name) {
+    let mut log = match open_input(lists, name) {
         Ok(log) => log,
         Err(cause) => {
             tell_closed(PROGRAM, name, cause, errors);

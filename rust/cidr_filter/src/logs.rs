@@ -3,17 +3,17 @@
 //! Filters the logs of a run in turn.
 
 use fosibegan::plain_std::string::String;
-use crate::filter::{Filter, Verdict};
+use crate::filter::{Filter, OutputMode, Verdict};
 use crate::help::PROGRAM;
 use crate::log::{Reached, Tally, filter_log};
 use crate::naming::label_of;
-use crate::telling::tell_closed;
 use cidr_programs::line_addresses::Text;
 use cidr_programs::lines::fault::RunFault;
 use cidr_programs::lines::output::Output;
-use cidr_programs::lists::{OpenLists, open_list};
+use cidr_programs::lines::watched::Watched;
+use cidr_programs::lists::{OpenFault, OpenLists, open_input, open_list};
 use cidr_programs::log_programs::log_stats::LogStats;
-use cidr_programs::log_programs::telling::{is_missed, tell_lacking, tell_seen};
+use cidr_programs::log_programs::telling::{is_missed, tell_closed, tell_lacking, tell_seen};
 use cidr_programs::program::ending::{FAILED, end};
 use cidr_programs::program::log_fault::stop;
 use cidr_programs::program::log_reader::LogReader;
@@ -90,6 +90,18 @@ fn either(first: bool, second: bool) -> bool {
     first || second
 }
 
+// Opens the log of this name. If lines or their addresses are printed, it is not the file that they are written to.
+fn open_log<L: OpenLists>(
+    shows: OutputMode,
+    lists: &L,
+    name: &str,
+) -> Result<Watched<L::List>, OpenFault> {
+    match shows {
+        OutputMode::Lines | OutputMode::Addresses => open_input(lists, name),
+        _ => open_list(lists, name),
+    }
+}
+
 // Opens the log of this name and filters it, and returns whether it could not be opened, or a line of it is missed, as
 // `filter_each` does.
 fn filter_one<'a, L: OpenLists, W: Write, E: Write>(
@@ -101,10 +113,10 @@ fn filter_one<'a, L: OpenLists, W: Write, E: Write>(
     output: &mut Output<'_, W>,
     errors: &mut Output<'_, E>,
 ) -> Option<bool> {
-    let mut log = match open_list(lists, name) {
+    let mut log = match open_log(filter.shows, lists, name) {
         Ok(log) => log,
         Err(cause) => {
-            tell_closed(name, cause, errors);
+            tell_closed(PROGRAM, name, cause, errors);
             return Some(true);
         }
     };

@@ -1,17 +1,14 @@
 // Written by scripts/plain out of crates/cidr_filter/src/telling.rt
 
-//! Messages on the error writer. If a write of one fails, nothing else changes.
+//! By which names and numbers refused lines are told.
 
 use fosibegan::plain_std::vec::Vec;
 use fosibegan::plain_std::string::String;
 use crate::reading::{Source, source_of};
-use cidr_programs::lines::output::Output;
-use cidr_programs::lists::{OpenFault, Refusal};
+use cidr_programs::lists::Refusal;
 use cidr_programs::options::items::Item;
-use cidr_programs::program::log_fault::tell_of;
 use cidr_programs::program::telling::Places;
 use fosibegan::plain_std::alloc::{AllocError, Global};
-use fosibegan::plain_std::io::Write;
 
 /// Where refused lines stand, by the items of a command line: in a list, or in the text of an `-e`.
 #[derive(Clone, Copy)]
@@ -70,9 +67,4 @@ fn told_name(alloc: Global, item: &Item<'_>) -> Result<String, AllocError> {
         Source::Text(_) => String::from_str(alloc, "-e"),
         Source::Nothing => Ok(String::new(alloc)),
     }
-}
-
-/// Reports that the log of this name cannot be opened, and why.
-pub(crate) fn tell_closed<E: Write>(name: &str, fault: OpenFault, errors: &mut Output<'_, E>) {
-    tell_of(name, fault.text(), errors);
 }

@@ -9,7 +9,7 @@ use crate::log::join_log;
 use crate::missing::either;
 use crate::telling::tell_unaddressed;
 use cidr_programs::lines::output::Output;
-use cidr_programs::lists::{OpenLists, open_list};
+use cidr_programs::lists::{OpenLists, open_input};
 use cidr_programs::log_programs::log_stats::LogStats;
 use cidr_programs::log_programs::telling::{is_missed, tell_closed, tell_seen};
 use cidr_programs::program::log_fault::stop;
@@ -47,7 +47,7 @@ fn join_one<L: OpenLists, W: Write, E: Write>(
     output: &mut Output<'_, W>,
     errors: &mut Output<'_, E>,
 ) -> Option<bool> {
-    let mut log = match open_list(lists, name) {
+    let mut log = match open_input(lists, name) {
         Ok(log) => log,
         Err(cause) => {
             tell_closed(PROGRAM, name, cause, errors);
