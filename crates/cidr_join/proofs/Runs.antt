@@ -20,7 +20,7 @@ use Rattle.program.specs.LogLines.{LogLine}
 use Rattle.cidr_join.specs.Logs.{EndsRunBy}
 use Rattle.program.specs.Logs.{HaltsBy}
 use Rattle.cidr_join.specs.Routes.{Values, no_networks}
-use Rattle.cidr_join.specs.Runs.{StopsAtLog, JoinsAll, EndsLogs, EndsAsked, EndsFinding, EndsGrouping, EndsJoining, EndsFiles, answers_of, join_of, list_name, lengths_of}
+use Rattle.cidr_join.specs.Runs.{StopsAtLog, JoinsAll, EndsLogs, EndsAsked, EndsFinding, EndsGrouping, EndsJoining, EndsFiles, answers_of, join_of, list_name, lengths_of, rules_of}
 use Rattle.cidr_join.specs.TallyRuns.{EndsTally, status_by}
 use Rattle.cidr_join.specs.Stands.{stand, begun}
 use Rattle.cidr_join.specs.Stops.{JoinsLines, WritesBeginning}
@@ -165,7 +165,7 @@ same_routes routes networks a b =
 
 -- what is printed of addresses was found, and the logs were joined by it
 pub taken : {W E : Type 0} (known : KnownLists) (items : List Item) (name text : List ℕ) (end : Ending W E) (networks : Networks) (by : Answers) → by ≡ answers_of items networks
-    → TakesLines (is_given items own.last_wins) no_networks (slice_split (λ b. b == 10) text) networks → EndsFinding known items by end → EndsJoining known items name text end
+    → TakesLines (rules_of items) no_networks (slice_split (λ b. b == 10) text) networks → EndsFinding known items by end → EndsJoining known items name text end
 taken known items name text end networks by same takes (inl h) = inr (inl h)
 taken known items name text end networks by same takes (inr h) =
     inr (inr (networks, takes, subst (λ (a : Answers). EndsAsked (is_given items own.tally) (join_of items a) known (inputs_of items) end) same h))

@@ -14,6 +14,7 @@ use Rattle.lists.specs.declared.entry.EntryFault.{EntryFault}
 use Rattle.cidr_join.specs.Entries.{trimmed, is_skipped, entry_len, entry_part, EntryFails, Says, LineFaults}
 use Rattle.cidr_join.specs.Routes.{Values, no_networks, SetsOne, HasOne, SetsAll, RangeHasOne, IsGoodEntry, SetsEntry, EntryHasOne, IsRefusal}
 use Rattle.cidr_join.specs.Takes.{TakesLine, TakesLines, LineFails, StopsTaking}
+use Rattle.cidr_join.specs.declared.list.ListRules.{ListRules}
 use Rattle.cidr_join.specs.declared.routes.Networks.{Networks}
 use Rattle.cidr_join.specs.declared.line.Cause.TheVariants as causes
 use Rattle.cidr_join.specs.declared.routes.RouteFault.{RouteFault}
@@ -75,36 +76,36 @@ good_entry text (entries.Network n) h = tt
 good_entry text (entries.Range first last) h = h.1.2
 
 -- a line that begins with no network and no range
-pub entry_fails : (line text : List ℕ) (end : ℕ) (fault : EntryFault) → length line ≤ 1024 → text ≡ trimmed line → is_skipped text ≡ false → end ≡ entry_len text
-    → EntryFails (take end text) fault → LineFaults line (causes.Entry fault)
-entry_fails line text end fault short is some at h =
+pub entry_fails : (bare : Bool) (line text : List ℕ) (end : ℕ) (fault : EntryFault) → length line ≤ 1024 → text ≡ trimmed line → is_skipped text ≡ false → end ≡ entry_len text
+    → EntryFails (take end text) fault → LineFaults bare line (causes.Entry fault)
+entry_fails bare line text end fault short is some at h =
     let part : take end text ≡ entry_part (trimmed line) = ap (λ n. take n text) at ∙ ap entry_part is in
     ((short, sym (ap is_skipped is) ∙ some), subst (λ (p : List ℕ). EntryFails p fault) part h)
 
-pub line_set : {T E : Type 0} (result : Result T E) (last_wins : Bool) (before after : Networks) (line : List ℕ) (entry : Entry) (value : Value) → Says line entry value
-    → OnOk result (SetsEntry last_wins before entry value after) → OnOk result (TakesLine last_wins before line after)
-line_set (Ok done) last_wins before after line entry value says h = inr (entry, value, says, h)
-line_set (Err fault) last_wins before after line entry value says h = tt
+pub line_set : {T E : Type 0} (result : Result T E) (rules : ListRules) (before after : Networks) (line : List ℕ) (entry : Entry) (value : Value) → Says rules.bare line entry value
+    → OnOk result (SetsEntry rules.last_wins before entry value after) → OnOk result (TakesLine rules before line after)
+line_set (Ok done) rules before after line entry value says h = inr (entry, value, says, h)
+line_set (Err fault) rules before after line entry value says h = tt
 
-fault_has : (fault : RouteFault) (last_wins : Bool) (before : Networks) (line : List ℕ) (entry : Entry) (value : Value) → Says line entry value
-    → IsRefusal (EntryHasOne last_wins before entry value) fault → LineFails last_wins before line fault
-fault_has routes.OutOfMemory last_wins before line entry value says h = tt
-fault_has (routes.Refused (causes.Entry fault)) last_wins before line entry value says h = absurd h
-fault_has (routes.Refused causes.Value) last_wins before line entry value says h = absurd h
-fault_has (routes.Refused causes.Twice) last_wins before line entry value says h = (entry, value, says, h)
-fault_has (routes.Refused causes.Length) last_wins before line entry value says h = absurd h
+fault_has : (fault : RouteFault) (rules : ListRules) (before : Networks) (line : List ℕ) (entry : Entry) (value : Value) → Says rules.bare line entry value
+    → IsRefusal (EntryHasOne rules.last_wins before entry value) fault → LineFails rules before line fault
+fault_has routes.OutOfMemory rules before line entry value says h = tt
+fault_has (routes.Refused (causes.Entry fault)) rules before line entry value says h = absurd h
+fault_has (routes.Refused causes.Value) rules before line entry value says h = absurd h
+fault_has (routes.Refused causes.Twice) rules before line entry value says h = (entry, value, says, h)
+fault_has (routes.Refused causes.Length) rules before line entry value says h = absurd h
 
-pub line_has : {T : Type 0} (result : Result T RouteFault) (last_wins : Bool) (before : Networks) (line : List ℕ) (entry : Entry) (value : Value) → Says line entry value
-    → IfErr result (IsRefusal (EntryHasOne last_wins before entry value)) → IfErr result (LineFails last_wins before line)
-line_has (Ok done) last_wins before line entry value says h = tt
-line_has (Err fault) last_wins before line entry value says h = fault_has fault last_wins before line entry value says h
+pub line_has : {T : Type 0} (result : Result T RouteFault) (rules : ListRules) (before : Networks) (line : List ℕ) (entry : Entry) (value : Value) → Says rules.bare line entry value
+    → IfErr result (IsRefusal (EntryHasOne rules.last_wins before entry value)) → IfErr result (LineFails rules before line)
+line_has (Ok done) rules before line entry value says h = tt
+line_has (Err fault) rules before line entry value says h = fault_has fault rules before line entry value says h
 
 -- one line more was taken
-pub takes_more : (last_wins : Bool) (before between after : Networks) (first : List (List ℕ)) (line : List ℕ) → TakesLines last_wins before first between
-    → TakesLine last_wins between line after → TakesLines last_wins before (first ++ line ∷ []) after
-takes_more last_wins before between after [] line p q =
-    subst (λ (t : Networks). TakesLines last_wins t (line ∷ []) after) p (after, q, refl)
-takes_more last_wins before between after (one ∷ first) line p q = (p.0, p.1, takes_more last_wins p.0 between after first line p.2 q)
+pub takes_more : (rules : ListRules) (before between after : Networks) (first : List (List ℕ)) (line : List ℕ) → TakesLines rules before first between
+    → TakesLine rules between line after → TakesLines rules before (first ++ line ∷ []) after
+takes_more rules before between after [] line p q =
+    subst (λ (t : Networks). TakesLines rules t (line ∷ []) after) p (after, q, refl)
+takes_more rules before between after (one ∷ first) line p q = (p.0, p.1, takes_more rules p.0 between after first line p.2 q)
 
 -- ---- the lines of a list, in turn
 
@@ -112,10 +113,10 @@ abbrev pub parts : List ℕ → List (List ℕ)
 parts text = slice_split (λ b. b == 10) text
 
 -- the lines up to a place were taken, and there were this many
-abbrev pub Taken : Bool → List ℕ → ℕ → ℕ → Networks → Type 0
-Taken last_wins text at lines networks = (first : List (List ℕ)) × (parts text ≡ first ++ parts (drop at text)) × (lines ≡ length first) × TakesLines last_wins no_networks first networks
+abbrev pub Taken : ListRules → List ℕ → ℕ → ℕ → Networks → Type 0
+Taken rules text at lines networks = (first : List (List ℕ)) × (parts text ≡ first ++ parts (drop at text)) × (lines ≡ length first) × TakesLines rules no_networks first networks
 
-module _ (last_wins : Bool) (text : List ℕ) (at lines : ℕ) (before : Networks) (taken : Taken last_wins text at lines before) where
+module _ (rules : ListRules) (text : List ℕ) (at lines : ℕ) (before : Networks) (taken : Taken rules text at lines before) where
   -- one that ends before a place
   module _ (end : ℕ) (next : IsNext 10 text at end) where
     here : List ℕ
@@ -125,17 +126,17 @@ module _ (last_wins : Bool) (text : List ℕ) (at lines : ℕ) (before : Network
     unfolding here
     cut = taken.1 ∙ ap (λ l. taken.0 ++ l) (parts_from 10 text at end next)
 
-    pub line_more : (after : Networks) → TakesLine last_wins before (take (end - at) (drop at text)) after → Taken last_wins text (end + 1) (lines + 1) after
+    pub line_more : (after : Networks) → TakesLine rules before (take (end - at) (drop at text)) after → Taken rules text (end + 1) (lines + 1) after
     unfolding here
     line_more after takes = (
       taken.0 ++ here ∷ [],
       cut ∙ sym (append_assoc taken.0 (here ∷ []) (parts (drop (end + 1) text))),
       omega (arith, taken.2, length-append taken.0 (here ∷ [])),
-      takes_more last_wins no_networks before after taken.0 here taken.3 takes,
+      takes_more rules no_networks before after taken.0 here taken.3 takes,
     )
 
-    pub line_stops : (fault : RouteFault) → LineFails last_wins before (take (end - at) (drop at text)) fault
-        → StopsTaking last_wins no_networks (parts text) (record { lines = lines; fault = fault })
+    pub line_stops : (fault : RouteFault) → LineFails rules before (take (end - at) (drop at text)) fault
+        → StopsTaking rules no_networks (parts text) (record { lines = lines; fault = fault })
     unfolding here
     line_stops fault fails = (taken.0, here, parts (drop (end + 1) text), before, cut, taken.2, taken.3, fails)
 
@@ -144,11 +145,11 @@ module _ (last_wins : Bool) (text : List ℕ) (at lines : ℕ) (before : Network
     last_cut : parts text ≡ taken.0 ++ drop at text ∷ []
     last_cut = taken.1 ∙ ap (λ l. taken.0 ++ l) (part_from 10 text at absent)
 
-    pub all_taken : (after : Networks) → TakesLine last_wins before (take (length text - at) (drop at text)) after → TakesLines last_wins no_networks (parts text) after
+    pub all_taken : (after : Networks) → TakesLine rules before (take (length text - at) (drop at text)) after → TakesLines rules no_networks (parts text) after
     all_taken after takes =
-        subst (λ (ls : List (List ℕ)). TakesLines last_wins no_networks ls after) (sym last_cut)
-        (takes_more last_wins no_networks before after taken.0 (drop at text) taken.3 (subst (λ (l : List ℕ). TakesLine last_wins before l after) (take_rest text at) takes))
+        subst (λ (ls : List (List ℕ)). TakesLines rules no_networks ls after) (sym last_cut)
+        (takes_more rules no_networks before after taken.0 (drop at text) taken.3 (subst (λ (l : List ℕ). TakesLine rules before l after) (take_rest text at) takes))
 
-    pub last_stops : (fault : RouteFault) → LineFails last_wins before (take (length text - at) (drop at text)) fault
-        → StopsTaking last_wins no_networks (parts text) (record { lines = lines; fault = fault })
-    last_stops fault fails = (taken.0, drop at text, [], before, last_cut, taken.2, taken.3, subst (λ (l : List ℕ). LineFails last_wins before l fault) (take_rest text at) fails)
+    pub last_stops : (fault : RouteFault) → LineFails rules before (take (length text - at) (drop at text)) fault
+        → StopsTaking rules no_networks (parts text) (record { lines = lines; fault = fault })
+    last_stops fault fails = (taken.0, drop at text, [], before, last_cut, taken.2, taken.3, subst (λ (l : List ℕ). LineFails rules before l fault) (take_rest text at) fails)

@@ -82,28 +82,29 @@ SaysNothing line = (length line ≤ 1024) × (is_skipped (trimmed line) ≡ true
 abbrev pub SaysSomething : List ℕ → Type 0
 SaysSomething line = (length line ≤ 1024) × (is_skipped (trimmed line) ≡ false)
 
--- the line begins with this network or range, read as a line of a list of networks, and this value is behind it
-abbrev pub Says : List ℕ → Entry → Value → Type 0
-Says line entry value = SaysSomething line × ReadsEntry (entry_part (trimmed line)) (Ok (Some entry))
-    × (value.bytes.now ≡ value_of (trimmed line)) × (value.bytes.now ≢ [])
+-- the line begins with this network or range, read as a line of a list of networks, and this value is behind it, which is
+-- empty only where a value may be missing
+abbrev pub Says : Bool → List ℕ → Entry → Value → Type 0
+Says bare line entry value = SaysSomething line × ReadsEntry (entry_part (trimmed line)) (Ok (Some entry))
+    × (value.bytes.now ≡ value_of (trimmed line)) × (bare ≡ false → value.bytes.now ≢ [])
 
 -- why a text is no network and no range; a text with nothing in it is no address
 abbrev pub EntryFails : List ℕ → EntryFault → Type 0
 EntryFails text fault = ReadsEntry text (Err fault) ⊎ (ReadsEntry text (Ok None) × (fault ≡ faults.Address))
 
--- why a line says nothing that can be taken
-abbrev pub LineFaults : List ℕ → Cause → Type 0
-LineFaults line causes.Length = 1024 < length line
-LineFaults line (causes.Entry fault) = SaysSomething line × EntryFails (entry_part (trimmed line)) fault
-LineFaults line causes.Value = SaysSomething line
+-- why a line says nothing that can be taken, where a value may be missing or not
+abbrev pub LineFaults : Bool → List ℕ → Cause → Type 0
+LineFaults bare line causes.Length = 1024 < length line
+LineFaults bare line (causes.Entry fault) = SaysSomething line × EntryFails (entry_part (trimmed line)) fault
+LineFaults bare line causes.Value = (bare ≡ false) × SaysSomething line
     × ((entry : Entry) × ReadsEntry (entry_part (trimmed line)) (Ok (Some entry))) × (value_of (trimmed line) ≡ [])
-LineFaults line causes.Twice = ⊥
+LineFaults bare line causes.Twice = ⊥
 
 -- what reading a line returns
-abbrev pub ReadsRoute : List ℕ → Result (Option RouteEntry) Cause → Type 0
-ReadsRoute line (Ok None) = SaysNothing line
-ReadsRoute line (Ok (Some said)) = Says line said.entry said.value
-ReadsRoute line (Err cause) = LineFaults line cause
+abbrev pub ReadsRoute : Bool → List ℕ → Result (Option RouteEntry) Cause → Type 0
+ReadsRoute bare line (Ok None) = SaysNothing line
+ReadsRoute bare line (Ok (Some said)) = Says bare line said.entry said.value
+ReadsRoute bare line (Err cause) = LineFaults bare line cause
 
 -- a cause in a few words
 abbrev pub cause_text : Cause → List ℕ

@@ -30,6 +30,7 @@ use Rattle.cidr_join.specs.declared.answers.Answers.{Answers}
 use Rattle.cidr_join.specs.declared.answers.Answers.TheVariants as answers
 use Rattle.cidr_join.specs.declared.join.Join.{Join}
 use Rattle.cidr_join.specs.declared.lengths.Lengths.{Lengths}
+use Rattle.cidr_join.specs.declared.list.ListRules.{ListRules}
 use Rattle.cidr_join.specs.declared.list.TakeFault.{TakeFault}
 use Rattle.program.specs.declared.log_fault.LogFault.{LogFault}
 use Rattle.cidr_join.specs.declared.routes.Networks.{Networks}
@@ -99,14 +100,18 @@ abbrev pub EndsAsked : {W E : Type 0} → Bool → Join → KnownLists → List 
 EndsAsked true join known names end = EndsTally join known names end
 EndsAsked false join known names end = EndsLogs join known names end
 
+-- how its lines are taken: with `--network` a value may be missing
+abbrev pub rules_of : List Item → ListRules
+rules_of items = record { last_wins = is_given items own.last_wins; bare = is_given items own.network }
+
 -- the list of this name has these bytes. A line of it is refused, or memory runs out, and nothing is written. Else the
 -- logs are joined to its networks, or counted by them
 abbrev pub EndsJoining : {W E : Type 0} → KnownLists → List Item → List ℕ → List ℕ → Ending W E → Type 0
 EndsJoining known items name text end =
-    ((fault : TakeFault) × StopsTaking (is_given items own.last_wins) no_networks
+    ((fault : TakeFault) × StopsTaking (rules_of items) no_networks
     (slice_split (λ b. b == 10) text) fault × Refuses (take_fault_text name fault) end)
     ⊎ (Refuses (codes "out of memory\n") end
-    ⊎ ((networks : Networks) × TakesLines (is_given items own.last_wins) no_networks
+    ⊎ ((networks : Networks) × TakesLines (rules_of items) no_networks
     (slice_split (λ b. b == 10) text) networks
     × EndsAsked (is_given items own.tally) (join_of items (answers_of items networks)) known (inputs_of items) end))
 

@@ -22,8 +22,8 @@ Prints each line of logs behind the value that a list gives its address.
                     a line without TEXT has none: --after SRC=. Not with -a, -k, -d or -w
     --mapped        an address ::ffff:A.B.C.D of a line counts as A.B.C.D
     --last          print the value behind a line, after a tab, and not before it
-    --network       print the network in place of its value; a range counts as the fewest networks
-                    that make it up
+    --network       print the network in place of its value, which may be missing in the list; a
+                    range counts as the fewest networks that make it up
     --tally         print no line: print how many lines have each value, and a tab and the value,
                     most first, and those of one count in the order of their bytes. Lines that would
                     have a minus sign count as one. Not with --last

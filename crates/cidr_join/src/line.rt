@@ -38,13 +38,13 @@ impl Cause {
 pub struct RouteEntry<'a> {
     /// The network or the range.
     pub entry: Entry,
-    /// What stands behind it. Not empty.
+    /// What stands behind it. Empty only where it may be missing.
     pub value: Value<'a>,
 }
 
-/// What a line says: nothing if it is blank or begins with `#` or `;`.
-pub(crate) fn read_route(line: &[u8]) -> Result<Option<RouteEntry<'_>>, Cause>
-    ensures { ReadsRoute line.now result }
+/// What a line says: nothing if it is blank or begins with `#` or `;`. If `bare`, its value may be missing.
+pub(crate) fn read_route(line: &[u8], bare: bool) -> Result<Option<RouteEntry<'_>>, Cause>
+    ensures { ReadsRoute bare line.now result }
 {
     if line.len() > LINE_MAX {
         return Err(Cause::Length);
@@ -59,7 +59,7 @@ pub(crate) fn read_route(line: &[u8]) -> Result<Option<RouteEntry<'_>>, Cause>
         Err(fault) => return Err(Cause::Entry(fault)),
     };
     let value = value_part(&text[end..]);
-    if value.is_empty() {
+    if value.is_empty() && !bare {
         return Err(Cause::Value);
     }
     let value = Value::new(value);

@@ -12,6 +12,15 @@ use ipnetwork::{IpAddr, IpNetwork};
 use lists::Entry;
 use std::alloc::Global;
 
+/// How the lines of a list are taken.
+#[derive(Clone, Copy, Debug, PartialEq, Eq)]
+pub struct ListRules {
+    /// A network that stands twice has its last value, and is not refused.
+    pub last_wins: bool,
+    /// A line may have no value.
+    pub bare: bool,
+}
+
 /// Why a list is not taken to its end: a fault of the line after these.
 #[derive(Clone, Copy, Debug, PartialEq, Eq)]
 pub struct TakeFault {
@@ -21,29 +30,28 @@ pub struct TakeFault {
     pub fault: RouteFault,
 }
 
-/// The networks and values of the lines of a list. A network that stands twice has its last value if `last_wins`, and
-/// is refused if not.
+/// The networks and values of the lines of a list, taken by these rules.
 pub(crate) fn networks_of<'a>(
     alloc: Global,
     text: &'a [u8],
-    last_wins: bool,
+    rules: ListRules,
 ) -> Result<Networks<'a>, TakeFault>
-    ensures ok { IfOk result (TakesLines last_wins no_networks
+    ensures ok { IfOk result (TakesLines rules no_networks
         (slice_split (λ b. b == 10) text.now)) }
-    ensures err { IfErr result (StopsTaking last_wins no_networks
+    ensures err { IfErr result (StopsTaking rules no_networks
         (slice_split (λ b. b == 10) text.now)) }
 {
     let mut networks = Networks::new(alloc);
     let mut lines = 0;
     let mut at = 0;
     'lines: while let Some(end) = find_from(text, at, b'\n') {
-        if let Err(fault) = take_line(&mut networks, &text[at..end], last_wins) {
+        if let Err(fault) = take_line(&mut networks, &text[at..end], rules) {
             return Err(TakeFault { lines, fault });
         }
         lines += 1;
         at = end + 1;
     }
-    if let Err(fault) = take_line(&mut networks, &text[at..], last_wins) {
+    if let Err(fault) = take_line(&mut networks, &text[at..], rules) {
         return Err(TakeFault { lines, fault });
     }
     Ok(networks)
@@ -54,14 +62,14 @@ pub(crate) fn networks_of<'a>(
 fn take_line<'a>(
     networks: &mut Networks<'a>,
     line: &'a [u8],
-    last_wins: bool,
+    rules: ListRules,
 ) -> Result<(), RouteFault>
-    ensures ok { OnOk result (TakesLine last_wins networks.old line.now networks.new) }
-    ensures err { IfErr result (LineFails last_wins networks.old line.now) }
+    ensures ok { OnOk result (TakesLine rules networks.old line.now networks.new) }
+    ensures err { IfErr result (LineFails rules networks.old line.now) }
 {
-    match read_route(line) {
+    match read_route(line, rules.bare) {
         Ok(None) => Ok(()),
-        Ok(Some(said)) => set_entry(networks, said.entry, said.value, last_wins),
+        Ok(Some(said)) => set_entry(networks, said.entry, said.value, rules.last_wins),
         Err(cause) => Err(RouteFault::Refused(cause)),
     }
 }

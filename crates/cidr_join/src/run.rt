@@ -3,13 +3,13 @@ ghost use Rattle.std.specs.Prelude.{◌≡◌, map};
 ghost use Rattle.std.specs.String.{string_bytes};
 ghost use Rattle.options.specs.Given.{inputs_of};
 ghost use Rattle.program.specs.Endings.{ending};
-ghost use Rattle.cidr_join.specs.Runs.{EndsRequest, EndsFiles, EndsAs, EndsFinding, EndsJoining, answers_by, join_of, lengths_of};
+ghost use Rattle.cidr_join.specs.Runs.{EndsRequest, EndsFiles, EndsAs, EndsFinding, EndsJoining, answers_by, join_of, lengths_of, rules_of};
 
 use crate::answers::Answers;
 use crate::help::{HELP, PROGRAM, USAGE, VERSION};
 use crate::join::Join;
 use crate::lengths::Lengths;
-use crate::list::networks_of;
+use crate::list::{ListRules, networks_of};
 use crate::logs::join_logs;
 use crate::missing::status;
 use crate::routes::Routes;
@@ -135,8 +135,7 @@ fn join_to<L: OpenLists, W: Write, E: Write>(
     ensures { EndsJoining (L.known lists.now) items.now name.now text.now
         (ending output.old output.new errors.old errors.new result) }
 {
-    let last_wins = is_given(items, LAST_WINS);
-    let networks = match networks_of(alloc, text, last_wins) {
+    let networks = match networks_of(alloc, text, rules_of(items)) {
         Ok(networks) => networks,
         Err(fault) => {
             tell_take_fault(name, fault, errors);
@@ -149,6 +148,16 @@ fn join_to<L: OpenLists, W: Write, E: Write>(
     let network = is_given(items, NETWORK);
     let answers = answers_by(network, routes);
     join_by(alloc, items, files, answers, lists, output, errors)
+}
+
+// How the lines of its list are taken.
+fn rules_of(items: &[Item<'_>]) -> ListRules
+    ensures { result ≡ rules_of items.now }
+{
+    ListRules {
+        last_wins: is_given(items, LAST_WINS),
+        bare: is_given(items, NETWORK),
+    }
 }
 
 // What is printed of addresses by the routes of a list: networks or values.

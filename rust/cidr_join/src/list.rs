@@ -10,6 +10,15 @@ use fosibegan::ipnetwork::{IpAddr, IpNetwork};
 use cidr_programs::lists::Entry;
 use fosibegan::plain_std::alloc::Global;
 
+/// How the lines of a list are taken.
+#[derive(Clone, Copy, Debug, PartialEq, Eq)]
+pub struct ListRules {
+    /// A network that stands twice has its last value, and is not refused.
+    pub last_wins: bool,
+    /// A line may have no value.
+    pub bare: bool,
+}
+
 /// Why a list is not taken to its end: a fault of the line after these.
 #[derive(Clone, Copy, Debug, PartialEq, Eq)]
 pub struct TakeFault {
@@ -19,24 +28,23 @@ pub struct TakeFault {
     pub fault: RouteFault,
 }
 
-/// The networks and values of the lines of a list. A network that stands twice has its last value if `last_wins`, and
-/// is refused if not.
+/// The networks and values of the lines of a list, taken by these rules.
 pub(crate) fn networks_of<'a>(
     alloc: Global,
     text: &'a [u8],
-    last_wins: bool,
+    rules: ListRules,
 ) -> Result<Networks<'a>, TakeFault> {
     let mut networks = Networks::new(alloc);
     let mut lines = 0;
     let mut at = 0;
     'lines: while let Some(end) = find_from(text, at, b'\n') {
-        if let Err(fault) = take_line(&mut networks, &text[at..end], last_wins) {
+        if let Err(fault) = take_line(&mut networks, &text[at..end], rules) {
             return Err(TakeFault { lines, fault });
         }
         lines += 1;
         at = end + 1;
     }
-    if let Err(fault) = take_line(&mut networks, &text[at..], last_wins) {
+    if let Err(fault) = take_line(&mut networks, &text[at..], rules) {
         return Err(TakeFault { lines, fault });
     }
     Ok(networks)
@@ -46,11 +54,11 @@ pub(crate) fn networks_of<'a>(
 fn take_line<'a>(
     networks: &mut Networks<'a>,
     line: &'a [u8],
-    last_wins: bool,
+    rules: ListRules,
 ) -> Result<(), RouteFault> {
-    match read_route(line) {
+    match read_route(line, rules.bare) {
         Ok(None) => Ok(()),
-        Ok(Some(said)) => set_entry(networks, said.entry, said.value, last_wins),
+        Ok(Some(said)) => set_entry(networks, said.entry, said.value, rules.last_wins),
         Err(cause) => Err(RouteFault::Refused(cause)),
     }
 }

@@ -8,7 +8,7 @@ use crate::answers::Answers;
 use crate::help::{HELP, PROGRAM, USAGE, VERSION};
 use crate::join::Join;
 use crate::lengths::Lengths;
-use crate::list::networks_of;
+use crate::list::{ListRules, networks_of};
 use crate::logs::join_logs;
 use crate::missing::status;
 use crate::routes::Routes;
@@ -118,8 +118,7 @@ fn join_to<L: OpenLists, W: Write, E: Write>(
     output: &mut Output<'_, W>,
     errors: &mut Output<'_, E>,
 ) -> u8 {
-    let last_wins = is_given(items, LAST_WINS);
-    let networks = match networks_of(alloc, text, last_wins) {
+    let networks = match networks_of(alloc, text, rules_of(items)) {
         Ok(networks) => networks,
         Err(fault) => {
             tell_take_fault(name, fault, errors);
@@ -132,6 +131,14 @@ fn join_to<L: OpenLists, W: Write, E: Write>(
     let network = is_given(items, NETWORK);
     let answers = answers_by(network, routes);
     join_by(alloc, items, files, answers, lists, output, errors)
+}
+
+// How the lines of its list are taken.
+fn rules_of(items: &[Item<'_>]) -> ListRules {
+    ListRules {
+        last_wins: is_given(items, LAST_WINS),
+        bare: is_given(items, NETWORK),
+    }
 }
 
 // What is printed of addresses by the routes of a list: networks or values.

@@ -9,7 +9,7 @@ invariant-lines l = record {
   within : l.at ≤ length l.text;
   few : l.lines ≤ l.at;
   taken : (first : List (List ℕ)) × (slice_split (λ b. b == 10) l.text ≡ first ++ slice_split (λ b. b == 10) (drop l.at l.text)) × (l.lines ≡ length first)
-      × TakesLines l.last_wins no_networks first l.networks;
+      × TakesLines l.rules no_networks first l.networks;
 }
 
 abbrev pub decreases-lines : goal.decreases-lines

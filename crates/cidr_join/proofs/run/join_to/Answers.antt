@@ -7,7 +7,7 @@ use Rattle.cidr_join.proofs.Runs.{same_routes, taken}
 use Rattle.cidr_join.proofs.run.join_to.Goals as goal
 
 pub returns-in-Err : goal.returns-in-Err
-returns-in-Err g c = inl (c.in-Err.fault, rw c.is_given-last_wins.ensures at c.in-Err.ensures.err, ((refl, refl), c.tell_take_fault.ensures))
+returns-in-Err g c = inl (c.in-Err.fault, rw c.rules_of.ensures at c.in-Err.ensures.err, ((refl, refl), c.tell_take_fault.ensures))
 
 pub returns : goal.returns
 returns g c =
@@ -15,4 +15,4 @@ returns g c =
     (ending c.args.output.now c.join_by.new.output c.args.errors.now c.join_by.new.errors c.join_by.result) c.in-Ok.networks c.answers_by-answers.result
     (rw c.is_given-network.ensures at c.answers_by-answers.ensures
     ∙ ap (answers_by (is_given c.args.items.now own.network)) (same_routes c.in-Ok-of.routes c.in-Ok.networks c.in-Ok-of.ensures.v4 c.in-Ok-of.ensures.v6))
-    (rw c.is_given-last_wins.ensures at c.in-Ok.ensures.ok) c.join_by.ensures
+    (rw c.rules_of.ensures at c.in-Ok.ensures.ok) c.join_by.ensures
