@@ -167,6 +167,7 @@ def filter_lines(run):
         path.write_text("".join(listed))
         commands = {"own": [program, "-f", path, log], "longest": [program, "--longest", "-f", path, log]}
         commands["any"] = [program, "-a", "-f", path, log]
+        commands["within"] = [program, "-k", "1", "-a", "-f", path, log]
         if join.exists():
             commands["join"] = [join, "-f", with_values(path, listed), log]
         if has_grepcidr:
@@ -175,10 +176,12 @@ def filter_lines(run):
         times, counts = least(run, commands)
         if has_grepcidr and (counts["own"], counts["any"]) != (counts["grepcidr"], counts["grepcidr any"]):
             raise Differs(f"cidr_filter and grepcidr do not print the same: {counts}")
+        if counts["within"] != counts["own"]:
+            raise Differs(f"-k 1 and -k 1 -a do not print the same: {counts}")
         rows.append([name, f"{counts['own']:,}", times["own"], beside(times["own"], times.get("grepcidr")),
-                     times["longest"], times["any"], beside(times["any"], times.get("grepcidr any")), times.get("join")])
+                     times["longest"], times["within"], times["any"], beside(times["any"], times.get("grepcidr any")), times.get("join")])
     megabytes = os.path.getsize(log) >> 20
-    head = ["Networks", "Lines printed", "`cidr_filter`", "`grepcidr -x`", "`--longest`", "`-a`", "`grepcidr`", "`cidr_join`"]
+    head = ["Networks", "Lines printed", "`cidr_filter`", "`grepcidr -x`", "`--longest`", "`-k 1 -a`", "`-a`", "`grepcidr`", "`cidr_join`"]
     lines = "300,000" if run.quick else "a million"
     text = (f"Seconds of processor time for a log of {lines} lines ({megabytes} MB), a quarter of them with IPv6 addresses, "
             "and random IPv4 networks of 12 to 32 bits, for `cidr_join` each with a value.")

@@ -9,11 +9,11 @@ _cidr_filter() {
     fi
     case "$before" in
         --bad) COMPREPLY=($(compgen -W "drop keep stop report" -- "$word")) ;;
-        -k | -d | --after | -e | -m) COMPREPLY=() ;;
+        -k | -d | --after | --nth | -e | -m) COMPREPLY=() ;;
         -f) ;;
         *)
             if [[ "$word" == -* ]]; then
-                COMPREPLY=($(compgen -W "-f -e -k -d -w -a --after -o --mapped -v -c -l -q -m -H -n -h --longest --bad --quiet --help --version -- -" -- "$word"))
+                COMPREPLY=($(compgen -W "-f -e --skip-bad -k -d -w -a --nth --after -o --mapped -v -c -l -q -m -H -n -h --longest --bad --quiet --help --version -- -" -- "$word"))
             fi
             ;;
     esac

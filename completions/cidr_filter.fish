@@ -1,10 +1,12 @@
 # Completion of fish for cidr_filter: its options, and files.
 complete -c cidr_filter -s f -r -F -d "The networks of a file"
 complete -c cidr_filter -s e -x -d "A network or a range"
+complete -c cidr_filter -l skip-bad -d "Take the networks of the lists without their refused lines"
 complete -c cidr_filter -s k -x -d "The address is the Nth field"
 complete -c cidr_filter -s d -x -d "Fields are cut at each single CHAR"
 complete -c cidr_filter -s w -d "Fields are what stands between runs of spaces and tabs"
 complete -c cidr_filter -s a -d "Addresses are looked for anywhere in a line"
+complete -c cidr_filter -l nth -x -d "Only this one counts of the addresses that stand there"
 complete -c cidr_filter -l after -x -d "The address is the first that follows the first TEXT of a line"
 complete -c cidr_filter -s o -d "Print the addresses that are in a network"
 complete -c cidr_filter -l mapped -d "An address ::ffff:A.B.C.D of a line counts as A.B.C.D"

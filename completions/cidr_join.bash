@@ -9,11 +9,11 @@ _cidr_join() {
     fi
     case "$before" in
         --bad) COMPREPLY=($(compgen -W "drop keep stop report" -- "$word")) ;;
-        -k | -d | --after | --group) COMPREPLY=() ;;
+        -k | -d | --after | --nth | --group) COMPREPLY=() ;;
         -f) ;;
         *)
             if [[ "$word" == -* ]]; then
-                COMPREPLY=($(compgen -W "-f --last-wins -k -d -w -a --after --mapped --last --network --tally --group --bad --quiet --help --version -- -" -- "$word"))
+                COMPREPLY=($(compgen -W "-f --last-wins -k -d -w -a --nth --after --mapped --last --network --tally --group --bad --quiet --help --version -- -" -- "$word"))
             fi
             ;;
     esac

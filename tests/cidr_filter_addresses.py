@@ -3,6 +3,7 @@ is expected is computed here, by regular expressions and Python's `ipaddress`. E
 row is as it should be, and what was got."""
 
 import ipaddress
+import itertools
 import json
 import os
 import random
@@ -163,6 +164,39 @@ def words(program, folder):
             got = (got.stdout, got.stderr, got.returncode)
             error = b"" if any(at(line) for line in lines) else lacking(f"in word {number}")
             yield f"{name}, word {number}", got == (output, error, 0 if output else 1), got
+
+
+def nth(found, which):
+    """Of these addresses the one that --nth says, if it is there."""
+    place = {"first": 0, "last": len(found) - 1}.get(which, int(which) - 1 if which.isdigit() else 0)
+    return found[place : place + 1] if place >= 0 else []
+
+
+def field(line, number, separator):
+    """The field of this number, if the line has it."""
+    parts = line.split(separator)
+    return parts[number - 1] if number <= len(parts) else ""
+
+
+def parts(program, folder):
+    """Addresses anywhere in a field or behind a text, and which of them counts."""
+    networks = [ipaddress.ip_network(text) for text in LIST]
+    lists = [word for text in LIST for word in ("-e", text)]
+    places = [(["-k2", "-d", '"'], lambda line: field(line, 2, '"'), "in field 2"), (["-d,"], lambda line: field(line, 1, ","), "in field 1")]
+    places += [(["-wk10"], lambda line: (line.split() + [""] * 10)[9], "in word 10"), ([], lambda line: line, "anywhere in it")]
+    places += [(["--after", "DST="], lambda line: line.split("DST=", 1)[1] if "DST=" in line else "", "after DST=")]
+    for name, lines in logs(random.Random(8)):
+        log = "".join(f"{line}\n" for line in lines).encode()
+        for (place, part, told), which in itertools.product(places, ("", "first", "last", "2", "3")):
+            if place[:1] == ["--after"] and not which:
+                continue
+            found = lambda line: [one for _, one in of_line(part(line))]
+            counts = lambda line: nth(found(line), which) if which else found(line)
+            output = wanted(lines, networks, counts, False, False).encode()
+            got = subprocess.run([program, *place, *(["--nth", which] if which else ["-a"]), *lists], input=log, capture_output=True, timeout=SECONDS)
+            got = (got.stdout, got.stderr, got.returncode)
+            error = b"" if any(counts(line) for line in lines) else lacking(told, which)
+            yield f"{name}, {place}, {which or 'all'}", got == (output, error, 0 if output else 1), got
 
 
 def made_up_runs(program, folder):

@@ -17,9 +17,9 @@ IN_PARTS = os.path.join(HERE, "examples", "cidr_filter", "in_parts.sh")
 PIPES = {"stdout": subprocess.PIPE, "stderr": subprocess.PIPE}
 
 
-def lacking(place):
-    """What is reported about standard input with lines of which none has an address there."""
-    return f"cidr_filter: -: no line has an address {place}\n".encode()
+def lacking(place, count=""):
+    """What is reported about standard input with lines of which none has an address there, or so many."""
+    return f"cidr_filter: -: no line has {f'{count} addresses' if count.isdigit() else 'an address'} {place}\n".encode()
 
 
 def run(words, given, folder, **others):

@@ -1,16 +1,15 @@
 -- Lines that are copied into the output before it is known whether they are selected.
-use Rattle.std.proofs.Common.{◌≡◌, ◌≢◌, ◌↔◌, ℕ, ◌-◌, ◌≤◌, ◌∙◌, Bool, true, false, not, List, [], ◌∷◌, length, refl, sym, ap, subst, arith, inl, true≢false}
-use Rattle.std.specs.Prelude.{Option, None, Some, IfSome, IsTrue, slice_get}
+use Rattle.std.proofs.Common.{◌≡◌, ◌↔◌, ℕ, ◌≤◌, ◌∙◌, Bool, true, false, not, List, [], ◌∷◌, length, refl, sym, ap, subst, arith, inl, true≢false}
+use Rattle.std.specs.Prelude.{Option, None, Some, IfSome, IsTrue, option_map}
 use Rattle.std.proofs.Math.Bool.{beq}
 use Rattle.std.specs.Option.{option_to_list}
 use Rattle.ipnetwork_addr.specs.declared.ip.IpAddr.{IpAddr}
-use Rattle.line_addresses.specs.Addresses.{address_of, with_text}
-use Rattle.line_addresses.specs.Fields.{field_of}
-use Rattle.line_addresses.specs.Words.{words_of}
-use Rattle.line_addresses.specs.declared.area.Area.{Area}
-use Rattle.line_addresses.specs.declared.area.Area.TheVariants as areas
-use Rattle.log_programs.specs.Finding as finding
-use Rattle.cidr_filter.specs.Filters.{IsVerdict, IsVerdictOfAddresses, FirstListed, TellsBlock, addresses_in, asked, asked_of, of_part, spelled_at}
+use Rattle.line_addresses.specs.Addresses.{Spelled, spelled}
+use Rattle.line_addresses.specs.Areas.{part_of, picked_in, each_in}
+use Rattle.line_addresses.specs.declared.area.Pick.{Pick}
+use Rattle.line_addresses.specs.declared.area.Pick.TheVariants as picks
+use Rattle.log_programs.specs.Finding.{found_in}
+use Rattle.cidr_filter.specs.Filters.{IsVerdict, IsVerdictOfAddresses, FirstListed, TellsBlock, addresses_in, asked, asked_of}
 use Rattle.cidr_filter.specs.Matcher.{HasAddress, IsIn}
 use Rattle.cidr_filter.specs.Private.Copying.{IsSelectedByAddress}
 use Rattle.cidr_filter.specs.declared.filter.Filter.{Filter}
@@ -21,26 +20,20 @@ use Rattle.cidr_filter.specs.declared.matcher.Sets.{Sets}
 
 -- ---- the address that is looked for
 
-module _ (filter : Filter) (line part : List ℕ) (area : Area) (is : filter.area ≡ area) (same : spelled_at area line ≡ of_part (Some part)) where
-  found_only : (found : Option IpAddr) → found ≡ address_of part → IfSome found (λ address. addresses_in filter line ≡ asked filter.mapped address ∷ [])
-  found_only None e = tt
-  found_only (Some address) e =
-      ap (λ (q : Area). asked_of filter (spelled_at q line)) is
-      ∙ ap (asked_of filter) same
-      ∙ ap (λ (o : Option IpAddr). asked_of filter (option_to_list (with_text part o))) (sym e)
+one_found : (filter : Filter) (one : Option Spelled) (found : Option IpAddr) → found ≡ option_map (λ (s : Spelled). s.address) one → IfSome found (λ address. asked_of filter (option_to_list one) ≡ asked filter.mapped address ∷ [])
+one_found filter None found e = subst (λ (o : Option IpAddr). IfSome o (λ address. asked_of filter [] ≡ asked filter.mapped address ∷ [])) (sym e) tt
+one_found filter (Some one) found e = subst (λ (o : Option IpAddr). IfSome o (λ address. asked filter.mapped one.address ∷ [] ≡ asked filter.mapped address ∷ [])) (sym e) refl
 
-of_one : (filter : Filter) (line : List ℕ) (area : Area) → filter.area ≡ area → (part : Option (List ℕ)) → spelled_at area line ≡ of_part part
-    → (found : Option IpAddr) → found ≡ finding.of_part part → IfSome found (λ address. addresses_in filter line ≡ asked filter.mapped address ∷ [])
-of_one filter line area is None same found e =
-    subst (λ (o : Option IpAddr). IfSome o (λ address. addresses_in filter line ≡ asked filter.mapped address ∷ [])) (sym e) tt
-of_one filter line area is (Some part) same found e = found_only filter line part area is same found e
+whole_found : (filter : Filter) (part : Option (List ℕ)) (found : Option IpAddr) → found ≡ option_map (λ (s : Spelled). s.address) (picked_in picks.Whole part)
+    → IfSome found (λ address. asked_of filter (each_in picks.Whole part) ≡ asked filter.mapped address ∷ [])
+whole_found filter None found e = one_found filter None found e
+whole_found filter (Some text) found e = one_found filter (spelled text) found e
 
-pub only_found : (filter : Filter) (line : List ℕ) (area : Area) → filter.area ≡ area → area ≢ areas.Anywhere → ((text : List ℕ) → area ≢ areas.After text)
-    → (found : Option IpAddr) → found ≡ finding.found_in area line → IfSome found (λ address. addresses_in filter line ≡ asked filter.mapped address ∷ [])
-only_found filter line (areas.Field number separator) is all rest found e = of_one filter line (areas.Field number separator) is (field_of number separator line) refl found e
-only_found filter line (areas.Word number) is all rest found e = of_one filter line (areas.Word number) is (slice_get (words_of line) (number - 1)) refl found e
-only_found filter line areas.Anywhere is all rest found e = absurd (all refl)
-only_found filter line (areas.After text) is all rest found e = absurd (rest text refl)
+pub only_found : (filter : Filter) (line : List ℕ) → filter.area.pick ≡ picks.Whole → (found : Option IpAddr) → found ≡ found_in filter.area line → IfSome found (λ address. addresses_in filter line ≡ asked filter.mapped address ∷ [])
+only_found filter line is found e =
+    let part = part_of filter.area.part line in
+    subst (λ (p : Pick). IfSome found (λ address. asked_of filter (each_in p part) ≡ asked filter.mapped address ∷ [])) (sym is)
+    (whole_found filter part found (e ∙ ap (λ (p : Pick). option_map (λ (s : Spelled). s.address) (picked_in p part)) is))
 
 -- ---- whether a line is selected
 

@@ -21,18 +21,18 @@ use Rattle.cidr_filter.proofs.RunExamples.{nothing_written}
 
 -- `-c`, `-o` and `-l`, and with `-q` too
 abbrev asks_names : List Item
-asks_names = says.Flag 14 ∷ says.Flag 15 ∷ says.Flag 19 ∷ []
+asks_names = says.Flag 15 ∷ says.Flag 16 ∷ says.Flag 20 ∷ []
 
 abbrev asks_nothing : List Item
-asks_nothing = says.Flag 20 ∷ asks_names
+asks_nothing = says.Flag 21 ∷ asks_names
 
 -- of `-q`, `-l`, `-c` and `-o` the first counts
-pub what_is_printed : map shows_of (asks_nothing ∷ asks_names ∷ (says.Flag 15 ∷ says.Flag 14 ∷ []) ∷ (says.Flag 15 ∷ []) ∷ [] ∷ [])
+pub what_is_printed : map shows_of (asks_nothing ∷ asks_names ∷ (says.Flag 16 ∷ says.Flag 15 ∷ []) ∷ (says.Flag 16 ∷ []) ∷ [] ∷ [])
     ≡ shows.Nothing ∷ shows.Names ∷ shows.Count ∷ shows.Addresses ∷ shows.Lines ∷ []
 what_is_printed = refl
 
 -- one line is selected at the most, or none
-pub how_many : map most_of (asks_names ∷ (says.Value 10 (codes "5") ∷ asks_nothing) ∷ (says.Value 10 (codes "0") ∷ asks_names) ∷ (says.Value 10 (codes "5") ∷ []) ∷ [])
+pub how_many : map most_of (asks_names ∷ (says.Value 11 (codes "5") ∷ asks_nothing) ∷ (says.Value 11 (codes "0") ∷ asks_names) ∷ (says.Value 11 (codes "5") ∷ []) ∷ [])
     ≡ Some 1 ∷ Some 1 ∷ Some 0 ∷ Some 5 ∷ []
 how_many = refl
 

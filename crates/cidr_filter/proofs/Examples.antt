@@ -29,7 +29,8 @@ use Rattle.cidr_filter.specs.declared.filter.Filter.{Filter}
 use Rattle.cidr_filter.specs.declared.filter.OutputMode.{OutputMode}
 use Rattle.cidr_filter.specs.declared.filter.OutputMode.TheVariants as shows
 use Rattle.line_addresses.specs.declared.area.Area.{Area}
-use Rattle.line_addresses.specs.declared.area.Area.TheVariants as areas
+use Rattle.line_addresses.specs.declared.area.Part.TheVariants as parts
+use Rattle.line_addresses.proofs.Areas.{whole, anywhere, after}
 use Rattle.cidr_filter.specs.declared.filter.Verdict.{Verdict}
 use Rattle.cidr_filter.specs.declared.filter.Verdict.TheVariants as verdicts
 use Rattle.cidr_filter.specs.declared.matcher.Matcher.TheVariants.{Addresses, Blocks}
@@ -87,7 +88,7 @@ printed_with_an_end = refl
 -- ---- what a line is to a list
 
 abbrev pub by : Bool → WithoutAddress → Filter
-by inverts bad = record { listed = Addresses (record { v4 = []; v6 = [] }); area = areas.Field 1 32; mapped = false; inverts = inverts; bad = bad; most = None; shows = shows.Lines; named = false; numbered = false; name = [] }
+by inverts bad = record { listed = Addresses (record { v4 = []; v6 = [] }); area = whole (parts.Field 1 32); mapped = false; inverts = inverts; bad = bad; most = None; shows = shows.Lines; named = false; numbered = false; name = [] }
 
 -- one that only counts
 abbrev pub counting : WithoutAddress → Filter
@@ -110,34 +111,34 @@ unfolding address_of digits v6_of gap_below
 address_in_another_field = (omega arith, refl)
 
 -- the second word, behind two blanks
-pub address_in_a_word : addresses_in (looking (areas.Word 2) false) (codes "a  10.0.0.1 b") ≡ addresses.V4 0x0a000001 ∷ []
+pub address_in_a_word : addresses_in (looking (whole (parts.Word 2)) false) (codes "a  10.0.0.1 b") ≡ addresses.V4 0x0a000001 ∷ []
 unfolding address_of digits v6_of gap_below
 address_in_a_word = refl
 
-pub addresses_anywhere : addresses_in (looking areas.Anywhere false) (codes "a=10.0.0.1:80 [10.0.0.2]") ≡ addresses.V4 0x0a000001 ∷ addresses.V4 0x0a000002 ∷ []
+pub addresses_anywhere : addresses_in (looking anywhere false) (codes "a=10.0.0.1:80 [10.0.0.2]") ≡ addresses.V4 0x0a000001 ∷ addresses.V4 0x0a000002 ∷ []
 unfolding address_in before_port address_of digits v6_of gap_below
 addresses_anywhere = refl
 
 -- only the first that follows the first position of a text
-pub address_after : addresses_in (looking (areas.After (codes "SRC=")) false) (codes "DST=10.0.0.9 SRC=10.0.0.1 SRC=10.0.0.2") ≡ addresses.V4 0x0a000001 ∷ []
+pub address_after : addresses_in (looking (after (codes "SRC=")) false) (codes "DST=10.0.0.9 SRC=10.0.0.1 SRC=10.0.0.2") ≡ addresses.V4 0x0a000001 ∷ []
 unfolding address_in before_port address_of digits v6_of gap_below
 address_after = refl
 
-pub no_text : addresses_in (looking (areas.After (codes "SRC=")) false) (codes "DST=10.0.0.9") ≡ []
+pub no_text : addresses_in (looking (after (codes "SRC=")) false) (codes "DST=10.0.0.9") ≡ []
 no_text = refl
 
 -- an IPv4-mapped address counts as its IPv4 one only if the option says so
-pub mapped_address : addresses_in (looking (areas.Field 1 32) true) (codes "::ffff:10.0.0.1 x") ≡ addresses.V4 0x0a000001 ∷ []
+pub mapped_address : addresses_in (looking (whole (parts.Field 1 32)) true) (codes "::ffff:10.0.0.1 x") ≡ addresses.V4 0x0a000001 ∷ []
 unfolding address_of digits v6_of gap_below
 mapped_address = refl
 
-pub address_as_it_is : addresses_in (looking (areas.Field 1 32) false) (codes "::ffff:10.0.0.1 x") ≡ addresses.V6 0xffff0a000001 ∷ []
+pub address_as_it_is : addresses_in (looking (whole (parts.Field 1 32)) false) (codes "::ffff:10.0.0.1 x") ≡ addresses.V6 0xffff0a000001 ∷ []
 unfolding address_of digits v6_of gap_below
 address_as_it_is = refl
 
 -- of two addresses the second is in the lists
-pub second_address_inside : ¬ (IsListed (looking areas.Anywhere false) (addresses.V4 0x0a000001)) → IsListed (looking areas.Anywhere false) (addresses.V4 0x0a000002)
-    → IsVerdict (looking areas.Anywhere false) (codes "10.0.0.1 10.0.0.2") (verdicts.Inside None)
+pub second_address_inside : ¬ (IsListed (looking anywhere false) (addresses.V4 0x0a000001)) → IsListed (looking anywhere false) (addresses.V4 0x0a000002)
+    → IsVerdict (looking anywhere false) (codes "10.0.0.1 10.0.0.2") (verdicts.Inside None)
 unfolding address_in before_port address_of digits v6_of gap_below
 second_address_inside not listed = (omega arith, inr (not, inl (listed, refl)))
 
@@ -218,7 +219,7 @@ no_log_named name = refl
 
 -- with `-o` only the addresses that are in the lists, whatever they are beside: 10.0.0.0/8 has the first and the third
 abbrev pub addresses_of_ten : Filter
-addresses_of_ten = record (looking areas.Anywhere false) {
+addresses_of_ten = record (looking anywhere false) {
   listed = Addresses (record { v4 = record { address = 0x0a000000; prefix = 8 } ∷ []; v6 = [] });
   shows = shows.Addresses;
 }
@@ -236,11 +237,11 @@ no_addresses_counted = refl
 
 -- ---- what is told
 
-pub a_refused_line : in_option (says.Value 6 (codes "list") ∷ says.Value 9 (codes "text") ∷ []) (record { list = 0; line = 7; fault = Entry Prefix }) ≡ (0, 7)
+pub a_refused_line : in_option (says.Value 6 (codes "list") ∷ says.Value 10 (codes "text") ∷ []) (record { list = 0; line = 7; fault = Entry Prefix }) ≡ (0, 7)
 a_refused_line = refl
 
 -- a list whose name is that of the option is none
-pub the_second_text : in_option (says.Value 9 (codes "x") ∷ says.Value 6 (codes "-e") ∷ says.Value 9 (codes "y") ∷ []) (record { list = 2; line = 1; fault = Entry Prefix }) ≡ (2, 2)
+pub the_second_text : in_option (says.Value 10 (codes "x") ∷ says.Value 6 (codes "-e") ∷ says.Value 10 (codes "y") ∷ []) (record { list = 2; line = 1; fault = Entry Prefix }) ≡ (2, 2)
 the_second_text = refl
 
 pub what_is_told_of_it : {Z : Type 0} (one two again : String Z) (area : Refusal → ℕ × ℕ) → string_bytes again ≡ codes "-e"
@@ -267,17 +268,17 @@ a_directory = refl
 pub a_log_that_is_the_output : closed_text (codes "log") causes.Output ≡ codes "cidr_filter: log: input file is also the output\n"
 a_log_that_is_the_output = refl
 
-pub a_field_without_addresses : lacking_by (areas.Field 8 32) (codes "log") 2 false ≡ codes "cidr_filter: log: no line has an address in field 8\n"
+pub a_field_without_addresses : lacking_by (whole (parts.Field 8 32)) (codes "log") 2 false ≡ codes "cidr_filter: log: no line has an address in field 8\n"
 unfolding digits
 a_field_without_addresses = refl
 
-pub a_text_without_addresses : lacking_by (areas.After (codes "SRC=")) (codes "log") 1 false ≡ codes "cidr_filter: log: no line has an address after SRC=\n"
+pub a_text_without_addresses : lacking_by (after (codes "SRC=")) (codes "log") 1 false ≡ codes "cidr_filter: log: no line has an address after SRC=\n"
 a_text_without_addresses = refl
 
-pub a_log_with_an_address : lacking_by areas.Anywhere (codes "log") 2 true ≡ []
+pub a_log_with_an_address : lacking_by anywhere (codes "log") 2 true ≡ []
 a_log_with_an_address = refl
 
-pub a_log_without_lines : lacking_by areas.Anywhere (codes "log") 0 false ≡ []
+pub a_log_without_lines : lacking_by anywhere (codes "log") 0 false ≡ []
 a_log_without_lines = refl
 
 pub a_missed_log : status_by false true 3 ≡ 2

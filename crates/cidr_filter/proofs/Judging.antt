@@ -1,19 +1,18 @@
 -- What a line is to a list.
-use Rattle.std.proofs.Common.{◌≡◌, ℕ, ◌-◌, ◌<◌, ◌≤◌, Bool, true, false, List, [], ◌∷◌, length, take, drop, None, Some, ap, refl, sym, subst, arith, inl, inr, true≢false}
-use Rattle.std.specs.Prelude.{Option, slice_get}
+use Rattle.std.proofs.Common.{◌≡◌, ◌≢◌, ℕ, ◌<◌, ◌≤◌, Bool, true, false, List, [], ◌∷◌, length, drop, None, Some, ap, refl, sym, subst, arith, inl, inr, true≢false}
+use Rattle.std.specs.Prelude.{Option}
 use Rattle.std.specs.Option.{option_to_list}
 use Rattle.ipnetwork.specs.declared.ip_network.IpNetwork.{IpNetwork}
 use Rattle.ipnetwork_addr.specs.declared.ip.IpAddr.{IpAddr}
-use Rattle.line_addresses.specs.Addresses.{Spelled, address_of, with_text, addresses_of}
-use Rattle.line_addresses.specs.Following.{following}
-use Rattle.line_addresses.specs.Found.{IsNextAddress, spelled_at as spelled_at_area}
-use Rattle.line_addresses.specs.Words.{words_of}
+use Rattle.line_addresses.specs.Addresses.{Spelled, addresses_of}
+use Rattle.line_addresses.specs.Areas.{part_of, picked, each_of, each_in, spelled_in}
+use Rattle.line_addresses.specs.declared.area.Pick.{Pick}
+use Rattle.line_addresses.specs.declared.area.Pick.TheVariants as picks
+use Rattle.line_addresses.proofs.Picks.{each_is_one}
+use Rattle.line_addresses.specs.Found.{IsNextAddress, spelled_at}
 use Rattle.line_addresses.specs.declared.found.Found.{Found}
-use Rattle.line_addresses.specs.Fields.{field_of}
-use Rattle.cidr_filter.specs.Filters.{IsListed, TellsBlock, asked, asked_of, of_part, of_rest, spelled_at, addresses_in, FirstListed, NoneListed, IsVerdictOfAddresses, IsVerdict}
+use Rattle.cidr_filter.specs.Filters.{IsListed, TellsBlock, asked, asked_of, addresses_in, FirstListed, NoneListed, IsVerdictOfAddresses, IsVerdict}
 use Rattle.cidr_filter.specs.declared.filter.Filter.{Filter}
-use Rattle.line_addresses.specs.declared.area.Area.{Area}
-use Rattle.line_addresses.specs.declared.area.Area.TheVariants as areas
 use Rattle.cidr_filter.specs.declared.filter.Verdict.{Verdict}
 use Rattle.cidr_filter.specs.declared.filter.Verdict.TheVariants as verdicts
 
@@ -66,61 +65,35 @@ module _ (filter : Filter) (line : List ℕ) (at : ℕ) (is_seen : Bool) (p : Pa
   pub without : addresses_of (drop at line) ≡ [] → is_seen ≡ false → IsVerdictOfAddresses filter (asked_of filter (addresses_of line)) verdicts.NoAddress
   without none unseen = (last_passes none).unseen unseen
 
--- ---- a part
+-- ---- the one that is looked at
 
-module _ (filter : Filter) (part : List ℕ) where
-  pub part_inside : (address : IpAddr) (told : Option IpNetwork) → address_of part ≡ Some address → IsListed filter (asked filter.mapped address) → TellsBlock filter.listed (asked filter.mapped address) told
-      → IsVerdictOfAddresses filter (asked_of filter (of_part (Some part))) (verdicts.Inside told)
-  part_inside address told is listed tells =
-      subst (λ (o : Option IpAddr). FirstListed filter (asked_of filter (option_to_list (with_text part o))) told) (sym is) (inl (listed, tells))
+module _ (filter : Filter) (pick : Pick) (part : List ℕ) (found : Found) (is : picked pick part ≡ Some (spelled_at part found)) where
+  pub picked_inside : (told : Option IpNetwork) → IsListed filter (asked filter.mapped found.address) → TellsBlock filter.listed (asked filter.mapped found.address) told
+      → IsVerdictOfAddresses filter (asked_of filter (option_to_list (picked pick part))) (verdicts.Inside told)
+  picked_inside told listed tells = subst (λ (o : Option Spelled). FirstListed filter (asked_of filter (option_to_list o)) told) (sym is) (inl (listed, tells))
 
-  pub part_outside : (address : IpAddr) → address_of part ≡ Some address → ¬ (IsListed filter (asked filter.mapped address)) → IsVerdictOfAddresses filter (asked_of filter (of_part (Some part))) verdicts.Outside
-  part_outside address is not =
-      subst (λ (o : Option IpAddr). IsVerdictOfAddresses filter (asked_of filter (option_to_list (with_text part o))) verdicts.Outside) (sym is) (omega arith, (not, tt))
+  pub picked_outside : ¬ (IsListed filter (asked filter.mapped found.address)) → IsVerdictOfAddresses filter (asked_of filter (option_to_list (picked pick part))) verdicts.Outside
+  picked_outside not = subst (λ (o : Option Spelled). IsVerdictOfAddresses filter (asked_of filter (option_to_list o)) verdicts.Outside) (sym is) (omega arith, (not, tt))
 
-  pub part_without : address_of part ≡ None → IsVerdictOfAddresses filter (asked_of filter (of_part (Some part))) verdicts.NoAddress
-  part_without is = ap (λ o. asked_of filter (option_to_list (with_text part o))) is
+pub picked_without : (filter : Filter) (pick : Pick) (part : List ℕ) → picked pick part ≡ None → IsVerdictOfAddresses filter (asked_of filter (option_to_list (picked pick part))) verdicts.NoAddress
+picked_without filter pick part none = ap (λ o. asked_of filter (option_to_list o)) none
 
--- ---- a line, by where its addresses are looked for
+-- ---- a line, by the part that is looked at
 
-module _ (filter : Filter) (line : List ℕ) (verdict : Verdict) where
-  pub by_area : (area : Area) → filter.area ≡ area → IsVerdictOfAddresses filter (asked_of filter (spelled_at area line)) verdict → IsVerdictOfAddresses filter (asked_of filter (spelled_at filter.area line)) verdict
-  by_area area is h = subst (λ (q : Area). IsVerdictOfAddresses filter (asked_of filter (spelled_at q line)) verdict) (sym is) h
+pub by_part : (filter : Filter) (line part : List ℕ) (verdict : Verdict) → part_of filter.area.part line ≡ Some part
+    → IsVerdictOfAddresses filter (asked_of filter (each_of filter.area.pick part)) verdict → IsVerdictOfAddresses filter (asked_of filter (spelled_in filter.area line)) verdict
+by_part filter line part verdict is h = subst (λ (o : Option (List ℕ)). IsVerdictOfAddresses filter (asked_of filter (each_in filter.area.pick o)) verdict) (sym is) h
 
-  pub by_field : (number separator : ℕ) (part : Option (List ℕ)) → filter.area ≡ areas.Field number separator → field_of number separator line ≡ part
-      → IsVerdictOfAddresses filter (asked_of filter (of_part part)) verdict → IsVerdictOfAddresses filter (asked_of filter (spelled_at filter.area line)) verdict
-  by_field number separator part is e h =
-      by_area (areas.Field number separator) is (subst (λ (o : Option (List ℕ)). IsVerdictOfAddresses filter (asked_of filter (of_part o)) verdict) (sym e) h)
+module _ (filter : Filter) (part : List ℕ) (verdict : Verdict) where
+  pub by_each : filter.area.pick ≡ picks.Each → IsVerdictOfAddresses filter (asked_of filter (addresses_of part)) verdict → IsVerdictOfAddresses filter (asked_of filter (each_of filter.area.pick part)) verdict
+  by_each each h = subst (λ (p : Pick). IsVerdictOfAddresses filter (asked_of filter (each_of p part)) verdict) (sym each) h
 
-  pub by_word : (number : ℕ) (part : Option (List ℕ)) → filter.area ≡ areas.Word number → slice_get (words_of line) (number - 1) ≡ part
-      → IsVerdictOfAddresses filter (asked_of filter (of_part part)) verdict → IsVerdictOfAddresses filter (asked_of filter (spelled_at filter.area line)) verdict
-  by_word number part is e h =
-      by_area (areas.Word number) is (subst (λ (o : Option (List ℕ)). IsVerdictOfAddresses filter (asked_of filter (of_part o)) verdict) (sym e) h)
+  pub by_one : filter.area.pick ≢ picks.Each → IsVerdictOfAddresses filter (asked_of filter (option_to_list (picked filter.area.pick part))) verdict
+      → IsVerdictOfAddresses filter (asked_of filter (each_of filter.area.pick part)) verdict
+  by_one other h = subst (λ (l : List Spelled). IsVerdictOfAddresses filter (asked_of filter l) verdict) (sym (each_is_one filter.area.pick part other)) h
 
-  pub anywhere : filter.area ≡ areas.Anywhere → IsVerdictOfAddresses filter (asked_of filter (addresses_of line)) verdict → IsVerdictOfAddresses filter (asked_of filter (spelled_at filter.area line)) verdict
-  anywhere is h = by_area areas.Anywhere is h
-
-module _ (filter : Filter) (line : List ℕ) (verdict : Verdict) where
-  pub by_text : (text : List ℕ) (rest : Option (List ℕ)) → filter.area ≡ areas.After text → following text line ≡ rest
-      → IsVerdictOfAddresses filter (asked_of filter (of_rest rest)) verdict → IsVerdictOfAddresses filter (asked_of filter (spelled_at filter.area line)) verdict
-  by_text text rest is e h =
-      by_area filter line verdict (areas.After text) is (subst (λ (o : Option (List ℕ)). IsVerdictOfAddresses filter (asked_of filter (of_rest o)) verdict) (sym e) h)
-
--- ---- the first address of a rest
-
-module _ (filter : Filter) (rest : List ℕ) (found : Found) (next : IsNextAddress rest 0 found) where
-  first_is : of_rest (Some rest) ≡ spelled_at_area rest found ∷ []
-  first_is = ap (take 1) next.first
-
-  pub first_inside : (told : Option IpNetwork) → IsListed filter (asked filter.mapped found.address) → TellsBlock filter.listed (asked filter.mapped found.address) told
-      → IsVerdictOfAddresses filter (asked_of filter (of_rest (Some rest))) (verdicts.Inside told)
-  first_inside told listed tells = subst (λ (l : List Spelled). FirstListed filter (asked_of filter l) told) (sym first_is) (inl (listed, tells))
-
-  pub first_outside : ¬ (IsListed filter (asked filter.mapped found.address)) → IsVerdictOfAddresses filter (asked_of filter (of_rest (Some rest))) verdicts.Outside
-  first_outside not = subst (λ (l : List Spelled). IsVerdictOfAddresses filter (asked_of filter l) verdicts.Outside) (sym first_is) (omega arith, (not, tt))
-
-pub first_without : (filter : Filter) (rest : List ℕ) → addresses_of rest ≡ [] → IsVerdictOfAddresses filter (asked_of filter (of_rest (Some rest))) verdicts.NoAddress
-first_without filter rest none = ap (λ l. asked_of filter (take 1 l)) none
+pub no_part : (filter : Filter) (line : List ℕ) → part_of filter.area.part line ≡ None → IsVerdictOfAddresses filter (asked_of filter (spelled_in filter.area line)) verdicts.NoAddress
+no_part filter line none = ap (λ (o : Option (List ℕ)). asked_of filter (each_in filter.area.pick o)) none
 
 -- a line that is not too long
 pub judged : (filter : Filter) (line : List ℕ) (verdict : Verdict) → length line ≤ 1048576 → IsVerdictOfAddresses filter (addresses_in filter line) verdict → IsVerdict filter line verdict

@@ -9,7 +9,9 @@ use Rattle.options.specs.declared.items.Item.TheVariants as says
 use Rattle.options.specs.declared.items.Mode.TheVariants as modes
 use Rattle.options.specs.declared.table.Row.{Row}
 use Rattle.options.proofs.Tables.{rows_of}
-use Rattle.line_addresses.specs.declared.area.Area.TheVariants as areas
+use Rattle.line_addresses.specs.declared.area.Part.TheVariants as parts
+use Rattle.line_addresses.specs.declared.area.Pick.TheVariants as picks
+use Rattle.line_addresses.proofs.Areas.{whole, anywhere, after}
 use Rattle.cidr_filter.specs.Options.{entries}
 use Rattle.log_programs.specs.WithoutAddress.{bad_in}
 use Rattle.log_programs.specs.declared.without_address.WithoutAddress.TheVariants as without
@@ -20,13 +22,13 @@ rows = rows_of entries
 -- ---- words
 
 pub letters_and_a_value : map (free_items rows) (codes "-vc" ∷ codes "-vcaok1" ∷ codes "-wd" ∷ codes "-k3" ∷ codes "-k1v" ∷ codes "-cm7" ∷ [])
-    ≡ (says.Flag 13 ∷ says.Flag 14 ∷ []) ∷ (says.Flag 13 ∷ says.Flag 14 ∷ says.Flag 0 ∷ says.Flag 15 ∷ says.Value 2 (codes "1") ∷ [])
+    ≡ (says.Flag 14 ∷ says.Flag 15 ∷ []) ∷ (says.Flag 14 ∷ says.Flag 15 ∷ says.Flag 0 ∷ says.Flag 16 ∷ says.Value 2 (codes "1") ∷ [])
     ∷ (says.Flag 1 ∷ []) ∷ (says.Joined 2 (codes "3") (codes "-k3") ∷ []) ∷ (says.Joined 2 (codes "1v") (codes "-k1v") ∷ [])
-    ∷ (says.Flag 14 ∷ says.Value 10 (codes "7") ∷ []) ∷ []
+    ∷ (says.Flag 15 ∷ says.Value 11 (codes "7") ∷ []) ∷ []
 letters_and_a_value = refl
 
 pub long_names : map (free_items rows) (codes "--longest" ∷ codes "--mapped" ∷ codes "--bad=keep" ∷ codes "--bad=" ∷ codes "--bad" ∷ codes "--help" ∷ [])
-    ≡ (says.Flag 11 ∷ []) ∷ (says.Flag 5 ∷ []) ∷ (says.Joined 12 (codes "keep") (codes "--bad=keep") ∷ []) ∷ (says.Joined 12 [] (codes "--bad=") ∷ []) ∷ [] ∷ (says.Flag 7 ∷ []) ∷ []
+    ≡ (says.Flag 12 ∷ []) ∷ (says.Flag 5 ∷ []) ∷ (says.Joined 13 (codes "keep") (codes "--bad=keep") ∷ []) ∷ (says.Joined 13 [] (codes "--bad=") ∷ []) ∷ [] ∷ (says.Flag 7 ∷ []) ∷ []
 long_names = refl
 
 -- a letter of none, also behind others, a name with more, one of which a value does not follow in its word, and a letter that
@@ -36,19 +38,19 @@ pub no_options : map (free_items rows) (codes "-x" ∷ codes "--longest=" ∷ co
     ∷ (says.Unknown (codes "---") ∷ []) ∷ (says.Unknown (45 ∷ 195 ∷ 169 ∷ []) ∷ []) ∷ (says.Unknown (codes "--vk1") ∷ []) ∷ []
 no_options = refl
 
-pub letter_of_none_behind_others : free_items rows (codes "-vxk1") ≡ says.Flag 13 ∷ says.Unknown (codes "-vxk1") ∷ []
+pub letter_of_none_behind_others : free_items rows (codes "-vxk1") ≡ says.Flag 14 ∷ says.Unknown (codes "-vxk1") ∷ []
 letter_of_none_behind_others = refl
 
 -- whatever the value is
-pub text_joined : (byte : ℕ) (text : List ℕ) → free_items rows (45 ∷ 101 ∷ byte ∷ text) ≡ says.Joined 9 (byte ∷ text) (45 ∷ 101 ∷ byte ∷ text) ∷ []
+pub text_joined : (byte : ℕ) (text : List ℕ) → free_items rows (45 ∷ 101 ∷ byte ∷ text) ≡ says.Joined 10 (byte ∷ text) (45 ∷ 101 ∷ byte ∷ text) ∷ []
 text_joined byte text = refl
 
-pub list_joined : (byte : ℕ) (text : List ℕ) → free_items rows (45 ∷ 118 ∷ 102 ∷ byte ∷ text) ≡ says.Flag 13 ∷ says.Value 6 (byte ∷ text) ∷ []
+pub list_joined : (byte : ℕ) (text : List ℕ) → free_items rows (45 ∷ 118 ∷ 102 ∷ byte ∷ text) ≡ says.Flag 14 ∷ says.Value 6 (byte ∷ text) ∷ []
 list_joined byte text = refl
 
 -- the value in the next word: a `--` ends nothing there, and an option is none
 pub next_words : map (free_mode rows) (codes "-vk" ∷ codes "-vk1" ∷ codes "-f" ∷ codes "--bad" ∷ codes "--longest" ∷ codes "--" ∷ codes "-" ∷ [])
-    ≡ modes.Value 2 ∷ modes.Free ∷ modes.Value 6 ∷ modes.Value 12 ∷ modes.Free ∷ modes.Files ∷ modes.Free ∷ []
+    ≡ modes.Value 2 ∷ modes.Free ∷ modes.Value 6 ∷ modes.Value 13 ∷ modes.Free ∷ modes.Files ∷ modes.Free ∷ []
 next_words = refl
 
 pub any_value : (word : List ℕ) → word_items rows (modes.Value 6) word ≡ says.Value 6 word ∷ []
@@ -63,19 +65,19 @@ plain_words = refl
 -- ---- what is given
 
 -- of an option that is given twice the last value counts, and the value of another option is none
-pub the_last_text : value_of (says.Value 4 (codes "A") ∷ says.Flag 13 ∷ says.Value 4 (codes "B") ∷ says.Value 9 (codes "C") ∷ []) 4 ≡ codes "B"
+pub the_last_text : value_of (says.Value 4 (codes "A") ∷ says.Flag 14 ∷ says.Value 4 (codes "B") ∷ says.Value 10 (codes "C") ∷ []) 4 ≡ codes "B"
 the_last_text = refl
 
 pub files_in_their_order : files_of (says.File (codes "b") ∷ says.Value 6 (codes "x") ∷ says.File (codes "a") ∷ []) ≡ codes "b" ∷ codes "a" ∷ []
 files_in_their_order = refl
 
-pub no_file_is_standard_input : inputs_of (says.Flag 13 ∷ []) ≡ codes "-" ∷ []
+pub no_file_is_standard_input : inputs_of (says.Flag 14 ∷ []) ≡ codes "-" ∷ []
 no_file_is_standard_input = refl
 
 -- a list and no FILE, a list and a FILE, one list, and a text that is a dash
 pub standard_input : map (is_read_once rows)
     ((says.Value 6 (codes "-") ∷ []) ∷ (says.Value 6 (codes "-") ∷ says.File (codes "-") ∷ []) ∷ (says.Joined 6 (codes "-") (codes "-f-") ∷ says.File (codes "a") ∷ [])
-    ∷ (says.Value 9 (codes "-") ∷ []) ∷ []) ≡ false ∷ false ∷ true ∷ true ∷ []
+    ∷ (says.Value 10 (codes "-") ∷ []) ∷ []) ≡ false ∷ false ∷ true ∷ true ∷ []
 standard_input = refl
 
 pub bad_words : map bad_in (codes "stop" ∷ codes "keep" ∷ codes "drop" ∷ codes "report" ∷ [] ∷ []) ≡ without.Stop ∷ without.Keep ∷ without.Drop ∷ without.Report ∷ without.Unsaid ∷ []
@@ -85,5 +87,11 @@ bad_words = refl
 
 -- without options in the first field, at single spaces
 pub areas_of : map area_of ([] ∷ (says.Flag 1 ∷ says.Value 2 (codes "3") ∷ []) ∷ (says.Flag 0 ∷ []) ∷ (says.Value 4 (codes "SRC=") ∷ []) ∷ (says.Value 2 (codes "3") ∷ says.Value 3 (codes ",") ∷ []) ∷ [])
-    ≡ areas.Field 1 32 ∷ areas.Word 3 ∷ areas.Anywhere ∷ areas.After (codes "SRC=") ∷ areas.Field 3 44 ∷ []
+    ≡ whole (parts.Field 1 32) ∷ whole (parts.Word 3) ∷ anywhere ∷ after (codes "SRC=") ∷ whole (parts.Field 3 44) ∷ []
 areas_of = refl
+
+-- inside one field or word, and which of the addresses there
+pub picks_of : map area_of ((says.Flag 0 ∷ says.Value 2 (codes "8") ∷ says.Value 3 (codes ",") ∷ []) ∷ (says.Flag 0 ∷ says.Flag 1 ∷ []) ∷ (says.Value 9 (codes "last") ∷ []) ∷ (says.Value 9 (codes "first") ∷ says.Value 2 (codes "2") ∷ []) ∷ (says.Value 4 (codes "=") ∷ says.Joined 9 (codes "3") (codes "--nth=3") ∷ []) ∷ [])
+    ≡ record { part = parts.Field 8 44; pick = picks.Each } ∷ record { part = parts.Word 1; pick = picks.Each } ∷ record { part = parts.Line; pick = picks.Last }
+    ∷ record { part = parts.Field 2 32; pick = picks.Number 1 } ∷ record { part = parts.After (codes "="); pick = picks.Number 3 } ∷ []
+picks_of = refl

@@ -1,13 +1,14 @@
 -- Runs at which a misreading of the definitions would show.
 use Rattle.std.proofs.Common.{◌≡◌, ℕ, List, [], ◌∷◌, true, false, inl, inr, refl, append-nil, sym, ◌∙◌, ◌⊎◌, true≢false, arith}
-use Rattle.std.specs.Prelude.{codes, Some, None}
+use Rattle.std.specs.Prelude.{codes, map, Some, None}
 use Rattle.std.specs.Fmt.{digits}
 use Rattle.std.specs.Str.Lines.{lines}
 use Rattle.ipnetwork_addr.specs.Computed.Ipv6Text.{v6_of, gap_below}
 use Rattle.line_addresses.specs.Addresses.{address_of}
 use Rattle.lists.specs.Lists.{ReadLists, at_list, TakesLines}
 use Rattle.lists.specs.KnownLists.{KnownLists}
-use Rattle.program.specs.Reported.{was_refused}
+use Rattle.lists.specs.declared.entry.EntryFault.TheVariants.{Prefix}
+use Rattle.lists.specs.declared.fault.LineFault.TheVariants.{Entry}
 use Rattle.cidr_filter.specs.Filters.{IsVerdict, is_count}
 use Rattle.program.specs.LogFaults.{log_fault_text, Wrote}
 use Rattle.program.specs.Logs.{HaltsBy, IsAllOf, IsFirstOf}
@@ -17,7 +18,7 @@ use Rattle.options.specs.Given.{is_given, inputs_of}
 use Rattle.options.specs.declared.items.Item.{Item}
 use Rattle.options.specs.declared.items.Item.TheVariants as says
 use Rattle.program.specs.Endings.{Ending, Refuses, HasTold, HasWritten}
-use Rattle.cidr_filter.specs.Runs.{total_text, EndsLogs, EndsFiltering, filter_of, status_by}
+use Rattle.cidr_filter.specs.Runs.{total_text, EndsLogs, EndsFiltering, filter_of, is_stopped_by, status_by}
 use Rattle.cidr_filter.specs.declared.filter.Filter.{Filter}
 use Rattle.log_programs.specs.declared.without_address.WithoutAddress.TheVariants as without
 use Rattle.cidr_filter.specs.declared.filter.Verdict.TheVariants as verdicts
@@ -45,12 +46,16 @@ no_greater_line = refl
 pub no_number : total_text false 12 ≡ []
 no_number = refl
 
--- without a refused line a run is not silent: there is no memory, or the logs are filtered
-pub not_silent : {W E : Type 0} (known : KnownLists) (items : List Item) (read : ReadLists) (end : Ending W E) → was_refused read.refused ≡ false → EndsFiltering known items read end
+-- without a refused line that ends it a run is not silent: there is no memory, or the logs are filtered
+pub not_silent : {W E : Type 0} (known : KnownLists) (items : List Item) (read : ReadLists) (end : Ending W E) → is_stopped_by items read.refused ≡ false → EndsFiltering known items read end
     → Refuses (codes "out of memory\n") end
-    ⊎ ((listed : Matcher) × HoldsRead (is_given items 11) read listed × EndsLogs (filter_of items listed) known (inputs_of items) end)
+    ⊎ ((listed : Matcher) × HoldsRead (is_given items 12) read listed × EndsLogs (filter_of items listed) known (inputs_of items) end)
 not_silent known items read end none (inl ends) = absurd (true≢false (sym ends.0 ∙ none))
 not_silent known items read end none (inr ends) = ends.1
+
+-- one that is skipped does not end it
+pub refused_or_skipped : map (λ items. is_stopped_by items (record { kept = record { list = 0; line = 7; fault = Entry Prefix } ∷ []; more = 0 })) ([] ∷ (says.Flag 22 ∷ []) ∷ []) ≡ true ∷ false ∷ []
+refused_or_skipped = refl
 
 -- nothing was written of the first log, and nothing more comes of those behind it
 pub nothing_written : {W E : Type 0} (filter : Filter) (known : KnownLists) (name : List ℕ) (names : List (List ℕ)) (text : List ℕ) (selected : ℕ) (end : Ending W E)
@@ -69,7 +74,7 @@ nothing_written filter known name names text selected end one goes written told 
 pub lists_in_their_order : (known : KnownLists) (before mid after : ReadLists)
     → known.may_open (codes "a") true → ((input : List ℕ) → known.bytes_of (codes "a") ≡ Some input → TakesLines (at_list before 0) (lines input) mid)
     → TakesLines (at_list mid 2) (lines (codes "x")) after
-    → ReadsItems known 0 (says.Value 6 (codes "a") ∷ says.Flag 13 ∷ says.Joined 9 (codes "x") (codes "-ex") ∷ says.File (codes "log") ∷ []) before after
+    → ReadsItems known 0 (says.Value 6 (codes "a") ∷ says.Flag 14 ∷ says.Joined 10 (codes "x") (codes "-ex") ∷ says.File (codes "log") ∷ []) before after
 lists_in_their_order known before mid after opened first second = (mid, (opened, first), (mid, refl, (after, second, (after, refl, refl))))
 
 module _ (known : KnownLists) (inside : IsVerdict (by false without.Stop) (codes "10.0.0.1") (verdicts.Inside None)) (outside : IsVerdict (by false without.Stop) (codes "11.0.0.1") verdicts.Outside)

@@ -21,10 +21,10 @@ use Rattle.program.specs.LogFaults.{log_fault_text, IfWrite, Wrote, HandsOn, Sto
 use Rattle.program.specs.Logs.{HaltsBy}
 use Rattle.cidr_filter.specs.Reading.{StopsAtItems, HoldsRead}
 use Rattle.cidr_filter.specs.Options as own
-use Rattle.cidr_filter.specs.Runs.{StopsAtLog, total_text, status_by, EndsWith, FiltersAll, EndsLogs, filter_of, EndsReading}
+use Rattle.cidr_filter.specs.Runs.{StopsAtLog, total_text, status_by, EndsWith, FiltersAll, EndsLogs, filter_of, is_stopped_by, EndsReading}
 use Rattle.cidr_filter.specs.Stands.{Stand, stand, begun}
 use Rattle.cidr_filter.specs.Stops.{FiltersLines, WritesBeginning}
-use Rattle.program.specs.Reported.{was_refused, fault_text, refusals_text}
+use Rattle.program.specs.Reported.{fault_text, refusals_text}
 use Rattle.cidr_filter.specs.Reported.{in_option}
 use Rattle.cidr_filter.specs.Private.Reading.{ReadsAll}
 use Rattle.cidr_filter.specs.Private.Runs.{FiltersNames}
@@ -293,25 +293,19 @@ module _ {Z W E : Type 0} (known : KnownLists) (items : List Item) (names : List
     was_read : ReadsAll known items (is_given items own.longest) listed refused
     was_read = subst (λ (r : Result T F). OnOk r (ReadsAll known items (is_given items own.longest) listed refused)) is all
 
-    -- a line was refused
-    pub line_refused : (is_empty : Bool) → is_empty ≡ (length refused.kept == 0) → is_empty ≡ false → Refuses [] (record end { errors = told }) → EndsReading known items names end
-    line_refused is_empty e some h = (
-      refused,
-      told,
-      tells,
-      inr (was_read.read, was_read.is_read, was_read.refused_lines, inl (ap was_refused was_read.refused_lines ∙ ap not (sym e ∙ some), h)),
-    )
+    module _ (stops : Bool) (e : stops ≡ is_stopped_by items refused) where
+      by_lines : (is : Bool) → stops ≡ is → is_stopped_by items was_read.read.refused ≡ is
+      by_lines is so = ap (is_stopped_by items) was_read.refused_lines ∙ sym e ∙ so
 
-    module _ (is_empty : Bool) (e : is_empty ≡ (length refused.kept == 0)) (none : is_empty ≡ true) where
-      -- none was, and the filtering ended so
+      -- a line was refused, and ends the run
+      pub line_refused : stops ≡ true → Refuses [] (record end { errors = told }) → EndsReading known items names end
+      line_refused some h = (refused, told, tells, inr (was_read.read, was_read.is_read, was_read.refused_lines, inl (by_lines true some, h)))
+
+    module _ (stops : Bool) (e : stops ≡ is_stopped_by items refused) (none : stops ≡ false) where
+      -- none does, and the filtering ended so
       goes_on : Refuses (codes "out of memory\n") (record end { errors = told }) ⊎ ((held : Matcher) × HoldsRead (is_given items own.longest) was_read.read held
           × EndsLogs (filter_of items held) known (inputs_of items) (record end { errors = told })) → EndsReading known items names end
-      goes_on h = (
-        refused,
-        told,
-        tells,
-        inr (was_read.read, was_read.is_read, was_read.refused_lines, inr (ap was_refused was_read.refused_lines ∙ ap not (sym e ∙ none), h)),
-      )
+      goes_on h = (refused, told, tells, inr (was_read.read, was_read.is_read, was_read.refused_lines, inr (by_lines stops e false none, h)))
 
       pub memory_ran_out : Refuses (codes "out of memory\n") (record end { errors = told }) → EndsReading known items names end
       memory_ran_out h = goes_on (inl h)

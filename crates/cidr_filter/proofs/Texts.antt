@@ -1,20 +1,19 @@
 -- The addresses of a line that are printed.
-use Rattle.std.proofs.Common.{◌≡◌, ℕ, ◌-◌, List, [], ◌++◌, drop, take, None, Some, ap, sym, subst, ◌∙◌, append_assoc, append-nil}
-use Rattle.std.specs.Prelude.{Option, slice_get}
+use Rattle.std.proofs.Common.{◌≡◌, ◌≢◌, ℕ, List, [], ◌++◌, drop, None, Some, ap, sym, subst, ◌∙◌, append_assoc, append-nil}
+use Rattle.std.specs.Prelude.{Option}
 use Rattle.std.specs.List.{slice_range}
 use Rattle.std.specs.Option.{option_to_list}
 use Rattle.lines.specs.Outputs.{Puts, AppendsBeginning}
 use Rattle.lines.proofs.Putting.{begins_within, begins_after_puts}
-use Rattle.ipnetwork_addr.specs.declared.ip.IpAddr.{IpAddr}
-use Rattle.line_addresses.specs.Addresses.{address_of, with_text, addresses_of}
-use Rattle.line_addresses.specs.Following.{following}
-use Rattle.line_addresses.specs.Found.{IsNextAddress}
-use Rattle.line_addresses.specs.Words.{words_of}
+use Rattle.line_addresses.specs.Addresses.{addresses_of}
+use Rattle.line_addresses.specs.Areas.{part_of, picked, each_of, each_in, spelled_in}
+use Rattle.line_addresses.specs.declared.area.Pick.{Pick}
+use Rattle.line_addresses.specs.declared.area.Pick.TheVariants as picks
+use Rattle.line_addresses.proofs.Picks.{each_is_one}
+use Rattle.line_addresses.specs.Found.{IsNextAddress, spelled_at}
 use Rattle.line_addresses.specs.declared.found.Found.{Found}
-use Rattle.line_addresses.specs.Fields.{field_of}
-use Rattle.cidr_filter.specs.Filters.{text_of, texts_of, of_part, of_rest, spelled_at}
+use Rattle.cidr_filter.specs.Filters.{text_of, texts_of}
 use Rattle.cidr_filter.specs.declared.filter.Filter.{Filter}
-use Rattle.line_addresses.specs.declared.area.Area.TheVariants as areas
 
 -- the text of the next address, and those after it
 pub next_text : (filter : Filter) (head line : List ℕ) (at : ℕ) (found : Found) → IsNextAddress line at found
@@ -39,33 +38,25 @@ pub all_put : (filter : Filter) (head line : List ℕ) (at : ℕ) (held holds : 
 all_put filter head line at held holds waited waits done p e none =
     subst (λ (t : List ℕ). Puts held waited holds waits t) (sym (e ∙ ap (λ l. done ++ texts_of filter head l) none ∙ append-nil done)) p
 
--- ---- what is printed, by where addresses are looked for
+-- ---- what is printed, by the part that is looked at
 
-module _ (filter : Filter) (head line : List ℕ) where
-  pub of_field : (number separator : ℕ) (part : Option (List ℕ)) → filter.area ≡ areas.Field number separator → field_of number separator line ≡ part
-      → texts_of filter head (of_part part) ≡ texts_of filter head (spelled_at filter.area line)
-  of_field number separator part is e = sym (ap (λ p. texts_of filter head (spelled_at p line)) is ∙ ap (λ o. texts_of filter head (of_part o)) e)
+pub of_part : (filter : Filter) (head line part : List ℕ) → part_of filter.area.part line ≡ Some part → texts_of filter head (each_of filter.area.pick part) ≡ texts_of filter head (spelled_in filter.area line)
+of_part filter head line part is = sym (ap (λ (o : Option (List ℕ)). texts_of filter head (each_in filter.area.pick o)) is)
 
-  pub of_word : (number : ℕ) (part : Option (List ℕ)) → filter.area ≡ areas.Word number → slice_get (words_of line) (number - 1) ≡ part
-      → texts_of filter head (of_part part) ≡ texts_of filter head (spelled_at filter.area line)
-  of_word number part is e = sym (ap (λ p. texts_of filter head (spelled_at p line)) is ∙ ap (λ o. texts_of filter head (of_part o)) e)
+module _ (filter : Filter) (head part : List ℕ) where
+  pub of_each : filter.area.pick ≡ picks.Each → texts_of filter head (addresses_of part) ≡ texts_of filter head (each_of filter.area.pick part)
+  of_each each = sym (ap (λ (p : Pick). texts_of filter head (each_of p part)) each)
 
-  pub of_text : (text : List ℕ) (rest : Option (List ℕ)) → filter.area ≡ areas.After text → following text line ≡ rest
-      → texts_of filter head (of_rest rest) ≡ texts_of filter head (spelled_at filter.area line)
-  of_text text rest is e = sym (ap (λ p. texts_of filter head (spelled_at p line)) is ∙ ap (λ o. texts_of filter head (of_rest o)) e)
+  pub of_one : filter.area.pick ≢ picks.Each → texts_of filter head (option_to_list (picked filter.area.pick part)) ≡ texts_of filter head (each_of filter.area.pick part)
+  of_one other = sym (ap (texts_of filter head) (each_is_one filter.area.pick part other))
 
-  pub of_all : filter.area ≡ areas.Anywhere → texts_of filter head (addresses_of line) ≡ texts_of filter head (spelled_at filter.area line)
-  of_all is = sym (ap (λ p. texts_of filter head (spelled_at p line)) is)
+pub of_no_part : (filter : Filter) (head line : List ℕ) → part_of filter.area.part line ≡ None → [] ≡ texts_of filter head (spelled_in filter.area line)
+of_no_part filter head line none = sym (ap (λ (o : Option (List ℕ)). texts_of filter head (each_in filter.area.pick o)) none)
 
--- a part, and the first address of a rest
-pub of_address : (filter : Filter) (head part : List ℕ) (address : IpAddr) → address_of part ≡ Some address → text_of filter head address part ≡ texts_of filter head (of_part (Some part))
-of_address filter head part address is = sym (ap (λ o. texts_of filter head (option_to_list (with_text part o))) is ∙ append-nil (text_of filter head address part))
+-- the one that is looked at
+pub of_picked : (filter : Filter) (head part : List ℕ) (pick : Pick) (found : Found) → picked pick part ≡ Some (spelled_at part found)
+    → text_of filter head found.address (slice_range part found.start found.end) ≡ texts_of filter head (option_to_list (picked pick part))
+of_picked filter head part pick found is = sym (ap (λ o. texts_of filter head (option_to_list o)) is ∙ append-nil (text_of filter head found.address (slice_range part found.start found.end)))
 
-pub of_no_address : (filter : Filter) (head part : List ℕ) → address_of part ≡ None → [] ≡ texts_of filter head (of_part (Some part))
-of_no_address filter head part is = sym (ap (λ o. texts_of filter head (option_to_list (with_text part o))) is)
-
-pub of_first : (filter : Filter) (head rest : List ℕ) (found : Found) → IsNextAddress rest 0 found → text_of filter head found.address (slice_range rest found.start found.end) ≡ texts_of filter head (of_rest (Some rest))
-of_first filter head rest found next = sym (ap (λ l. texts_of filter head (take 1 l)) next.first ∙ append-nil (text_of filter head found.address (slice_range rest found.start found.end)))
-
-pub of_no_first : (filter : Filter) (head rest : List ℕ) → addresses_of rest ≡ [] → [] ≡ texts_of filter head (of_rest (Some rest))
-of_no_first filter head rest none = sym (ap (λ l. texts_of filter head (take 1 l)) none)
+pub of_no_picked : (filter : Filter) (head part : List ℕ) (pick : Pick) → picked pick part ≡ None → [] ≡ texts_of filter head (option_to_list (picked pick part))
+of_no_picked filter head part pick none = sym (ap (λ o. texts_of filter head (option_to_list o)) none)

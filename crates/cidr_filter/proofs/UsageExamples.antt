@@ -13,7 +13,7 @@ use Rattle.cidr_filter.specs.Options.{pairs}
 use Rattle.cidr_filter.proofs.OptionExamples.{rows}
 
 abbrev fault : List Item → Option Fault
-fault items = fault_by rows (pairs_of pairs) (6 ∷ 9 ∷ []) (codes "neither -f nor -e is given") items
+fault items = fault_by rows (pairs_of pairs) (6 ∷ 10 ∷ []) (codes "neither -f nor -e is given") items
 
 -- ---- a word by itself
 
@@ -34,9 +34,9 @@ not_the_only_word = refl
 abbrev value_told : ℕ → List ℕ → List ℕ → Option Fault
 value_told row value problem = Some (about (subjects.Value row value) problem)
 
-pub values_of_options : map (λ item. first_fault rows false (item ∷ [])) (says.Value 6 [] ∷ says.Value 9 [] ∷ says.Value 2 (codes "0") ∷ says.Value 3 (codes "xx") ∷ says.Value 12 (codes "x") ∷ says.Value 4 [] ∷ says.Lacks 2 ∷ says.Value 6 (codes "-v") ∷ [])
-    ≡ value_told 6 [] (codes "is no file name") ∷ value_told 9 [] (codes "is no network or range") ∷ value_told 2 (codes "0") (codes "is no field number")
-    ∷ value_told 3 (codes "xx") (codes "is not one ASCII byte other than LF, CR and NUL") ∷ value_told 12 (codes "x") (codes "is not drop, keep, stop or report")
+pub values_of_options : map (λ item. first_fault rows false (item ∷ [])) (says.Value 6 [] ∷ says.Value 10 [] ∷ says.Value 2 (codes "0") ∷ says.Value 3 (codes "xx") ∷ says.Value 13 (codes "x") ∷ says.Value 4 [] ∷ says.Lacks 2 ∷ says.Value 6 (codes "-v") ∷ [])
+    ≡ value_told 6 [] (codes "is no file name") ∷ value_told 10 [] (codes "is no network or range") ∷ value_told 2 (codes "0") (codes "is no field number")
+    ∷ value_told 3 (codes "xx") (codes "is not one ASCII byte other than LF, CR and NUL") ∷ value_told 13 (codes "x") (codes "is not drop, keep, stop or report")
     ∷ value_told 4 [] (codes "is no text") ∷ Some (about (subjects.Option 2) (codes "has no value")) ∷ None ∷ []
 values_of_options = refl
 
@@ -53,26 +53,26 @@ first_of_two_wrong_words = refl
 pub word_behind_an_empty_file : fault (says.File [] ∷ says.Unknown (codes "-x") ∷ []) ≡ word_told (codes "-x") (codes "is no option")
 word_behind_an_empty_file = refl
 
-pub empty_file_beside_a_pair : fault (says.Flag 13 ∷ says.Flag 11 ∷ says.File [] ∷ []) ≡ word_told [] (codes "is no file name")
+pub empty_file_beside_a_pair : fault (says.Flag 14 ∷ says.Flag 12 ∷ says.File [] ∷ []) ≡ word_told [] (codes "is no file name")
 empty_file_beside_a_pair = refl
 
 -- right words that are wrong together; of two pairs the first is told, and before a missing list
 pub pairs_told : map fault
-    ((says.Flag 11 ∷ says.Flag 13 ∷ []) ∷ (says.Flag 0 ∷ says.Value 2 (codes "1") ∷ []) ∷ (says.Flag 1 ∷ says.Value 3 (codes ",") ∷ []) ∷ (says.Flag 15 ∷ says.Flag 13 ∷ [])
-    ∷ (says.Value 4 (codes "x") ∷ says.Flag 0 ∷ []) ∷ (says.Flag 16 ∷ says.Flag 17 ∷ []) ∷ (says.Flag 15 ∷ says.Flag 13 ∷ says.Flag 11 ∷ []) ∷ [])
-    ≡ map together (codes "--longest goes with neither -v nor -c" ∷ codes "-a goes with none of -k, -d and -w" ∷ codes "-w does not go with -d"
+    ((says.Flag 12 ∷ says.Flag 14 ∷ []) ∷ (says.Flag 1 ∷ says.Value 3 (codes ",") ∷ []) ∷ (says.Flag 16 ∷ says.Flag 14 ∷ [])
+    ∷ (says.Value 4 (codes "x") ∷ says.Flag 0 ∷ []) ∷ (says.Flag 17 ∷ says.Flag 18 ∷ []) ∷ (says.Flag 16 ∷ says.Flag 14 ∷ says.Flag 12 ∷ []) ∷ [])
+    ≡ map together (codes "--longest goes with neither -v nor -c" ∷ codes "-w does not go with -d"
     ∷ codes "-o goes with neither -v nor --longest" ∷ codes "--after goes with none of -a, -k, -d and -w" ∷ codes "-H goes with neither -c nor -h"
     ∷ codes "--longest goes with neither -v nor -c" ∷ [])
 pairs_told = refl
 
 -- nothing is asked for; the list and the log are standard input; and nothing is wrong
-pub no_words : map fault ([] ∷ (says.Value 6 (codes "-") ∷ []) ∷ (says.Value 6 (codes "-") ∷ says.File (codes "a") ∷ []) ∷ (says.Value 9 (codes "::/0") ∷ []) ∷ [])
+pub no_words : map fault ([] ∷ (says.Value 6 (codes "-") ∷ []) ∷ (says.Value 6 (codes "-") ∷ says.File (codes "a") ∷ []) ∷ (says.Value 10 (codes "::/0") ∷ []) ∷ [])
     ≡ together (codes "neither -f nor -e is given") ∷ together (codes "-: standard input can be read only once") ∷ None ∷ None ∷ []
 no_words = refl
 
 -- ---- what is reported
 
 pub texts : map (refusal_text (codes "p") (codes "usage\n") rows)
-    (about subjects.CommandLine (codes "x") ∷ about (subjects.Word []) (codes "is no file name") ∷ about (subjects.Option 12) (codes "has no value") ∷ about (subjects.Value 2 (codes "0")) (codes "is no field number") ∷ [])
+    (about subjects.CommandLine (codes "x") ∷ about (subjects.Word []) (codes "is no file name") ∷ about (subjects.Option 13) (codes "has no value") ∷ about (subjects.Value 2 (codes "0")) (codes "is no field number") ∷ [])
     ≡ codes "p: x\nusage\n" ∷ codes "p: '': is no file name\nusage\n" ∷ codes "p: --bad: has no value\nusage\n" ∷ codes "p: -k: 0 is no field number\nusage\n" ∷ []
 texts = refl

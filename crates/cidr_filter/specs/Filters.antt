@@ -1,17 +1,14 @@
 -- Which lines of a log are selected.
 use Rattle.std.specs.Prelude.{◌≡◌, ℕ, ◌+◌, ◌-◌, ◌^◌, ◌<◌, ◌≤◌, ◌⊎◌, Bool, true, false, not, List, [], ◌∷◌, ◌++◌, Option}
-use Rattle.std.specs.Prelude.{None, Some, length, take, map, flat_map, slice_get, codes, decimal, min, nat_lt, nat_le}
+use Rattle.std.specs.Prelude.{None, Some, length, map, flat_map, codes, decimal, min, nat_lt, nat_le}
 use Rattle.std.specs.Prelude.{if◌then◌else◌}
 use Rattle.std.specs.List.{AllByRecursion}
-use Rattle.std.specs.Option.{option_to_list}
 use Rattle.ipnetwork_addr.specs.declared.ip.IpAddr.{IpAddr}
 use Rattle.ipnetwork.specs.IpNetworkText.{ip_network_text}
 use Rattle.ipnetwork.specs.declared.ip_network.IpNetwork.{IpNetwork}
-use Rattle.line_addresses.specs.Addresses.{Spelled, spelled, addresses_of}
-use Rattle.line_addresses.specs.Following.{following}
+use Rattle.line_addresses.specs.Addresses.{Spelled}
+use Rattle.line_addresses.specs.Areas.{spelled_in}
 use Rattle.ipnetwork_addr.specs.Either.{unmapped}
-use Rattle.line_addresses.specs.Words.{words_of}
-use Rattle.line_addresses.specs.Fields.{field_of}
 use Rattle.program.specs.LogLines.{LogLine, content, printed, IsWhole}
 use Rattle.cidr_filter.specs.Matcher.{IsIn, IsLongestBlock, has_address}
 use Rattle.log_programs.specs.WithoutAddress.{is_stopped}
@@ -20,8 +17,6 @@ use Rattle.log_programs.specs.declared.without_address.WithoutAddress.TheVariant
 use Rattle.cidr_filter.specs.declared.filter.Filter.{Filter}
 use Rattle.cidr_filter.specs.declared.filter.OutputMode.{OutputMode}
 use Rattle.cidr_filter.specs.declared.filter.OutputMode.TheVariants as shows
-use Rattle.line_addresses.specs.declared.area.Area.{Area}
-use Rattle.line_addresses.specs.declared.area.Area.TheVariants as areas
 use Rattle.cidr_filter.specs.declared.filter.Verdict.{Verdict}
 use Rattle.cidr_filter.specs.declared.filter.Verdict.TheVariants as verdicts
 use Rattle.cidr_filter.specs.declared.matcher.Matcher.{Matcher}
@@ -37,24 +32,6 @@ TellsBlock (Addresses sets) address told = told ≡ None
 TellsBlock (Blocks tables) address told = (block : IpNetwork) × (told ≡ Some block)
     × IsLongestBlock tables address block
 
--- the address that a part of a line is, with its text, if there is such a part and it is one
-abbrev pub of_part : Option (List ℕ) → List Spelled
-of_part None = []
-of_part (Some part) = option_to_list (spelled part)
-
--- the first address of a rest of a line, if there is such a rest
-abbrev pub of_rest : Option (List ℕ) → List Spelled
-of_rest None = []
-of_rest (Some rest) = take 1 (addresses_of rest)
-
--- the addresses of a line, in order: that of a field or of a word, or all that stand anywhere in it, or the first of
--- what follows the first position of a text
-abbrev pub spelled_at : Area → List ℕ → List Spelled
-spelled_at (areas.Field number separator) line = of_part (field_of number separator line)
-spelled_at (areas.Word number) line = of_part (slice_get (words_of line) (number - 1))
-spelled_at areas.Anywhere line = addresses_of line
-spelled_at (areas.After text) line = of_rest (following text line)
-
 -- the address for which the lists are asked: of an IPv4-mapped one its IPv4 one, if the option says so
 abbrev pub asked : Bool → IpAddr → IpAddr
 asked mapped address = if mapped then unmapped address else address
@@ -64,7 +41,7 @@ abbrev pub asked_of : Filter → List Spelled → List IpAddr
 asked_of filter found = map (λ one. asked filter.mapped one.address) found
 
 abbrev pub addresses_in : Filter → List ℕ → List IpAddr
-addresses_in filter line = asked_of filter (spelled_at filter.area line)
+addresses_in filter line = asked_of filter (spelled_in filter.area line)
 
 -- one of these addresses is in the lists, and this is what they say about the first that is
 abbrev pub FirstListed : Filter → List IpAddr → Option IpNetwork → Type 0
@@ -166,7 +143,7 @@ is_count other = false
 -- before each; or with `-l` the name of its log; or nothing, with `-c` and with `-q`
 abbrev pub shown_by : OutputMode → Filter → List ℕ → Verdict → List ℕ → List ℕ → List ℕ
 shown_by shows.Lines filter head verdict line text = head ++ (mark_of filter.listed verdict ++ text)
-shown_by shows.Addresses filter head verdict line text = texts_of filter head (spelled_at filter.area line)
+shown_by shows.Addresses filter head verdict line text = texts_of filter head (spelled_in filter.area line)
 shown_by shows.Count filter head verdict line text = []
 shown_by shows.Names filter head verdict line text = filter.name ++ 10 ∷ []
 shown_by shows.Nothing filter head verdict line text = []

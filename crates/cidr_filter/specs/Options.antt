@@ -6,42 +6,45 @@ use Rattle.options.specs.declared.table.Kind.TheVariants as kinds
 use Rattle.options.specs.declared.table.Table.{Table}
 
 -- the rows of the options that this program alone has: `-e`, `-m`, `--longest`, `--bad`, `-v`, `-c`, `-o`, `-H`, `-h`,
--- `-n`, `-l` and `-q`
+-- `-n`, `-l`, `-q` and `--skip-bad`
 abbrev pub text : ℕ
-text = 9
+text = 10
 
 abbrev pub most : ℕ
-most = 10
+most = 11
 
 abbrev pub longest : ℕ
-longest = 11
+longest = 12
 
 abbrev pub bad : ℕ
-bad = 12
+bad = 13
 
 abbrev pub inverts : ℕ
-inverts = 13
+inverts = 14
 
 abbrev pub counts : ℕ
-counts = 14
+counts = 15
 
 abbrev pub only : ℕ
-only = 15
+only = 16
 
 abbrev pub named : ℕ
-named = 16
+named = 17
 
 abbrev pub unnamed : ℕ
-unnamed = 17
+unnamed = 18
 
 abbrev pub numbered : ℕ
-numbered = 18
+numbered = 19
 
 abbrev pub names : ℕ
-names = 19
+names = 20
 
 abbrev pub quiet : ℕ
-quiet = 20
+quiet = 21
+
+abbrev pub skips_bad : ℕ
+skips_bad = 22
 
 -- the options, in the order of their rows
 abbrev pub entries : List Entry
@@ -50,7 +53,7 @@ entries = rows.shared
     ∷ valued (codes "m") kinds.Number (codes "is no number of lines")
     ∷ long_flag (codes "--longest") ∷ long (codes "--bad") kinds.Rule true (codes "is not drop, keep, stop or report")
     ∷ flag (codes "v") ∷ flag (codes "c") ∷ flag (codes "o") ∷ flag (codes "H") ∷ flag (codes "h") ∷ flag (codes "n")
-    ∷ flag (codes "l") ∷ flag (codes "q") ∷ []
+    ∷ flag (codes "l") ∷ flag (codes "q") ∷ long_flag (codes "--skip-bad") ∷ []
 
 -- which of them do not go together: `--longest` with `-v` or `-c`, those that say where addresses are looked for, `-o`
 -- with `-v` or `--longest`, and `-H` with `-c` or `-h`. Of several such pairs the first is told

@@ -1,6 +1,6 @@
 -- How a run ends: its exit status, what was written, and what was reported.
-use Rattle.std.specs.Prelude.{◌≡◌, ℕ, ◌-◌, ◌^◌, min, List, [], ◌∷◌, ◌++◌, Bool, true, false, ◌||◌, ◌⊎◌, Option, None}
-use Rattle.std.specs.Prelude.{Some, if◌then◌else◌, length, nat_lt, map, codes, decimal, String}
+use Rattle.std.specs.Prelude.{◌≡◌, ℕ, ◌-◌, ◌^◌, min, List, [], ◌∷◌, ◌++◌, Bool, true, false, not, ◌&&◌, ◌||◌, ◌⊎◌}
+use Rattle.std.specs.Prelude.{Option, None, Some, if◌then◌else◌, length, nat_lt, map, codes, decimal, String}
 use Rattle.std.specs.String.{string_bytes}
 use Rattle.std.specs.declared.alloc.Global.{Global}
 use Rattle.lists.specs.Lists.{ReadLists, nothing_read}
@@ -132,12 +132,16 @@ filter_of items listed = record {
   name = [];
 }
 
--- this was read of the lists: if a line of them was refused, or there is no memory, nothing is written. Else the logs
--- are filtered by it
+-- refused lines of lists end the run: one does, unless such lines are skipped
+abbrev pub is_stopped_by : List Item → Refused → Bool
+is_stopped_by items refused = was_refused refused && not (is_given items own.skips_bad)
+
+-- this was read of the lists: if refused lines of them end the run, or there is no memory, nothing is written. Else the
+-- logs are filtered by it
 abbrev pub EndsFiltering : {W E : Type 0} → KnownLists → List Item → ReadLists → Ending W E → Type 0
 EndsFiltering known items read end =
-    ((was_refused read.refused ≡ true) × Refuses [] end)
-    ⊎ ((was_refused read.refused ≡ false) × (Refuses (codes "out of memory\n") end
+    ((is_stopped_by items read.refused ≡ true) × Refuses [] end)
+    ⊎ ((is_stopped_by items read.refused ≡ false) × (Refuses (codes "out of memory\n") end
     ⊎ ((listed : Matcher) × HoldsRead (is_given items own.longest) read listed
     × EndsLogs (filter_of items listed) known (inputs_of items) end)))
 

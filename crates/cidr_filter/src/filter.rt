@@ -1,13 +1,15 @@
 //! What a line is to the lists, and whether it is selected.
-ghost use Rattle.std.specs.Prelude.{◌≡◌, ◌≤◌, ◌∷◌, [], Some, IfSome, MatchOption};
+ghost use Rattle.std.specs.Prelude.{◌≡◌, ◌≤◌, ◌∷◌, [], IfSome, MatchOption};
+ghost use Rattle.std.specs.Option.{option_to_list};
 ghost use Rattle.line_addresses.specs.Addresses.{addresses_of};
+ghost use Rattle.line_addresses.specs.Areas.{each_of, picked, spelled_in};
 ghost use Rattle.cidr_filter.specs.Addressed.{is_addressed_by};
-ghost use Rattle.cidr_filter.specs.Filters.{is_listed, IsVerdict, IsVerdictOfAddresses, IsListed, TellsBlock, addresses_in, asked, asked_of, of_part, of_rest, spelled_at, is_selected, is_refused, is_count, is_silent};
+ghost use Rattle.cidr_filter.specs.Filters.{is_listed, IsVerdict, IsVerdictOfAddresses, IsListed, TellsBlock, addresses_in, asked, asked_of, is_selected, is_refused, is_count, is_silent};
 ghost use Rattle.cidr_filter.specs.Private.Copying.{IsSelectedByAddress};
 
 use crate::matcher::Matcher;
 use ipnetwork::{IpAddr, IpNetwork};
-use line_addresses::{Area, Text, address_of, field_of, following, next_address, word_of};
+use line_addresses::{Area, Pick, Text, next_address, part_of, picked};
 use log_programs::finding::found_in;
 use log_programs::without_address::WithoutAddress;
 use program::log_reader::LINE_MAX;
@@ -109,15 +111,15 @@ impl Filter<'_> {
         }
     }
 
-    // The address of a line, if only one is looked for and the line has it.
+    // The address that the part of a line is in which it is looked for.
     #[inline(always)]
     fn only_address(&self, line: &[u8]) -> Option<IpAddr>
         ensures { IfSome result (λ address.
             addresses_in self.now line.now ≡ asked self.now.mapped address ∷ []) }
     {
-        match &self.area {
-            Area::Anywhere | Area::After(_) => None,
-            _ => found_in(&self.area, line),
+        match self.area.pick {
+            Pick::Whole => found_in(&self.area, line),
+            _ => None,
         }
     }
 
@@ -125,46 +127,33 @@ impl Filter<'_> {
     #[inline(always)]
     fn judge_within(&self, line: &[u8]) -> Verdict
         ensures { IsVerdictOfAddresses self.now
-            (asked_of self.now (spelled_at self.now.area line.now)) result }
+            (asked_of self.now (spelled_in self.now.area line.now)) result }
     {
-        match &self.area {
-            Area::Field { number, separator } => match field_of(line, *number, *separator) {
-                Some(field) => self.judge_part(field),
-                None => Verdict::NoAddress,
-            },
-            Area::Word(number) => match word_of(line, *number) {
-                Some(word) => self.judge_part(word),
-                None => Verdict::NoAddress,
-            },
-            Area::Anywhere => self.judge_anywhere(line),
-            Area::After(text) => match following(line, text.bytes()) {
-                Some(rest) => self.judge_first(rest),
-                None => Verdict::NoAddress,
-            },
-        }
-    }
-
-    // What a line is to the list of which only this part is looked at.
-    #[inline(always)]
-    fn judge_part(&self, part: &[u8]) -> Verdict
-        ensures { IsVerdictOfAddresses self.now (asked_of self.now (of_part (Some part.now)))
-            result }
-    {
-        match address_of(part) {
-            Some(address) => match self.told_of(address) {
-                Some(told) => Verdict::Inside(told),
-                None => Verdict::Outside,
-            },
+        match part_of(&self.area.part, line) {
+            Some(part) => self.judge_part(part),
             None => Verdict::NoAddress,
         }
     }
 
-    // What a line is to the list of which the first address of this rest is looked at.
-    fn judge_first(&self, rest: &[u8]) -> Verdict
-        ensures { IsVerdictOfAddresses self.now (asked_of self.now (of_rest (Some rest.now)))
-            result }
+    // What a line is to the list of which this part is looked at.
+    #[inline(always)]
+    fn judge_part(&self, part: &[u8]) -> Verdict
+        ensures { IsVerdictOfAddresses self.now
+            (asked_of self.now (each_of self.now.area.pick part.now)) result }
     {
-        match next_address(rest, 0) {
+        match self.area.pick {
+            Pick::Each => self.judge_each(part),
+            _ => self.judge_picked(part, self.area.pick),
+        }
+    }
+
+    // What a line is to the list of which this address of a part is looked at.
+    #[inline(always)]
+    fn judge_picked(&self, part: &[u8], pick: Pick) -> Verdict
+        ensures { IsVerdictOfAddresses self.now
+            (asked_of self.now (option_to_list (picked pick part.now))) result }
+    {
+        match picked(part, pick) {
             Some(found) => match self.told_of(found.address) {
                 Some(told) => Verdict::Inside(told),
                 None => Verdict::Outside,
@@ -173,8 +162,8 @@ impl Filter<'_> {
         }
     }
 
-    // What a line is to the list whose addresses stand anywhere in it.
-    fn judge_anywhere(&self, line: &[u8]) -> Verdict
+    // What a line is to the list of which all addresses of this part are looked at.
+    fn judge_each(&self, line: &[u8]) -> Verdict
         ensures { IsVerdictOfAddresses self.now (asked_of self.now (addresses_of line.now)) result }
     {
         let mut at = 0;

@@ -9,15 +9,20 @@ Prints the lines of logs whose address is in a list of IP networks.
     -f LIST         the networks of a file: networks (10.0.0.0/8, 10.0.0.1, 2001:db8::/32) and
                     ranges (A - B), one a line; # and ; begin a comment; - is standard input
     -e TEXT         a network or a range
+    --skip-bad      take the networks of the lists without their refused lines, which are reported;
+                    without this option one ends the program before a log is read
     -k N            the address is the Nth field; without this option the first
     -d CHAR         fields are cut at each single CHAR; without this option at each space
     -w              fields are what stands between runs of spaces and tabs. Not with -d
-    -a              addresses are looked for anywhere in a line: 10.1.1.1:51234, [10.1.1.1],
-                    SRC=10.1.1.1 and [2001:db8::1]:443 have one; v10.1.2.3, 1.2.3.4.5 and 12:34:56
-                    have none. A line is printed if one of its addresses is in a network. Not with
-                    -k, -d or -w
-    --after TEXT    the address is the first that follows the first TEXT of a line, found as by -a;
-                    a line without TEXT has none: --after SRC=. Not with -a, -k, -d or -w
+    -a              addresses are looked for anywhere in a line, or with -k, -d or -w in that field:
+                    10.1.1.1:51234, [10.1.1.1], SRC=10.1.1.1 and [2001:db8::1]:443 have one;
+                    v10.1.2.3, 1.2.3.4.5 and 12:34:56 have none. A line is printed if one of its
+                    addresses is in a network
+    --nth WHICH     only this one counts of the addresses that stand there, found as by -a, which
+                    need not be given: first, last, or a number from 1 on
+    --after TEXT    the address is the first that follows the first TEXT of a line, found as by -a,
+                    or the one that --nth says; a line without TEXT has none: --after SRC=. Not with
+                    -a, -k, -d or -w
     -o              print the addresses that are in a network, one a line, in place of lines. Not
                     with -v or --longest
     --mapped        an address ::ffff:A.B.C.D of a line counts as A.B.C.D
@@ -63,6 +68,7 @@ Examples:
     cidr_filter -a -f networks.txt auth.log
     tail -f access.log | cidr_filter -v -e 10.0.0.0/8
     cidr_filter -c -k 3 -d , -f networks.txt table.csv
+    cidr_filter -k 2 -d , --nth last -f networks.txt proxied.csv
 ";
 
 /// What `--version` prints.
@@ -74,5 +80,6 @@ pub(crate) const PROGRAM: &str = "cidr_filter";
 /// How the program is used: what is reported for arguments that are not a command, after what is
 /// wrong with them.
 pub(crate) const USAGE: &str = "usage: cidr_filter [-v] [-c | -H] [-h] [-n] [-l] [-q] [-o] [-m N] \
-     [-a | --after TEXT | [-k N] [-d CHAR | -w]] [--mapped] [--bad drop|keep|stop|report] \
-     [--longest] (-f LIST | -e TEXT).. [FILE..]; try --help\n";
+     [--after TEXT | [-a] [-k N] [-d CHAR | -w]] [--nth first|last|N] [--mapped] \
+     [--bad drop|keep|stop|report] [--longest] [--skip-bad] (-f LIST | -e TEXT).. [FILE..]; \
+     try --help\n";

@@ -1,14 +1,16 @@
 //! Prints the addresses of a line that are in the list.
-ghost use Rattle.std.specs.Prelude.{◌++◌, ◌∷◌, [], Some};
+ghost use Rattle.std.specs.Prelude.{◌++◌, ◌∷◌, []};
 ghost use Rattle.lines.specs.Outputs.{Prints};
+ghost use Rattle.std.specs.Option.{option_to_list};
 ghost use Rattle.line_addresses.specs.Addresses.{addresses_of};
-ghost use Rattle.cidr_filter.specs.Filters.{head_of, of_part, of_rest, spelled_at, text_of, texts_of};
+ghost use Rattle.line_addresses.specs.Areas.{each_of, picked, spelled_in};
+ghost use Rattle.cidr_filter.specs.Filters.{head_of, text_of, texts_of};
 ghost use Rattle.program.specs.Putting.{PutsOrFails};
 
 use crate::filter::Filter;
 use crate::naming::put_head;
 use ipnetwork::IpAddr;
-use line_addresses::{Area, address_of, field_of, following, next_address, word_of};
+use line_addresses::{Pick, next_address, part_of, picked};
 use lines::fault::RunFault;
 use lines::output::Output;
 use program::putting::put_both;
@@ -24,26 +26,15 @@ pub(crate) fn print_addresses<W: Write>(
 ) -> Result<(), RunFault>
     ensures { PutsOrFails result output.old output.new
         (texts_of filter.now (head_of filter.now line_number)
-        (spelled_at filter.now.area line.now)) }
+        (spelled_in filter.now.area line.now)) }
 {
     let of_line = OfLine {
         filter,
         number: line_number,
     };
-    match &filter.area {
-        Area::Field { number, separator } => match field_of(line, *number, *separator) {
-            Some(field) => of_line.print_part(field, output),
-            None => Ok(()),
-        },
-        Area::Word(number) => match word_of(line, *number) {
-            Some(word) => of_line.print_part(word, output),
-            None => Ok(()),
-        },
-        Area::Anywhere => of_line.print_all(line, output),
-        Area::After(text) => match following(line, text.bytes()) {
-            Some(rest) => of_line.print_first(rest, output),
-            None => Ok(()),
-        },
+    match part_of(&filter.area.part, line) {
+        Some(part) => of_line.print_part(part, output),
+        None => Ok(()),
     }
 }
 
@@ -55,35 +46,40 @@ struct OfLine<'f> {
 }
 
 impl OfLine<'_> {
-    // Writes a part of a line, if it is an address in the list.
+    // Writes the addresses of a part of a line that are in the list.
     fn print_part<W: Write>(&self, part: &[u8], output: &mut Output<'_, W>) -> Result<(), RunFault>
         ensures { PutsOrFails result output.old output.new
             (texts_of self.now.filter.now (head_of self.now.filter.now self.now.number)
-            (of_part (Some part.now))) }
+            (each_of self.now.filter.now.area.pick part.now)) }
     {
-        match address_of(part) {
-            Some(address) => self.print_found(address, part, output),
-            None => Ok(()),
+        match self.filter.area.pick {
+            Pick::Each => self.print_each(part, output),
+            _ => self.print_picked(part, self.filter.area.pick, output),
         }
     }
 
-    // Writes the first address of this rest of a line, if it is in the list.
-    fn print_first<W: Write>(&self, rest: &[u8], output: &mut Output<'_, W>) -> Result<(), RunFault>
+    // Writes this address of a part of a line, if it is in the list.
+    fn print_picked<W: Write>(
+        &self,
+        part: &[u8],
+        pick: Pick,
+        output: &mut Output<'_, W>,
+    ) -> Result<(), RunFault>
         ensures { PutsOrFails result output.old output.new
             (texts_of self.now.filter.now (head_of self.now.filter.now self.now.number)
-            (of_rest (Some rest.now))) }
+            (option_to_list (picked pick part.now))) }
     {
-        match next_address(rest, 0) {
+        match picked(part, pick) {
             Some(found) => {
-                let text = &rest[found.start..found.end];
+                let text = &part[found.start..found.end];
                 self.print_found(found.address, text, output)
             }
             None => Ok(()),
         }
     }
 
-    // Writes the addresses that stand anywhere in a line and are in the list.
-    fn print_all<W: Write>(&self, line: &[u8], output: &mut Output<'_, W>) -> Result<(), RunFault>
+    // Writes the addresses of a part that are in the list.
+    fn print_each<W: Write>(&self, line: &[u8], output: &mut Output<'_, W>) -> Result<(), RunFault>
         ensures { PutsOrFails result output.old output.new
             (texts_of self.now.filter.now (head_of self.now.filter.now self.now.number)
             (addresses_of line.now)) }

@@ -3,7 +3,7 @@ ghost use Rattle.std.specs.Prelude.{◌≡◌, [], map};
 ghost use Rattle.std.specs.String.{string_bytes};
 ghost use Rattle.options.specs.Given.{inputs_of};
 ghost use Rattle.program.specs.Endings.{ending};
-ghost use Rattle.cidr_filter.specs.Runs.{EndsRequest, EndsReading, EndsAs, filter_of, most_of, up_to_one, shows_of, is_named};
+ghost use Rattle.cidr_filter.specs.Runs.{EndsRequest, EndsReading, EndsAs, filter_of, is_stopped_by, most_of, up_to_one, shows_of, is_named};
 ghost use Rattle.cidr_filter.specs.Reported.{told_name};
 
 use crate::filter::{Filter, OutputMode};
@@ -12,12 +12,12 @@ use crate::logs::filter_logs;
 use crate::matcher::Matcher;
 use crate::reading::read_listed;
 use crate::rows::{
-    BAD, COUNTS, INVERTS, LONGEST, MOST, NAMED, NAMES, NUMBERED, ONLY, QUIET, table,
+    BAD, COUNTS, INVERTS, LONGEST, MOST, NAMED, NAMES, NUMBERED, ONLY, QUIET, SKIPS_BAD, table,
 };
 use crate::telling::{InOptions, names_of};
 use line_addresses::Text;
 use lines::output::Output;
-use lists::OpenLists;
+use lists::{OpenLists, Refusals};
 use log_programs::areas::area_of;
 use log_programs::rows::MAPPED;
 use log_programs::without_address::bad_in;
@@ -106,7 +106,7 @@ fn filter_files<L: OpenLists, W: Write, E: Write>(
         tell_fault(names, fault, errors);
         return FAILED;
     }
-    if !refusals.is_empty() {
+    if is_stopped_by(items, &refusals) {
         return FAILED;
     }
     let Ok(listed) = listed else {
@@ -124,6 +124,13 @@ fn filter_files<L: OpenLists, W: Write, E: Write>(
         output,
         errors,
     )
+}
+
+// Whether refused lines of lists end the run: unless they are skipped, one does.
+fn is_stopped_by(items: &[Item<'_>], refusals: &Refusals) -> bool
+    ensures { result ≡ is_stopped_by items.now refusals.now }
+{
+    !refusals.is_empty() && !is_given(items, SKIPS_BAD)
 }
 
 // The filter that is asked for.

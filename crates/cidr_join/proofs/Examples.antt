@@ -24,25 +24,26 @@ use Rattle.options.specs.declared.items.Mode.TheVariants as modes
 use Rattle.options.specs.declared.table.Row.{Row}
 use Rattle.options.proofs.Tables.{rows_of, pairs_of}
 use Rattle.lists.specs.declared.entry.EntryFault.TheVariants as faults
-use Rattle.line_addresses.specs.declared.area.Area.TheVariants as areas
+use Rattle.line_addresses.specs.declared.area.Part.TheVariants as parts
+use Rattle.line_addresses.proofs.Areas.{whole, anywhere, after}
 use Rattle.cidr_join.specs.declared.found.Found.TheVariants as founds
 use Rattle.cidr_join.specs.declared.line.Cause.TheVariants as causes
 use Rattle.cidr_join.specs.declared.value.Value.{Value}
 
 -- ---- logs in which no line has an address
 
-pub none_in_a_field : lacking_by (areas.Field 8 44) (codes "log") 1 false ≡ codes "cidr_join: log: no line has an address in field " ++ decimal 8 ++ codes "\n"
+pub none_in_a_field : lacking_by (whole (parts.Field 8 44)) (codes "log") 1 false ≡ codes "cidr_join: log: no line has an address in field " ++ decimal 8 ++ codes "\n"
 none_in_a_field = refl
 
-pub none_in_a_word : lacking_by (areas.Word 10) (codes "-") 7 false ≡ codes "cidr_join: -: no line has an address in word " ++ decimal 10 ++ codes "\n"
+pub none_in_a_word : lacking_by (whole (parts.Word 10)) (codes "-") 7 false ≡ codes "cidr_join: -: no line has an address in word " ++ decimal 10 ++ codes "\n"
 none_in_a_word = refl
 
-pub none_anywhere_or_after_a_text : map (λ area. lacking_by area (codes "log") 2 false) (areas.Anywhere ∷ areas.After (codes "SRC=") ∷ [])
+pub none_anywhere_or_after_a_text : map (λ area. lacking_by area (codes "log") 2 false) (anywhere ∷ after (codes "SRC=") ∷ [])
     ≡ codes "cidr_join: log: no line has an address anywhere in it\n" ∷ codes "cidr_join: log: no line has an address after SRC=\n" ∷ []
 none_anywhere_or_after_a_text = refl
 
 -- a log without lines, and one of whose lines one has an address, are not told
-pub no_lines_or_one_address : map (λ (log : ℕ × Bool). lacking_by areas.Anywhere (codes "log") log.0 log.1) ((0, false) ∷ (2, true) ∷ []) ≡ [] ∷ [] ∷ []
+pub no_lines_or_one_address : map (λ (log : ℕ × Bool). lacking_by anywhere (codes "log") log.0 log.1) ((0, false) ∷ (2, true) ∷ []) ≡ [] ∷ [] ∷ []
 no_lines_or_one_address = refl
 
 -- ---- what is seen of lines
@@ -78,17 +79,17 @@ rows = rows_of entries
 
 pub letters_and_values : map (free_items rows) (codes "-wk1" ∷ codes "-flist" ∷ codes "-awd" ∷ codes "--tally" ∷ codes "-wxk1" ∷ codes "--group=24,64" ∷ [])
     ≡ (says.Flag 1 ∷ says.Value 2 (codes "1") ∷ []) ∷ (says.Joined 6 (codes "list") (codes "-flist") ∷ []) ∷ (says.Flag 0 ∷ says.Flag 1 ∷ [])
-    ∷ (says.Flag 12 ∷ []) ∷ (says.Flag 1 ∷ says.Unknown (codes "-wxk1") ∷ []) ∷ (says.Unknown (codes "--group=24,64") ∷ []) ∷ []
+    ∷ (says.Flag 13 ∷ []) ∷ (says.Flag 1 ∷ says.Unknown (codes "-wxk1") ∷ []) ∷ (says.Unknown (codes "--group=24,64") ∷ []) ∷ []
 letters_and_values = refl
 
-pub next_words : map (free_mode rows) (codes "-wf" ∷ codes "-wf1" ∷ codes "--group" ∷ codes "--last" ∷ []) ≡ modes.Value 6 ∷ modes.Free ∷ modes.Value 13 ∷ modes.Free ∷ []
+pub next_words : map (free_mode rows) (codes "-wf" ∷ codes "-wf1" ∷ codes "--group" ∷ codes "--last" ∷ []) ≡ modes.Value 6 ∷ modes.Free ∷ modes.Value 14 ∷ modes.Free ∷ []
 next_words = refl
 
 -- of two wrong words the first is told, and a wrong value before a wrong word; and of right ones those that do not go together
-pub wrong_words : map (fault_by rows (pairs_of pairs) (6 ∷ 13 ∷ []) (codes "neither -f nor --group is given"))
-    ((says.Joined 2 (codes "0") (codes "-k0") ∷ says.Unknown (codes "--lastwins") ∷ []) ∷ (says.Value 13 (codes "33,0") ∷ says.Unknown (codes "--lastwins") ∷ [])
-    ∷ (says.Value 6 (codes "a") ∷ says.Value 6 (codes "a") ∷ []) ∷ (says.Value 13 (codes "0,0") ∷ says.Flag 10 ∷ []) ∷ (says.Flag 9 ∷ says.Flag 12 ∷ []) ∷ [] ∷ (says.Value 6 (codes "a") ∷ says.Flag 9 ∷ []) ∷ [])
-    ≡ Some (about (subjects.Word (codes "-k0")) (codes "is no field number")) ∷ Some (about (subjects.Value 13 (codes "33,0")) (codes "is not N,M with N up to 32 and M up to 128"))
+pub wrong_words : map (fault_by rows (pairs_of pairs) (6 ∷ 14 ∷ []) (codes "neither -f nor --group is given"))
+    ((says.Joined 2 (codes "0") (codes "-k0") ∷ says.Unknown (codes "--lastwins") ∷ []) ∷ (says.Value 14 (codes "33,0") ∷ says.Unknown (codes "--lastwins") ∷ [])
+    ∷ (says.Value 6 (codes "a") ∷ says.Value 6 (codes "a") ∷ []) ∷ (says.Value 14 (codes "0,0") ∷ says.Flag 11 ∷ []) ∷ (says.Flag 10 ∷ says.Flag 13 ∷ []) ∷ [] ∷ (says.Value 6 (codes "a") ∷ says.Flag 10 ∷ []) ∷ [])
+    ≡ Some (about (subjects.Word (codes "-k0")) (codes "is no field number")) ∷ Some (about (subjects.Value 14 (codes "33,0")) (codes "is not N,M with N up to 32 and M up to 128"))
     ∷ together (codes "-f is given more than once") ∷ together (codes "--group goes with none of -f, --network and --last-wins") ∷ together (codes "--last does not go with --tally")
     ∷ together (codes "neither -f nor --group is given") ∷ None ∷ []
 wrong_words = refl

@@ -8,22 +8,22 @@ use Rattle.options.specs.declared.table.Table.{Table}
 -- the rows of the options that this program alone has: `--last`, `--last-wins`, `--network`, `--tally`, `--group` and
 -- `--bad`
 abbrev pub last : ℕ
-last = 9
+last = 10
 
 abbrev pub last_wins : ℕ
-last_wins = 10
+last_wins = 11
 
 abbrev pub network : ℕ
-network = 11
+network = 12
 
 abbrev pub tally : ℕ
-tally = 12
+tally = 13
 
 abbrev pub group : ℕ
-group = 13
+group = 14
 
 abbrev pub bad : ℕ
-bad = 14
+bad = 15
 
 -- the options, in the order of their rows
 abbrev pub entries : List Entry

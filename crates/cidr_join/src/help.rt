@@ -15,11 +15,14 @@ Prints each line of logs behind the value that a list gives its address.
     -k N            the address is the Nth field; without this option the first
     -d CHAR         fields are cut at each single CHAR; without this option at each space
     -w              fields are what stands between runs of spaces and tabs. Not with -d
-    -a              the address is the first that stands anywhere in a line: 10.1.1.1:51234,
-                    [10.1.1.1], SRC=10.1.1.1 and [2001:db8::1]:443 have one; v10.1.2.3, 1.2.3.4.5
-                    and 12:34:56 have none. Not with -k, -d or -w
-    --after TEXT    the address is the first that follows the first TEXT of a line, found as by -a;
-                    a line without TEXT has none: --after SRC=. Not with -a, -k, -d or -w
+    -a              the address is the first that stands anywhere in a line, or with -k, -d or -w in
+                    that field: 10.1.1.1:51234, [10.1.1.1], SRC=10.1.1.1 and [2001:db8::1]:443 have
+                    one; v10.1.2.3, 1.2.3.4.5 and 12:34:56 have none
+    --nth WHICH     only this one counts of the addresses that stand there, found as by -a, which
+                    need not be given: first, last, or a number from 1 on
+    --after TEXT    the address is the first that follows the first TEXT of a line, found as by -a,
+                    or the one that --nth says; a line without TEXT has none: --after SRC=. Not with
+                    -a, -k, -d or -w
     --mapped        an address ::ffff:A.B.C.D of a line counts as A.B.C.D
     --last          print the value behind a line, after a tab, and not before it
     --network       print the network in place of its value, which may be missing in the list; a
@@ -69,6 +72,6 @@ pub(crate) const PROGRAM: &str = "cidr_join";
 
 /// How the program is used: what is reported for arguments that are not a command, after what is wrong with them.
 pub(crate) const USAGE: &str =
-    "usage: cidr_join [-a | --after TEXT | [-k N] [-d CHAR | -w]] [--mapped] \
+    "usage: cidr_join [--after TEXT | [-a] [-k N] [-d CHAR | -w]] [--nth first|last|N] [--mapped] \
      [--bad drop|keep|stop|report] [--last | --tally] \
      (-f LIST [--network] [--last-wins] | --group N,M) [FILE..]; try --help\n";

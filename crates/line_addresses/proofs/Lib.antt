@@ -1,3 +1,4 @@
+pub mod Areas
 pub mod BeforeMarks
 pub mod BetweenOthers
 pub mod ByteKinds
@@ -11,5 +12,6 @@ pub mod NextRuns
 pub mod NextWords
 pub mod Parts
 pub mod PortTexts
+pub mod Picks
 pub mod Ports
 pub mod Shown

@@ -13,10 +13,10 @@ kept (byte ∷ word) some = refl
 none_among : {X : Type 0} (count : ℕ) → slice_get {X = X} [] count ≡ None
 none_among count = refl
 
-one_less : (count : ℕ) (word : List ℕ) (words : List (List ℕ)) → 0 < count → slice_get (word ∷ words) count ≡ slice_get words (count - 1)
+one_less : {X : Type 0} (count : ℕ) (word : X) (words : List X) → 0 < count → slice_get (word ∷ words) count ≡ slice_get words (count - 1)
 one_less count word words some =
     let more : count ≡ suc (count - 1) = omega (arith, some) in
-    ap (slice_get (word ∷ words)) more
+    ap (λ n. slice_get (word ∷ words) n) more
 
 module _ (line : List ℕ) (at : ℕ) where
   pub behind_blank : (end : ℕ) → at < length line → IsWordEnd line at end → end ≡ at → words_of (drop at line) ≡ words_of (drop (at + 1) line)
@@ -32,8 +32,8 @@ module _ (line : List ℕ) (at : ℕ) where
   pub no_words : length line ≤ at → words_of (drop at line) ≡ []
   no_words past = at_end is_blank unless_empty refl line at past
 
-pub first_word : (word : List ℕ) (words all : List (List ℕ)) (count : ℕ) → count ≡ 0 → all ≡ word ∷ words → slice_get all count ≡ Some word
+pub first_word : {X : Type 0} (word : X) (words all : List X) (count : ℕ) → count ≡ 0 → all ≡ word ∷ words → slice_get all count ≡ Some word
 first_word word words all count none e = ap (slice_get all) none ∙ ap (λ l. slice_get l 0) e
 
-pub later_word : (word : List ℕ) (words all : List (List ℕ)) (count : ℕ) → 0 < count → all ≡ word ∷ words → slice_get all count ≡ slice_get words (count - 1)
+pub later_word : {X : Type 0} (word : X) (words all : List X) (count : ℕ) → 0 < count → all ≡ word ∷ words → slice_get all count ≡ slice_get words (count - 1)
 later_word word words all count some e = ap (λ l. slice_get l count) e ∙ one_less count word words some

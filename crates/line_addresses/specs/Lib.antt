@@ -1,5 +1,6 @@
 -- What the contracts of this crate cite.
 pub mod Addresses
+pub mod Areas
 pub mod Fields
 pub mod Following
 pub mod Found

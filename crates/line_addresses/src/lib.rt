@@ -15,13 +15,17 @@ mod field;
 mod first_position;
 mod found;
 pub mod laws;
+mod part;
+mod picking;
 mod port;
 mod run;
 mod words;
 
-pub use area::{Area, Text};
+pub use area::{Area, Part, Pick, Text};
 pub use field::field_of;
 pub use first_position::following;
 pub use found::{Found, next_address};
+pub use part::part_of;
+pub use picking::picked;
 pub use run::address_of;
 pub use words::word_of;

@@ -8,6 +8,9 @@ use Rattle.log_programs.specs.Lacking.{no_address_text, lacking_told}
 pub positive : (number : ℕ) → 0 < number → nat_lt 0 number ≡ true
 positive number some = grind (arith, nat_tests)
 
+pub several : (number : ℕ) → 1 < number → nat_lt 1 number ≡ true
+several number some = grind (arith, nat_tests)
+
 pub same_test : (told count : ℕ) → told ≡ min count (2 ^ 64 - 1) → nat_lt 0 told ≡ nat_lt 0 count
 same_test zero zero e = refl
 same_test zero (suc count) e = absurd (omega (arith, e))

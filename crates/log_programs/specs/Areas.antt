@@ -1,19 +1,42 @@
 -- Where the addresses of a line are looked for, by options.
-use Rattle.std.specs.Prelude.{List, if◌then◌else◌}
+use Rattle.std.specs.Prelude.{ℕ, ◌||◌, Bool, not, List, bytes_eq, codes, if◌then◌else◌}
 use Rattle.std.specs.Option.{unwrap_or}
 use Rattle.line_addresses.specs.declared.area.Area.{Area}
-use Rattle.line_addresses.specs.declared.area.Area.TheVariants as areas
+use Rattle.line_addresses.specs.declared.area.Part.{Part}
+use Rattle.line_addresses.specs.declared.area.Part.TheVariants as parts
+use Rattle.line_addresses.specs.declared.area.Pick.{Pick}
+use Rattle.line_addresses.specs.declared.area.Pick.TheVariants as picks
 use Rattle.log_programs.specs.Rows as rows
 use Rattle.options.specs.Given.{is_given, value_of}
 use Rattle.options.specs.Values.{byte_in, field_in}
 use Rattle.options.specs.declared.items.Item.{Item}
 
--- anywhere, after a text, in a word, or in a field. Without `-k` that is the first, and without `-d` fields are cut at
--- spaces (byte 32)
-abbrev pub area_of : List Item → Area
-area_of items =
-    if is_given items rows.anywhere then areas.Anywhere
-    else if is_given items rows.after then areas.After (value_of items rows.after)
-    else if is_given items rows.words then areas.Word (unwrap_or (field_in (value_of items rows.field)) 1)
-    else areas.Field (unwrap_or (field_in (value_of items rows.field)) 1)
+-- in a field, if in no word and not after a text: `-k` or `-d` is given, or neither `-a` nor `--nth` is
+abbrev pub is_in_a_field : List Item → Bool
+is_in_a_field items = is_given items rows.field || is_given items rows.separator
+    || not (is_given items rows.anywhere || is_given items rows.nth)
+
+-- after a text, in a word, in a field, or anywhere. Without `-k` the field or word is the first, and without `-d`
+-- fields are cut at spaces (byte 32)
+abbrev pub part_of : List Item → Part
+part_of items =
+    if is_given items rows.after then parts.After (value_of items rows.after)
+    else if is_given items rows.words then parts.Word (unwrap_or (field_in (value_of items rows.field)) 1)
+    else if not (is_in_a_field items) then parts.Line
+    else parts.Field (unwrap_or (field_in (value_of items rows.field)) 1)
     (unwrap_or (byte_in (value_of items rows.separator)) 32)
+
+-- which address a value of `--nth` says: the last, or the one of a number, which is 1 for `first`
+abbrev pub nth_in : List ℕ → Pick
+nth_in value = if bytes_eq value (codes "last") then picks.Last else picks.Number (unwrap_or (field_in value) 1)
+
+-- which addresses of the part: what `--nth` says; the first after a text; all, with `-a`; or the part itself
+abbrev pub pick_of : List Item → Pick
+pick_of items =
+    if is_given items rows.nth then nth_in (value_of items rows.nth)
+    else if is_given items rows.after then picks.Number 1
+    else if is_given items rows.anywhere then picks.Each
+    else picks.Whole
+
+abbrev pub area_of : List Item → Area
+area_of items = record { part = part_of items; pick = pick_of items }

@@ -1,19 +1,30 @@
 -- What is reported of a log in which no line has an address.
 use Rattle.std.specs.Prelude.{ℕ, ◌&&◌, Bool, not, List, [], ◌++◌, nat_lt, codes, decimal, if◌then◌else◌}
 use Rattle.line_addresses.specs.declared.area.Area.{Area}
-use Rattle.line_addresses.specs.declared.area.Area.TheVariants as areas
+use Rattle.line_addresses.specs.declared.area.Part.{Part}
+use Rattle.line_addresses.specs.declared.area.Part.TheVariants as parts
+use Rattle.line_addresses.specs.declared.area.Pick.{Pick}
+use Rattle.line_addresses.specs.declared.area.Pick.TheVariants as picks
 
 -- where an address is looked for
-abbrev pub area_text : Area → List ℕ
-area_text (areas.Field number separator) = codes "in field " ++ decimal number
-area_text (areas.Word number) = codes "in word " ++ decimal number
-area_text areas.Anywhere = codes "anywhere in it"
-area_text (areas.After text) = codes "after " ++ text
+abbrev pub part_text : Part → List ℕ
+part_text (parts.Field number separator) = codes "in field " ++ decimal number
+part_text (parts.Word number) = codes "in word " ++ decimal number
+part_text parts.Line = codes "anywhere in it"
+part_text (parts.After text) = codes "after " ++ text
+
+-- how many have to stand there, so that a line has one
+abbrev pub needed : Pick → ℕ
+needed (picks.Number number) = number
+needed pick = 1
+
+abbrev pub needed_text : ℕ → List ℕ
+needed_text number = if nat_lt 1 number then decimal number ++ codes " addresses " else codes "an address "
 
 -- what a program reports of a log of this name in which no line has an address there
 abbrev pub no_address_text : List ℕ → Area → List ℕ → List ℕ
-no_address_text program area name = program ++ codes ": " ++ name ++ codes ": no line has an address "
-    ++ area_text area ++ codes "\n"
+no_address_text program area name = program ++ codes ": " ++ name ++ codes ": no line has "
+    ++ needed_text (needed area.pick) ++ part_text area.part ++ codes "\n"
 
 -- that is reported if there are lines, as many as this, and none has one
 abbrev pub lacking_told : List ℕ → Area → List ℕ → ℕ → Bool → List ℕ

@@ -1,9 +1,9 @@
 -- The rows of the options that every program for logs has.
-use Rattle.std.specs.Prelude.{ℕ, List, [], ◌∷◌, false, codes}
+use Rattle.std.specs.Prelude.{ℕ, List, [], ◌∷◌, true, false, codes}
 use Rattle.options.specs.Table.{Entry, flag, long_flag, alone, valued, long}
 use Rattle.options.specs.declared.table.Kind.TheVariants as kinds
 
--- `-a`, `-w`, `-k`, `-d`, `--after`, `--mapped` and `-f`
+-- `-a`, `-w`, `-k`, `-d`, `--after`, `--mapped`, `-f` and `--nth`
 abbrev pub anywhere : ℕ
 anywhere = 0
 
@@ -25,7 +25,10 @@ mapped = 5
 abbrev pub list : ℕ
 list = 6
 
--- these, and then `--help` and `--version`, which stand alone
+abbrev pub nth : ℕ
+nth = 9
+
+-- these, and before the last `--help` and `--version`, which stand alone
 abbrev pub shared : List Entry
 shared =
     flag (codes "a") ∷ flag (codes "w") ∷ valued (codes "k") kinds.Field (codes "is no field number")
@@ -33,16 +36,13 @@ shared =
     ∷ long (codes "--after") kinds.Text false (codes "is no text") ∷ long_flag (codes "--mapped")
     ∷ valued (codes "f") kinds.File (codes "is no file name")
     ∷ alone (codes "--help") (codes "is not the only argument")
-    ∷ alone (codes "--version") (codes "is not the only argument") ∷ []
+    ∷ alone (codes "--version") (codes "is not the only argument")
+    ∷ long (codes "--nth") kinds.Nth true (codes "is not first, last or a number from 1 on") ∷ []
 
--- which of them do not go together: `-a` with `-w`, `-k` or `-d`, `--after` with one of these or `-a`, and `-w` with
--- `-d`
+-- which of them do not go together: `--after` with `-a`, `-w`, `-k` or `-d`, and `-w` with `-d`
 abbrev pub together : List (ℕ × ℕ × List ℕ)
 together =
-    (anywhere, words, codes "-a goes with none of -k, -d and -w")
-    ∷ (anywhere, field, codes "-a goes with none of -k, -d and -w")
-    ∷ (anywhere, separator, codes "-a goes with none of -k, -d and -w")
-    ∷ (after, anywhere, codes "--after goes with none of -a, -k, -d and -w")
+    (after, anywhere, codes "--after goes with none of -a, -k, -d and -w")
     ∷ (after, words, codes "--after goes with none of -a, -k, -d and -w")
     ∷ (after, field, codes "--after goes with none of -a, -k, -d and -w")
     ∷ (after, separator, codes "--after goes with none of -a, -k, -d and -w")

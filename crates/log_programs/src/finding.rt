@@ -1,47 +1,31 @@
 //! The address of a line.
-ghost use Rattle.std.specs.Prelude.{◌≡◌, None, Some};
-ghost use Rattle.log_programs.specs.Finding.{first_in, found_in};
+ghost use Rattle.std.specs.Prelude.{◌≡◌};
+ghost use Rattle.log_programs.specs.Finding.{found_in};
 
 use ipnetwork::IpAddr;
-use line_addresses::{Area, address_of, field_of, following, next_address, word_of};
+use line_addresses::{Area, part_of, picked};
 
-/// The address of a line, which is given without its end: of its field or word, or the first that stands anywhere in it
-/// or follows a text. Does not allocate.
+/// The address of a line, which is given without its end: the one that is looked at, or the first of them. Does not
+/// allocate.
 ///
 /// ```
-/// use line_addresses::Area;
+/// use line_addresses::{Area, Part, Pick};
 /// use log_programs::finding::found_in;
 ///
 /// let line = b"GET 192.0.2.7";
-/// assert_eq!(rt; found_in(&Area::Word(2), line), Some("192.0.2.7".parse()?));
-/// assert_eq!(rt; found_in(&Area::Word(1), line), None);
+/// let second = Area { part: Part::Word(2), pick: Pick::Whole };
+/// assert_eq!(rt; found_in(&second, line), Some("192.0.2.7".parse()?));
+/// let first = Area { part: Part::Line, pick: Pick::Number(1) };
+/// assert_eq!(rt; found_in(&first, b"10.1.1.1 10.1.1.2"), Some("10.1.1.1".parse()?));
 /// ```
 #[inline(always)]
 pub fn found_in(area: &Area<'_>, line: &[u8]) -> Option<IpAddr>
     ensures { result ≡ found_in area.now line.now }
 {
-    match area {
-        Area::Field { number, separator } => match field_of(line, *number, *separator) {
-            Some(field) => address_of(field),
-            None => None,
-        },
-        Area::Word(number) => match word_of(line, *number) {
-            Some(word) => address_of(word),
-            None => None,
-        },
-        Area::Anywhere => first_in(line),
-        Area::After(text) => match following(line, text.bytes()) {
-            Some(rest) => first_in(rest),
-            None => None,
-        },
-    }
-}
-
-// The first address of a text.
-fn first_in(text: &[u8]) -> Option<IpAddr>
-    ensures { result ≡ first_in text.now }
-{
-    match next_address(text, 0) {
+    let Some(part) = part_of(&area.part, line) else {
+        return None;
+    };
+    match picked(part, area.pick) {
         Some(found) => Some(found.address),
         None => None,
     }

@@ -26,15 +26,18 @@ pub const MAPPED: usize = 5;
 /// The row of `-f`.
 pub const LIST: usize = 6;
 
-/// The rows of these options, of `--help` and of `--version`, and then those of a program.
+/// The row of `--nth`.
+pub const NTH: usize = 9;
+
+/// The rows of these options, among them `--help` and `--version`, and then those of a program.
 ///
 /// ```
 /// use log_programs::rows::{LIST, log_rows};
 /// use options::table::{Kind, Row, letter, long};
 ///
-/// const ROWS: [Row; 10] = log_rows![letter!(b'q', Flag, "")];
+/// const ROWS: [Row; 11] = log_rows![letter!(b'q', Flag, "")];
 /// assert_eq!(rt; ROWS[LIST].letter, Some(b'f'));
-/// assert_eq!(rt; ROWS[9].letter, Some(b'q'));
+/// assert_eq!(rt; ROWS[10].letter, Some(b'q'));
 /// ```
 #[macro_export]
 macro_rules! log_rows {
@@ -49,6 +52,7 @@ macro_rules! log_rows {
             letter!(b'f', File, "is no file name"),
             long!("--help", Alone, false, "is not the only argument"),
             long!("--version", Alone, false, "is not the only argument"),
+            long!("--nth", Nth, true, "is not first, last or a number from 1 on"),
             $($row),*
         ]
     };
@@ -60,17 +64,14 @@ macro_rules! log_rows {
 /// use log_programs::rows::{AFTER, ANYWHERE, FIELD, MAPPED, SEPARATOR, WORDS, log_pairs};
 /// use options::table::{Pair, pair};
 ///
-/// const PAIRS: [Pair; 9] = log_pairs![[pair!(MAPPED, WORDS, "--mapped does not go with -w")], []];
-/// assert_eq!(rt; PAIRS[8].problem, "-w does not go with -d");
+/// const PAIRS: [Pair; 6] = log_pairs![[pair!(MAPPED, WORDS, "--mapped does not go with -w")], []];
+/// assert_eq!(rt; PAIRS[5].problem, "-w does not go with -d");
 /// ```
 #[macro_export]
 macro_rules! log_pairs {
     ([$($first:expr),* $(,)?], [$($last:expr),* $(,)?] $(,)?) => {
         [
             $($first,)*
-            pair!(ANYWHERE, WORDS, "-a goes with none of -k, -d and -w"),
-            pair!(ANYWHERE, FIELD, "-a goes with none of -k, -d and -w"),
-            pair!(ANYWHERE, SEPARATOR, "-a goes with none of -k, -d and -w"),
             pair!(AFTER, ANYWHERE, "--after goes with none of -a, -k, -d and -w"),
             pair!(AFTER, WORDS, "--after goes with none of -a, -k, -d and -w"),
             pair!(AFTER, FIELD, "--after goes with none of -a, -k, -d and -w"),
@@ -85,10 +86,10 @@ pub use log_pairs;
 pub use log_rows;
 
 // These options.
-const ROWS: [Row; 9] = log_rows![];
+const ROWS: [Row; 10] = log_rows![];
 
 // Which do not go together.
-const PAIRS: [Pair; 8] = log_pairs![[], []];
+const PAIRS: [Pair; 5] = log_pairs![[], []];
 
 /// The table of these options alone, of which none has to be given.
 ///

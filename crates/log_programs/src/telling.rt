@@ -2,13 +2,13 @@
 ghost use Rattle.std.specs.Prelude.{◌≡◌, ◌++◌, ◌&&◌, [], not, nat_lt, codes, decimal, if◌then◌else◌};
 ghost use Rattle.program.specs.Messages.{Reports};
 ghost use Rattle.log_programs.specs.Closed.{closed_text};
-ghost use Rattle.log_programs.specs.Lacking.{lacking_told, no_address_text, area_text};
+ghost use Rattle.log_programs.specs.Lacking.{lacking_told, no_address_text, needed, needed_text, part_text};
 ghost use Rattle.log_programs.specs.Seen.{counts_text, is_missed, long_text, seen_text};
 ghost use Rattle.log_programs.specs.WithoutAddress.{is_reported};
 
 use crate::log_stats::LogStats;
 use crate::without_address::WithoutAddress;
-use line_addresses::{Area, Text};
+use line_addresses::{Area, Part, Pick, Text};
 use lines::output::Output;
 use lists::OpenFault;
 use program::messages::{tell, tell_number};
@@ -18,14 +18,16 @@ use std::io::Write;
 /// where it is looked for, if that is so.
 ///
 /// ```
+/// use line_addresses::{Area, Part, Pick};
 /// use log_programs::telling::tell_lacking;
 ///
+/// let area = Area { part: Part::Word(3), pick: Pick::Number(2) };
 /// let (mut slice, mut room) = ([0; 64], [b'.'; 64]);
 /// let mut errors = lines::output::Output::new(room.as_mut_slice(), &mut slice);
-/// tell_lacking("cidr_filter", &Area::Word(3), "log", 7, false, &mut errors);
+/// tell_lacking("cidr_filter", &area, "log", 7, false, &mut errors);
 /// assert_eq!(rt; errors.finish(), Ok(()));
 /// drop(errors);
-/// assert!(rt; room.starts_with(b"cidr_filter: log: no line has an address in word 3\n."));
+/// assert!(rt; room.starts_with(b"cidr_filter: log: no line has 2 addresses in word 3\n."));
 /// ```
 pub fn tell_lacking<E: Write>(
     program: &str,
@@ -56,23 +58,44 @@ fn lacks(lines: u64, is_addressed: bool) -> bool
 fn tell_area<E: Write>(program: &str, area: &Area<'_>, name: &str, errors: &mut Output<'_, E>)
     ensures { Reports errors.old errors.new (no_address_text program.now area.now name.now) }
 {
-    tell(program, errors);
-    tell(": ", errors);
-    tell(name, errors);
-    tell(": no line has an address ", errors);
-    tell_where(area, errors);
+    tell_head(program, name, errors);
+    tell(": no line has ", errors);
+    tell_needed(needed(area.pick), errors);
+    tell_where(&area.part, errors);
     tell("\n", errors);
 }
 
-// Reports where the addresses of a line are looked for.
-fn tell_where<E: Write>(area: &Area<'_>, errors: &mut Output<'_, E>)
-    ensures { Reports errors.old errors.new (area_text area.now) }
+// How many addresses have to stand there, so that a line has one.
+fn needed(pick: Pick) -> u32
+    ensures { result ≡ needed pick }
 {
-    match area {
-        Area::Field { number, .. } => tell_nth("in field ", *number, errors),
-        Area::Word(number) => tell_nth("in word ", *number, errors),
-        Area::Anywhere => tell("anywhere in it", errors),
-        Area::After(text) => tell_after(text, errors),
+    match pick {
+        Pick::Number(number) => number,
+        _ => 1,
+    }
+}
+
+// Reports that so many are needed.
+fn tell_needed<E: Write>(number: u32, errors: &mut Output<'_, E>)
+    ensures { Reports errors.old errors.new (needed_text number) }
+{
+    if number > 1 {
+        tell_number(u64::from(number), errors);
+        tell(" addresses ", errors);
+    } else {
+        tell("an address ", errors);
+    }
+}
+
+// Reports where the addresses of a line are looked for.
+fn tell_where<E: Write>(part: &Part<'_>, errors: &mut Output<'_, E>)
+    ensures { Reports errors.old errors.new (part_text part.now) }
+{
+    match part {
+        Part::Field { number, .. } => tell_nth("in field ", *number, errors),
+        Part::Word(number) => tell_nth("in word ", *number, errors),
+        Part::Line => tell("anywhere in it", errors),
+        Part::After(text) => tell_after(text, errors),
     }
 }
 

@@ -41,5 +41,8 @@ pub lengths : map lengths_in (codes "24,064" ∷ codes "32,128" ∷ codes "33,0"
     ≡ Some (24, 64) ∷ Some (32, 128) ∷ None ∷ None ∷ None ∷ None ∷ None ∷ []
 lengths = refl
 
+pub places : map (is_right kinds.Nth) (codes "first" ∷ codes "last" ∷ codes "2" ∷ codes "0" ∷ codes "Last" ∷ [] ∷ []) ≡ true ∷ true ∷ true ∷ false ∷ false ∷ false ∷ []
+places = refl
+
 pub rules : map (is_right kinds.Rule) (codes "drop" ∷ codes "keep" ∷ codes "stop" ∷ codes "report" ∷ codes "Stop" ∷ [] ∷ []) ≡ true ∷ true ∷ true ∷ true ∷ false ∷ false ∷ []
 rules = refl

@@ -40,6 +40,7 @@ is_right kinds.File value = nat_lt 0 (length value)
 is_right kinds.Text value = nat_lt 0 (length value)
 is_right kinds.Number value = is_number value
 is_right kinds.Field value = is_field value
+is_right kinds.Nth value = bytes_eq value (codes "first") || bytes_eq value (codes "last") || is_field value
 is_right kinds.Separator value = is_separator value
 is_right kinds.Rule value = bytes_eq value (codes "drop") || bytes_eq value (codes "keep")
     || bytes_eq value (codes "stop") || bytes_eq value (codes "report")

@@ -15,6 +15,7 @@ pub(crate) fn is_right(kind: Kind, value: &str) -> bool
         Kind::File | Kind::Text => !value.is_empty(),
         Kind::Number => is_number(value.as_bytes()),
         Kind::Field => is_field(value.as_bytes()),
+        Kind::Nth => { value == "first" || value == "last" || is_field(value.as_bytes()) }
         Kind::Separator => is_separator(value.as_bytes()),
         Kind::Rule => { value == "drop" || value == "keep" || value == "stop" || value == "report" }
         Kind::Lengths => lengths_in(value).is_some(),

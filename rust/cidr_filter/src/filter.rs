@@ -4,9 +4,7 @@
 
 use crate::matcher::Matcher;
 use fosibegan::ipnetwork::{IpAddr, IpNetwork};
-use cidr_programs::line_addresses::{
-    Area, Text, address_of, field_of, following, next_address, word_of,
-};
+use cidr_programs::line_addresses::{Area, Pick, Text, next_address, part_of, picked};
 use cidr_programs::log_programs::finding::found_in;
 use cidr_programs::log_programs::without_address::WithoutAddress;
 use cidr_programs::program::log_reader::LINE_MAX;
@@ -102,50 +100,37 @@ impl Filter<'_> {
         }
     }
 
-    // The address of a line, if only one is looked for and the line has it.
+    // The address that the part of a line is in which it is looked for.
     #[inline(always)]
     fn only_address(&self, line: &[u8]) -> Option<IpAddr> {
-        match &self.area {
-            Area::Anywhere | Area::After(_) => None,
-            _ => found_in(&self.area, line),
+        match self.area.pick {
+            Pick::Whole => found_in(&self.area, line),
+            _ => None,
         }
     }
 
     // What a line that is not too long is to the list.
     #[inline(always)]
     fn judge_within(&self, line: &[u8]) -> Verdict {
-        match &self.area {
-            Area::Field { number, separator } => match field_of(line, *number, *separator) {
-                Some(field) => self.judge_part(field),
-                None => Verdict::NoAddress,
-            },
-            Area::Word(number) => match word_of(line, *number) {
-                Some(word) => self.judge_part(word),
-                None => Verdict::NoAddress,
-            },
-            Area::Anywhere => self.judge_anywhere(line),
-            Area::After(text) => match following(line, text.bytes()) {
-                Some(rest) => self.judge_first(rest),
-                None => Verdict::NoAddress,
-            },
-        }
-    }
-
-    // What a line is to the list of which only this part is looked at.
-    #[inline(always)]
-    fn judge_part(&self, part: &[u8]) -> Verdict {
-        match address_of(part) {
-            Some(address) => match self.told_of(address) {
-                Some(told) => Verdict::Inside(told),
-                None => Verdict::Outside,
-            },
+        match part_of(&self.area.part, line) {
+            Some(part) => self.judge_part(part),
             None => Verdict::NoAddress,
         }
     }
 
-    // What a line is to the list of which the first address of this rest is looked at.
-    fn judge_first(&self, rest: &[u8]) -> Verdict {
-        match next_address(rest, 0) {
+    // What a line is to the list of which this part is looked at.
+    #[inline(always)]
+    fn judge_part(&self, part: &[u8]) -> Verdict {
+        match self.area.pick {
+            Pick::Each => self.judge_each(part),
+            _ => self.judge_picked(part, self.area.pick),
+        }
+    }
+
+    // What a line is to the list of which this address of a part is looked at.
+    #[inline(always)]
+    fn judge_picked(&self, part: &[u8], pick: Pick) -> Verdict {
+        match picked(part, pick) {
             Some(found) => match self.told_of(found.address) {
                 Some(told) => Verdict::Inside(told),
                 None => Verdict::Outside,
@@ -154,8 +139,8 @@ impl Filter<'_> {
         }
     }
 
-    // What a line is to the list whose addresses stand anywhere in it.
-    fn judge_anywhere(&self, line: &[u8]) -> Verdict {
+    // What a line is to the list of which all addresses of this part are looked at.
+    fn judge_each(&self, line: &[u8]) -> Verdict {
         let mut at = 0;
         let mut is_seen = false;
         'addresses: while let Some(found) = next_address(line, at) {

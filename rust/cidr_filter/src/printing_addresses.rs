@@ -5,7 +5,7 @@
 use crate::filter::Filter;
 use crate::naming::put_head;
 use fosibegan::ipnetwork::IpAddr;
-use cidr_programs::line_addresses::{Area, address_of, field_of, following, next_address, word_of};
+use cidr_programs::line_addresses::{Pick, next_address, part_of, picked};
 use cidr_programs::lines::fault::RunFault;
 use cidr_programs::lines::output::Output;
 use cidr_programs::program::putting::put_both;
@@ -23,20 +23,9 @@ pub(crate) fn print_addresses<W: Write>(
         filter,
         number: line_number,
     };
-    match &filter.area {
-        Area::Field { number, separator } => match field_of(line, *number, *separator) {
-            Some(field) => of_line.print_part(field, output),
-            None => Ok(()),
-        },
-        Area::Word(number) => match word_of(line, *number) {
-            Some(word) => of_line.print_part(word, output),
-            None => Ok(()),
-        },
-        Area::Anywhere => of_line.print_all(line, output),
-        Area::After(text) => match following(line, text.bytes()) {
-            Some(rest) => of_line.print_first(rest, output),
-            None => Ok(()),
-        },
+    match part_of(&filter.area.part, line) {
+        Some(part) => of_line.print_part(part, output),
+        None => Ok(()),
     }
 }
 
@@ -48,27 +37,32 @@ struct OfLine<'f> {
 }
 
 impl OfLine<'_> {
-    // Writes a part of a line, if it is an address in the list.
+    // Writes the addresses of a part of a line that are in the list.
     fn print_part<W: Write>(&self, part: &[u8], output: &mut Output<'_, W>) -> Result<(), RunFault> {
-        match address_of(part) {
-            Some(address) => self.print_found(address, part, output),
-            None => Ok(()),
+        match self.filter.area.pick {
+            Pick::Each => self.print_each(part, output),
+            _ => self.print_picked(part, self.filter.area.pick, output),
         }
     }
 
-    // Writes the first address of this rest of a line, if it is in the list.
-    fn print_first<W: Write>(&self, rest: &[u8], output: &mut Output<'_, W>) -> Result<(), RunFault> {
-        match next_address(rest, 0) {
+    // Writes this address of a part of a line, if it is in the list.
+    fn print_picked<W: Write>(
+        &self,
+        part: &[u8],
+        pick: Pick,
+        output: &mut Output<'_, W>,
+    ) -> Result<(), RunFault> {
+        match picked(part, pick) {
             Some(found) => {
-                let text = &rest[found.start..found.end];
+                let text = &part[found.start..found.end];
                 self.print_found(found.address, text, output)
             }
             None => Ok(()),
         }
     }
 
-    // Writes the addresses that stand anywhere in a line and are in the list.
-    fn print_all<W: Write>(&self, line: &[u8], output: &mut Output<'_, W>) -> Result<(), RunFault> {
+    // Writes the addresses of a part that are in the list.
+    fn print_each<W: Write>(&self, line: &[u8], output: &mut Output<'_, W>) -> Result<(), RunFault> {
         let mut at = 0;
         'addresses: while let Some(found) = next_address(line, at) {
             let text = &line[found.start..found.end];

@@ -8,43 +8,46 @@ use cidr_programs::log_programs::rows::{
 use cidr_programs::options::table::{Kind, Pair, Row, Table, letter, long, pair};
 
 /// The row of `-e`.
-pub(crate) const TEXT: usize = 9;
+pub(crate) const TEXT: usize = 10;
 
 /// The row of `-m`.
-pub(crate) const MOST: usize = 10;
+pub(crate) const MOST: usize = 11;
 
 /// The row of `--longest`.
-pub(crate) const LONGEST: usize = 11;
+pub(crate) const LONGEST: usize = 12;
 
 /// The row of `--bad`.
-pub(crate) const BAD: usize = 12;
+pub(crate) const BAD: usize = 13;
 
 /// The row of `-v`.
-pub(crate) const INVERTS: usize = 13;
+pub(crate) const INVERTS: usize = 14;
 
 /// The row of `-c`.
-pub(crate) const COUNTS: usize = 14;
+pub(crate) const COUNTS: usize = 15;
 
 /// The row of `-o`.
-pub(crate) const ONLY: usize = 15;
+pub(crate) const ONLY: usize = 16;
 
 /// The row of `-H`.
-pub(crate) const NAMED: usize = 16;
+pub(crate) const NAMED: usize = 17;
 
 /// The row of `-h`.
-pub(crate) const UNNAMED: usize = 17;
+pub(crate) const UNNAMED: usize = 18;
 
 /// The row of `-n`.
-pub(crate) const NUMBERED: usize = 18;
+pub(crate) const NUMBERED: usize = 19;
 
 /// The row of `-l`.
-pub(crate) const NAMES: usize = 19;
+pub(crate) const NAMES: usize = 20;
 
 /// The row of `-q`.
-pub(crate) const QUIET: usize = 20;
+pub(crate) const QUIET: usize = 21;
+
+/// The row of `--skip-bad`.
+pub(crate) const SKIPS_BAD: usize = 22;
 
 // The options.
-const ROWS: [Row; 21] = log_rows![
+const ROWS: [Row; 23] = log_rows![
     letter!(b'e', Text, "is no network or range"),
     letter!(b'm', Number, "is no number of lines"),
     long!("--longest", Flag, false, ""),
@@ -57,10 +60,11 @@ const ROWS: [Row; 21] = log_rows![
     letter!(b'n', Flag, ""),
     letter!(b'l', Flag, ""),
     letter!(b'q', Flag, ""),
+    long!("--skip-bad", Flag, false, ""),
 ];
 
 // Which do not go together.
-const PAIRS: [Pair; 14] = log_pairs![
+const PAIRS: [Pair; 11] = log_pairs![
     [
         pair!(LONGEST, INVERTS, "--longest goes with neither -v nor -c"),
         pair!(LONGEST, COUNTS, "--longest goes with neither -v nor -c"),

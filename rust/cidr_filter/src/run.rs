@@ -9,11 +9,13 @@ use crate::help::{HELP, PROGRAM, USAGE, VERSION};
 use crate::logs::filter_logs;
 use crate::matcher::Matcher;
 use crate::reading::read_listed;
-use crate::rows::{BAD, COUNTS, INVERTS, LONGEST, MOST, NAMED, NAMES, NUMBERED, ONLY, QUIET, table};
+use crate::rows::{
+    BAD, COUNTS, INVERTS, LONGEST, MOST, NAMED, NAMES, NUMBERED, ONLY, QUIET, SKIPS_BAD, table,
+};
 use crate::telling::{InOptions, names_of};
 use cidr_programs::line_addresses::Text;
 use cidr_programs::lines::output::Output;
-use cidr_programs::lists::OpenLists;
+use cidr_programs::lists::{OpenLists, Refusals};
 use cidr_programs::log_programs::areas::area_of;
 use cidr_programs::log_programs::rows::MAPPED;
 use cidr_programs::log_programs::without_address::bad_in;
@@ -91,7 +93,7 @@ fn filter_files<L: OpenLists, W: Write, E: Write>(
         tell_fault(names, fault, errors);
         return FAILED;
     }
-    if !refusals.is_empty() {
+    if is_stopped_by(items, &refusals) {
         return FAILED;
     }
     let Ok(listed) = listed else {
@@ -109,6 +111,11 @@ fn filter_files<L: OpenLists, W: Write, E: Write>(
         output,
         errors,
     )
+}
+
+// Whether refused lines of lists end the run: unless they are skipped, one does.
+fn is_stopped_by(items: &[Item<'_>], refusals: &Refusals) -> bool {
+    !refusals.is_empty() && !is_given(items, SKIPS_BAD)
 }
 
 // The filter that is asked for.

@@ -8,25 +8,25 @@ use cidr_programs::log_programs::rows::{
 use cidr_programs::options::table::{Kind, Pair, Row, Table, letter, long, pair};
 
 /// The row of `--last`.
-pub(crate) const LAST: usize = 9;
+pub(crate) const LAST: usize = 10;
 
 /// The row of `--last-wins`.
-pub(crate) const LAST_WINS: usize = 10;
+pub(crate) const LAST_WINS: usize = 11;
 
 /// The row of `--network`.
-pub(crate) const NETWORK: usize = 11;
+pub(crate) const NETWORK: usize = 12;
 
 /// The row of `--tally`.
-pub(crate) const TALLY: usize = 12;
+pub(crate) const TALLY: usize = 13;
 
 /// The row of `--group`.
-pub(crate) const GROUP: usize = 13;
+pub(crate) const GROUP: usize = 14;
 
 /// The row of `--bad`.
-pub(crate) const BAD: usize = 14;
+pub(crate) const BAD: usize = 15;
 
 // The options.
-const ROWS: [Row; 15] = log_rows![
+const ROWS: [Row; 16] = log_rows![
     long!("--last", Flag, false, ""),
     long!("--last-wins", Flag, false, ""),
     long!("--network", Flag, false, ""),
@@ -41,7 +41,7 @@ const ROWS: [Row; 15] = log_rows![
 ];
 
 // Which do not go together, and that `-f` is given once at the most.
-const PAIRS: [Pair; 13] = log_pairs![
+const PAIRS: [Pair; 10] = log_pairs![
     [],
     [
         pair!(TALLY, LAST, "--last does not go with --tally"),

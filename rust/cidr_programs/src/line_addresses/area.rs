@@ -2,35 +2,65 @@
 
 //! Where the addresses of a line are looked for.
 
-/// Where the addresses of a line are looked for.
+/// Where the addresses of a line are looked for: in which part of it, and which of those that stand there.
 ///
 /// ```
 /// # use cidr_programs::in_examples::*;
-/// # ended(|| {
-/// let area = Area::Word(3);
+/// let area = Area { part: Part::Word(3), pick: Pick::Whole };
 /// let line = b"Nov  3 10.1.1.1";
-/// let Area::Word(number) = area else {
-///     return Ok(());
-/// };
-/// assert_eq!(word_of(line, number), Some(b"10.1.1.1".as_slice()));
-/// # Ok(())
-/// # });
+/// assert_eq!(part_of(&area.part, line), Some(b"10.1.1.1".as_slice()));
 /// ```
 #[derive(Debug)]
-pub enum Area<'a> {
-    /// The field of this number, from 1 on, is one: the line is cut at each separator.
+pub struct Area<'a> {
+    /// The part of the line.
+    pub part: Part<'a>,
+    /// Which addresses of that part.
+    pub pick: Pick,
+}
+
+/// A part of a line.
+///
+/// ```
+/// # use cidr_programs::in_examples::*;
+/// assert_eq!(part_of(&Part::Word(2), b"a 10.1.1.1"), Some(b"10.1.1.1".as_slice()));
+/// ```
+#[derive(Debug)]
+pub enum Part<'a> {
+    /// All of it.
+    Line,
+    /// The field of this number, from 1 on: the line is cut at each separator.
     Field {
         /// Its number.
         number: u32,
         /// The byte at which fields are cut.
         separator: u8,
     },
-    /// The word of this number, from 1 on, is one.
+    /// The word of this number, from 1 on.
     Word(u32),
-    /// They stand anywhere.
-    Anywhere,
-    /// It is the first that follows a text.
+    /// What follows the first position of a text.
     After(Text<'a>),
+}
+
+/// Which addresses of a part of a line are looked at.
+///
+/// ```
+/// # use cidr_programs::in_examples::*;
+/// # ended(|| {
+/// let found = picked(b"10.1.1.1, 10.1.1.2", Pick::Last);
+/// assert_eq!(found.map(|found| found.address), Some("10.1.1.2".parse()?));
+/// # Ok(())
+/// # });
+/// ```
+#[derive(Clone, Copy, Debug, PartialEq, Eq)]
+pub enum Pick {
+    /// The part itself is one, and nothing else stands in it.
+    Whole,
+    /// All that stand anywhere in it.
+    Each,
+    /// Of these the one of this number, from 1 on.
+    Number(u32),
+    /// The last of these.
+    Last,
 }
 
 /// A text of a command line.

@@ -2,33 +2,76 @@
 
 //! Where the addresses of a line are looked for, by the options that every program for logs has.
 
-use crate::log_programs::rows::{AFTER, ANYWHERE, FIELD, SEPARATOR, WORDS};
-use crate::line_addresses::{Area, Text};
+use crate::log_programs::rows::{AFTER, ANYWHERE, FIELD, NTH, SEPARATOR, WORDS};
+use crate::line_addresses::{Area, Part, Pick, Text};
 use crate::options::given::{is_given, value_of};
 use crate::options::items::Item;
 use crate::options::values::{byte_in, field_in};
 
-/// Where addresses of a line are looked for: anywhere, after a text, in a word, or in a field.
+/// Where addresses of a line are looked for, and which of those that stand there.
 ///
 /// ```
 /// # use cidr_programs::in_examples::*;
-/// use cidr_programs::line_addresses::Area;
-/// use cidr_programs::options::items::Item;
+/// use cidr_programs::line_addresses::{Part, Pick};
+/// use cidr_programs::options::items::{Item, Text};
 ///
 /// let area = cidr_programs::log_programs::areas::area_of(&[Item::Flag(1)]);
-/// assert!(matches!(&area, Area::Word(1)));
+/// assert!(matches!(&area.part, Part::Word(1)));
+/// assert_eq!(area.pick, Pick::Whole);
+/// let within = [Item::Flag(0), Item::Value(2, Text::new("8"))];
+/// let area = cidr_programs::log_programs::areas::area_of(&within);
+/// assert!(matches!(&area.part, Part::Field { number: 8, .. }));
+/// assert_eq!(area.pick, Pick::Each);
+/// let last = [Item::Value(4, Text::new("from ")), Item::Value(9, Text::new("last"))];
+/// assert_eq!(cidr_programs::log_programs::areas::area_of(&last).pick, Pick::Last);
 /// ```
 pub fn area_of<'a>(items: &[Item<'a>]) -> Area<'a> {
-    if is_given(items, ANYWHERE) {
-        return Area::Anywhere;
+    Area {
+        part: part_of(items),
+        pick: pick_of(items),
     }
+}
+
+// In which part of a line: after a text, in a word, in a field, or anywhere.
+fn part_of<'a>(items: &[Item<'a>]) -> Part<'a> {
     if is_given(items, AFTER) {
-        return Area::After(Text::new(value_of(items, AFTER).as_bytes()));
+        return Part::After(Text::new(value_of(items, AFTER).as_bytes()));
     }
     let number = field_in(value_of(items, FIELD)).unwrap_or(1);
     if is_given(items, WORDS) {
-        return Area::Word(number);
+        return Part::Word(number);
+    }
+    if !is_in_a_field(items) {
+        return Part::Line;
     }
     let separator = byte_in(value_of(items, SEPARATOR)).unwrap_or(b' ');
-    Area::Field { number, separator }
+    Part::Field { number, separator }
+}
+
+// Whether that is a field, if it is no word and follows no text.
+fn is_in_a_field(items: &[Item<'_>]) -> bool {
+    is_given(items, FIELD)
+        || is_given(items, SEPARATOR)
+        || !(is_given(items, ANYWHERE) || is_given(items, NTH))
+}
+
+// Which addresses of the part.
+fn pick_of(items: &[Item<'_>]) -> Pick {
+    if is_given(items, NTH) {
+        nth_in(value_of(items, NTH))
+    } else if is_given(items, AFTER) {
+        Pick::Number(1)
+    } else if is_given(items, ANYWHERE) {
+        Pick::Each
+    } else {
+        Pick::Whole
+    }
+}
+
+// Which address a value of `--nth` says.
+fn nth_in(value: &str) -> Pick {
+    if value == "last" {
+        return Pick::Last;
+    }
+    Pick::Number(field_in(value).unwrap_or(1))
 }

@@ -4,7 +4,7 @@
 
 use crate::log_programs::log_stats::LogStats;
 use crate::log_programs::without_address::WithoutAddress;
-use crate::line_addresses::{Area, Text};
+use crate::line_addresses::{Area, Part, Pick, Text};
 use crate::lines::output::Output;
 use crate::lists::OpenFault;
 use crate::program::messages::{tell, tell_number};
@@ -15,14 +15,16 @@ use fosibegan::plain_std::io::Write;
 ///
 /// ```
 /// # use cidr_programs::in_examples::*;
+/// use cidr_programs::line_addresses::{Area, Part, Pick};
 /// use cidr_programs::log_programs::telling::tell_lacking;
 ///
+/// let area = Area { part: Part::Word(3), pick: Pick::Number(2) };
 /// let (mut slice, mut room) = ([0; 64], [b'.'; 64]);
 /// let mut errors = cidr_programs::lines::output::Output::new(room.as_mut_slice(), &mut slice);
-/// tell_lacking("cidr_filter", &Area::Word(3), "log", 7, false, &mut errors);
+/// tell_lacking("cidr_filter", &area, "log", 7, false, &mut errors);
 /// assert_eq!(errors.finish(), Ok(()));
 /// drop(errors);
-/// assert!(room.starts_with(b"cidr_filter: log: no line has an address in word 3\n."));
+/// assert!(room.starts_with(b"cidr_filter: log: no line has 2 addresses in word 3\n."));
 /// ```
 pub fn tell_lacking<E: Write>(
     program: &str,
@@ -46,22 +48,39 @@ fn lacks(lines: u64, is_addressed: bool) -> bool {
 
 // Reports that no line of the log of this name has an address in this area.
 fn tell_area<E: Write>(program: &str, area: &Area<'_>, name: &str, errors: &mut Output<'_, E>) {
-    tell(program, errors);
-    tell(": ", errors);
-    tell(name, errors);
-    tell(": no line has an address ", errors);
-    tell_where(area, errors);
+    tell_head(program, name, errors);
+    tell(": no line has ", errors);
+    tell_needed(needed(area.pick), errors);
+    tell_where(&area.part, errors);
     tell("\n", errors);
 }
 
+// How many addresses have to stand there, so that a line has one.
+fn needed(pick: Pick) -> u32 {
+    match pick {
+        Pick::Number(number) => number,
+        _ => 1,
+    }
+}
+
+// Reports that so many are needed.
+fn tell_needed<E: Write>(number: u32, errors: &mut Output<'_, E>) {
+    if number > 1 {
+        tell_number(u64::from(number), errors);
+        tell(" addresses ", errors);
+    } else {
+        tell("an address ", errors);
+    }
+}
+
 // Reports where the addresses of a line are looked for.
-fn tell_where<E: Write>(area: &Area<'_>, errors: &mut Output<'_, E>)
+fn tell_where<E: Write>(part: &Part<'_>, errors: &mut Output<'_, E>)
 {
-    match area {
-        Area::Field { number, .. } => tell_nth("in field ", *number, errors),
-        Area::Word(number) => tell_nth("in word ", *number, errors),
-        Area::Anywhere => tell("anywhere in it", errors),
-        Area::After(text) => tell_after(text, errors),
+    match part {
+        Part::Field { number, .. } => tell_nth("in field ", *number, errors),
+        Part::Word(number) => tell_nth("in word ", *number, errors),
+        Part::Line => tell("anywhere in it", errors),
+        Part::After(text) => tell_after(text, errors),
     }
 }
 

@@ -24,6 +24,8 @@ pub enum Kind {
     Number,
     /// The number of a field, from 1 to the greatest of 32 bits.
     Field,
+    /// Such a number, `first` or `last`.
+    Nth,
     /// A byte of ASCII other than LF, CR and NUL.
     Separator,
     /// `drop`, `keep`, `stop` or `report`.

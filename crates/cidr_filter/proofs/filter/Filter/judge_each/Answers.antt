@@ -2,7 +2,7 @@ use Rattle.std.proofs.Common.{arith}
 use Rattle.line_addresses.specs.Addresses.{addresses_of}
 use Rattle.cidr_filter.specs.Filters.{asked_of}
 use Rattle.cidr_filter.proofs.Judging.{all_left, passed, inside, outside, without}
-use Rattle.cidr_filter.proofs.filter.Filter.judge_anywhere.Goals as goal
+use Rattle.cidr_filter.proofs.filter.Filter.judge_each.Goals as goal
 
 pub addresses-init : goal.addresses-init
 addresses-init c = record { within = omega arith; passes = all_left c.args.self.now (asked_of c.args.self.now (addresses_of c.args.line.now)) }

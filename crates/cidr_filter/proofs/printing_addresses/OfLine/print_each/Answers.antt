@@ -6,7 +6,7 @@ use Rattle.line_addresses.specs.Addresses.{addresses_of}
 use Rattle.cidr_filter.specs.Filters.{head_of, text_of, texts_of}
 use Rattle.program.proofs.Puts.{fails_all, works_still}
 use Rattle.cidr_filter.proofs.Texts.{next_text, one_more, fails_at, all_put}
-use Rattle.cidr_filter.proofs.printing_addresses.OfLine.print_all.Goals as goal
+use Rattle.cidr_filter.proofs.printing_addresses.OfLine.print_each.Goals as goal
 
 pub addresses-init : goal.addresses-init
 addresses-init g c = record { within = omega arith; put = ([], puts_nothing _ _, refl); failed = refl }

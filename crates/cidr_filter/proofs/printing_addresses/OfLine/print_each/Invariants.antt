@@ -2,7 +2,7 @@ use Rattle.std.proofs.Common.{◌≡◌, ℕ, ◌-◌, ◌≤◌, List, ◌++◌
 use Rattle.lines.specs.Outputs.{Puts}
 use Rattle.line_addresses.specs.Addresses.{addresses_of}
 use Rattle.cidr_filter.specs.Filters.{head_of, texts_of}
-use Rattle.cidr_filter.proofs.printing_addresses.OfLine.print_all.Given as goal
+use Rattle.cidr_filter.proofs.printing_addresses.OfLine.print_each.Given as goal
 
 abbrev pub invariant-addresses : goal.invariant-addresses
 invariant-addresses g l = record {

@@ -2,7 +2,7 @@ use Rattle.std.proofs.Common.{◌-◌, ◌≤◌, length, drop}
 use Rattle.line_addresses.specs.Addresses.{addresses_of}
 use Rattle.cidr_filter.specs.Filters.{asked_of}
 use Rattle.cidr_filter.proofs.Judging.{Passes}
-use Rattle.cidr_filter.proofs.filter.Filter.judge_anywhere.Given as goal
+use Rattle.cidr_filter.proofs.filter.Filter.judge_each.Given as goal
 
 abbrev pub invariant-addresses : goal.invariant-addresses
 invariant-addresses l = record {

@@ -1,0 +1,18 @@
+-- Areas, for examples.
+use Rattle.std.proofs.Common.{ℕ, List}
+use Rattle.line_addresses.specs.declared.area.Area.{Area}
+use Rattle.line_addresses.specs.declared.area.Part.{Part}
+use Rattle.line_addresses.specs.declared.area.Part.TheVariants as parts
+use Rattle.line_addresses.specs.declared.area.Pick.TheVariants as picks
+
+-- a part that is an address
+abbrev pub whole : Part → Area
+whole part = record { part = part; pick = picks.Whole }
+
+-- all addresses of a line
+abbrev pub anywhere : Area
+anywhere = record { part = parts.Line; pick = picks.Each }
+
+-- the first that follows a text
+abbrev pub after : List ℕ → Area
+after text = record { part = parts.After text; pick = picks.Number 1 }

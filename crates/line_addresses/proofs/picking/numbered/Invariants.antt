@@ -1,0 +1,13 @@
+use Rattle.std.proofs.Common.{◌≡◌, ◌-◌, ◌≤◌, length, drop}
+use Rattle.std.specs.Prelude.{slice_get}
+use Rattle.line_addresses.specs.Addresses.{addresses_of}
+use Rattle.line_addresses.proofs.picking.numbered.Given as goal
+
+abbrev pub invariant-addresses : goal.invariant-addresses
+invariant-addresses l = record {
+  within : l.at ≤ length l.text;
+  same : slice_get (addresses_of l.text) (l.number - 1) ≡ slice_get (addresses_of (drop l.at l.text)) l.more;
+}
+
+abbrev pub decreases-addresses : goal.decreases-addresses
+decreases-addresses l = length l.text - l.at

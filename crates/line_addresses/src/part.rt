@@ -1,0 +1,28 @@
+//! A part of a line.
+ghost use Rattle.std.specs.Prelude.{◌≡◌, None, Some, MatchOption};
+ghost use Rattle.line_addresses.specs.Areas.{part_of};
+
+use crate::area::Part;
+use crate::field::field_of;
+use crate::first_position::following;
+use crate::words::word_of;
+
+/// The part of a line, if the line has it.
+///
+/// ```
+/// let line = b"a,10.1.1.1";
+/// assert_eq!(rt; part_of(&Part::Field { number: 2, separator: b',' }, line), Some(b"10.1.1.1".as_slice()));
+/// assert_eq!(rt; part_of(&Part::Word(2), line), None);
+/// ```
+#[inline(always)]
+pub fn part_of<'a>(part: &Part<'_>, line: &'a [u8]) -> Option<&'a [u8]>
+    ensures { MatchOption result (part_of part.now line.now ≡ None)
+        (λ text. part_of part.now line.now ≡ Some text.now) }
+{
+    match part {
+        Part::Line => Some(line),
+        Part::Field { number, separator } => field_of(line, *number, *separator),
+        Part::Word(number) => word_of(line, *number),
+        Part::After(text) => following(line, text.bytes()),
+    }
+}
