@@ -2,18 +2,32 @@
 the status, standard output and standard error."""
 
 import ipaddress
+import itertools
 import os
 import random
 import subprocess
 
 SECONDS = int(os.environ.get("TEST_SECONDS", 60))
-LIMIT = 1000000
+# Of more networks than these only the first are read.
+MANY = 2**21
+FIRST = 1000
 
 
 def run(program, words, folder, data=b""):
     pipes = {"stdout": subprocess.PIPE, "stderr": subprocess.PIPE}
     done = subprocess.run([program, *words], input=data, cwd=folder, timeout=SECONDS, **pipes)
     return done.returncode, done.stdout, done.stderr
+
+
+def first_lines(program, words, folder, data=b""):
+    """The first lines of a run that prints many, whose reader then goes, and its status."""
+    pipes = {"stdin": subprocess.PIPE, "stdout": subprocess.PIPE, "stderr": subprocess.PIPE}
+    with subprocess.Popen([program, *words], cwd=folder, **pipes) as running:
+        running.stdin.write(data)
+        running.stdin.close()
+        lines = b"".join(itertools.islice(running.stdout, FIRST))
+        running.stdout.close()
+        return running.wait(SECONDS), lines, running.stderr.read()
 
 
 def made_up(rng, shortest=(8, 24), longest=(32, 128)):
@@ -44,36 +58,32 @@ def cut(net, length):
 
 
 def splits(program, folder):
-    """Lists that are split, and those of which too much would be printed."""
+    """Lists that are split, and the first of more networks than anybody reads."""
     for seed in range(120):
         rng = random.Random(seed)
         nets = made_up(rng)
         length = rng.choice((rng.randrange(129), rng.randrange(16, 30)))
         with open(os.path.join(folder, "made_up"), "w") as file:
             file.write("".join(f"{net}\n" for net in nets))
-        count = sum(size(net, length) for net in least(nets))
-        wanted = (2, b"", f"split would print {count} networks\n".encode())
-        if count <= LIMIT:
-            parts = (part for net in least(nets) for part in cut(net, length))
-            wanted = (0, "".join(f"{part}\n" for part in parts).encode(), b"")
-        yield f"split --prefix {length}, seed {seed}", run(program, ["split", "--prefix", str(length), "made_up"], folder), wanted
+        is_many = sum(size(net, length) for net in least(nets)) > MANY
+        parts = itertools.islice((part for net in least(nets) for part in cut(net, length)), FIRST if is_many else None)
+        wanted = (141 if is_many else 0, "".join(f"{part}\n" for part in parts).encode(), b"")
+        got = (first_lines if is_many else run)(program, ["split", "--prefix", str(length), "made_up"], folder)
+        yield f"split --prefix {length}, seed {seed}", got, wanted
     for nets, length, count in [
         ("0.0.0.0/0", 19, 2**19),
         ("0.0.0.0/0\n::/0\n", 19, 2**20),
         ("0.0.0.0/0", 20, 2**20),
         ("0.0.0.0/12\n0.240.0.0/13\n", 32, 2**20 + 2**19),
-        ("::/1\n8000::/2\n", 128, 2**127 + 2**126),
-        ("10.0.0.0-10.15.66.63", 32, LIMIT),
-        ("10.0.0.0-10.15.66.64", 32, LIMIT + 1),
+        ("10.0.0.0-10.15.66.64", 32, 1000001),
     ]:
         with open(os.path.join(folder, "made_up"), "w") as file:
             file.write(nets)
         status, output, error = run(program, ["split", "--prefix", str(length), "made_up"], folder)
         got = status, len(output.splitlines()), error
-        wanted = (0, count, b"") if count <= LIMIT else (2, 0, f"split would print {count} networks\n".encode())
-        yield f"split --prefix {length} of {nets!r}", got, wanted
-    got = run(program, ["split", "--prefix", "128", "-"], folder, b"::/0\n")
-    yield "split of every address", got, (2, b"", b"split would print 340282366920938463463374607431768211455 or more networks\n")
+        yield f"split --prefix {length} of {nets!r}", got, (0, count, b"")
+    got = first_lines(program, ["split", "--prefix", "128", "-"], folder, b"::/0\n")
+    yield "split of every address", got, (141, "".join(f"{ipaddress.ip_address('::') + n}/128\n" for n in range(FIRST)).encode(), b"")
     with open(os.path.join(folder, "made_up"), "w") as file:
         file.write("10.0.0.0/8\nx\n")
     refused = b"made_up:2: refused address\n"

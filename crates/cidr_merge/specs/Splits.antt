@@ -1,15 +1,15 @@
 -- How a run ends that splits lists.
-use Rattle.std.specs.Prelude.{◌≡◌, ◌<◌, ◌≤◌, ℕ, List, [], Bool, true, false, not, ◌&&◌, ◌⊎◌}
+use Rattle.std.specs.Prelude.{◌≡◌, ℕ, List, [], Bool, true, false, not, ◌&&◌, ◌⊎◌}
 use Rattle.std.specs.Prelude.{if◌then◌else◌, String}
 use Rattle.lines.specs.Outputs.{Written}
 use Rattle.lists.specs.KnownLists.{KnownLists}
 use Rattle.lists.specs.Lists.{nothing_read}
 use Rattle.lists.specs.Refusals.{Refused, no_refusals}
 use Rattle.lists.specs.declared.named.ReadFault.{ReadFault}
-use Rattle.program.specs.Endings.{Ending, IsSilent, Refuses, HasTold, HasWritten}
+use Rattle.program.specs.Endings.{Ending, IsSilent, HasTold, HasWritten}
 use Rattle.program.specs.Messages.{Reports}
 use Rattle.program.specs.Reported.{was_refused, fault_text, in_list, refusals_text}
-use Rattle.cidr_merge.specs.Pieces.{split_text, split_count, split_refusal}
+use Rattle.cidr_merge.specs.Pieces.{split_text}
 use Rattle.cidr_merge.specs.Reading.{ReadsSide}
 use Rattle.cidr_merge.specs.Shapes.{source}
 use Rattle.cidr_merge.specs.Stopping.{Stops}
@@ -24,18 +24,13 @@ WritesPieces number skips sets end =
     HasWritten end (split_text number sets) × HasTold end []
     × (end.status ≡ (if skips then 3 else 0))
 
--- more than a million networks are not printed, and how many they would be is reported
-abbrev pub EndsPrintingPieces : {W E : Type 0} → ℕ → Bool → Sets → Ending W E → Type 0
-EndsPrintingPieces number skips sets end =
-    ((1000000 < split_count number sets) × Refuses (split_refusal (split_count number sets)) end)
-    ⊎ ((split_count number sets ≤ 1000000)
-    × (FailsToWrite end ⊎ WritesPieces number skips sets end))
-
--- the lists were read: if lines were refused and are not to be skipped, nothing is written
+-- the lists were read: if lines were refused and are not to be skipped, nothing is written, and else the pieces are,
+-- unless the writer fails
 abbrev pub EndsCutting : {W E : Type 0} → SplitRequest → Bool → Sets → Ending W E → Type 0
 EndsCutting request skips sets end =
     ((skips && not request.skips_bad ≡ true) × IsSilent end × HasTold end [])
-    ⊎ ((skips && not request.skips_bad ≡ false) × EndsPrintingPieces request.length skips sets end)
+    ⊎ ((skips && not request.skips_bad ≡ false)
+    × (FailsToWrite end ⊎ WritesPieces request.length skips sets end))
 
 -- the lists were not read to their ends: nothing was written, and the cause was reported
 abbrev pub StopsSplitting : {Z W E : Type 0} → KnownLists → List (String Z) → SplitRequest → Refused

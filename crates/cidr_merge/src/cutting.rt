@@ -1,15 +1,12 @@
 //! Cuts networks into those of one prefix length.
-ghost use Rattle.std.specs.Prelude.{◌≡◌, ◌≤◌, ◌-◌, ◌^◌, ◌||◌, min, OnOk, is_err};
+ghost use Rattle.std.specs.Prelude.{◌≡◌, ◌||◌, OnOk, is_err};
 ghost use Rattle.std.specs.List.{flat_map};
 ghost use Rattle.lines.specs.Outputs.{Prints};
 ghost use Rattle.program.specs.Putting.{PutsOrFails};
-ghost use Rattle.cidr_merge.specs.Pieces.{network_line, pieces_text, piece_count, all_pieces_count};
-ghost use Rattle.cidr_merge.specs.Pieces.{too_many_text};
+ghost use Rattle.cidr_merge.specs.Pieces.{network_line, pieces_text};
 
-use arrayvec::ArrayString;
 use ipnetwork::{Address, CidrNetwork, Network};
-use ipnetwork_addr::decimal::push_number;
-use ipnetwork_blocks::{AddressSpace, subnets};
+use ipnetwork_blocks::subnets;
 use ipnetwork_sets::AddressSet;
 use lines::fault::RunFault;
 use lines::output::Output;
@@ -61,45 +58,4 @@ fn put_network<A: Address, W: Write>(
     ensures { PutsOrFails result output.old output.new (network_line A.family network) }
 {
     put_all(&[network.canonical().as_str(), "\n"], output)
-}
-
-/// How many pieces of this prefix length the blocks of a set have, or the greatest number of 128
-/// bits.
-pub(crate) fn count_pieces<N: AddressSpace>(length: u8, set: &AddressSet<N>) -> u128
-    ensures { result ≡ min (all_pieces_count N.WIDTH length set.now) (2 ^ 128 - 1) }
-{
-    let mut count = 0u128;
-    let mut blocks = set.iter();
-    while let Some(block) = blocks.next() {
-        count = count.saturating_add(count_of_block(length, block));
-    }
-    count
-}
-
-// How many pieces a block has, or the greatest number of 128 bits.
-fn count_of_block<N: AddressSpace>(length: u8, block: N) -> u128
-    ensures { result ≡ min (piece_count N.WIDTH length (N.pair block)) (2 ^ 128 - 1) }
-{
-    if length < block.prefix() || N::WIDTH < length {
-        return 1;
-    }
-    let bits = length - block.prefix();
-    if bits >= 128 {
-        return u128::MAX;
-    }
-    1 << bits
-}
-
-/// What is reported of so many networks.
-pub(crate) fn too_many_text(count: u128) -> ArrayString<80>
-    ensures { result.bytes ≡ too_many_text count }
-{
-    let mut text = ArrayString::new();
-    text.push_str("split would print ");
-    push_number(&mut text, count);
-    if count == u128::MAX {
-        text.push_str(" or more");
-    }
-    text.push_str(" networks\n");
-    text
 }

@@ -28,11 +28,11 @@ range (A - B) or nothing, and at most 1,024 bytes; # and ; begin a comment. Host
 The result ascends, IPv4 first; differ puts < before what only the first side has, and > before what
 only the second has. A refused line is reported as FILE:LINE: refused CAUSE; check prints that, and
 the line; find FILE:LINE: has ADDRESS, and the line. split leaves longer networks whole, and those
-of IPv4 if N is above 32, and prints a million at most; it takes --skip-bad, --json, --strict.
+of IPv4 if N is above 32; it takes --skip-bad, --json, --strict.
 
 Status: 0; 1 if the sides of differ are not equal, check or overlaps found something or find
-nothing; 2 on wrong usage, a refused line, a file not read, too many networks of split, a failed
-write or no memory; 3 if lines were skipped.
+nothing; 2 on wrong usage, a refused line, a file not read, a failed write or no memory; 3 if lines
+were skipped.
 Example: sort -u today.txt | cidr_merge differ --count yesterday.txt -- -
 ";
 

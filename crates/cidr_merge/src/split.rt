@@ -1,19 +1,18 @@
 //! The run of a `split`.
-ghost use Rattle.std.specs.Prelude.{◌≡◌, min, ◌-◌, ◌^◌, OnOk, is_err};
+ghost use Rattle.std.specs.Prelude.{◌≡◌, OnOk, is_err};
 ghost use Rattle.lines.specs.Outputs.{Writes};
 ghost use Rattle.program.specs.Endings.{ending};
-ghost use Rattle.cidr_merge.specs.Pieces.{split_text, split_count};
+ghost use Rattle.cidr_merge.specs.Pieces.{split_text};
 ghost use Rattle.cidr_merge.specs.Splits.{EndsSplitting, EndsCutting};
 
 use crate::command_line::SplitRequest;
 use crate::context::Context;
-use crate::cutting::{count_pieces, print_pieces, too_many_text};
+use crate::cutting::print_pieces;
 use crate::reading::{Sets, read_side, refuse_lists};
 use lines::fault::RunFault;
 use lines::output::Output;
 use lists::{OpenLists, Refusals};
 use program::ending::{FAILED, end};
-use program::messages::tell;
 use program::telling::{InLists, tell_refusals};
 use std::io::Write;
 
@@ -37,11 +36,7 @@ pub(crate) fn split<L: OpenLists, W: Write, E: Write>(
     }
 }
 
-// The most networks that are printed.
-const PIECES_MAX: u128 = 1_000_000;
-
-// Prints the pieces of the networks, unless lines were refused that are not to be skipped, or there
-// are too many.
+// Prints the pieces of the networks, unless lines were refused that are not to be skipped.
 fn print_split<W: Write, E: Write>(
     request: SplitRequest,
     skips: bool,
@@ -55,20 +50,8 @@ fn print_split<W: Write, E: Write>(
     if skips && !request.skips_bad {
         return FAILED;
     }
-    let count = count_split(request.length, sets);
-    if count > PIECES_MAX {
-        tell(too_many_text(count).as_str(), errors);
-        return FAILED;
-    }
     let written = write_split(request.length, sets, output);
     end(written, if skips { 3 } else { 0 }, errors)
-}
-
-// How many networks there are to print, or the greatest number of 128 bits.
-fn count_split(length: u8, sets: &Sets) -> u128
-    ensures { result ≡ min (split_count length sets.now) (2 ^ 128 - 1) }
-{
-    count_pieces(length, &sets.v4).saturating_add(count_pieces(length, &sets.v6))
 }
 
 // Writes the pieces of the networks of both families.

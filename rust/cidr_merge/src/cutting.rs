@@ -2,10 +2,8 @@
 
 //! Cuts networks into those of one prefix length.
 
-use fosibegan::plain_std::arrayvec::ArrayString;
 use fosibegan::ipnetwork::{Address, CidrNetwork, Network};
-use fosibegan::ipnetwork_addr::decimal::push_number;
-use fosibegan::ipnetwork_blocks::{AddressSpace, subnets};
+use fosibegan::ipnetwork_blocks::subnets;
 use fosibegan::ipnetwork_sets::AddressSet;
 use cidr_programs::lines::fault::RunFault;
 use cidr_programs::lines::output::Output;
@@ -46,39 +44,4 @@ fn put_network<A: Address, W: Write>(
     output: &mut Output<'_, W>,
 ) -> Result<(), RunFault> {
     put_all(&[network.canonical().as_str(), "\n"], output)
-}
-
-/// How many pieces of this prefix length the blocks of a set have, or the greatest number of 128
-/// bits.
-pub(crate) fn count_pieces<N: AddressSpace>(length: u8, set: &AddressSet<N>) -> u128 {
-    let mut count = 0u128;
-    let mut blocks = set.iter();
-    while let Some(block) = blocks.next() {
-        count = count.saturating_add(count_of_block(length, block));
-    }
-    count
-}
-
-// How many pieces a block has, or the greatest number of 128 bits.
-fn count_of_block<N: AddressSpace>(length: u8, block: N) -> u128 {
-    if length < block.prefix() || N::WIDTH < length {
-        return 1;
-    }
-    let bits = length - block.prefix();
-    if bits >= 128 {
-        return u128::MAX;
-    }
-    1 << bits
-}
-
-/// What is reported of so many networks.
-pub(crate) fn too_many_text(count: u128) -> ArrayString<80> {
-    let mut text = ArrayString::new();
-    text.push_str("split would print ");
-    push_number(&mut text, count);
-    if count == u128::MAX {
-        text.push_str(" or more");
-    }
-    text.push_str(" networks\n");
-    text
 }

@@ -4,13 +4,12 @@
 
 use crate::command_line::SplitRequest;
 use crate::context::Context;
-use crate::cutting::{count_pieces, print_pieces, too_many_text};
+use crate::cutting::print_pieces;
 use crate::reading::{Sets, read_side, refuse_lists};
 use cidr_programs::lines::fault::RunFault;
 use cidr_programs::lines::output::Output;
 use cidr_programs::lists::{OpenLists, Refusals};
 use cidr_programs::program::ending::{FAILED, end};
-use cidr_programs::program::messages::tell;
 use cidr_programs::program::telling::{InLists, tell_refusals};
 use fosibegan::plain_std::io::Write;
 
@@ -31,11 +30,7 @@ pub(crate) fn split<L: OpenLists, W: Write, E: Write>(
     }
 }
 
-// The most networks that are printed.
-const PIECES_MAX: u128 = 1_000_000;
-
-// Prints the pieces of the networks, unless lines were refused that are not to be skipped, or there
-// are too many.
+// Prints the pieces of the networks, unless lines were refused that are not to be skipped.
 fn print_split<W: Write, E: Write>(
     request: SplitRequest,
     skips: bool,
@@ -46,18 +41,8 @@ fn print_split<W: Write, E: Write>(
     if skips && !request.skips_bad {
         return FAILED;
     }
-    let count = count_split(request.length, sets);
-    if count > PIECES_MAX {
-        tell(too_many_text(count).as_str(), errors);
-        return FAILED;
-    }
     let written = write_split(request.length, sets, output);
     end(written, if skips { 3 } else { 0 }, errors)
-}
-
-// How many networks there are to print, or the greatest number of 128 bits.
-fn count_split(length: u8, sets: &Sets) -> u128 {
-    count_pieces(length, &sets.v4).saturating_add(count_pieces(length, &sets.v6))
 }
 
 // Writes the pieces of the networks of both families.
