@@ -25,6 +25,7 @@ NETWORKS = [ip_network("10.0.0.0/8"), ip_network("2001:db8::/32"), ip_network("1
 SET, OTHER, TABLE = AddressSet(NETWORKS), AddressSet([ip_network("10.64.0.0/10")]), Table(NETWORKS)
 ROWS, _ = ipnetwork.read_address_column(TEXTS, OFFSETS)
 ASKED = [IPv4Address("10.1.2.3"), IPv6Address("::"), IPv6Address("fe80::1%eth0"), NETWORKS[0]]
+ALONE = [ip_network("10.1.2.3"), ipaddress.ip_network("::1")]
 #: Sets and tables of so many networks have an index once they are asked.
 MANY = AddressSet(
     ip_network(text)
@@ -99,7 +100,7 @@ CALLS = {
     "addresses printed": lambda: ipnetwork.print_address_column(ROWS[:51]),
     "networks printed": lambda: IPv4Network.print_column(bytes(10)),
     "addresses": lambda: [ipnetwork.read_address(text) for text in ("10.1.2.3", "2001:db8::1")],
-    "alone": lambda: [each in NETWORKS[0] for each in (ip_network("10.1.2.3"), ipaddress.ip_network("::1"))],
+    "alone": lambda: [each in NETWORKS[0] for each in ALONE],
     "unmapped": lambda: (list(map(ipnetwork.unmapped, ASKED[:3])), ipnetwork._core.unmapped_rows(ROWS)),
     "laid": lambda: [ipnetwork._core.layout(rows, None) for rows in LAID],
     "ipaddress": lambda: IPv4Network.from_ipaddress(NETWORKS[2].to_ipaddress()),
