@@ -8,8 +8,9 @@ _cidr_filter() {
         before="${COMP_WORDS[COMP_CWORD - 2]}"
     fi
     case "$before" in
+        --nth) COMPREPLY=($(compgen -W "first last a" -- "$word")) ;;
         --bad) COMPREPLY=($(compgen -W "drop keep stop report" -- "$word")) ;;
-        -k | -d | --after | --nth | -e | -m) COMPREPLY=() ;;
+        -k | -d | --after | -e | -m) COMPREPLY=() ;;
         -f) ;;
         *)
             if [[ "$word" == -* ]]; then

@@ -8,7 +8,7 @@ _arguments \
     '*-d[fields are cut at each single CHAR]:character: ' \
     '*-w[fields are what stands between runs of spaces and tabs]' \
     '*-a[addresses are looked for anywhere in a line]' \
-    '*--nth[only this one counts of the addresses that stand there]:which: ' \
+    '*--nth=[only this one counts of the addresses that stand there]:value:(first last a)' \
     '*--after[the address is the first that follows the first TEXT of a line]:text: ' \
     '*-o[print the addresses that are in a network]' \
     '*--mapped[an address \:\:ffff\:A.B.C.D of a line counts as A.B.C.D]' \
