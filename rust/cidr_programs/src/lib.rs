@@ -3,7 +3,8 @@
 #![forbid(unsafe_code)]
 // The sources have the forms that their proofs need.
 #![allow(unused_imports, unused_labels, unused_variables, dead_code)]
-#![allow(clippy::complexity, clippy::style, clippy::large_enum_variant, clippy::non_canonical_clone_impl)]
+#![allow(clippy::complexity, clippy::style, clippy::large_enum_variant, clippy::manual_contains,
+    clippy::non_canonical_clone_impl)]
 
 pub mod line_addresses;
 pub mod lines;
