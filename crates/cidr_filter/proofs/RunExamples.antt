@@ -145,19 +145,19 @@ module _ (known : KnownLists) (inside : IsVerdict (by false without.Stop) (codes
 
   -- a log that cannot be opened: the others are filtered, and the status is 2
   pub first_log_missed : known.may_open (codes "a") false → known.may_miss (codes "a") causes.Denied → IsAllOf known (codes "b") (codes "10.0.0.1\n") → {W E : Type 0} (end : Ending W E) → HasWritten end (codes "10.0.0.1\n")
-      → HasTold end (codes "a: cannot open: permission denied\n") → end.status ≡ 2 → EndsLogs (by false without.Stop) known (codes "a" ∷ codes "b" ∷ []) end
+      → HasTold end (codes "cidr_filter: a: cannot open: permission denied\n") → end.status ≡ 2 → EndsLogs (by false without.Stop) known (codes "a" ∷ codes "b" ∷ []) end
   unfolding address_of digits v6_of gap_below
   first_log_missed closed denied b end written told status = inl (record {
     output = codes "10.0.0.1\n";
     selected = 1;
-    texts = codes "a: cannot open: permission denied\n";
+    texts = codes "cidr_filter: a: cannot open: permission denied\n";
     missed = true;
     filters = (
       [],
       codes "10.0.0.1\n",
       0,
       1,
-      codes "a: cannot open: permission denied\n",
+      codes "cidr_filter: a: cannot open: permission denied\n",
       [],
       true,
       false,
