@@ -19,7 +19,14 @@ from ipaddress import IPv4Interface, IPv6Interface, _BaseNetwork
 import ipnetwork
 from ipnetwork import IPv4Network, IPv6Network
 
-DIFFERENCES = ("host bits are kept", "a plus before the prefix length", "a mask of host bits", "a zone", "order of interfaces")
+DIFFERENCES = (
+    "host bits are kept",
+    "a plus before the prefix length",
+    "a mask of host bits",
+    "a zone",
+    "order of interfaces",
+    "a network of one address is a member",
+)
 INTERFACES = (IPv4Interface, IPv6Interface)
 THEIRS = (_BaseNetwork, *INTERFACES)
 ORDERS = ("__eq__", "__ne__", "__lt__", "__le__", "__gt__", "__ge__")
@@ -147,6 +154,8 @@ def ask(name, arguments, theirs):
         own, theirs = list(itertools.islice(own, 300)), list(itertools.islice(iter(one), 300))
     if isinstance(one, INTERFACES) and name in ORDERS[2:] and own != theirs:
         return "order of interfaces"
+    if name == "__contains__" and isinstance(others[0], _BaseNetwork) and others[0].num_addresses == 1 and own is True:
+        return "a network of one address is a member"
     return None if own == theirs else f"{own} for {theirs}"
 
 
