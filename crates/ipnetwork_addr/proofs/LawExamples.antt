@@ -1,6 +1,6 @@
 -- What the laws of texts let one conclude, where a weaker law would not. The addresses are those of RFC 5737, section
 -- 3, and of RFC 5952.
-use Rattle.std.proofs.Common.{◌≡◌, ℕ, ◌^◌, ◌-◌, ◌<◌, true, false, List, [], ◌∷◌, ◌++◌, Some, None, Option, Result, refl, ap, sym, arith, lit<, true≢false}
+use Rattle.std.proofs.Common.{◌≡◌, ℕ, ◌^◌, ◌-◌, ◌+◌, ◌*◌, ◌<◌, true, false, List, [], ◌∷◌, ◌++◌, Some, None, Option, Result, refl, ap, sym, arith, lit<, true≢false}
 use Rattle.std.specs.Prelude.{◌↔◌, codes, is_err, Ok, Err}
 use Rattle.std.specs.Fmt.{digits}
 use Rattle.std.specs.List.{AllByRecursion}
@@ -222,3 +222,8 @@ pub mapped_text : ((mapped address : ℕ) → unmapped (V6 mapped) ≡ V4 addres
     → canonical_v6 mapped ≡ codes "::ffff:" ++ canonical_v4 address)
     → canonical_v6 0xffffc0000201 ≡ codes "::ffff:" ++ canonical_v4 0xc0000201
 mapped_text law = law 0xffffc0000201 0xc0000201 refl
+
+pub mapped_of_each : ((address : ℕ) → address < 2 ^ 32
+    → unmapped (V6 (0xffff * 2 ^ 32 + address)) ≡ V4 address)
+    → unmapped (V6 0xffff01020304) ≡ V4 0x01020304
+mapped_of_each law = law 0x01020304 (lit< tt)

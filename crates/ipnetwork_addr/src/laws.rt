@@ -12,9 +12,10 @@ pub use computed::{
 pub use texts::{
     canonical_ip_is_one_to_one, canonical_ip_names_its_address, canonical_v4_is_one_to_one,
     canonical_v4_names_its_address, canonical_v6_is_one_text, canonical_v6_is_one_to_one,
-    canonical_v6_names_its_address, ip_text_names_one, mapped_text_ends_in_its_v4,
-    no_text_names_both, octet_texts, v4_text_bytes, v4_text_has_a_dot_first, v4_text_names_one,
-    v6_text_bytes, v6_text_has_a_colon_first, v6_text_names_one,
+    canonical_v6_names_its_address, each_v4_has_its_mapped, ip_text_names_one,
+    mapped_text_ends_in_its_v4, no_text_names_both, octet_texts, v4_text_bytes,
+    v4_text_has_a_dot_first, v4_text_names_one, v6_text_bytes, v6_text_has_a_colon_first,
+    v6_text_names_one,
 };
 pub use values::{
     addr_parse_error_clone, addr_parse_error_equality, ip_clone, ip_equality, ip_hash, ip_order,

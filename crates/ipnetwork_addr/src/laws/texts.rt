@@ -1,5 +1,5 @@
 //! Laws of texts: which address a text names, and how an address is printed.
-ghost use Rattle.std.specs.Prelude.{true, false, ◌++◌, ◌≡◌, ◌↔◌, ℕ, ◌^◌, ◌<◌, List, codes};
+ghost use Rattle.std.specs.Prelude.{true, false, ◌++◌, ◌≡◌, ◌↔◌, ℕ, ◌+◌, ◌*◌, ◌^◌, ◌<◌, List, codes};
 ghost use Rattle.ipnetwork_addr.specs.Ipv4Text.{IsOctet, IsPlainOctet, NamesV4, canonical_v4};
 ghost use Rattle.ipnetwork_addr.specs.Either.{NamesIp, FitsIp, canonical_ip, unmapped};
 ghost use Rattle.ipnetwork_addr.specs.declared.ip.IpAddr.TheVariants.{V4, V6};
@@ -101,4 +101,10 @@ pub fn v6_text_has_a_colon_first()
 pub fn mapped_text_ends_in_its_v4()
     ensures { (mapped address : ℕ) → unmapped (V6 mapped) ≡ V4 address
         → canonical_v6 mapped ≡ codes "::ffff:" ++ canonical_v4 address }
+{}
+
+/// Each IPv4 address has an IPv4-mapped one, of `::ffff:0:0/96`, that stands for it.
+pub fn each_v4_has_its_mapped()
+    ensures { (address : ℕ) → address < 2 ^ 32
+        → unmapped (V6 (0xffff * 2 ^ 32 + address)) ≡ V4 address }
 {}
