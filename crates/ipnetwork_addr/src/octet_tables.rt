@@ -140,7 +140,8 @@ macro_rules! positions {
             hundreds!($b, $a + 1), tens!($b, $a + 1), $a + $b, $a + $b + 1,
             hundreds!($c, $a + $b + 2), tens!($c, $a + $b + 2),
             $a + $b + $c + 1, $a + $b + $c + 2,
-            hundreds!($d, $a + $b + $c + 3), tens!($d, $a + $b + $c + 3), $a + $b + $c + $d + 2, 128,
+            hundreds!($d, $a + $b + $c + 3), tens!($d, $a + $b + $c + 3),
+            $a + $b + $c + $d + 2, 128,
         ]
     };
 }

@@ -1,6 +1,6 @@
 -- Texts that are no plain text.
-use Rattle.std.specs.Prelude.{ℕ, ◌==◌, ◌||◌, Bool, List, [], ◌∷◌, Option, None, Some, length, take, if◌then◌else◌, codes}
-use Rattle.std.specs.Prelude.{bytes_eq}
+use Rattle.std.specs.Prelude.{ℕ, ◌==◌, ◌||◌, Bool, List, [], ◌∷◌, Option, None, Some, length, take}
+use Rattle.std.specs.Prelude.{bytes_eq, codes, if◌then◌else◌}
 use Rattle.std.specs.List.{list_any}
 use Rattle.lists.specs.declared.encoding.Encoding.{Encoding}
 use Rattle.lists.specs.declared.encoding.Encoding.TheVariants.{ByteOrderMark, Utf16, Gzip, Nul}

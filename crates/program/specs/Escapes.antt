@@ -2,8 +2,8 @@
 use Rattle.std.specs.Prelude.{ℕ, ◌+◌, ◌-◌, ◌/◌, ◌%◌, ◌==◌, ◌&&◌, ◌||◌, Bool, not, List, [], ◌∷◌, ◌++◌, nat_lt, nat_le}
 use Rattle.std.specs.Prelude.{if◌then◌else◌, codes}
 
--- a byte between two others, or 0, is a control character: one of ASCII but the tab (9), or one from U+0080 to U+009F, by
--- itself or as UTF-8 has it, in two bytes of which the first is 194
+-- a byte between two others, or 0, is a control character: one of ASCII but the tab (9), or one from U+0080 to U+009F,
+-- by itself or as UTF-8 has it, in two bytes of which the first is 194
 abbrev pub is_other_control : ℕ → Bool
 is_other_control byte = nat_le 128 byte && nat_lt byte 160
 
