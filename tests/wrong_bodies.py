@@ -106,7 +106,12 @@ def code_and_clauses(text):
 
 
 def table_faults():
-    """What the table of promised wrong bodies and their folders do not say alike."""
+    """What the table of promised wrong bodies and their folders do not say alike, and other edits that cannot be made."""
+    for other in (Edit(it) for it in sorted(ROOT.glob(PLACES[1]))):
+        try:
+            other.applied(ROOT / "crates" / other.crate)
+        except NotJudged as why:
+            yield f"wrong-bodies/{other.crate}/{other.name}.edit: {why}"
     edits = [Edit(it) for it in sorted(ROOT.glob(PLACES[0]))]
     for crate, name in sorted(PROMISES.keys() - {(it.crate, it.name) for it in edits}):
         yield f"no edit wrong-bodies/{crate}/promised/{name}.edit"

@@ -400,25 +400,28 @@ IPNETWORK_CHECKED_FAULT ipnetwork_fault ipnetwork_v6_index_find_column(const ipn
  * block at each place has the addresses too, but there may be a longer one, and IPNETWORK_NO_PLACE says nothing.
  * IPNETWORK_PREFIX if the prefix length of a struct is past the width, else IPNETWORK_SHORT_BUFFER if range_room or
  * place_room, for how many there is room, is less than 2 * block_count: then nothing is written. The time is that of
- * a sort, and of as many calls of ipnetwork_v4_table_find as there are ranges. */
+ * a sort, and of as many calls of ipnetwork_v4_table_find as there are ranges, or of ipnetwork_v4_index_find if index is
+ * that of blocks; it may be NULL with the length 0, and one of another list only costs time. */
 #define IPNETWORK_NO_PLACE ((size_t)-1)
-IPNETWORK_CHECKED_AT((7)) ipnetwork_fault ipnetwork_v4_ranges_make(const ipnetwork_v4 *blocks, size_t block_count,
-    ipnetwork_v4 *IPNETWORK_ALONE ranges, size_t range_room, size_t *IPNETWORK_ALONE places, size_t place_room,
-    size_t *IPNETWORK_ALONE range_count);
-IPNETWORK_CHECKED_AT((7)) ipnetwork_fault ipnetwork_v6_ranges_make(const ipnetwork_v6 *blocks, size_t block_count,
-    ipnetwork_v6 *IPNETWORK_ALONE ranges, size_t range_room, size_t *IPNETWORK_ALONE places, size_t place_room,
-    size_t *IPNETWORK_ALONE range_count);
+IPNETWORK_CHECKED_AT((9)) ipnetwork_fault ipnetwork_v4_ranges_make(const ipnetwork_v4 *blocks, size_t block_count,
+    const uint32_t *index, size_t index_length, ipnetwork_v4 *IPNETWORK_ALONE ranges, size_t range_room,
+    size_t *IPNETWORK_ALONE places, size_t place_room, size_t *IPNETWORK_ALONE range_count);
+IPNETWORK_CHECKED_AT((9)) ipnetwork_fault ipnetwork_v6_ranges_make(const ipnetwork_v6 *blocks, size_t block_count,
+    const uint32_t *index, size_t index_length, ipnetwork_v6 *IPNETWORK_ALONE ranges, size_t range_room,
+    size_t *IPNETWORK_ALONE places, size_t place_room, size_t *IPNETWORK_ALONE range_count);
 
 /* The same ranges, and in beside[i], in place of the place of the longest block, the number that stands at that place in
  * numbers: with the places of a table, as ipnetwork_v4_table_make and ipnetwork_v6_table_make leave them, that of the
  * block's network in the caller's list. IPNETWORK_SHORT_BUFFER, before any other fault, if number_count is less than
  * block_count. The next calls take these numbers as they take places; a number IPNETWORK_NO_PLACE is taken for none. */
-IPNETWORK_CHECKED_AT((9)) ipnetwork_fault ipnetwork_v4_ranges_make_numbered(const ipnetwork_v4 *blocks, size_t block_count,
-    const size_t *numbers, size_t number_count, ipnetwork_v4 *IPNETWORK_ALONE ranges, size_t range_room,
-    size_t *IPNETWORK_ALONE beside, size_t beside_room, size_t *IPNETWORK_ALONE range_count);
-IPNETWORK_CHECKED_AT((9)) ipnetwork_fault ipnetwork_v6_ranges_make_numbered(const ipnetwork_v6 *blocks, size_t block_count,
-    const size_t *numbers, size_t number_count, ipnetwork_v6 *IPNETWORK_ALONE ranges, size_t range_room,
-    size_t *IPNETWORK_ALONE beside, size_t beside_room, size_t *IPNETWORK_ALONE range_count);
+IPNETWORK_CHECKED_AT((11)) ipnetwork_fault ipnetwork_v4_ranges_make_numbered(const ipnetwork_v4 *blocks, size_t block_count,
+    const size_t *numbers, size_t number_count, const uint32_t *index, size_t index_length,
+    ipnetwork_v4 *IPNETWORK_ALONE ranges, size_t range_room, size_t *IPNETWORK_ALONE beside, size_t beside_room,
+    size_t *IPNETWORK_ALONE range_count);
+IPNETWORK_CHECKED_AT((11)) ipnetwork_fault ipnetwork_v6_ranges_make_numbered(const ipnetwork_v6 *blocks, size_t block_count,
+    const size_t *numbers, size_t number_count, const uint32_t *index, size_t index_length,
+    ipnetwork_v6 *IPNETWORK_ALONE ranges, size_t range_room, size_t *IPNETWORK_ALONE beside, size_t beside_room,
+    size_t *IPNETWORK_ALONE range_count);
 
 /* What ipnetwork_v4_table_find and ipnetwork_v6_table_find find in a table, by its ranges and their places, as the calls
  * above make them, and an index of the ranges, as ipnetwork_v4_index_make and ipnetwork_v6_index_make make it:

@@ -52,15 +52,17 @@ static inline ipnetwork_fault list_index(size_t width, const uint8_t *structs, s
 
 /* Cuts a table into ranges, at most twice as many as there are blocks, for which there is room, and puts beside each the
  * number that stands beside its longest block, or -1, which is IPNETWORK_NO_PLACE. */
-static inline ipnetwork_fault table_ranges(size_t width, const uint8_t *blocks, size_t count, const int64_t *numbers,
-                                           uint8_t *ranges, int64_t *beside, size_t *range_count) {
+static inline ipnetwork_fault table_ranges(const searched_list *table, const int64_t *numbers, uint8_t *ranges,
+                                           int64_t *beside, size_t *range_count) {
     const size_t *given = (const size_t *)numbers;
-    size_t *told = (size_t *)beside;
-    if (width == 4)
-        return ipnetwork_v4_ranges_make_numbered((const ipnetwork_v4 *)blocks, count, given, count, (ipnetwork_v4 *)ranges,
-                                                 2 * count, told, 2 * count, range_count);
-    return ipnetwork_v6_ranges_make_numbered((const ipnetwork_v6 *)blocks, count, given, count, (ipnetwork_v6 *)ranges,
-                                             2 * count, told, 2 * count, range_count);
+    size_t *told = (size_t *)beside, count = table->count;
+    if (table->width == 4)
+        return ipnetwork_v4_ranges_make_numbered((const ipnetwork_v4 *)table->structs, count, given, count, table->index,
+                                                 table->index_length, (ipnetwork_v4 *)ranges, 2 * count, told, 2 * count,
+                                                 range_count);
+    return ipnetwork_v6_ranges_make_numbered((const ipnetwork_v6 *)table->structs, count, given, count, table->index,
+                                             table->index_length, (ipnetwork_v6 *)ranges, 2 * count, told, 2 * count,
+                                             range_count);
 }
 
 /* The number that stands beside the range that an address lies in, or -1, which is IPNETWORK_NO_PLACE as a place. */

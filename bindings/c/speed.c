@@ -188,8 +188,8 @@ static uint32_t *index_ranges, *index_ranges_six;
 
 static void make_ranges(const ipnetwork_v6 *networks) {
     if (ipnetwork_v6_table_make(networks, MANY, table_six, MANY, places, MANY) != IPNETWORK_OK ||
-        ipnetwork_v4_ranges_make(table_blocks, MANY, ranges, 2 * MANY, beside, 2 * MANY, &range_count) != IPNETWORK_OK ||
-        ipnetwork_v6_ranges_make(table_six, MANY, ranges_six, 2 * MANY, beside_six, 2 * MANY, &range_count_six) != IPNETWORK_OK)
+        ipnetwork_v4_ranges_make(table_blocks, MANY, NULL, 0, ranges, 2 * MANY, beside, 2 * MANY, &range_count) != IPNETWORK_OK ||
+        ipnetwork_v6_ranges_make(table_six, MANY, NULL, 0, ranges_six, 2 * MANY, beside_six, 2 * MANY, &range_count_six) != IPNETWORK_OK)
         abort();
     index_ranges = make_index(range_count, &length_ranges);
     index_ranges_six = make_index(range_count_six, &length_ranges_six);

@@ -1093,8 +1093,8 @@ static void numbers_beside(const struct ranges_of_table *of, const uint8_t *bloc
     memset(beside, 77, (room + 1) * sizeof *beside);
     memset(structs, 77, (room + 1) * stride);
     ipnetwork_fault made = of->width == 4
-        ? ipnetwork_v4_ranges_make_numbered((const ipnetwork_v4 *)blocks, count, numbers, count + 1, (ipnetwork_v4 *)structs, room, beside, room + 1, &told)
-        : ipnetwork_v6_ranges_make_numbered((const ipnetwork_v6 *)blocks, count, numbers, count + 1, (ipnetwork_v6 *)structs, room, beside, room + 1, &told);
+        ? ipnetwork_v4_ranges_make_numbered((const ipnetwork_v4 *)blocks, count, numbers, count + 1, of->index, of->index_length, (ipnetwork_v4 *)structs, room, beside, room + 1, &told)
+        : ipnetwork_v6_ranges_make_numbered((const ipnetwork_v6 *)blocks, count, numbers, count + 1, of->index, of->index_length, (ipnetwork_v6 *)structs, room, beside, room + 1, &told);
     CHECK("numbered", made == YES && told == of->count && memcmp(structs, of->structs, told * stride) == 0);
     for (size_t i = 0; i < told; i++)
         CHECK("numbered", beside[i] == (of->places[i] == IPNETWORK_NO_PLACE ? IPNETWORK_NO_PLACE : 1000 + 3 * of->places[i]));
@@ -1102,10 +1102,10 @@ static void numbers_beside(const struct ranges_of_table *of, const uint8_t *bloc
     for (size_t i = told * sizeof *beside; i < (room + 1) * sizeof *beside; i++) CHECK("numbered", ((uint8_t *)beside)[i] == 77);
     if (count > 0) {
         size_t kept = told = 77;
-        CHECK("fewer numbers", (of->width == 4 ? ipnetwork_v4_ranges_make_numbered((const ipnetwork_v4 *)blocks, count, numbers, count - 1, (ipnetwork_v4 *)structs, room, beside, room, &told)
-                                               : ipnetwork_v6_ranges_make_numbered((const ipnetwork_v6 *)blocks, count, numbers, count - 1, (ipnetwork_v6 *)structs, room, beside, room, &told)) == IPNETWORK_SHORT_BUFFER && told == kept);
-        CHECK("room", (of->width == 4 ? ipnetwork_v4_ranges_make_numbered((const ipnetwork_v4 *)blocks, count, numbers, count, (ipnetwork_v4 *)structs, room - 1, beside, room, &told)
-                                      : ipnetwork_v6_ranges_make_numbered((const ipnetwork_v6 *)blocks, count, numbers, count, (ipnetwork_v6 *)structs, room, beside, room - 1, &told)) == IPNETWORK_SHORT_BUFFER && told == kept);
+        CHECK("fewer numbers", (of->width == 4 ? ipnetwork_v4_ranges_make_numbered((const ipnetwork_v4 *)blocks, count, numbers, count - 1, of->index, of->index_length, (ipnetwork_v4 *)structs, room, beside, room, &told)
+                                               : ipnetwork_v6_ranges_make_numbered((const ipnetwork_v6 *)blocks, count, numbers, count - 1, of->index, of->index_length, (ipnetwork_v6 *)structs, room, beside, room, &told)) == IPNETWORK_SHORT_BUFFER && told == kept);
+        CHECK("room", (of->width == 4 ? ipnetwork_v4_ranges_make_numbered((const ipnetwork_v4 *)blocks, count, numbers, count, of->index, of->index_length, (ipnetwork_v4 *)structs, room - 1, beside, room, &told)
+                                      : ipnetwork_v6_ranges_make_numbered((const ipnetwork_v6 *)blocks, count, numbers, count, of->index, of->index_length, (ipnetwork_v6 *)structs, room, beside, room - 1, &told)) == IPNETWORK_SHORT_BUFFER && told == kept);
     }
     leave_edge(numbers, (count + 1) * sizeof *numbers);
     leave_edge(beside, (room + 1) * sizeof *beside);
@@ -1121,9 +1121,14 @@ static void asked_ranges(const uint8_t *blocks, size_t count, size_t width, cons
     uint8_t faults[300];
     memset(of.structs, 77, room * stride);
     memset(of.places, 77, room * sizeof *of.places);
+    /* By no index, by that of the table, and by any numbers. */
+    for (size_t i = 0; i < 20; i++) of.index[i] = number() % 4 == 0 ? number() * 65537u : number() % 24;
+    if (count % 3 == 1) CHECK("ranges", (width == 4 ? ipnetwork_v4_index_make((const ipnetwork_v4 *)blocks, count, of.index, 20)
+                                                    : ipnetwork_v6_index_make((const ipnetwork_v6 *)blocks, count, of.index, 20)) == YES);
+    size_t by = count % 3 == 0 ? 0 : 20;
     ipnetwork_fault made = width == 4
-        ? ipnetwork_v4_ranges_make((const ipnetwork_v4 *)blocks, count, (ipnetwork_v4 *)of.structs, room, of.places, 2 * count, &of.count)
-        : ipnetwork_v6_ranges_make((const ipnetwork_v6 *)blocks, count, (ipnetwork_v6 *)of.structs, 2 * count, of.places, room, &of.count);
+        ? ipnetwork_v4_ranges_make((const ipnetwork_v4 *)blocks, count, of.index, by, (ipnetwork_v4 *)of.structs, room, of.places, 2 * count, &of.count)
+        : ipnetwork_v6_ranges_make((const ipnetwork_v6 *)blocks, count, of.index, by, (ipnetwork_v6 *)of.structs, 2 * count, of.places, room, &of.count);
     CHECK("ranges", made == YES && of.count <= 2 * count && of.count >= count);
     for (size_t i = of.count * stride; i < room * stride; i++) CHECK("ranges", of.structs[i] == 77);
     for (size_t i = of.count * sizeof(size_t); i < room * sizeof(size_t); i++) CHECK("ranges", ((uint8_t *)of.places)[i] == 77);
@@ -1164,8 +1169,8 @@ static void asked_ranges(const uint8_t *blocks, size_t count, size_t width, cons
     }
     if (count > 0) {
         size_t told = 77;
-        CHECK("room", (width == 4 ? ipnetwork_v4_ranges_make((const ipnetwork_v4 *)blocks, count, (ipnetwork_v4 *)of.structs, 2 * count - 1, of.places, room, &told)
-                                  : ipnetwork_v6_ranges_make((const ipnetwork_v6 *)blocks, count, (ipnetwork_v6 *)of.structs, room, of.places, 2 * count - 1, &told)) == IPNETWORK_SHORT_BUFFER && told == 77);
+        CHECK("room", (width == 4 ? ipnetwork_v4_ranges_make((const ipnetwork_v4 *)blocks, count, NULL, 0, (ipnetwork_v4 *)of.structs, 2 * count - 1, of.places, room, &told)
+                                  : ipnetwork_v6_ranges_make((const ipnetwork_v6 *)blocks, count, NULL, 0, (ipnetwork_v6 *)of.structs, room, of.places, 2 * count - 1, &told)) == IPNETWORK_SHORT_BUFFER && told == 77);
         CHECK("room", column_by(&of, of.count, addresses, 2, found, 1, faults, 2) == IPNETWORK_SHORT_BUFFER && column_by(&of, of.count, addresses, 2, found, 2, faults, 1) == IPNETWORK_SHORT_BUFFER);
     }
     numbers_beside(&of, blocks, count);
@@ -1215,8 +1220,8 @@ static void table_ranges(void) {
             sixes[round % count].prefix = 129;
             memset(made, 77, sizeof made);
             memset(made_six, 77, sizeof made_six);
-            CHECK("past", ipnetwork_v4_ranges_make(fours, count, made, 46, beside, 46, &told) == PREF && ipnetwork_v4_ranges_make(fours, count, NULL, 0, NULL, 0, &told) == PREF);
-            CHECK("past", ipnetwork_v6_ranges_make(sixes, count, made_six, 46, beside, 46, &told) == PREF && ipnetwork_v6_ranges_make(sixes, count, NULL, 0, NULL, 0, &told) == PREF);
+            CHECK("past", ipnetwork_v4_ranges_make(fours, count, NULL, 0, made, 46, beside, 46, &told) == PREF && ipnetwork_v4_ranges_make(fours, count, NULL, 0, NULL, 0, NULL, 0, &told) == PREF);
+            CHECK("past", ipnetwork_v6_ranges_make(sixes, count, NULL, 0, made_six, 46, beside, 46, &told) == PREF && ipnetwork_v6_ranges_make(sixes, count, NULL, 0, NULL, 0, NULL, 0, &told) == PREF);
             CHECK("past", told == 77 && beside[0] == 77 && made[0].prefix == 77 && made_six[0].prefix == 77);
         }
         leave_edge(four, count * sizeof *four);
@@ -1225,9 +1230,9 @@ static void table_ranges(void) {
         leave_edge(sixes, count * sizeof *sixes);
     }
     size_t told = 77, place = 77;
-    CHECK("NULL", ipnetwork_v4_ranges_make(NULL, 0, NULL, 0, NULL, 0, &told) == YES && told == 0);
+    CHECK("NULL", ipnetwork_v4_ranges_make(NULL, 0, NULL, 0, NULL, 0, NULL, 0, &told) == YES && told == 0);
     told = 77;
-    CHECK("NULL", ipnetwork_v6_ranges_make(NULL, 0, NULL, 0, NULL, 0, &told) == YES && told == 0);
+    CHECK("NULL", ipnetwork_v6_ranges_make(NULL, 0, NULL, 0, NULL, 0, NULL, 0, &told) == YES && told == 0);
     CHECK("NULL", ipnetwork_v4_ranges_find(NULL, 0, NULL, 0, NULL, 0, addresses[0], &place) == IPNETWORK_NO_MEMBER && place == 77);
     CHECK("NULL", ipnetwork_v6_ranges_find(NULL, 0, NULL, 0, NULL, 0, addresses_six[0], &place) == IPNETWORK_NO_MEMBER && place == 77);
     CHECK("NULL", ipnetwork_v4_ranges_place(NULL, 0, NULL, 0, NULL, 0, addresses[0]).place == IPNETWORK_NO_PLACE);

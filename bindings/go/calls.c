@@ -268,9 +268,11 @@ ipnetwork_fault ipnetwork_go_table(size_t width, const uint8_t *networks, size_t
     return ipnetwork_v6_table_make((const ipnetwork_v6 *)networks, count, (ipnetwork_v6 *)blocks, count, places, count);
 }
 
-ipnetwork_fault ipnetwork_go_ranges(size_t width, const uint8_t *blocks, size_t count, const int64_t *numbers,
-                                    uint8_t *ranges, int64_t *beside, size_t *range_count) {
-    return table_ranges(width, blocks, count, numbers, ranges, beside, range_count);
+ipnetwork_fault ipnetwork_go_ranges(size_t width, const uint8_t *blocks, size_t count, const uint32_t *index,
+                                    size_t index_length, const int64_t *numbers, uint8_t *ranges, int64_t *beside,
+                                    size_t *range_count) {
+    searched_list table = {width, blocks, count, index, index_length};
+    return table_ranges(&table, numbers, ranges, beside, range_count);
 }
 
 size_t ipnetwork_go_index_size(size_t count) { return list_index_size(count); }

@@ -126,10 +126,11 @@ ipnetwork_fault ipnetwork_go_find_column(size_t width, const uint8_t *structs, s
 /* The table of networks of one family: their blocks and the places of these, for which there is room. */
 ipnetwork_fault ipnetwork_go_table(size_t width, const uint8_t *networks, size_t count, uint8_t *blocks, size_t *places);
 
-/* The ranges of a table, beside each the number that stands beside its longest block, or -1, and how many they are: at
- * most twice as many as blocks, for which there is room. */
-ipnetwork_fault ipnetwork_go_ranges(size_t width, const uint8_t *blocks, size_t count, const int64_t *numbers,
-                                    uint8_t *ranges, int64_t *beside, size_t *range_count);
+/* The ranges of a table by its index, beside each the number that stands beside its longest block, or -1, and how many
+ * they are: at most twice as many as blocks, for which there is room. */
+ipnetwork_fault ipnetwork_go_ranges(size_t width, const uint8_t *blocks, size_t count, const uint32_t *index,
+                                    size_t index_length, const int64_t *numbers, uint8_t *ranges, int64_t *beside,
+                                    size_t *range_count);
 
 /* How many numbers the index of a list has, and the index itself. */
 size_t ipnetwork_go_index_size(size_t count);

@@ -71,13 +71,18 @@ func ranged[Struct any](width C.size_t, networks []Struct, numbers []int) ([]Str
 	for row, place := range places {
 		beside[row] = numbers[place]
 	}
+	index, err := indexed(width, blocks)
+	if err != nil {
+		return nil, nil, nil, err
+	}
 	room, told, count := make([]Struct, 2*len(blocks)), make([]int, 2*len(blocks)), C.size_t(0)
-	number := C.ipnetwork_go_ranges(width, in, size(blocks), int64s(beside), bytesOf(room), int64s(told), &count)
+	number := C.ipnetwork_go_ranges(width, in, size(blocks), start(index), size(index), int64s(beside), bytesOf(room),
+		int64s(told), &count)
 	if number != C.IPNETWORK_OK {
 		return nil, nil, nil, Fault(number)
 	}
 	ranges := trimmed(room[:count])
-	index, err := indexed(width, ranges)
+	index, err = indexed(width, ranges)
 	return ranges, trimmed(told[:count]), index, err
 }
 

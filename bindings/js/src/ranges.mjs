@@ -84,15 +84,19 @@ class Ranges extends Standing {
 export function tableOf(kind, packed) {
   const { struct } = kind;
   const count = packed.length / struct;
-  return withRoom((24 + 4 * struct) * count, (numbers) => {
+  never(indexSize(count, 0, ANSWER, 0));
+  const indexCount = counted();
+  return withRoom((24 + 4 * struct) * count + 4 * indexCount, (numbers) => {
     const places = numbers + 8 * count;
-    const networks = places + 16 * count;
+    const index = places + 16 * count;
+    const networks = index + 4 * indexCount;
     const blocks = networks + struct * count;
     const ranges = blocks + struct * count;
     bytes.set(packed, networks);
     never(kind.tableMake(networks, 0, count, 0, blocks, 0, count, 0, numbers, 0, count, 0));
+    never(kind.indexMake(blocks, 0, count, 0, index, 0, indexCount, 0));
     never(kind.rangesMake(
-      blocks, 0, count, 0, ranges, 0, 2 * count, 0, places, 0, 2 * count, 0, ANSWER, 0,
+      blocks, 0, count, 0, index, 0, indexCount, 0, ranges, 0, 2 * count, 0, places, 0, 2 * count, 0, ANSWER, 0,
     ));
     const made = counted();
     return {

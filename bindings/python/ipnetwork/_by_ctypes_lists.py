@@ -188,7 +188,8 @@ def ranges(version: int, blocks: bytes, numbers: bytes) -> tuple[bytes, bytes, b
     structs = ctypes.create_string_buffer(2 * count * step)
     beside = (ctypes.c_size_t * (2 * count))()
     call = getattr(library, f"ipnetwork_v{version}_ranges_make_numbered")
-    given = blocks, count, numbers, count
+    near = index(version, blocks)
+    given = blocks, count, numbers, count, near, len(near) // 4
     answered(call(*given, structs, 2 * count, beside, 2 * count, ctypes.byref(made)))
     front = structs.raw[: made.value * step]
     return front, bytes(beside)[: made.value * 8], index(version, front)

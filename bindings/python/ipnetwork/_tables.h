@@ -42,7 +42,7 @@ static PyObject *ranges_in(const searched_list *table, const char *numbers, PyOb
     PyObject *index = NULL, *front = NULL, *front_beside = NULL, *all = NULL;
     ipnetwork_fault fault;
     Py_BEGIN_ALLOW_THREADS
-    fault = table_ranges(table->width, table->structs, table->count, (const int64_t *)numbers, structs, told, &made);
+    fault = table_ranges(table, (const int64_t *)numbers, structs, told, &made);
     Py_END_ALLOW_THREADS
     if (answered(fault) && (index = list_index_object(table->width, (const char *)structs, made)) != NULL
         && (front = front_of(ranges, made * step)) != NULL
@@ -67,8 +67,13 @@ static PyObject *ranges(PyObject *module, PyObject *arguments) {
     PyObject *structs = PyByteArray_FromStringAndSize(NULL, (Py_ssize_t)(2 * table.count * step)), *all = NULL;
     /* One more than there may be, since bytes of no length are anywhere, and these are numbers. */
     PyObject *beside = PyByteArray_FromStringAndSize(NULL, (Py_ssize_t)((2 * table.count + 1) * sizeof(int64_t)));
-    if (structs != NULL && beside != NULL) all = ranges_in(&table, numbers, structs, beside);
-    Py_XDECREF(structs), Py_XDECREF(beside);
+    PyObject *index = list_index_object(width, blocks, table.count);
+    if (structs != NULL && beside != NULL && index != NULL) {
+        table.index = (const uint32_t *)PyBytes_AsString(index);
+        table.index_length = (size_t)PyBytes_Size(index) / sizeof(uint32_t);
+        all = ranges_in(&table, numbers, structs, beside);
+    }
+    Py_XDECREF(structs), Py_XDECREF(beside), Py_XDECREF(index);
     return all;
 }
 

@@ -41,12 +41,14 @@ pub extern "C" fn ipnetwork_v6_table_make(
 /// all addresses of one have the same longest block: to the front of `ranges` the first address of
 /// each, as the network of it alone, in ascending order, to the front of `places` the place of that
 /// block, or the greatest number if there is none, and how many they are to `count`. An address
-/// before all of them has no block. What comes after them stays as it is. `PREFIX` if the prefix
-/// length of a struct is greater than 32, else `SHORT_BUFFER` if there is room for fewer ranges or
-/// places than two of each block.
+/// before all of them has no block. What comes after them stays as it is. The index is that of the
+/// blocks, or empty; one of another list costs time, and changes nothing else. `PREFIX` if the
+/// prefix length of a struct is greater than 32, else `SHORT_BUFFER` if there is room for fewer
+/// ranges or places than two of each block.
 #[unsafe(no_mangle)]
 pub extern "C" fn ipnetwork_v4_ranges_make(
     blocks: &[Ipv4InC],
+    index: &[u32],
     ranges: &mut [Ipv4InC],
     places: &mut [usize],
     count: &mut usize,
@@ -54,13 +56,14 @@ pub extern "C" fn ipnetwork_v4_ranges_make(
     ensures { MakesRanges 32 v4_in blocks.now ((ranges.old, places.old), count.old)
         ((ranges.new, places.new), count.new) result }
 {
-    range_making::make::<Ipv4Network, Ipv4InC>(blocks, ranges, places, count)
+    range_making::make::<Ipv4Network, Ipv4InC>(blocks, index, ranges, places, count)
 }
 
 /// The same of IPv6, for prefix lengths up to 128.
 #[unsafe(no_mangle)]
 pub extern "C" fn ipnetwork_v6_ranges_make(
     blocks: &[Ipv6InC],
+    index: &[u32],
     ranges: &mut [Ipv6InC],
     places: &mut [usize],
     count: &mut usize,
@@ -68,7 +71,7 @@ pub extern "C" fn ipnetwork_v6_ranges_make(
     ensures { MakesRanges 128 v6_in blocks.now ((ranges.old, places.old), count.old)
         ((ranges.new, places.new), count.new) result }
 {
-    range_making::make::<Ipv6Network, Ipv6InC>(blocks, ranges, places, count)
+    range_making::make::<Ipv6Network, Ipv6InC>(blocks, index, ranges, places, count)
 }
 
 /// What `ipnetwork_v4_ranges_make` makes, but that beside each range stands, in place of the place of
@@ -78,6 +81,7 @@ pub extern "C" fn ipnetwork_v6_ranges_make(
 pub extern "C" fn ipnetwork_v4_ranges_make_numbered(
     blocks: &[Ipv4InC],
     numbers: &[usize],
+    index: &[u32],
     ranges: &mut [Ipv4InC],
     beside: &mut [usize],
     count: &mut usize,
@@ -85,7 +89,9 @@ pub extern "C" fn ipnetwork_v4_ranges_make_numbered(
     ensures { MakesNumberedRanges 32 v4_in blocks.now numbers.now
         ((ranges.old, beside.old), count.old) ((ranges.new, beside.new), count.new) result }
 {
-    range_making::make_numbered::<Ipv4Network, Ipv4InC>(blocks, numbers, ranges, beside, count)
+    range_making::make_numbered::<Ipv4Network, Ipv4InC>(
+        blocks, numbers, index, ranges, beside, count,
+    )
 }
 
 /// The same of IPv6, for prefix lengths up to 128.
@@ -93,6 +99,7 @@ pub extern "C" fn ipnetwork_v4_ranges_make_numbered(
 pub extern "C" fn ipnetwork_v6_ranges_make_numbered(
     blocks: &[Ipv6InC],
     numbers: &[usize],
+    index: &[u32],
     ranges: &mut [Ipv6InC],
     beside: &mut [usize],
     count: &mut usize,
@@ -100,5 +107,7 @@ pub extern "C" fn ipnetwork_v6_ranges_make_numbered(
     ensures { MakesNumberedRanges 128 v6_in blocks.now numbers.now
         ((ranges.old, beside.old), count.old) ((ranges.new, beside.new), count.new) result }
 {
-    range_making::make_numbered::<Ipv6Network, Ipv6InC>(blocks, numbers, ranges, beside, count)
+    range_making::make_numbered::<Ipv6Network, Ipv6InC>(
+        blocks, numbers, index, ranges, beside, count,
+    )
 }

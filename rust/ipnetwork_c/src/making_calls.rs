@@ -48,24 +48,25 @@ const _: () = {
 /// all addresses of one have the same longest block: to the front of `ranges` the first address of
 /// each, as the network of it alone, in ascending order, to the front of `places` the place of that
 /// block, or the greatest number if there is none, and how many they are to `count`. An address
-/// before all of them has no block. What comes after them stays as it is. `PREFIX` if the prefix
-/// length of a struct is greater than 32, else `SHORT_BUFFER` if there is room for fewer ranges or
-/// places than two of each block.
+/// before all of them has no block. What comes after them stays as it is. The index is that of the
+/// blocks, or empty; one of another list costs time, and changes nothing else. `PREFIX` if the
+/// prefix length of a struct is greater than 32, else `SHORT_BUFFER` if there is room for fewer
+/// ranges or places than two of each block.
 #[inline]
 pub fn ipnetwork_v4_ranges_make(
     blocks: &[Ipv4InC],
+    index: &[u32],
     ranges: &mut [Ipv4InC],
     places: &mut [usize],
     count: &mut usize,
-) -> u32
-{
-    range_making::make::<Ipv4Network, Ipv4InC>(blocks, ranges, places, count)
+) -> u32 {
+    range_making::make::<Ipv4Network, Ipv4InC>(blocks, index, ranges, places, count)
 }
 
 const _: () = {
     #[export_name = "ipnetwork_v4_ranges_make"]
-    unsafe extern "C" fn called(blocks: *const Ipv4InC, blocks_length: usize, ranges: *mut Ipv4InC, ranges_length: usize, places: *mut usize, places_length: usize, count: &mut usize) -> u32 {
-        unsafe { ipnetwork_v4_ranges_make(crate::lent::lent(blocks, blocks_length), crate::lent::lent_mut(ranges, ranges_length), crate::lent::lent_mut(places, places_length), count) }
+    unsafe extern "C" fn called(blocks: *const Ipv4InC, blocks_length: usize, index: *const u32, index_length: usize, ranges: *mut Ipv4InC, ranges_length: usize, places: *mut usize, places_length: usize, count: &mut usize) -> u32 {
+        unsafe { ipnetwork_v4_ranges_make(crate::lent::lent(blocks, blocks_length), crate::lent::lent(index, index_length), crate::lent::lent_mut(ranges, ranges_length), crate::lent::lent_mut(places, places_length), count) }
     }
 };
 
@@ -73,17 +74,18 @@ const _: () = {
 #[inline]
 pub fn ipnetwork_v6_ranges_make(
     blocks: &[Ipv6InC],
+    index: &[u32],
     ranges: &mut [Ipv6InC],
     places: &mut [usize],
     count: &mut usize,
 ) -> u32 {
-    range_making::make::<Ipv6Network, Ipv6InC>(blocks, ranges, places, count)
+    range_making::make::<Ipv6Network, Ipv6InC>(blocks, index, ranges, places, count)
 }
 
 const _: () = {
     #[export_name = "ipnetwork_v6_ranges_make"]
-    unsafe extern "C" fn called(blocks: *const Ipv6InC, blocks_length: usize, ranges: *mut Ipv6InC, ranges_length: usize, places: *mut usize, places_length: usize, count: &mut usize) -> u32 {
-        unsafe { ipnetwork_v6_ranges_make(crate::lent::lent(blocks, blocks_length), crate::lent::lent_mut(ranges, ranges_length), crate::lent::lent_mut(places, places_length), count) }
+    unsafe extern "C" fn called(blocks: *const Ipv6InC, blocks_length: usize, index: *const u32, index_length: usize, ranges: *mut Ipv6InC, ranges_length: usize, places: *mut usize, places_length: usize, count: &mut usize) -> u32 {
+        unsafe { ipnetwork_v6_ranges_make(crate::lent::lent(blocks, blocks_length), crate::lent::lent(index, index_length), crate::lent::lent_mut(ranges, ranges_length), crate::lent::lent_mut(places, places_length), count) }
     }
 };
 
@@ -94,17 +96,20 @@ const _: () = {
 pub fn ipnetwork_v4_ranges_make_numbered(
     blocks: &[Ipv4InC],
     numbers: &[usize],
+    index: &[u32],
     ranges: &mut [Ipv4InC],
     beside: &mut [usize],
     count: &mut usize,
 ) -> u32 {
-    range_making::make_numbered::<Ipv4Network, Ipv4InC>(blocks, numbers, ranges, beside, count)
+    range_making::make_numbered::<Ipv4Network, Ipv4InC>(
+        blocks, numbers, index, ranges, beside, count,
+    )
 }
 
 const _: () = {
     #[export_name = "ipnetwork_v4_ranges_make_numbered"]
-    unsafe extern "C" fn called(blocks: *const Ipv4InC, blocks_length: usize, numbers: *const usize, numbers_length: usize, ranges: *mut Ipv4InC, ranges_length: usize, beside: *mut usize, beside_length: usize, count: &mut usize) -> u32 {
-        unsafe { ipnetwork_v4_ranges_make_numbered(crate::lent::lent(blocks, blocks_length), crate::lent::lent(numbers, numbers_length), crate::lent::lent_mut(ranges, ranges_length), crate::lent::lent_mut(beside, beside_length), count) }
+    unsafe extern "C" fn called(blocks: *const Ipv4InC, blocks_length: usize, numbers: *const usize, numbers_length: usize, index: *const u32, index_length: usize, ranges: *mut Ipv4InC, ranges_length: usize, beside: *mut usize, beside_length: usize, count: &mut usize) -> u32 {
+        unsafe { ipnetwork_v4_ranges_make_numbered(crate::lent::lent(blocks, blocks_length), crate::lent::lent(numbers, numbers_length), crate::lent::lent(index, index_length), crate::lent::lent_mut(ranges, ranges_length), crate::lent::lent_mut(beside, beside_length), count) }
     }
 };
 
@@ -113,16 +118,19 @@ const _: () = {
 pub fn ipnetwork_v6_ranges_make_numbered(
     blocks: &[Ipv6InC],
     numbers: &[usize],
+    index: &[u32],
     ranges: &mut [Ipv6InC],
     beside: &mut [usize],
     count: &mut usize,
 ) -> u32 {
-    range_making::make_numbered::<Ipv6Network, Ipv6InC>(blocks, numbers, ranges, beside, count)
+    range_making::make_numbered::<Ipv6Network, Ipv6InC>(
+        blocks, numbers, index, ranges, beside, count,
+    )
 }
 
 const _: () = {
     #[export_name = "ipnetwork_v6_ranges_make_numbered"]
-    unsafe extern "C" fn called(blocks: *const Ipv6InC, blocks_length: usize, numbers: *const usize, numbers_length: usize, ranges: *mut Ipv6InC, ranges_length: usize, beside: *mut usize, beside_length: usize, count: &mut usize) -> u32 {
-        unsafe { ipnetwork_v6_ranges_make_numbered(crate::lent::lent(blocks, blocks_length), crate::lent::lent(numbers, numbers_length), crate::lent::lent_mut(ranges, ranges_length), crate::lent::lent_mut(beside, beside_length), count) }
+    unsafe extern "C" fn called(blocks: *const Ipv6InC, blocks_length: usize, numbers: *const usize, numbers_length: usize, index: *const u32, index_length: usize, ranges: *mut Ipv6InC, ranges_length: usize, beside: *mut usize, beside_length: usize, count: &mut usize) -> u32 {
+        unsafe { ipnetwork_v6_ranges_make_numbered(crate::lent::lent(blocks, blocks_length), crate::lent::lent(numbers, numbers_length), crate::lent::lent(index, index_length), crate::lent::lent_mut(ranges, ranges_length), crate::lent::lent_mut(beside, beside_length), count) }
     }
 };

@@ -12,9 +12,11 @@ use fosibegan::ipnetwork_blocks::AddressSpace;
 /// The place that stands for no block.
 pub(crate) const NO_PLACE: usize = usize::MAX;
 
-/// Sorts where the blocks begin and end, and asks the blocks for the first address of each range.
+/// Sorts where the blocks begin and end, and asks the blocks, by an index of them or by none, for the
+/// first address of each range.
 pub(crate) fn make<N: AddressSpace, H: SearchHint<N>>(
     blocks: &[H],
+    index: &[u32],
     ranges: &mut [H],
     places: &mut [usize],
     count: &mut usize,
@@ -28,7 +30,7 @@ pub(crate) fn make<N: AddressSpace, H: SearchHint<N>>(
     }
     let made = put_cuts::<N, H>(blocks, ranges);
     ranges[..made].sort_unstable();
-    put_places::<N, H>(blocks, &ranges[..made], &mut places[..made]);
+    put_places::<N, H>(blocks, index, &ranges[..made], &mut places[..made]);
     *count = made;
     OK
 }
@@ -37,6 +39,7 @@ pub(crate) fn make<N: AddressSpace, H: SearchHint<N>>(
 pub(crate) fn make_numbered<N: AddressSpace, H: SearchHint<N>>(
     blocks: &[H],
     numbers: &[usize],
+    index: &[u32],
     ranges: &mut [H],
     beside: &mut [usize],
     count: &mut usize,
@@ -45,7 +48,7 @@ pub(crate) fn make_numbered<N: AddressSpace, H: SearchHint<N>>(
     if numbers.len() < blocks.len() {
         return SHORT_BUFFER;
     }
-    let made = make::<N, H>(blocks, ranges, beside, count);
+    let made = make::<N, H>(blocks, index, ranges, beside, count);
     if made == OK {
         put_numbers(numbers, &mut beside[..*count]);
     }
@@ -100,15 +103,24 @@ fn put_first<N: AddressSpace, H: SearchHint<N>>(address: N::Addr, ranges: &mut [
 }
 
 // Puts beside each range the place of the longest block with its first address.
-fn put_places<N: AddressSpace, H: SearchHint<N>>(blocks: &[H], ranges: &[H], places: &mut [usize]) {
+fn put_places<N: AddressSpace, H: SearchHint<N>>(
+    blocks: &[H],
+    index: &[u32],
+    ranges: &[H],
+    places: &mut [usize],
+) {
     for row in 0..ranges.len() {
-        places[row] = place_of::<N, H>(blocks, ranges[row].own_address());
+        places[row] = place_of::<N, H>(blocks, index, ranges[row].own_address());
     }
 }
 
 // The place of the longest block with the address, or that of no block.
-fn place_of<N: AddressSpace, H: SearchHint<N>>(blocks: &[H], address: N::Addr) -> usize {
+fn place_of<N: AddressSpace, H: SearchHint<N>>(
+    blocks: &[H],
+    index: &[u32],
+    address: N::Addr,
+) -> usize {
     let mut place = NO_PLACE;
-    let _ = find::<N, H>(blocks, &[], address, &mut place);
+    let _ = find::<N, H>(blocks, index, address, &mut place);
     place
 }
