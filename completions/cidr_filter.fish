@@ -10,6 +10,7 @@ complete -c cidr_filter -l nth -x -a "first last a" -d "Only this one counts of 
 complete -c cidr_filter -l after -x -d "The address is the first that follows the first TEXT of a line"
 complete -c cidr_filter -s o -d "Print the addresses that are in a network"
 complete -c cidr_filter -l mapped -d "An address ::ffff:A.B.C.D of a line counts as A.B.C.D"
+complete -c cidr_filter -l networks -d "A network of a line counts if all its addresses are in the list"
 complete -c cidr_filter -s v -d "Print the lines whose address is in no network"
 complete -c cidr_filter -s c -d "Print how many lines are selected"
 complete -c cidr_filter -s l -d "Print the name of each FILE that has a selected line"

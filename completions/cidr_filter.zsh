@@ -12,6 +12,7 @@ _arguments \
     '*--after[the address is the first that follows the first TEXT of a line]:text: ' \
     '*-o[print the addresses that are in a network]' \
     '*--mapped[an address \:\:ffff\:A.B.C.D of a line counts as A.B.C.D]' \
+    '*--networks[a network of a line counts if all its addresses are in the list]' \
     '*-v[print the lines whose address is in no network]' \
     '*-c[print how many lines are selected]' \
     '*-l[print the name of each FILE that has a selected line]' \

@@ -23,9 +23,12 @@ Prints the lines of logs whose address is in a list of IP networks.
     --after TEXT    the address is the first that follows the first TEXT of a line, found as by -a,
                     or the one that --nth says; a line without TEXT has none: --after SRC=. Not with
                     -a, -k, -d or -w
-    -o              print the addresses that are in a network, one a line, in place of lines. Not
-                    with -v or --longest
+    -o              print the addresses that are in a network, one a line, in place of lines; the
+                    networks too with --networks. Not with -v or --longest
     --mapped        an address ::ffff:A.B.C.D of a line counts as A.B.C.D
+    --networks      a network of a line counts if all its addresses are in the list: 10.1.0.0/16,
+                    2001:db8::/32, 10.0.0.0/255.0.0.0; bits behind the prefix length are cleared.
+                    Without this option -a asks only the address before the /. Not with --longest
     -v              print the lines whose address is in no network; with -a those that have
                     addresses, none of which is
     -c              print how many lines are selected, over all FILEs
@@ -80,6 +83,6 @@ pub(crate) const PROGRAM: &str = "cidr_filter";
 /// How the program is used: what is reported for arguments that are not a command, after what is
 /// wrong with them.
 pub(crate) const USAGE: &str = "usage: cidr_filter [-v] [-c | -H] [-h] [-n] [-l] [-q] [-o] [-m N] \
-     [--after TEXT | [-a] [-k N] [-d CHAR | -w]] [--nth first|last|N] [--mapped] \
+     [--after TEXT | [-a] [-k N] [-d CHAR | -w]] [--nth first|last|N] [--mapped] [--networks] \
      [--bad drop|keep|stop|report] [--longest] [--skip-bad] (-f LIST | -e TEXT).. [FILE..]; \
      try --help\n";
