@@ -11,6 +11,7 @@ complete -c cidr_join -l mapped -d "An address ::ffff:A.B.C.D of a line counts a
 complete -c cidr_join -l last -d "Print the value behind a line"
 complete -c cidr_join -l network -d "Print the network in place of its value"
 complete -c cidr_join -l tally -d "Print how many lines have each value"
+complete -c cidr_join -l zero -d "Print the values of the list too that no line has"
 complete -c cidr_join -l group -x -d "Before a line print the block of length N that has its address"
 complete -c cidr_join -l bad -x -a "drop keep stop report" -d "A line without an address"
 complete -c cidr_join -l quiet -d "Do not show on a terminal how much was read"

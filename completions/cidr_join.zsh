@@ -13,6 +13,7 @@ _arguments \
     '*--last[print the value behind a line]' \
     '*--network[print the network in place of its value]' \
     '*--tally[print how many lines have each value]' \
+    '*--zero[print the values of the list too that no line has]' \
     '*--group[before a line print the block of length N that has its address]:lengths: ' \
     '*--bad=[a line without an address]:value:(drop keep stop report)' \
     '--quiet[do not show on a terminal how much was read]' \

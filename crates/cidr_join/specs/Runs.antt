@@ -1,5 +1,5 @@
 -- How a run ends: its exit status, what was written, and what was reported.
-use Rattle.std.specs.Prelude.{◌≡◌, ℕ, Bool, List, ◌∷◌, ◌++◌, true, false, ◌⊎◌, if◌then◌else◌, Option, None, Some}
+use Rattle.std.specs.Prelude.{◌≡◌, ℕ, ◌&&◌, Bool, not, List, [], ◌∷◌, ◌++◌, true, false, ◌⊎◌, if◌then◌else◌, Option, None, Some}
 use Rattle.std.specs.Prelude.{length, codes, String, ◌==◌}
 use Rattle.std.specs.List.{slice_split}
 use Rattle.lists.specs.Bytes.{IsAllOf, BytesStop}
@@ -9,7 +9,10 @@ use Rattle.log_programs.specs.Areas.{area_of}
 use Rattle.log_programs.specs.Rows as rows
 use Rattle.log_programs.specs.WithoutAddress.{bad_in}
 use Rattle.options.specs.Given.{is_given, value_of, inputs_of}
+use Rattle.options.specs.Faults.{about}
+use Rattle.options.specs.Refusing.{refusal_text}
 use Rattle.options.specs.Runs as runs
+use Rattle.options.specs.declared.faults.Subject.TheVariants as subjects
 use Rattle.options.specs.Values.{lengths_in}
 use Rattle.options.specs.declared.items.Item.{Item}
 use Rattle.options.specs.declared.table.Table.{Table}
@@ -93,6 +96,7 @@ join_of items by = record {
   mapped = is_given items rows.mapped;
   last = is_given items own.last;
   bad = bad_in (value_of items own.bad);
+  zeros = is_given items own.zeros;
 }
 
 -- what it asks for of the logs: that what the list gives their lines is counted, or that they are joined to the list
@@ -141,15 +145,24 @@ EndsGrouping None known items end =
 abbrev pub EndsFiles : {W E : Type 0} → KnownLists → List Item → Ending W E → Type 0
 EndsFiles known items end = EndsGrouping (lengths_of items) known items end
 
--- what is asked for is done, unless there is no memory for the names of the logs
-abbrev pub DoesRequest : {W E : Type 0} → KnownLists → Ending W E → List Item → Type 0
-DoesRequest known end items = Refuses (codes "out of memory\n") end ⊎ EndsFiles known items end
+-- `--zero` is given without `--tally`, and what is told of that
+abbrev pub lacks_tally : List Item → Bool
+lacks_tally items = is_given items own.zeros && not (is_given items own.tally)
 
-abbrev pub EndsRequest : {W E : Type 0} → KnownLists → List Item → Ending W E → Type 0
-EndsRequest known items end = DoesRequest known end items
+abbrev pub lack_text : List ℕ → List ℕ → List ℕ
+lack_text program usage =
+    refusal_text program usage [] (about subjects.CommandLine (codes "--zero goes only with --tally"))
+
+-- what is asked for is done, unless there is no memory for the names of the logs
+abbrev pub EndsRequest : {W E : Type 0} → List ℕ → List ℕ → KnownLists → List Item → Ending W E → Type 0
+EndsRequest program usage known items end = ((lacks_tally items ≡ true) × Refuses (lack_text program usage) end)
+    ⊎ ((lacks_tally items ≡ false) × (Refuses (codes "out of memory\n") end ⊎ EndsFiles known items end))
+
+abbrev pub DoesRequest : {W E : Type 0} → List ℕ → List ℕ → KnownLists → Ending W E → List Item → Type 0
+DoesRequest program usage known end items = EndsRequest program usage known items end
 
 -- how a run ends of a program of this name, help, version and usage, by the table of its options
 abbrev pub EndsAs : {Z W E : Type 0} → List ℕ → List ℕ → List ℕ → List ℕ → KnownLists → List (String Z) → Ending W E
     → Type 0
 EndsAs program help version usage known words end =
-    (table : Table) × IsOptions table × runs.EndsAs table program help version usage words (DoesRequest known end) end
+    (table : Table) × IsOptions table × runs.EndsAs table program help version usage words (DoesRequest program usage known end) end

@@ -32,9 +32,11 @@ Prints each line of logs behind the value that a list gives its address.
     --tally         print no line: print how many lines have each value, and a tab and the value,
                     most first, and those of one count in the order of their bytes. Lines that would
                     have a minus sign count as one. Not with --last
+    --zero          with --tally: print the values of the list too that no line has, with the count
+                    0; with --network its networks
     --group N,M     no list: before a line print the block of length N that has its address, or of
-                    length M if that is of IPv6: --group 24,64. Not with -f, --network or
-                    --last-wins
+                    length M if that is of IPv6: --group 24,64. Not with -f, --network, --last-wins
+                    or --zero
     --bad drop      a line without an address is not printed and not counted, and nothing is told
                     of lines that are too long
     --bad keep      it is printed behind a minus sign (so it is without this option)
@@ -75,5 +77,5 @@ pub(crate) const PROGRAM: &str = "cidr_join";
 /// How the program is used: what is reported for arguments that are not a command, after what is wrong with them.
 pub(crate) const USAGE: &str =
     "usage: cidr_join [--after TEXT | [-a] [-k N] [-d CHAR | -w]] [--nth first|last|N] [--mapped] \
-     [--bad drop|keep|stop|report] [--last | --tally] \
+     [--bad drop|keep|stop|report] [--last | --tally [--zero]] \
      (-f LIST [--network] [--last-wins] | --group N,M) [FILE..]; try --help\n";

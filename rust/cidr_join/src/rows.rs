@@ -25,8 +25,11 @@ pub(crate) const GROUP: usize = 14;
 /// The row of `--bad`.
 pub(crate) const BAD: usize = 15;
 
+/// The row of `--zero`.
+pub(crate) const ZERO: usize = 16;
+
 // The options.
-const ROWS: [Row; 16] = log_rows![
+const ROWS: [Row; 17] = log_rows![
     long!("--last", Flag, false, ""),
     long!("--last-wins", Flag, false, ""),
     long!("--network", Flag, false, ""),
@@ -38,10 +41,11 @@ const ROWS: [Row; 16] = log_rows![
         "is not N,M with N up to 32 and M up to 128"
     ),
     long!("--bad", Rule, true, "is not drop, keep, stop or report"),
+    long!("--zero", Flag, false, ""),
 ];
 
 // Which do not go together, and that `-f` is given once at the most.
-const PAIRS: [Pair; 10] = log_pairs![
+const PAIRS: [Pair; 11] = log_pairs![
     [],
     [
         pair!(TALLY, LAST, "--last does not go with --tally"),
@@ -49,17 +53,22 @@ const PAIRS: [Pair; 10] = log_pairs![
         pair!(
             GROUP,
             LIST,
-            "--group goes with none of -f, --network and --last-wins"
+            "--group goes with none of -f, --network, --last-wins and --zero"
         ),
         pair!(
             GROUP,
             NETWORK,
-            "--group goes with none of -f, --network and --last-wins"
+            "--group goes with none of -f, --network, --last-wins and --zero"
         ),
         pair!(
             GROUP,
             LAST_WINS,
-            "--group goes with none of -f, --network and --last-wins"
+            "--group goes with none of -f, --network, --last-wins and --zero"
+        ),
+        pair!(
+            GROUP,
+            ZERO,
+            "--group goes with none of -f, --network, --last-wins and --zero"
         ),
     ],
 ];
