@@ -21,4 +21,6 @@ complete -c cidr_merge -n "__fish_seen_subcommand_from union common minus differ
 complete -c cidr_merge -n "__fish_seen_subcommand_from check" -l strict -d "Host bits, overlaps too"
 complete -c cidr_merge -n "__fish_seen_subcommand_from union common minus differ list" -l set -x -d "Fill NAME_ipv4 and NAME_ipv6"
 complete -c cidr_merge -n "__fish_seen_subcommand_from union common minus differ list" -l table -x -d "Of this table of nft"
+complete -c cidr_merge -n "__fish_seen_subcommand_from union common minus differ list split" -l before -x -d "Print TEXT before each line"
+complete -c cidr_merge -n "__fish_seen_subcommand_from union common minus differ list split" -l after -x -d "After it"
 complete -c cidr_merge -n "__fish_seen_subcommand_from split" -l prefix -x -d "The networks of union, in pieces of length N"

@@ -18,8 +18,8 @@ if (( CURRENT <= at )); then
         '--version[print the version]'
 else
     case $words[at] in
-    (union|common|minus|differ|list) _arguments '*--ranges[print FIRST - LAST for each run of addresses]' '*--count[print v4 BLOCKS ADDRESSES and v6 BLOCKS ADDRESSES]' '*--format=[print plain, range, netmask, wildcard, csv, nft, ipset, json or addresses]:value:(plain range netmask wildcard csv nft ipset json addresses)' '*--set=[fill NAME_ipv4 and NAME_ipv6]:text: ' '*--table=[of this table of nft]:text: ' '*--skip-bad[report refused lines]' '*--json[take its strings that are entries]' '*--strict[refuse others]' '*:list:_files' ;;
-    (split) _arguments '*--prefix=[the networks of union, in pieces of length N]:text: ' '*--skip-bad[report refused lines]' '*--json[take its strings that are entries]' '*--strict[refuse others]' '*:list:_files' ;;
+    (union|common|minus|differ|list) _arguments '*--ranges[print FIRST - LAST for each run of addresses]' '*--count[print v4 BLOCKS ADDRESSES and v6 BLOCKS ADDRESSES]' '*--format=[print plain, range, netmask, wildcard, csv, nft, ipset, json or addresses]:value:(plain range netmask wildcard csv nft ipset json addresses)' '*--set=[fill NAME_ipv4 and NAME_ipv6]:text: ' '*--table=[of this table of nft]:text: ' '*--before=[print TEXT before each line]:text: ' '*--after=[after it]:text: ' '*--skip-bad[report refused lines]' '*--json[take its strings that are entries]' '*--strict[refuse others]' '*:list:_files' ;;
+    (split) _arguments '*--prefix=[the networks of union, in pieces of length N]:text: ' '*--before=[print TEXT before each line]:text: ' '*--after=[after it]:text: ' '*--skip-bad[report refused lines]' '*--json[take its strings that are entries]' '*--strict[refuse others]' '*:list:_files' ;;
     (check) _arguments '*--strict[host bits, overlaps too]' '*:list:_files' ;;
     (*) _files ;;
     esac

@@ -18,6 +18,7 @@ Merges lists of IP networks, and prints the shortest list with exactly the addre
     --count        print v4 BLOCKS ADDRESSES and v6 BLOCKS ADDRESSES
     --format FORM  print plain, range, netmask, wildcard, csv, nft, ipset, json or addresses
     --set NAME     of nft, ipset: fill NAME_ipv4 and NAME_ipv6; --table NAME: of this table of nft
+    --before TEXT  print TEXT before each line; --after TEXT after it; not in csv, nft, ipset, json
     --skip-bad     report refused lines, and print the result for the others
     --json         each FILE is JSON: take its strings that are entries; --strict refuses others
     --quiet        as the first word: do not show on a terminal how much was read
@@ -28,11 +29,10 @@ range (A - B) or nothing, and at most 1,024 bytes; # and ; begin a comment. Host
 The result ascends, IPv4 first; differ puts < before what only the first side has, and > before what
 only the second has. A refused line is reported as FILE:LINE: refused CAUSE; check prints that, and
 the line; find FILE:LINE: has ADDRESS, and the line. split leaves longer networks whole, and those
-of IPv4 if N is above 32; it takes --skip-bad, --json, --strict.
+of IPv4 if N is above 32; it takes --before, --after, --skip-bad, --json, --strict.
 
-Status: 0; 1 if the sides of differ are not equal, check or overlaps found something or find
-nothing; 2 on wrong usage, a refused line, a file not read, a failed write or no memory; 3 if lines
-were skipped.
+Status: 0; 1 if sides of differ are not equal, check or overlaps found something or find nothing;
+2 on wrong usage, a refused line, an unread file, a failed write, no memory; 3 if lines are skipped.
 Example: sort -u today.txt | cidr_merge differ --count yesterday.txt -- -
 ";
 
