@@ -26,8 +26,8 @@ abbrev pub opening : Field → List ℕ
 opening says.Address = codes "{"
 opening field = codes ","
 
--- what stands behind the string of a member of a JSON object: its closing quote, and behind the last one also `}` and a
--- line feed
+-- what follows the string of a member of a JSON object: its closing quote, and after the last one also `}` and a line
+-- feed
 abbrev pub closing : Field → List ℕ
 closing says.Hexadecimal = codes "\"}\n"
 closing field = codes "\""
@@ -38,13 +38,13 @@ abbrev pub before_value : Bool → Field → List ℕ
 before_value false field = name_of field ++ replicate (13 - length (name_of field)) 32
 before_value true field = opening field ++ codes "\"" ++ name_of field ++ codes "\":\""
 
--- what stands behind the value of a field: a line feed; or, as JSON, the closing quote and, behind the last field, the
--- end of the object
+-- what follows the value of a field: a line feed; or, as JSON, the closing quote and, after the last field, the end of
+-- the object
 abbrev pub behind_value : Bool → Field → List ℕ
 behind_value false field = codes "\n"
 behind_value true field = closing field
 
--- a field of a network as it is printed, with what stands before and behind its value
+-- a field of a network as it is printed: what stands before its value, the value, and what follows it
 abbrev pub row_text : Bool → IpNetwork → Field → List ℕ
 row_text json network field = before_value json field ++ value_of field network ++ behind_value json field
 

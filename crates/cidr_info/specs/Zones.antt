@@ -4,11 +4,11 @@ use Rattle.ipnetwork.specs.declared.ip_network.IpNetwork.{IpNetwork}
 use Rattle.ipnetwork.specs.declared.ip_network.IpNetwork.TheVariants.{V4, V6}
 use Rattle.cidr_info.specs.Numbers.{hex_digit}
 
--- the octet of an IPv4 address that stands behind `place` others
+-- the octet of an IPv4 address that comes after `place` others
 abbrev pub octet_at : ℕ → ℕ → ℕ
 octet_at place address = address / 2 ^ (8 * (3 - place)) % 256
 
--- the nibble of an IPv6 address that stands behind `place` others
+-- the nibble of an IPv6 address that comes after `place` others
 abbrev pub nibble_at : ℕ → ℕ → ℕ
 nibble_at place address = address / 2 ^ (4 * (31 - place)) % 16
 

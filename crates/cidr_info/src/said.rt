@@ -32,8 +32,8 @@ impl<'a> Model for Said<'a> {
 }
 
 impl<'a> Said<'a> {
-    /// Creates it from the text and the number of its line, which is 0 for a word of the command
-    /// line.
+    /// Creates a `Said` from the number of its line, which is 0 for a word of the command line, and
+    /// its text.
     pub(crate) fn new(line: u64, text: &'a [u8]) -> Said<'a>
         ensures { result ≡ said_of line text.now }
     {

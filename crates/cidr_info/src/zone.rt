@@ -42,7 +42,7 @@ fn push_octets(text: &mut ArrayString<VALUE_MAX>, address: u32, count: u8)
     }
 }
 
-// Returns the octet of an address that stands behind `place` others.
+// Returns the octet of an address that comes after `place` others.
 fn octet_at(place: u8, address: u32) -> u8
     requires { place < 4 }
     ensures { result ≡ octet_at place address }
@@ -64,7 +64,7 @@ fn push_nibbles(text: &mut ArrayString<VALUE_MAX>, address: u128, count: u8)
     }
 }
 
-// Returns the nibble of an address that stands behind `place` others.
+// Returns the nibble of an address that comes after `place` others.
 fn nibble_at(place: u8, address: u128) -> u8
     requires { place < 32 }
     ensures value { result ≡ nibble_at place address }

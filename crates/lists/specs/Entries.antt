@@ -62,7 +62,7 @@ IsPlainCause text faults.Range = HasDash text
 -- plain text has no other encoding
 IsPlainCause text (faults.Encoding encoding) = ⊥
 
--- the fault that is told of a text: its encoding, if it has one, and else the cause
+-- the fault that is reported about a text: its encoding, if it has one, and else the cause
 abbrev pub told_cause : Option Encoding → EntryFault → EntryFault
 told_cause None cause = cause
 told_cause (Some encoding) cause = faults.Encoding encoding

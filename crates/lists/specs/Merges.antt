@@ -9,7 +9,7 @@ abbrev pub AreParts : List Network → List (List Network) → Type 0
 AreParts networks parts = (n : Network) → Contains networks n ↔
     ((part : List Network) × Contains parts part × Contains part n)
 
--- each part has its merge at the same place, and there is no other merge
+-- the merges are those of the parts, one for each and in the same order
 abbrev pub AreMerges : ℕ → List (List Network) → List (List Network) → Type 0
 AreMerges w [] [] = Unit {0}
 AreMerges w (part ∷ parts) (merge ∷ merges) = IsAggregate w part merge × AreMerges w parts merges

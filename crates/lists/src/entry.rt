@@ -127,7 +127,8 @@ pub(crate) fn read_text(text: &[u8]) -> Result<Entry, EntryFault>
     }
 }
 
-/// Returns the fault that is told of a text: its encoding, if it has one, and else the cause.
+/// Returns the fault that is reported about a text: its encoding, if it has one, and else the
+/// cause.
 fn told_cause(encoding: Option<Encoding>, cause: EntryFault) -> EntryFault
     ensures { result ≡ told_cause encoding cause }
 {

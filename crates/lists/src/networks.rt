@@ -25,7 +25,7 @@ impl<N: AddressSpace> Model for Networks<N> {
 }
 
 impl<N: AddressSpace> Networks<N> {
-    /// Creates it without networks.
+    /// Creates an empty list of networks.
     pub(crate) fn new(alloc: Global) -> Networks<N>
         ensures { result ≡ [] }
     {

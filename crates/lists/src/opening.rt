@@ -1,4 +1,4 @@
-//! Opens files, and tells why one cannot be opened.
+//! Opens files, and says why one cannot be opened.
 ghost use Rattle.std.specs.Prelude.{◌≡◌, ℕ, List, Some, IfOk, IfErr, false, is_ok};
 ghost use Rattle.lines.specs.Watched.{device_of, has_failed};
 ghost use Rattle.lists.specs.Opening.{cause_of, open_fault_text};
@@ -71,7 +71,7 @@ impl OpenFault {
 
 /// Opens the list of this name. Once a read of it has failed, it is not read again.
 ///
-/// The error is why it cannot be opened.
+/// An error that says why is returned if it cannot be opened.
 ///
 /// ```
 /// let system = program::system::System::new(&rt);
@@ -95,7 +95,7 @@ pub fn open_list<L: OpenLists>(lists: &L, name: &str) -> Result<Watched<L::List>
 /// Opens the file of this name, to be read while its lines are written, as `open_list` opens a
 /// list. A file that is also the output may be refused.
 ///
-/// The error is why it cannot be opened.
+/// An error that says why is returned if it cannot be opened.
 ///
 /// ```
 /// let system = program::system::System::new(&rt);

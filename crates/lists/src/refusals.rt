@@ -72,7 +72,7 @@ impl Model for Refusals {
 }
 
 impl Refusals {
-    /// Creates it without refused lines.
+    /// Creates an empty list of refused lines.
     ///
     /// ```
     /// let refusals = Refusals::new();

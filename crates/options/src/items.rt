@@ -24,7 +24,7 @@ impl<'a> Model for Text<'a> {
 }
 
 impl<'a> Text<'a> {
-    /// Creates it from a string slice.
+    /// Creates a text from a string slice.
     ///
     /// ```
     /// assert!(rt; options::items::Text::new("").as_str().is_empty());

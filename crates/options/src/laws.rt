@@ -7,7 +7,7 @@ ghost use Rattle.options.specs.WordRules.{OthersAreNoOptions, OthersAskForNothin
 
 use crate::table::{Row, Table};
 
-/// The words of a command line have at most one fault that is reported.
+/// At most one fault of a command line is reported.
 pub fn words_have_one_fault(table: &Table<'_>, words: &[String])
     ensures { WordsHaveOneFault table.now words.now }
 {

@@ -197,7 +197,7 @@ fn behind_dash(word: &str) -> &str
     }
 }
 
-// Splits off the first character of a text, if it is ASCII.
+// Splits a text into its first character, if that is ASCII, and what follows it.
 fn split_letter(text: &str) -> Option<(u8, &str)>
     ensures text { MatchOption result
         ((letter : ℕ) (rest : List ℕ) → letter < 128 → text.now ≢ letter ∷ rest)

@@ -36,7 +36,7 @@ pub fn end<E: Write>(written: Result<(), RunFault>, status: u8, errors: &mut Out
     status
 }
 
-/// Writes a text after what waits in the output, and returns the exit status: 0, or 2 if a write
+/// Writes what waits in the output and then a text, and returns the exit status: 0, or 2 if a write
 /// failed, which is reported as `write error`.
 ///
 /// ```
@@ -57,7 +57,7 @@ pub fn print_text<W: Write, E: Write>(
     end(written, 0, errors)
 }
 
-// Writes a text after what waits in the output.
+// Writes what waits in the output, and then a text.
 fn write_text<W: Write>(text: &str, output: &mut Output<'_, W>) -> Result<(), RunFault>
     ensures written { OnOk result (Writes output.old output.new text.now) }
     ensures failed { output.new.failed ≡ is_err result }

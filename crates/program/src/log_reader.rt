@@ -130,9 +130,9 @@ impl<'b> LogReader<'b> {
     /// Hands out the next line, or says that there is none. What waits in the output is written
     /// before the device is asked for more bytes, and at the end of the log.
     ///
-    /// The error is `LogFault::Read` or `LogFault::Write` if a read or a write failed, now or
-    /// earlier, and `LogFault::Endless` if more bytes were read than 64 bits count. After a failed
-    /// read, nothing waits in the output.
+    /// An error is returned if a read or a write failed, now or earlier (`LogFault::Read`,
+    /// `LogFault::Write`), or if more bytes were read than 64 bits count (`LogFault::Endless`).
+    /// After a failed read, nothing waits in the output.
     ///
     /// ```
     /// use lines::line_end::LineEnd;

@@ -4,7 +4,7 @@ use std::cell::Cell;
 use std::io;
 use std::io::{ErrorKind, Stdout, Write};
 
-/// Standard output, which notes whether a write failed because the reader of a pipe has closed it.
+/// Standard output, which notes whether a write failed because nobody reads its pipe any more.
 /// Before each write, it removes what is shown of a long reading.
 ///
 /// ```
@@ -25,8 +25,8 @@ pub struct StandardOutput<'a> {
 }
 
 impl<'a> StandardOutput<'a> {
-    /// Creates it from the system's standard output, the progress that is shown on standard error,
-    /// and the cell that notes whether the pipe is closed.
+    /// Creates a writer from the system's standard output, the progress that is shown on standard
+    /// error, and the cell that notes whether nobody reads the pipe any more.
     ///
     /// ```
     /// use program::progress::Progress;

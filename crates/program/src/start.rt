@@ -68,7 +68,8 @@ where
     ExitCode::from(status)
 }
 
-// Whether no progress is shown: the first word is `--quiet`, or the arguments cannot be read.
+// Whether no progress is shown: the first word is `--quiet`, or there is nothing to run since the
+// arguments cannot be read.
 fn is_quiet(words: &Result<Vec<String>, ArgumentsFault>) -> bool {
     match words {
         Ok(words) => begins_quiet(words.as_slice()),

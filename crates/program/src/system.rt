@@ -25,7 +25,7 @@ pub struct System<'a> {
 }
 
 impl<'a> System<'a> {
-    /// Creates it, without showing how much is read.
+    /// Creates a view of the system's files, without showing how much is read.
     ///
     /// ```
     /// use lists::OpenLists;
@@ -37,7 +37,7 @@ impl<'a> System<'a> {
         System { rt, progress: None }
     }
 
-    /// Creates it, and counts and shows what is read of its files.
+    /// Creates a view of the system's files that counts and shows what is read of them.
     ///
     /// ```
     /// use lists::OpenLists;
@@ -130,8 +130,8 @@ fn identity(said: io::Result<Metadata>) -> Option<(u64, u64)> {
     }
 }
 
-// Whether what was opened is the regular file that standard output writes, by what Linux says about
-// open descriptors.
+// Whether what was opened is the regular file that standard output goes to, by what Linux says
+// about open descriptors.
 fn is_output(rt: &HostRuntime, device: &Device) -> bool {
     let Some(output) = identity(fs::metadata(rt, "/proc/self/fd/1")) else {
         return false;

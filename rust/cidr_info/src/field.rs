@@ -89,7 +89,7 @@ fn before_string(field: Field) -> &'static str {
     }
 }
 
-/// Returns what stands behind the value of a field.
+/// Returns what follows the value of a field.
 pub(crate) fn behind_value(json: bool, field: Field) -> &'static str {
     match (json, field) {
         (false, _) => "\n",

@@ -14,7 +14,7 @@ pub(crate) struct Networks<N: AddressSpace> {
 }
 
 impl<N: AddressSpace> Networks<N> {
-    /// Creates it without networks.
+    /// Creates an empty list of networks.
     pub(crate) fn new(alloc: Global) -> Networks<N> {
         Networks {
             networks: Vec::new(alloc),

@@ -1,6 +1,6 @@
 // Written by scripts/plain out of crates/lists/src/opening.rt
 
-//! Opens files, and tells why one cannot be opened.
+//! Opens files, and says why one cannot be opened.
 
 use crate::lists::open_lists::OpenLists;
 use crate::lines::watched::Watched;
@@ -69,7 +69,7 @@ impl OpenFault {
 
 /// Opens the list of this name. Once a read of it has failed, it is not read again.
 ///
-/// The error is why it cannot be opened.
+/// An error that says why is returned if it cannot be opened.
 ///
 /// ```
 /// # use cidr_programs::in_examples::*;
@@ -88,7 +88,7 @@ pub fn open_list<L: OpenLists>(lists: &L, name: &str) -> Result<Watched<L::List>
 /// Opens the file of this name, to be read while its lines are written, as `open_list` opens a
 /// list. A file that is also the output may be refused.
 ///
-/// The error is why it cannot be opened.
+/// An error that says why is returned if it cannot be opened.
 ///
 /// ```
 /// # use cidr_programs::in_examples::*;

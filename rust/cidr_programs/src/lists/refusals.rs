@@ -71,7 +71,7 @@ const UNUSED: Refusal = Refusal {
 };
 
 impl Refusals {
-    /// Creates it without refused lines.
+    /// Creates an empty list of refused lines.
     ///
     /// ```
     /// # use cidr_programs::in_examples::*;

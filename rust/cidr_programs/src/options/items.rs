@@ -15,7 +15,7 @@ pub struct Text<'a> {
 }
 
 impl<'a> Text<'a> {
-    /// Creates it from a string slice.
+    /// Creates a text from a string slice.
     ///
     /// ```
     /// # use cidr_programs::in_examples::*;

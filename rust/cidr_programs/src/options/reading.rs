@@ -172,7 +172,7 @@ fn behind_dash(word: &str) -> &str {
     }
 }
 
-// Splits off the first character of a text, if it is ASCII.
+// Splits a text into its first character, if that is ASCII, and what follows it.
 fn split_letter(text: &str) -> Option<(u8, &str)> {
     let Some((first, _)) = text.as_bytes().split_first() else {
         return None;

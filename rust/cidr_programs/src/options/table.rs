@@ -116,7 +116,8 @@ pub struct Pair {
 pub struct Table<'a> {
     /// The options, one in each row.
     pub rows: &'a [Row],
-    /// The pairs of options that do not go together. If several are given, the first is reported.
+    /// The pairs of options that do not go together. If several pairs are given, the first is
+    /// reported.
     pub pairs: &'a [Pair],
     /// The rows of the options of which at least one is needed. `operands_fault` needs a FILE
     /// instead.

@@ -26,8 +26,8 @@ pub enum ArgumentsFault {
 }
 
 impl ArgumentsFault {
-    /// Returns the fault that an error of the system stands for: `OutOfMemory` for the system's
-    /// own, and `NotText` for any other.
+    /// Returns why the arguments cannot be read, by the kind of the system's error: `OutOfMemory`
+    /// if that says so, and `NotText` for any other kind.
     ///
     /// ```
     /// # use cidr_programs::in_examples::*;

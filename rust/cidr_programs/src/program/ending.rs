@@ -33,7 +33,7 @@ pub fn end<E: Write>(written: Result<(), RunFault>, status: u8, errors: &mut Out
     status
 }
 
-/// Writes a text after what waits in the output, and returns the exit status: 0, or 2 if a write
+/// Writes what waits in the output and then a text, and returns the exit status: 0, or 2 if a write
 /// failed, which is reported as `write error`.
 ///
 /// ```
@@ -52,7 +52,7 @@ pub fn print_text<W: Write, E: Write>(
     end(written, 0, errors)
 }
 
-// Writes a text after what waits in the output.
+// Writes what waits in the output, and then a text.
 fn write_text<W: Write>(text: &str, output: &mut Output<'_, W>) -> Result<(), RunFault> {
     output.put(text.as_bytes())?;
     output.finish()

@@ -24,7 +24,7 @@ pub struct StandardError<'a> {
 }
 
 impl<'a> StandardError<'a> {
-    /// Creates it from the system's standard error and the progress that is shown there.
+    /// Creates a writer from the system's standard error and the progress that is shown there.
     ///
     /// ```
     /// # use cidr_programs::in_examples::*;

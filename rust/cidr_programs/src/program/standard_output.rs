@@ -7,7 +7,7 @@ use std::cell::Cell;
 use fosibegan::plain_std::io;
 use fosibegan::plain_std::io::{ErrorKind, Stdout, Write};
 
-/// Standard output, which notes whether a write failed because the reader of a pipe has closed it.
+/// Standard output, which notes whether a write failed because nobody reads its pipe any more.
 /// Before each write, it removes what is shown of a long reading.
 ///
 /// ```
@@ -29,8 +29,8 @@ pub struct StandardOutput<'a> {
 }
 
 impl<'a> StandardOutput<'a> {
-    /// Creates it from the system's standard output, the progress that is shown on standard error,
-    /// and the cell that notes whether the pipe is closed.
+    /// Creates a writer from the system's standard output, the progress that is shown on standard
+    /// error, and the cell that notes whether nobody reads the pipe any more.
     ///
     /// ```
     /// # use cidr_programs::in_examples::*;

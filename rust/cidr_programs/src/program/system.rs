@@ -27,7 +27,7 @@ pub struct System<'a> {
 }
 
 impl<'a> System<'a> {
-    /// Creates it, without showing how much is read.
+    /// Creates a view of the system's files, without showing how much is read.
     ///
     /// ```
     /// # use cidr_programs::in_examples::*;
@@ -41,7 +41,7 @@ impl<'a> System<'a> {
         System { rt, progress: None }
     }
 
-    /// Creates it, and counts and shows what is read of its files.
+    /// Creates a view of the system's files that counts and shows what is read of them.
     ///
     /// ```
     /// # use cidr_programs::in_examples::*;
@@ -138,8 +138,8 @@ fn identity(said: io::Result<Metadata>) -> Option<(u64, u64)> {
     }
 }
 
-// Whether what was opened is the regular file that standard output writes, by what Linux says about
-// open descriptors.
+// Whether what was opened is the regular file that standard output goes to, by what Linux says
+// about open descriptors.
 fn is_output(rt: &HostRuntime, device: &Device) -> bool {
     let Some(output) = identity(fs::metadata(rt, "/proc/self/fd/1")) else {
         return false;
