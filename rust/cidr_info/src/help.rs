@@ -1,8 +1,8 @@
 // Written by scripts/plain out of crates/cidr_info/src/help.rt
 
-//! What the program prints about itself.
+//! The texts that the program prints about itself.
 
-/// What `--help` prints.
+/// The text that `--help` prints.
 pub(crate) const HELP: &str = "\
 Prints what there is to tell of networks: their addresses, masks, numbers and names.
 
@@ -43,11 +43,11 @@ Examples:
     cidr_info --in 10.0.0.0/8 10.1.2.3 && echo inside
 ";
 
-/// What `--version` prints.
+/// The text that `--version` prints.
 pub(crate) const VERSION: &str = "cidr_info 0.1.0\n";
 
 /// The name of the program.
 pub(crate) const PROGRAM: &str = "cidr_info";
 
-/// How the program is used: what is reported for arguments that are not a command, after what is wrong with them.
+/// The usage line, which is reported after what is wrong with a command line.
 pub(crate) const USAGE: &str = "usage: cidr_info [--json | --in OUTER] NETWORK..; try --help\n";
