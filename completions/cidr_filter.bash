@@ -8,7 +8,7 @@ _cidr_filter() {
         before="${COMP_WORDS[COMP_CWORD - 2]}"
     fi
     case "$before" in
-        --nth) COMPREPLY=($(compgen -W "first last a" -- "$word")) ;;
+        --nth) COMPREPLY=($(compgen -W "first last" -- "$word")) ;;
         --bad) COMPREPLY=($(compgen -W "drop keep stop report" -- "$word")) ;;
         -k | -d | --after | -e | -m) COMPREPLY=() ;;
         -f) ;;

@@ -1,4 +1,4 @@
-"""Rows of `tests/cidr_merge` for `--before` and `--after`: a name, what a run gave and what is wanted, which is the status,
+"""Rows of `tests/cidr_merge` for `--line-prefix` and `--line-suffix`: a name, what a run gave and what is wanted, which is the status,
 standard output and standard error. Expected lines are those without these options, between the texts, by `sed`."""
 
 import re
@@ -38,13 +38,13 @@ def around(before, lines, after):
 def templates(program, folder):
     for before, after in TEXTS:
         for words, lines in ROWS:
-            got = run(program, [*words.split(), "--before", before, f"--after={after}"], folder)
+            got = run(program, [*words.split(), "--line-prefix", before, f"--line-suffix={after}"], folder)
             yield f"{words} between {before[:20]!r} and {after!r}", got, (0, around(before, lines, after), b"")
     for words, lines in [
         ("differ odd -- even", "> 10.0.0.0/32\n< 10.0.0.1/32\n> 10.0.0.2/32\n< 2001:db8::1/128\n> 2001:db8::2/128\n"),
-        ("differ --ranges halves --after ; -- hosts --before x", "> 10.0.1.0 - 10.255.255.255\n"),
+        ("differ --ranges halves --line-suffix ; -- hosts --line-prefix x", "> 10.0.1.0 - 10.255.255.255\n"),
     ]:
-        more = [] if "--after" in words else ["--before", "x", "--after", ";"]
+        more = [] if "--line-suffix" in words else ["--line-prefix", "x", "--line-suffix", ";"]
         yield words, run(program, [*words.split(), *more], folder), (1, around("x", lines, ";"), b"")
-    for words, lines in [("union --before x halves", "x10.0.0.0/24\n"), ("union --after= halves", "10.0.0.0/24\n")]:
+    for words, lines in [("union --line-prefix x halves", "x10.0.0.0/24\n"), ("union --line-suffix= halves", "10.0.0.0/24\n")]:
         yield words, run(program, words.split(), folder), (0, lines.encode(), b"")

@@ -52,9 +52,9 @@ networks = 23
 -- the options, in the order of their rows
 abbrev pub entries : List Entry
 entries = rows.shared
-    ++ valued (codes "e") kinds.Text (codes "is no network or range")
-    ∷ valued (codes "m") kinds.Number (codes "is no number of lines")
-    ∷ long_flag (codes "--longest") ∷ long (codes "--bad") kinds.Rule true (codes "is not drop, keep, stop or report")
+    ++ valued (codes "e") kinds.Text (codes "not a network or range")
+    ∷ valued (codes "m") kinds.Number (codes "not a number of lines")
+    ∷ long_flag (codes "--longest") ∷ long (codes "--bad") kinds.Rule true (codes "not drop, keep, stop or report")
     ∷ flag (codes "v") ∷ flag (codes "c") ∷ flag (codes "o") ∷ flag (codes "H") ∷ flag (codes "h") ∷ flag (codes "n")
     ∷ flag (codes "l") ∷ flag (codes "q") ∷ long_flag (codes "--skip-bad")
     ∷ long_flag (codes "--networks") ∷ []

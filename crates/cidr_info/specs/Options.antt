@@ -14,9 +14,9 @@ json = 1
 
 -- the options, in the order of their rows
 abbrev pub entries : List Entry
-entries = long (codes "--in") kinds.Text true (codes "is no network") ∷ long_flag (codes "--json")
-    ∷ alone (codes "--help") (codes "is not the only argument")
-    ∷ alone (codes "--version") (codes "is not the only argument") ∷ []
+entries = long (codes "--in") kinds.Text true (codes "not a network") ∷ long_flag (codes "--json")
+    ∷ alone (codes "--help") (codes "not the only argument")
+    ∷ alone (codes "--version") (codes "not the only argument") ∷ []
 
 -- `--in` may be given only once, and not together with `--json`
 abbrev pub pairs : List (ℕ × ℕ × List ℕ)

@@ -37,7 +37,7 @@ outer_of items = if is_given items own.in_network then network_in (value_of item
 abbrev pub in_fault : List Item → Option Fault
 in_fault items =
     if is_given items own.in_network && not (is_some (outer_of items))
-    then Some (about (subjects.Value own.in_network (value_of items own.in_network)) (codes "is no network")) else None
+    then Some (about (subjects.Value own.in_network (value_of items own.in_network)) (codes "not a network")) else None
 
 -- the fault of a command line: the one that its table of options finds, or else the fault of the value of `--in`
 abbrev pub fault_of : Table → List Item → Option Fault

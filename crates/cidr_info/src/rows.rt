@@ -10,14 +10,14 @@ pub(crate) const IN: usize = 0;
 pub(crate) const JSON: usize = 1;
 
 /// What is reported about a value of `--in` that names no network.
-pub(crate) const NO_NETWORK: &str = "is no network";
+pub(crate) const NO_NETWORK: &str = "not a network";
 
 // The rows of the options.
 const ROWS: [Row; 4] = [
     long!("--in", Text, true, NO_NETWORK),
     long!("--json", Flag, false, ""),
-    long!("--help", Alone, false, "is not the only argument"),
-    long!("--version", Alone, false, "is not the only argument"),
+    long!("--help", Alone, false, "not the only argument"),
+    long!("--version", Alone, false, "not the only argument"),
 ];
 
 // `--in` may be given only once, and not together with `--json`.

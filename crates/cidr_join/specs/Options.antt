@@ -33,8 +33,8 @@ abbrev pub entries : List Entry
 entries = rows.shared
     ++ long_flag (codes "--last") ∷ long_flag (codes "--last-wins") ∷ long_flag (codes "--network")
     ∷ long_flag (codes "--tally")
-    ∷ long (codes "--group") kinds.Lengths false (codes "is not N,M with N up to 32 and M up to 128")
-    ∷ long (codes "--bad") kinds.Rule true (codes "is not drop, keep, stop or report")
+    ∷ long (codes "--group") kinds.Lengths false (codes "not N,M with N up to 32 and M up to 128")
+    ∷ long (codes "--bad") kinds.Rule true (codes "not drop, keep, stop or report")
     ∷ long_flag (codes "--zero") ∷ []
 
 -- which of them do not go together: those that say where addresses are looked for, `--tally` with `--last`, a second

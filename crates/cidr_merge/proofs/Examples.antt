@@ -171,7 +171,7 @@ pub no_files : (files_among tasks.Find 2 (codes "-" ∷ [] ∷ codes "-" ∷ [])
     × (files_among tasks.Check 2 (codes "-" ∷ [] ∷ codes "-" ∷ []) ≡ codes "-" ∷ [] ∷ codes "-" ∷ [])
 no_files = (refl, refl)
 
--- of `--ranges`, `--skip-bad`, `--strict`, `--before`, `--prefix` and `--help` each task takes its own
+-- of `--ranges`, `--skip-bad`, `--strict`, `--line-prefix`, `--prefix` and `--help` each task takes its own
 pub options_of_tasks : map (λ task. map (takes task) (0 ∷ 3 ∷ 5 ∷ 8 ∷ 10 ∷ 11 ∷ [])) (tasks.Merge Differ ∷ tasks.List ∷ tasks.Split ∷ tasks.Check ∷ tasks.Overlaps ∷ tasks.Find ∷ [])
     ≡ (true ∷ true ∷ true ∷ true ∷ false ∷ false ∷ []) ∷ (true ∷ true ∷ true ∷ true ∷ false ∷ false ∷ [])
     ∷ (false ∷ true ∷ true ∷ true ∷ true ∷ false ∷ []) ∷ (false ∷ false ∷ true ∷ false ∷ false ∷ false ∷ [])

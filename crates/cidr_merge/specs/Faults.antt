@@ -166,7 +166,7 @@ times_named text names = count_by (λ name. bytes_eq name text) names
 -- what is wrong with the names of lists: that one is empty, or that standard input is among them twice
 abbrev pub files_fault : List (List ℕ) → Option Fault
 files_fault files =
-    if nat_lt 0 (times_named [] files) then Some (at [] (codes "not the name of a file"))
+    if nat_lt 0 (times_named [] files) then Some (at [] (codes "not a file name"))
     else if nat_lt 1 (times_named (codes "-") files)
     then Some (at (codes "-") (codes "standard input can be read only once"))
     else None

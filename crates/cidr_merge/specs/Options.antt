@@ -52,7 +52,7 @@ entries =
     (codes "not a form; the forms are plain, range, netmask, wildcard, csv, nft, ipset, json and addresses")
     ∷ long_flag (codes "--skip-bad") ∷ long_flag (codes "--json") ∷ long_flag (codes "--strict")
     ∷ long (codes "--set") kinds.Text true no_name ∷ long (codes "--table") kinds.Text true no_name
-    ∷ long (codes "--before") kinds.Text true [] ∷ long (codes "--after") kinds.Text true []
+    ∷ long (codes "--line-prefix") kinds.Text true [] ∷ long (codes "--line-suffix") kinds.Text true []
     ∷ long (codes "--prefix") kinds.Text true (codes "not a prefix length, 0 to 128")
     ∷ alone (codes "--help") (codes "taken only alone")
     ∷ alone (codes "--version") (codes "taken only alone")
@@ -67,7 +67,7 @@ pairs = (ranges, count, codes "--ranges: not together with --count") ∷ (format
     ∷ (format, ranges, another_form) ∷ (format, count, another_form)
     ∷ (prefix, prefix, codes "--prefix: given twice")
     ∷ (set, set, codes "--set: given twice") ∷ (table, table, codes "--table: given twice")
-    ∷ (before, before, codes "--before: given twice") ∷ (after, after, codes "--after: given twice") ∷ []
+    ∷ (before, before, codes "--line-prefix: given twice") ∷ (after, after, codes "--line-suffix: given twice") ∷ []
 
 -- the table has these
 abbrev pub IsOptions : Table → Type 0

@@ -248,7 +248,7 @@ fn files_fault<'a>(files: &[String]) -> Option<Fault<'a>>
     ensures { result ≡ files_fault (map string_bytes files.now) }
 {
     if count_of(files, "") > 0 {
-        Some(at("", "not the name of a file"))
+        Some(at("", "not a file name"))
     } else if count_of(files, "-") > 1 {
         Some(at("-", "standard input can be read only once"))
     } else {

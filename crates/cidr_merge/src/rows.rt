@@ -29,10 +29,10 @@ pub(crate) const SET: usize = 6;
 /// The row of `--table`.
 pub(crate) const TABLE: usize = 7;
 
-/// The row of `--before`.
+/// The row of `--line-prefix`.
 pub(crate) const BEFORE: usize = 8;
 
-/// The row of `--after`.
+/// The row of `--line-suffix`.
 pub(crate) const AFTER: usize = 9;
 
 /// The row of `--prefix`.
@@ -54,8 +54,8 @@ const ROWS: [Row; 14] = [
     long!("--strict", Flag, false, ""),
     long!("--set", Text, true, NO_NAME),
     long!("--table", Text, true, NO_NAME),
-    long!("--before", Text, true, ""),
-    long!("--after", Text, true, ""),
+    long!("--line-prefix", Text, true, ""),
+    long!("--line-suffix", Text, true, ""),
     long!("--prefix", Text, true, "not a prefix length, 0 to 128"),
     long!("--help", Alone, false, "taken only alone"),
     long!("--version", Alone, false, "taken only alone"),
@@ -82,8 +82,8 @@ const PAIRS: [Pair; 9] = [
     pair!(PREFIX, PREFIX, "--prefix: given twice"),
     pair!(SET, SET, "--set: given twice"),
     pair!(TABLE, TABLE, "--table: given twice"),
-    pair!(BEFORE, BEFORE, "--before: given twice"),
-    pair!(AFTER, AFTER, "--after: given twice"),
+    pair!(BEFORE, BEFORE, "--line-prefix: given twice"),
+    pair!(AFTER, AFTER, "--line-suffix: given twice"),
 ];
 
 /// The options.

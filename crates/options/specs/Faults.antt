@@ -45,12 +45,12 @@ option_fault rows (says.Flag row) = value_fault rows row [] (subjects.Option row
 option_fault rows (says.Value row value) = value_fault rows row value (subjects.Value row value)
 option_fault rows (says.Joined row value word) = value_fault rows row value (subjects.Word word)
 option_fault rows (says.File name) = None
-option_fault rows (says.Unknown word) = Some (about (subjects.Word word) (codes "is no option"))
+option_fault rows (says.Unknown word) = Some (about (subjects.Word word) (codes "unknown option"))
 option_fault rows (says.Lacks row) = Some (about (subjects.Option row) (codes "has no value"))
 
 -- what is wrong with an item as a FILE: its name is empty
 abbrev pub name_fault : Item → Option Fault
-name_fault (says.File name) = if length name == 0 then Some (about (subjects.Word name) (codes "is no file name"))
+name_fault (says.File name) = if length name == 0 then Some (about (subjects.Word name) (codes "not a file name"))
     else None
 name_fault item = None
 

@@ -37,9 +37,9 @@ pub enum Subject<'a> {
 ///
 /// let fault = Fault {
 ///     subject: Subject::Word(Text::new("-x")),
-///     problem: Text::new("is no option"),
+///     problem: Text::new("unknown option"),
 /// };
-/// assert_eq!(rt; fault.problem.as_str(), "is no option");
+/// assert_eq!(rt; fault.problem.as_str(), "unknown option");
 /// ```
 #[derive(Debug, Drop)]
 pub struct Fault<'a> {
@@ -70,7 +70,7 @@ pub fn about<'a>(subject: Subject<'a>, problem: &'a str) -> Fault<'a>
 /// use options::faults::problem_at;
 /// use options::table::{Kind, Row, letter};
 ///
-/// assert_eq!(rt; problem_at(&[letter!(b'k', Field, "is no field number")], 0), "is no field number");
+/// assert_eq!(rt; problem_at(&[letter!(b'k', Field, "not a field number")], 0), "not a field number");
 /// ```
 pub fn problem_at(rows: &[Row], row: usize) -> &'static str
     ensures { result.now ≡ problem_at rows.now row }
@@ -109,7 +109,7 @@ fn option_fault<'a>(rows: &[Row], item: &Item<'a>) -> Option<Fault<'a>>
         Item::File(_) => None,
         Item::Unknown(word) => {
             let subject = Subject::Word(Text::new(word.as_str()));
-            Some(about(subject, "is no option"))
+            Some(about(subject, "unknown option"))
         }
         Item::Lacks(row) => Some(about(Subject::Option(*row), "has no value")),
     }
@@ -125,7 +125,7 @@ fn name_fault<'a>(item: &Item<'a>) -> Option<Fault<'a>>
                 return None;
             }
             let subject = Subject::Word(Text::new(name.as_str()));
-            Some(about(subject, "is no file name"))
+            Some(about(subject, "not a file name"))
         }
         _ => None,
     }
@@ -247,10 +247,10 @@ pub(crate) fn is_read_once(rows: &[Row], items: &[Item<'_>]) -> bool
 /// use options::items::{Item, Text};
 /// use options::table::{Kind, Row, Table, letter};
 ///
-/// let rows = [letter!(b'k', Field, "is no field number")];
+/// let rows = [letter!(b'k', Field, "not a field number")];
 /// let table = Table { rows: &rows, pairs: &[], needs: &[0], lacking: "-k is not given" };
 /// let zero = fault_of(&table, &[Item::Value(0, Text::new("0"))]);
-/// assert!(rt; zero.is_some_and(|fault| fault.problem.as_str() == "is no field number"));
+/// assert!(rt; zero.is_some_and(|fault| fault.problem.as_str() == "not a field number"));
 /// let nothing = fault_of(&table, &[]);
 /// assert!(rt; nothing.is_some_and(|fault| fault.problem.as_str() == "-k is not given"));
 /// ```

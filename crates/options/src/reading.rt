@@ -17,7 +17,7 @@ use std::alloc::{AllocError, Global};
 /// use options::reading::items_of;
 /// use options::table::{Kind, Row, letter};
 ///
-/// let rows = [letter!(b'v', Flag, ""), letter!(b'k', Field, "is no field number")];
+/// let rows = [letter!(b'v', Flag, ""), letter!(b'k', Field, "not a field number")];
 /// let mut words = Vec::new(rt.alloc());
 /// words.push(String::from_str(rt.alloc(), "-vk7")?)?;
 /// words.push(String::from_str(rt.alloc(), "log")?)?;

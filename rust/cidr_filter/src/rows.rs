@@ -51,10 +51,10 @@ pub(crate) const NETWORKS: usize = 23;
 
 // The options.
 const ROWS: [Row; 24] = log_rows![
-    letter!(b'e', Text, "is no network or range"),
-    letter!(b'm', Number, "is no number of lines"),
+    letter!(b'e', Text, "not a network or range"),
+    letter!(b'm', Number, "not a number of lines"),
     long!("--longest", Flag, false, ""),
-    long!("--bad", Rule, true, "is not drop, keep, stop or report"),
+    long!("--bad", Rule, true, "not drop, keep, stop or report"),
     letter!(b'v', Flag, ""),
     letter!(b'c', Flag, ""),
     letter!(b'o', Flag, ""),

@@ -38,9 +38,9 @@ const ROWS: [Row; 17] = log_rows![
         "--group",
         Lengths,
         false,
-        "is not N,M with N up to 32 and M up to 128"
+        "not N,M with N up to 32 and M up to 128"
     ),
-    long!("--bad", Rule, true, "is not drop, keep, stop or report"),
+    long!("--bad", Rule, true, "not drop, keep, stop or report"),
     long!("--zero", Flag, false, ""),
 ];
 

@@ -210,7 +210,7 @@ fn sides_fault<'a>(
 // What is wrong with the names of lists: that one is empty, or that standard input is among them twice.
 fn files_fault<'a>(files: &[String]) -> Option<Fault<'a>> {
     if count_of(files, "") > 0 {
-        Some(at("", "not the name of a file"))
+        Some(at("", "not a file name"))
     } else if count_of(files, "-") > 1 {
         Some(at("-", "standard input can be read only once"))
     } else {

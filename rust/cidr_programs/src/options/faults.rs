@@ -37,9 +37,9 @@ pub enum Subject<'a> {
 ///
 /// let fault = Fault {
 ///     subject: Subject::Word(Text::new("-x")),
-///     problem: Text::new("is no option"),
+///     problem: Text::new("unknown option"),
 /// };
-/// assert_eq!(fault.problem.as_str(), "is no option");
+/// assert_eq!(fault.problem.as_str(), "unknown option");
 /// ```
 #[derive(Debug)]
 pub struct Fault<'a> {
@@ -70,7 +70,7 @@ pub fn about<'a>(subject: Subject<'a>, problem: &'a str) -> Fault<'a> {
 /// use cidr_programs::options::faults::problem_at;
 /// use cidr_programs::options::table::{Kind, Row, letter};
 ///
-/// assert_eq!(problem_at(&[letter!(b'k', Field, "is no field number")], 0), "is no field number");
+/// assert_eq!(problem_at(&[letter!(b'k', Field, "not a field number")], 0), "not a field number");
 /// ```
 pub fn problem_at(rows: &[Row], row: usize) -> &'static str {
     match rows.get(row) {
@@ -103,7 +103,7 @@ fn option_fault<'a>(rows: &[Row], item: &Item<'a>) -> Option<Fault<'a>> {
         Item::File(_) => None,
         Item::Unknown(word) => {
             let subject = Subject::Word(Text::new(word.as_str()));
-            Some(about(subject, "is no option"))
+            Some(about(subject, "unknown option"))
         }
         Item::Lacks(row) => Some(about(Subject::Option(*row), "has no value")),
     }
@@ -117,7 +117,7 @@ fn name_fault<'a>(item: &Item<'a>) -> Option<Fault<'a>> {
                 return None;
             }
             let subject = Subject::Word(Text::new(name.as_str()));
-            Some(about(subject, "is no file name"))
+            Some(about(subject, "not a file name"))
         }
         _ => None,
     }
@@ -223,10 +223,10 @@ pub(crate) fn is_read_once(rows: &[Row], items: &[Item<'_>]) -> bool {
 /// use cidr_programs::options::items::{Item, Text};
 /// use cidr_programs::options::table::{Kind, Row, Table, letter};
 ///
-/// let rows = [letter!(b'k', Field, "is no field number")];
+/// let rows = [letter!(b'k', Field, "not a field number")];
 /// let table = Table { rows: &rows, pairs: &[], needs: &[0], lacking: "-k is not given" };
 /// let zero = fault_of(&table, &[Item::Value(0, Text::new("0"))]);
-/// assert!(zero.is_some_and(|fault| fault.problem.as_str() == "is no field number"));
+/// assert!(zero.is_some_and(|fault| fault.problem.as_str() == "not a field number"));
 /// let nothing = fault_of(&table, &[]);
 /// assert!(nothing.is_some_and(|fault| fault.problem.as_str() == "-k is not given"));
 /// ```

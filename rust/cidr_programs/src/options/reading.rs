@@ -19,7 +19,7 @@ use fosibegan::plain_std::alloc::{AllocError, Global};
 /// use cidr_programs::options::reading::items_of;
 /// use cidr_programs::options::table::{Kind, Row, letter};
 ///
-/// let rows = [letter!(b'v', Flag, ""), letter!(b'k', Field, "is no field number")];
+/// let rows = [letter!(b'v', Flag, ""), letter!(b'k', Field, "not a field number")];
 /// let mut words = Vec::new(Global);
 /// words.push(String::from_str(Global, "-vk7")?)?;
 /// words.push(String::from_str(Global, "log")?)?;

@@ -108,7 +108,7 @@ pub struct Pair {
 /// # use cidr_programs::in_examples::*;
 /// use cidr_programs::options::table::{Kind, Row, Table, letter};
 ///
-/// let rows = [letter!(b'f', File, "is no file name")];
+/// let rows = [letter!(b'f', File, "not a file name")];
 /// let table = Table { rows: &rows, pairs: &[], needs: &[0], lacking: "-f is not given" };
 /// assert_eq!(table.rows[table.needs[0]].letter, Some(b'f'));
 /// ```
@@ -179,7 +179,7 @@ pub(crate) fn joined(rows: &[Row], name: &str) -> Option<usize> {
 /// # use cidr_programs::in_examples::*;
 /// use cidr_programs::options::table::{Kind, Row, letter};
 ///
-/// const FIELD: Row = letter!(b'k', Field, "is no field number");
+/// const FIELD: Row = letter!(b'k', Field, "not a field number");
 /// assert_eq!(FIELD.letter, Some(b'k'));
 /// ```
 #[macro_export]
@@ -202,7 +202,7 @@ macro_rules! letter {
 /// # use cidr_programs::in_examples::*;
 /// use cidr_programs::options::table::{Kind, Row, long};
 ///
-/// const RULE: Row = long!("--bad", Rule, true, "is not drop, keep, stop or report");
+/// const RULE: Row = long!("--bad", Rule, true, "not drop, keep, stop or report");
 /// assert!(RULE.joins);
 /// ```
 #[macro_export]
