@@ -27,8 +27,8 @@ Prints the lines of logs, each with the value that a list gives its address.
     --last          print the value after the line and a tab, not before it
     --network       print the network instead of its value, which the list may leave out; a range
                     counts as the fewest networks that make it up
-    --tally         count lines: print for each value the number of lines that have it, a tab and the
-                    value, the greatest number first, values with the same number in the order of
+    --tally         count lines: print for each value the number of lines that have it, a tab and
+                    the value, the greatest number first, values with the same number in the order of
                     their bytes. Lines without a value count under a minus sign. Not with --last
     --zero          print the values of the list that no line has too, or with --network its
                     networks, with the number 0. Only with --tally
