@@ -1,6 +1,7 @@
 # Completion of fish for cidr_join: its options, and files.
 complete -c cidr_join -s f -r -F -d "Networks and ranges"
 complete -c cidr_join -l last-wins -d "A network that stands twice in the list has its last value"
+complete -c cidr_join -l skip-bad -d "Take the networks of the list without its refused lines"
 complete -c cidr_join -s k -x -d "The address is the Nth field"
 complete -c cidr_join -s d -x -d "Fields are cut at each single CHAR"
 complete -c cidr_join -s w -d "Fields are what stands between runs of spaces and tabs"

@@ -3,6 +3,7 @@
 _arguments \
     '*-f[networks and ranges]:list:_files' \
     '*--last-wins[a network that stands twice in the list has its last value]' \
+    '*--skip-bad[take the networks of the list without its refused lines]' \
     '*-k[the address is the Nth field]:number: ' \
     '*-d[fields are cut at each single CHAR]:character: ' \
     '*-w[fields are what stands between runs of spaces and tabs]' \

@@ -14,6 +14,8 @@ Prints each line of logs behind the value that a list gives its address.
                     with # or ; is a comment. - is standard input
     --last-wins     a network that stands twice in the list has its last value; without this option
                     it is refused
+    --skip-bad      take the networks of the list without its refused lines, which are reported;
+                    without this option the first ends the program before a log is read
     -k N            the address is the Nth field; without this option the first
     -d CHAR         fields are cut at each single CHAR; without this option at each space
     -w              fields are what stands between runs of spaces and tabs. Not with -d
@@ -35,8 +37,8 @@ Prints each line of logs behind the value that a list gives its address.
     --zero          with --tally: print the values of the list too that no line has, with the count
                     0; with --network its networks
     --group N,M     no list: before a line print the block of length N that has its address, or of
-                    length M if that is of IPv6: --group 24,64. Not with -f, --network, --last-wins
-                    or --zero
+                    length M if that is of IPv6: --group 24,64. Not with -f, --network,
+                    --last-wins, --skip-bad or --zero
     --bad drop      a line without an address is not printed and not counted, and nothing is told
                     of lines that are too long
     --bad keep      it is printed behind a minus sign (so it is without this option)
@@ -78,4 +80,4 @@ pub(crate) const PROGRAM: &str = "cidr_join";
 pub(crate) const USAGE: &str =
     "usage: cidr_join [--after TEXT | [-a] [-k N] [-d CHAR | -w]] [--nth first|last|N] [--mapped] \
      [--bad drop|keep|stop|report] [--last | --tally [--zero]] \
-     (-f LIST [--network] [--last-wins] | --group N,M) [FILE..]; try --help\n";
+     (-f LIST [--network] [--last-wins] [--skip-bad] | --group N,M) [FILE..]; try --help\n";
