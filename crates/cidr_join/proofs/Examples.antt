@@ -15,6 +15,7 @@ use Rattle.cidr_join.specs.Entries.{is_blank, is_word, cause_text}
 use Rattle.cidr_join.specs.Groups.{block_in}
 use Rattle.cidr_join.specs.Joins.{is_left_out, is_refused, mark_of, shown_of}
 use Rattle.cidr_join.specs.Options.{entries, pairs}
+use Rattle.cidr_join.specs.Reported.{refused_text}
 use Rattle.cidr_join.specs.Runs.{lacks_tally, lack_text}
 use Rattle.cidr_join.specs.Tallies.{row_text}
 use Rattle.options.specs.Faults.{about, together, fault_by}
@@ -125,6 +126,11 @@ blanks = refl
 pub causes_in_words : map cause_text (causes.Entry faults.Format ∷ causes.Entry faults.Address ∷ causes.Entry faults.Prefix ∷ causes.Entry faults.Range ∷ causes.Value ∷ causes.Twice ∷ causes.Length ∷ [])
     ≡ codes "format" ∷ codes "address" ∷ codes "prefix" ∷ codes "range" ∷ codes "value: there is none" ∷ codes "repetition" ∷ codes "length" ∷ []
 causes_in_words = refl
+
+-- two lines that are left out
+pub refused_lines_are_told : refused_text (codes "list") ((0, causes.Value) ∷ (8, causes.Twice) ∷ []) ≡ codes "list:1: refused value: there is none\nlist:9: refused repetition\n"
+unfolding digits
+refused_lines_are_told = refl
 
 -- ---- what is printed
 

@@ -6,7 +6,7 @@ use Rattle.options.specs.declared.table.Kind.TheVariants as kinds
 use Rattle.options.specs.declared.table.Table.{Table}
 
 -- the rows of the options that this program alone has: `--last`, `--last-wins`, `--network`, `--tally`, `--group`,
--- `--bad` and `--zero`
+-- `--bad`, `--zero` and `--skip-bad`
 abbrev pub last : ℕ
 last = 10
 
@@ -28,6 +28,9 @@ bad = 15
 abbrev pub zeros : ℕ
 zeros = 16
 
+abbrev pub skips_bad : ℕ
+skips_bad = 17
+
 -- the options, in the order of their rows
 abbrev pub entries : List Entry
 entries = rows.shared
@@ -43,10 +46,11 @@ abbrev pub pairs : List (ℕ × ℕ × List ℕ)
 pairs = rows.together
     ++ (tally, last, codes "--last does not go with --tally")
     ∷ (rows.list, rows.list, codes "-f is given more than once")
-    ∷ (group, rows.list, codes "--group goes with none of -f, --network, --last-wins and --zero")
-    ∷ (group, network, codes "--group goes with none of -f, --network, --last-wins and --zero")
-    ∷ (group, last_wins, codes "--group goes with none of -f, --network, --last-wins and --zero")
-    ∷ (group, zeros, codes "--group goes with none of -f, --network, --last-wins and --zero") ∷ []
+    ∷ (group, rows.list, codes "--group goes with none of -f, --network, --last-wins, --skip-bad and --zero")
+    ∷ (group, network, codes "--group goes with none of -f, --network, --last-wins, --skip-bad and --zero")
+    ∷ (group, last_wins, codes "--group goes with none of -f, --network, --last-wins, --skip-bad and --zero")
+    ∷ (group, zeros, codes "--group goes with none of -f, --network, --last-wins, --skip-bad and --zero")
+    ∷ (group, skips_bad, codes "--group goes with none of -f, --network, --last-wins, --skip-bad and --zero") ∷ []
 
 -- the table has these, and of `-f` and `--group` one at least is given
 abbrev pub IsOptions : Table → Type 0

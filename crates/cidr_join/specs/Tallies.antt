@@ -27,7 +27,8 @@ rows_of rows text = count_by (λ row. bytes_eq text row.text) rows
 abbrev pub row_cmp : Row → Row → Ordering
 row_cmp first second = ordering_then (nat_cmp second.count first.count) (slice_cmp nat_cmp first.text second.text)
 
--- the rows count how often each text is among the marks, one row for each that is among these or is named, in that order
+-- the rows count how often each text is among the marks, one row for each that is among these or is named, in that
+-- order
 pub record IsTally (named marks : List (List ℕ)) (rows : List Row) : Type 0 where
   pub counts : (text : List ℕ) → counted_by rows text ≡ count_of text marks
   pub once : (text : List ℕ) → rows_of rows text ≡ min (count_by (bytes_eq text) (named ++ marks)) 1

@@ -1,5 +1,6 @@
 -- The tally of a run.
-use Rattle.std.specs.Prelude.{◌≡◌, ◌⊎◌, ℕ, Bool, false, Err, List, [], ◌∷◌, ◌++◌, Option, length, map, codes, if◌then◌else◌}
+use Rattle.std.specs.Prelude.{◌≡◌, ◌⊎◌, ℕ, Bool, false, Err, List, [], ◌∷◌, ◌++◌, Option}
+use Rattle.std.specs.Prelude.{length, map, codes, if◌then◌else◌}
 use Rattle.std.specs.FinMap.{entries}
 use Rattle.ipnetwork_addr.specs.declared.ip.IpAddr.{IpAddr}
 use Rattle.ipnetwork.specs.IpNetworkText.{ip_network_text}
@@ -33,7 +34,8 @@ Marks join (line ∷ lines) marks = (found : Found) × (others : List (List ℕ)
 
 -- what the list gives addresses, and lines maybe not: the value of each of its networks, or the network
 abbrev pub named : Answers → List (List ℕ)
-named (answers.Values routes) = map (λ e. e.1.bytes.now) (entries routes.v4) ++ map (λ e. e.1.bytes.now) (entries routes.v6)
+named (answers.Values routes) = map (λ e. e.1.bytes.now) (entries routes.v4)
+    ++ map (λ e. e.1.bytes.now) (entries routes.v6)
 named (answers.Networks routes) = map (λ e. ip_network_text (families.V4 e.0)) (entries routes.v4)
     ++ map (λ e. ip_network_text (families.V6 e.0)) (entries routes.v6)
 named (answers.Blocks lengths) = []
@@ -100,4 +102,5 @@ EndsWith text told missed end = (HasWritten end text × HasTold end told × (end
 abbrev pub EndsTally : {W E : Type 0} → Join → KnownLists → List (List ℕ) → Ending W E → Type 0
 EndsTally join known names end = ((text : List ℕ) × StopsTally join known names text × Refuses text end)
     ⊎ ((marks : List (List ℕ)) × (told : List ℕ) × (missed : Bool) × (rows : List Row)
-    × MarksLogs join known names marks told missed × IsTally (named_in join) marks rows × EndsWith (rows_text rows) told missed end)
+    × MarksLogs join known names marks told missed × IsTally (named_in join) marks rows
+    × EndsWith (rows_text rows) told missed end)

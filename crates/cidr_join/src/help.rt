@@ -76,4 +76,4 @@ pub(crate) const PROGRAM: &str = "cidr_join";
 pub(crate) const USAGE: &str =
     "usage: cidr_join [--after TEXT | [-a] [-k N] [-d CHAR | -w]] [--nth first|last|N] [--mapped] \
      [--bad drop|keep|stop|report] [--last | --tally [--zero]] \
-     (-f LIST [--network] [--last-wins] | --group N,M) [FILE..]; try --help\n";
+     (-f LIST [--network] [--last-wins] [--skip-bad] | --group N,M) [FILE..]; try --help\n";

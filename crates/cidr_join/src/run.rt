@@ -13,7 +13,7 @@ use crate::list::{ListRules, networks_of};
 use crate::logs::join_logs;
 use crate::missing::status;
 use crate::routes::Routes;
-use crate::rows::{BAD, GROUP, LAST, LAST_WINS, NETWORK, TALLY, ZERO, table};
+use crate::rows::{BAD, GROUP, LAST, LAST_WINS, NETWORK, SKIPS_BAD, TALLY, ZERO, table};
 use crate::tally_logs::tally_logs;
 use crate::telling::{tell_bytes_fault, tell_take_fault};
 use lines::output::Output;
@@ -148,7 +148,7 @@ fn join_to<L: OpenLists, W: Write, E: Write>(
     ensures { EndsJoining (L.known lists.now) items.now name.now text.now
         (ending output.old output.new errors.old errors.new result) }
 {
-    let networks = match networks_of(alloc, text, rules_of(items)) {
+    let networks = match networks_of(alloc, name, text, rules_of(items), errors) {
         Ok(networks) => networks,
         Err(fault) => {
             tell_take_fault(name, fault, errors);
@@ -170,6 +170,7 @@ fn rules_of(items: &[Item<'_>]) -> ListRules
     ListRules {
         last_wins: is_given(items, LAST_WINS),
         bare: is_given(items, NETWORK),
+        skips: is_given(items, SKIPS_BAD),
     }
 }
 

@@ -26,8 +26,8 @@ impl Tally {
         }
     }
 
-    /// Counts a text so often, of which it keeps that it was counted never, if `named`. Allocates only if it does not have
-    /// the text.
+    /// Counts a text so often, of which it keeps that it was counted never, if `named`. Allocates
+    /// only if it does not have the text.
     pub(crate) fn count(
         &mut self,
         alloc: Global,
@@ -52,8 +52,8 @@ impl Tally {
 
     /// The counts and their texts, most first, and those of one count by the bytes of the texts.
     pub(crate) fn into_rows(self, alloc: Global) -> Result<Vec<Row>, AllocError>
-        ensures { IfOk result (λ rows. (named texts : List (List ℕ)) → Counted named texts self.counts
-            → IsTally named texts (map row_of rows.items)) }
+        ensures { IfOk result (λ rows. (named texts : List (List ℕ))
+            → Counted named texts self.counts → IsTally named texts (map row_of rows.items)) }
     {
         let mut rows = Vec::with_capacity(alloc, self.counts.len())?;
         for (text, count) in self.counts {

@@ -38,7 +38,8 @@ impl Counts {
     }
 
     /// The counts and their texts, most first, and those of one count by the bytes of the texts, if
-    /// these are what the numbers stand for. If `zeros`, what a number stands for that was not counted has the count 0.
+    /// these are what the numbers stand for. If `zeros`, what a number stands for that was not
+    /// counted has the count 0.
     pub(crate) fn into_rows(
         self,
         alloc: Global,
@@ -70,7 +71,8 @@ fn count_each(
     Ok(())
 }
 
-// Counts what is printed of an address so often. If `zeros`, it keeps what is of a network and was counted never.
+// Counts what is printed of an address so often. If `zeros`, it keeps what is of a network and was
+// counted never.
 fn count_found(
     alloc: Global,
     found: &Found<'_>,

@@ -12,7 +12,7 @@ use crate::list::{ListRules, networks_of};
 use crate::logs::join_logs;
 use crate::missing::status;
 use crate::routes::Routes;
-use crate::rows::{BAD, GROUP, LAST, LAST_WINS, NETWORK, TALLY, ZERO, table};
+use crate::rows::{BAD, GROUP, LAST, LAST_WINS, NETWORK, SKIPS_BAD, TALLY, ZERO, table};
 use crate::tally_logs::tally_logs;
 use crate::telling::{tell_bytes_fault, tell_take_fault};
 use cidr_programs::lines::output::Output;
@@ -129,7 +129,7 @@ fn join_to<L: OpenLists, W: Write, E: Write>(
     output: &mut Output<'_, W>,
     errors: &mut Output<'_, E>,
 ) -> u8 {
-    let networks = match networks_of(alloc, text, rules_of(items)) {
+    let networks = match networks_of(alloc, name, text, rules_of(items), errors) {
         Ok(networks) => networks,
         Err(fault) => {
             tell_take_fault(name, fault, errors);
@@ -149,6 +149,7 @@ fn rules_of(items: &[Item<'_>]) -> ListRules {
     ListRules {
         last_wins: is_given(items, LAST_WINS),
         bare: is_given(items, NETWORK),
+        skips: is_given(items, SKIPS_BAD),
     }
 }
 

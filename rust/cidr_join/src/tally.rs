@@ -23,8 +23,8 @@ impl Tally {
         }
     }
 
-    /// Counts a text so often, of which it keeps that it was counted never, if `named`. Allocates only if it does not have
-    /// the text.
+    /// Counts a text so often, of which it keeps that it was counted never, if `named`. Allocates
+    /// only if it does not have the text.
     pub(crate) fn count(
         &mut self,
         alloc: Global,

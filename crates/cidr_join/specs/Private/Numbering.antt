@@ -1,5 +1,6 @@
 -- The numbers of the networks of a list.
-use Rattle.std.specs.Prelude.{◌≡◌, ℕ, Bool, true, false, List, [], ◌∷◌, ◌++◌, map, Option, None, Some, IsSome, slice_get}
+use Rattle.std.specs.Prelude.{◌≡◌, ℕ, Bool, true, false, List, [], ◌∷◌, ◌++◌, map, Option, None, Some, IsSome}
+use Rattle.std.specs.Prelude.{slice_get}
 use Rattle.std.specs.FinMap.{FinMap, get, entries}
 use Rattle.ipnetwork_addr.specs.declared.ip.IpAddr.{IpAddr}
 use Rattle.ipnetwork.specs.declared.ip_network.IpNetwork.{IpNetwork}
