@@ -12,6 +12,8 @@ Prints the lines of logs, each with the value that a list gives its address.
                     line that begins with # or ; is a comment. - is standard input
     --last-wins     a network that the list has twice gets its last value; without this option, the
                     second one is refused
+    --skip-bad      report refused lines of the list and use the others; without this option, the
+                    first refused line ends the program before any log is read
     -k N            the address is field N; the default is 1
     -d CHAR         every single CHAR separates fields; the default is every space
     -w              runs of spaces and tabs separate fields. Not with -d
@@ -33,8 +35,8 @@ Prints the lines of logs, each with the value that a list gives its address.
     --zero          print the values of the list that no line has too, or with --network its
                     networks, with the number 0. Only with --tally
     --group N,M     use no list: print before each line the block of length N that has its address,
-                    or for IPv6 that of length M: --group 24,64. Not with -f, --network, --last-wins
-                    or --zero
+                    or for IPv6 that of length M: --group 24,64. Not with -f, --network, --last-wins,
+                    --skip-bad or --zero
     --bad drop      a line without an address is neither printed nor counted, and lines that are too
                     long are not reported
     --bad keep      it is printed after a minus sign (the default)

@@ -14,6 +14,8 @@ Prints the lines of logs, each with the value that a list gives its address.
                     line that begins with # or ; is a comment. - is standard input
     --last-wins     a network that the list has twice gets its last value; without this option, the
                     second one is refused
+    --skip-bad      report refused lines of the list and use the others; without this option, the
+                    first refused line ends the program before any log is read
     -k N            the address is field N; the default is 1
     -d CHAR         every single CHAR separates fields; the default is every space
     -w              runs of spaces and tabs separate fields. Not with -d
@@ -29,14 +31,14 @@ Prints the lines of logs, each with the value that a list gives its address.
     --last          print the value after the line and a tab, not before it
     --network       print the network instead of its value, which the list may leave out; a range
                     counts as the fewest networks that make it up
-    --tally         count lines: print for each value the number of lines that have it, a tab and the
-                    value, the greatest number first, values with the same number in the order of
+    --tally         count lines: print for each value the number of lines that have it, a tab and
+                    the value, the greatest number first, values with the same number in the order of
                     their bytes. Lines without a value count under a minus sign. Not with --last
     --zero          print the values of the list that no line has too, or with --network its
                     networks, with the number 0. Only with --tally
     --group N,M     use no list: print before each line the block of length N that has its address,
-                    or for IPv6 that of length M: --group 24,64. Not with -f, --network, --last-wins
-                    or --zero
+                    or for IPv6 that of length M: --group 24,64. Not with -f, --network, --last-wins,
+                    --skip-bad or --zero
     --bad drop      a line without an address is neither printed nor counted, and lines that are too
                     long are not reported
     --bad keep      it is printed after a minus sign (the default)
