@@ -37,7 +37,7 @@ value_told row value problem = Some (about (subjects.Value row value) problem)
 pub values_of_options : map (λ item. first_fault rows false (item ∷ [])) (says.Value 6 [] ∷ says.Value 10 [] ∷ says.Value 2 (codes "0") ∷ says.Value 3 (codes "xx") ∷ says.Value 13 (codes "x") ∷ says.Value 4 [] ∷ says.Lacks 2 ∷ says.Value 6 (codes "-v") ∷ [])
     ≡ value_told 6 [] (codes "not a file name") ∷ value_told 10 [] (codes "not a network or range") ∷ value_told 2 (codes "0") (codes "not a field number")
     ∷ value_told 3 (codes "xx") (codes "not one ASCII byte other than LF, CR and NUL") ∷ value_told 13 (codes "x") (codes "not drop, keep, stop or report")
-    ∷ value_told 4 [] (codes "is no text") ∷ Some (about (subjects.Option 2) (codes "has no value")) ∷ None ∷ []
+    ∷ value_told 4 [] (codes "empty") ∷ Some (about (subjects.Option 2) (codes "has no value")) ∷ None ∷ []
 values_of_options = refl
 
 pub value_behind_letters : first_fault rows false (free_items rows (codes "-vk0")) ≡ value_told 2 (codes "0") (codes "not a field number")
@@ -74,5 +74,5 @@ no_words = refl
 
 pub texts : map (refusal_text (codes "p") (codes "usage\n") rows)
     (about subjects.CommandLine (codes "x") ∷ about (subjects.Word []) (codes "not a file name") ∷ about (subjects.Option 13) (codes "has no value") ∷ about (subjects.Value 2 (codes "0")) (codes "not a field number") ∷ [])
-    ≡ codes "p: x\nusage\n" ∷ codes "p: '': not a file name\nusage\n" ∷ codes "p: --bad: has no value\nusage\n" ∷ codes "p: -k: 0 is no field number\nusage\n" ∷ []
+    ≡ codes "p: x\nusage\n" ∷ codes "p: '': not a file name\nusage\n" ∷ codes "p: --bad: has no value\nusage\n" ∷ codes "p: -k: 0: not a field number\nusage\n" ∷ []
 texts = refl

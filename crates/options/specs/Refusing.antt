@@ -27,8 +27,8 @@ subject_text rows subjects.CommandLine = []
 subject_text rows (subjects.Word word) = shown word ++ codes ": "
 -- `OPTION: ` for a fault of an option
 subject_text rows (subjects.Option row) = option_text rows row ++ codes ": "
--- `OPTION: VALUE ` for a fault of a value
-subject_text rows (subjects.Value row value) = option_text rows row ++ codes ": " ++ shown value ++ codes " "
+-- `OPTION: VALUE: ` for a fault of a value
+subject_text rows (subjects.Value row value) = option_text rows row ++ codes ": " ++ shown value ++ codes ": "
 
 -- what is reported about a fault: a line with the program's name, the subject and the problem, and then the usage
 abbrev pub refusal_text : List ℕ → List ℕ → List Row → Fault → List ℕ

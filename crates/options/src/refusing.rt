@@ -16,7 +16,7 @@ use std::io::Write;
 /// Reports the fault of a command line and the usage, and returns the exit status 2.
 ///
 /// The first line is `PROGRAM: PROBLEM`, `PROGRAM: WORD: PROBLEM`, `PROGRAM: OPTION: PROBLEM` or
-/// `PROGRAM: OPTION: VALUE PROBLEM`, by the subject of the fault. An empty word is shown as `''`,
+/// `PROGRAM: OPTION: VALUE: PROBLEM`, by the subject of the fault. An empty word is shown as `''`,
 /// and control characters are escaped. The usage follows.
 ///
 /// ```
@@ -66,7 +66,7 @@ fn tell_subject<E: Write>(rows: &[Row], subject: &Subject<'_>, errors: &mut Outp
             tell_option(rows, *row, errors);
             tell(": ", errors);
             tell_word(value, errors);
-            tell(" ", errors);
+            tell(": ", errors);
         }
     }
 }
