@@ -8,13 +8,13 @@ _cidr_filter() {
         before="${COMP_WORDS[COMP_CWORD - 2]}"
     fi
     case "$before" in
-        --nth) COMPREPLY=($(compgen -W "first last a" -- "$word")) ;;
+        --nth) COMPREPLY=($(compgen -W "first last" -- "$word")) ;;
         --bad) COMPREPLY=($(compgen -W "drop keep stop report" -- "$word")) ;;
         -k | -d | --after | -e | -m) COMPREPLY=() ;;
         -f) ;;
         *)
             if [[ "$word" == -* ]]; then
-                COMPREPLY=($(compgen -W "-f -e --skip-bad -k -d -w -a --nth --after -o --mapped -v -c -l -q -m -H -n -h --longest --bad --quiet --help --version -- -" -- "$word"))
+                COMPREPLY=($(compgen -W "-f -e --skip-bad -k -d -w -a --nth --after -o --mapped --networks -v -c -l -q -m -H -n -h --longest --bad --quiet --help --version -- -" -- "$word"))
             fi
             ;;
     esac

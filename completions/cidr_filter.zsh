@@ -1,26 +1,27 @@
 #compdef cidr_filter
 # Completion of zsh for cidr_filter: its options, and files.
 _arguments \
-    '*-f[the networks of a file]:list:_files' \
-    '*-e[a network or a range]:text: ' \
-    '*--skip-bad[take the networks of the lists without their refused lines]' \
-    '*-k[the address is the Nth field]:number: ' \
-    '*-d[fields are cut at each single CHAR]:character: ' \
-    '*-w[fields are what stands between runs of spaces and tabs]' \
-    '*-a[addresses are looked for anywhere in a line]' \
-    '*--nth=[only this one counts of the addresses that stand there]:value:(first last a)' \
-    '*--after[the address is the first that follows the first TEXT of a line]:text: ' \
+    '*-f[read networks and ranges from a file]:list:_files' \
+    '*-e[add this network or range]:text: ' \
+    '*--skip-bad[report refused lines of the lists and use the others]' \
+    '*-k[the address is field N]:number: ' \
+    '*-d[every single CHAR separates fields]:character: ' \
+    '*-w[runs of spaces and tabs separate fields]' \
+    '*-a[look for addresses anywhere in a line]' \
+    '*--nth=[use only this one of the addresses found]:value:(first last)' \
+    '*--after[the address is the first one after the first TEXT in a line]:text: ' \
     '*-o[print the addresses that are in a network]' \
-    '*--mapped[an address \:\:ffff\:A.B.C.D of a line counts as A.B.C.D]' \
+    '*--mapped[treat an address \:\:ffff\:A.B.C.D of a line as A.B.C.D]' \
+    '*--networks[a network in a line counts too]' \
     '*-v[print the lines whose address is in no network]' \
-    '*-c[print how many lines are selected]' \
-    '*-l[print the name of each FILE that has a selected line]' \
+    '*-c[print only the number of selected lines]' \
+    '*-l[print only the name of each FILE that has a selected line]' \
     '*-q[print nothing]' \
-    '*-m[at most N lines of each FILE are selected]:number: ' \
-    '*-H[before a line print the name of its FILE]' \
-    '*-n[before a line print its number in its FILE and a colon]' \
-    '*-h[print no name before a line]' \
-    '*--longest[before a line print the longest network that holds its address]' \
+    '*-m[stop reading a FILE after N selected lines]:number: ' \
+    '*-H[begin each line with the name of its FILE]' \
+    '*-n[begin each line with its number in its FILE and a colon]' \
+    '*-h[print no names]' \
+    '*--longest[begin each line with the longest network that has its address]' \
     '*--bad=[a line without an address]:value:(drop keep stop report)' \
     '--quiet[do not show on a terminal how much was read]' \
     '(- *)--help[print this text]' \

@@ -8,13 +8,13 @@ _cidr_join() {
         before="${COMP_WORDS[COMP_CWORD - 2]}"
     fi
     case "$before" in
-        --nth) COMPREPLY=($(compgen -W "first last a" -- "$word")) ;;
+        --nth) COMPREPLY=($(compgen -W "first last" -- "$word")) ;;
         --bad) COMPREPLY=($(compgen -W "drop keep stop report" -- "$word")) ;;
         -k | -d | --after | --group) COMPREPLY=() ;;
         -f) ;;
         *)
             if [[ "$word" == -* ]]; then
-                COMPREPLY=($(compgen -W "-f --last-wins -k -d -w -a --nth --after --mapped --last --network --tally --group --bad --quiet --help --version -- -" -- "$word"))
+                COMPREPLY=($(compgen -W "-f --last-wins --skip-bad -k -d -w -a --nth --after --mapped --last --network --tally --zero --group --bad --quiet --help --version -- -" -- "$word"))
             fi
             ;;
     esac

@@ -1,19 +1,21 @@
 #compdef cidr_join
 # Completion of zsh for cidr_join: its options, and files.
 _arguments \
-    '*-f[networks and ranges]:list:_files' \
-    '*--last-wins[a network that stands twice in the list has its last value]' \
-    '*-k[the address is the Nth field]:number: ' \
-    '*-d[fields are cut at each single CHAR]:character: ' \
-    '*-w[fields are what stands between runs of spaces and tabs]' \
-    '*-a[the address is the first that stands anywhere in a line]' \
-    '*--nth=[only this one counts of the addresses that stand there]:value:(first last a)' \
-    '*--after[the address is the first that follows the first TEXT of a line]:text: ' \
-    '*--mapped[an address \:\:ffff\:A.B.C.D of a line counts as A.B.C.D]' \
-    '*--last[print the value behind a line]' \
-    '*--network[print the network in place of its value]' \
-    '*--tally[print how many lines have each value]' \
-    '*--group[before a line print the block of length N that has its address]:lengths: ' \
+    '*-f[read networks and ranges from a file]:list:_files' \
+    '*--last-wins[a network that the list has twice gets its last value]' \
+    '*--skip-bad[report refused lines of the list and use the others]' \
+    '*-k[the address is field N]:number: ' \
+    '*-d[every single CHAR separates fields]:character: ' \
+    '*-w[runs of spaces and tabs separate fields]' \
+    '*-a[the address is the first one anywhere in a line]' \
+    '*--nth=[use only this one of the addresses found]:value:(first last)' \
+    '*--after[the address is the first one after the first TEXT in a line]:text: ' \
+    '*--mapped[treat an address \:\:ffff\:A.B.C.D of a line as A.B.C.D]' \
+    '*--last[print the value after the line and a tab]' \
+    '*--network[print the network instead of its value]' \
+    '*--tally[print for each value the number of lines that have it]' \
+    '*--zero[print the values of the list that no line has too]' \
+    '*--group[print before each line the block of length N that has its address]:lengths: ' \
     '*--bad=[a line without an address]:value:(drop keep stop report)' \
     '--quiet[do not show on a terminal how much was read]' \
     '(- *)--help[print this text]' \

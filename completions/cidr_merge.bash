@@ -14,13 +14,13 @@ _cidr_merge() {
         return
     fi
     case "${COMP_WORDS[at]}" in
-        union | common | minus | differ | list) options="--ranges --count --format --set --table --skip-bad --json --strict" ;;
-        split) options="--prefix --skip-bad --json --strict" ;;
+        union | common | minus | differ | list) options="--ranges --count --format --set --table --line-prefix --line-suffix --skip-bad --json --strict" ;;
+        split) options="--prefix --line-prefix --line-suffix --skip-bad --json --strict" ;;
         check) options="--strict" ;;
     esac
     case "$before" in
         --format) COMPREPLY=($(compgen -W "plain range netmask wildcard csv nft ipset json addresses" -- "$word")) ;;
-        --set | --table | --prefix) COMPREPLY=() ;;
+        --set | --table | --line-prefix | --line-suffix | --prefix) COMPREPLY=() ;;
         *)
             if [[ "$word" == -* ]]; then
                 COMPREPLY=($(compgen -W "$options -- -" -- "$word"))

@@ -5,9 +5,9 @@ local at=2
 if (( CURRENT <= at )); then
     _values 'task' \
         'union[the addresses of any of the files]' \
-        'common[of both sides]' \
-        'minus[of the first side and not of the second]' \
-        'differ[what one side has and the other has not]' \
+        'common[the addresses of both sides]' \
+        'minus[the addresses of the first side alone]' \
+        'differ[the addresses of either side alone]' \
         'list[each address of any of the files]' \
         'split[the networks of union, in pieces of length N]' \
         'check[wrong entries]' \
@@ -18,8 +18,8 @@ if (( CURRENT <= at )); then
         '--version[print the version]'
 else
     case $words[at] in
-    (union|common|minus|differ|list) _arguments '*--ranges[print FIRST - LAST for each run of addresses]' '*--count[print v4 BLOCKS ADDRESSES and v6 BLOCKS ADDRESSES]' '*--format=[print plain, range, netmask, wildcard, csv, nft, ipset, json or addresses]:value:(plain range netmask wildcard csv nft ipset json addresses)' '*--set=[fill NAME_ipv4 and NAME_ipv6]:text: ' '*--table=[of this table of nft]:text: ' '*--skip-bad[report refused lines]' '*--json[take its strings that are entries]' '*--strict[refuse others]' '*:list:_files' ;;
-    (split) _arguments '*--prefix=[the networks of union, in pieces of length N]:text: ' '*--skip-bad[report refused lines]' '*--json[take its strings that are entries]' '*--strict[refuse others]' '*:list:_files' ;;
+    (union|common|minus|differ|list) _arguments '*--ranges[print FIRST - LAST for each run of addresses]' '*--count[print v4 BLOCKS ADDRESSES and v6 BLOCKS ADDRESSES]' '*--format=[print plain, range, netmask, wildcard, csv, nft, ipset, json or addresses]:value:(plain range netmask wildcard csv nft ipset json addresses)' '*--set=[fill NAME_ipv4 and NAME_ipv6]:text: ' '*--table=[the table of nft]:text: ' '*--line-prefix=[print TEXT before each line]:text: ' '*--line-suffix=[print TEXT after it]:text: ' '*--skip-bad[report refused lines]' '*--json[use its strings that are entries]' '*--strict[refuse others]' '*:list:_files' ;;
+    (split) _arguments '*--prefix=[the networks of union, in pieces of length N]:text: ' '*--line-prefix=[print TEXT before each line]:text: ' '*--line-suffix=[print TEXT after it]:text: ' '*--skip-bad[report refused lines]' '*--json[use its strings that are entries]' '*--strict[refuse others]' '*:list:_files' ;;
     (check) _arguments '*--strict[host bits, overlaps too]' '*:list:_files' ;;
     (*) _files ;;
     esac

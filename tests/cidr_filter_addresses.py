@@ -212,3 +212,88 @@ def made_up_runs(program, folder):
     none = "".join(f"{line}\n" for line in lines if not of_line(line)).encode()
     got = subprocess.run([program, "-a", "-v", "--bad", "keep", "-e", "0.0.0.0/0", "-e", "::/0"], input=log, capture_output=True, timeout=SECONDS)
     yield "lines without an address", got.stdout == none, (got.stderr, got.returncode, len(got.stdout), len(none))
+
+
+def network(text):
+    """The network that a text is, host bits cleared, or None."""
+    try:
+        return ipaddress.ip_network(text, strict=False)
+    except ValueError:
+        return None
+
+
+def of_stretch(stretch):
+    """The network of a stretch of letters, digits, `.`, `:`, `_` and `/`, or its addresses, as networks, with their texts."""
+    if stretch.find("/") > 0:
+        for text in [stretch] + ([stretch[:-1]] if stretch[-1] in ".:" else []):
+            if network(text):
+                return [(text, network(text))]
+    return [(text, network(found)) for text, found in of_line(stretch)]
+
+
+def spelled_networks(line):
+    """The networks and addresses of a line, in order, with their texts."""
+    return [found for stretch in re.findall(r"[A-Za-z0-9.:_/]+", line) for found in of_stretch(stretch)]
+
+
+def networks_of_line(line):
+    """The networks and addresses of a line, in order."""
+    return [one for _, one in spelled_networks(line)]
+
+
+def unmapped(one):
+    """The network as it is, or the one of the IPv4 addresses that its own stand for."""
+    if one.version == 6 and one.prefixlen >= 96 and one.network_address.ipv4_mapped:
+        return ipaddress.ip_network((one.network_address.ipv4_mapped, one.prefixlen - 96))
+    return one
+
+
+def has_all(blocks, one):
+    """Whether each address of the network is in one of these, which are collapsed."""
+    return any(one.version == block.version and one.subnet_of(block) for block in blocks)
+
+
+def network_logs(rng):
+    """Lines with networks in and around those of LISTED, each with what comes before and behind it in logs."""
+    def one():
+        kind = rng.randrange(6)
+        if kind == 0:
+            return f"{ipaddress.ip_address(0x20010DB8 << 96 | rng.getrandbits(96))}/{rng.choice([16, 31, 32, 33, 64, 128, 129])}"
+        if kind == 1:
+            return f"::ffff:{ipaddress.ip_address(10 << 24 | rng.getrandbits(24))}/{rng.choice([94, 95, 96, 104, 105, 112, 120, 128])}"
+        if kind == 2:
+            return f"10.{rng.randrange(4)}.0.0/255.{rng.choice([255, 254, 128, 0])}.0.0"
+        text = str(ipaddress.ip_address(rng.choice([10 << 24, 192 << 24 | 2 << 8, 11 << 24]) | rng.getrandbits(rng.choice([2, 8, 16]))))
+        return text if kind == 3 else f"{text}/{rng.choice([7, 8, 9, 16, 22, 23, 24, 25, 30, 32, 33, 99, 256])}"
+    shapes = ["{} to {}", "SRC={} DST={} x", "[{}] ({})", "{}, {}.", "route {}: via {}", "http://{}/a {}", "{}/x {}/", "{}/24/8 {}:80", "\"{}\";{}", "{}-{}", "a", "x/y {}"]
+    return [rng.choice(shapes).format(one(), one()) for _ in range(3000)]
+
+
+# Two halves of a network and an end of it that overlaps neither, and a network of IPv6
+LISTED = ["10.0.0.0/9", "10.128.0.0/9", "192.0.2.0/25", "192.0.2.128/26", "2001:db8::/32"]
+
+
+def networks(program, folder):
+    """With --networks the networks of which each address is in the list, anywhere in a line or as its first field."""
+    blocks = [block for version in (4, 6) for block in ipaddress.collapse_addresses(filter(lambda n: n.version == version, map(ipaddress.ip_network, LISTED)))]
+    lists = [word for text in LISTED for word in ("-e", text)]
+    lines = network_logs(random.Random(11))
+    log = "".join(f"{line}\n" for line in lines).encode()
+    first = lambda line: [found for found in [network(line.split(" ")[0])] if found]
+    anywhere = networks_of_line
+    for words, found in [
+        (["-a"], anywhere), ([], first), (["--nth", "first"], lambda line: nth(anywhere(line), "first")), (["--nth", "last"], lambda line: nth(anywhere(line), "last")),
+        (["-a", "--nth", "2"], lambda line: nth(anywhere(line), "2")), (["-w", "-k3"], lambda line: [found for found in [network((line.split() + [""] * 3)[2])] if found]),
+        (["-a", "-d,", "-k2"], lambda line: anywhere(field(line, 2, ","))), (["--after", "DST="], lambda line: anywhere(line.split("DST=", 1)[1])[:1] if "DST=" in line else []),
+    ]:
+        for more in ([], ["-v"], ["--mapped"]):
+            of = unmapped if more == ["--mapped"] else lambda one: one
+            chosen = [line for line in lines if found(line) and any(has_all(blocks, of(one)) for one in found(line)) != (more == ["-v"])]
+            output = "".join(f"{line}\n" for line in chosen).encode()
+            got = subprocess.run([program, "--networks", *words, *more, *lists], input=log, capture_output=True, timeout=SECONDS)
+            got = (got.stdout, got.stderr, got.returncode)
+            yield f"networks, {words} {more}", bool(output) and got == (output, b"", 0), got
+    texts = [text for line in lines for text, one in spelled_networks(line) if has_all(blocks, one)]
+    output = "".join(f"{text}\n" for text in texts).encode()
+    got = subprocess.run([program, "--networks", "-ao", *lists], input=log, capture_output=True, timeout=SECONDS)
+    yield "networks, -ao", bool(output) and (got.stdout, got.stderr, got.returncode) == (output, b"", 0), got

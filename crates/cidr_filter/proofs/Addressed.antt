@@ -1,7 +1,7 @@
 -- Lines that have an address, and what is seen of lines.
 use Rattle.std.proofs.Common.{◌≡◌, ℕ, ◌+◌, ◌-◌, ◌^◌, ◌<◌, ◌≤◌, List, [], ◌∷◌, ◌++◌, length, min, sym, ap, ◌∙◌, arith}
 use Rattle.std.specs.Prelude.{Option, nat_lt}
-use Rattle.ipnetwork_addr.specs.declared.ip.IpAddr.{IpAddr}
+use Rattle.line_addresses.specs.Addresses.{Spelled}
 use Rattle.ipnetwork.specs.declared.ip_network.IpNetwork.{IpNetwork}
 use Rattle.cidr_filter.specs.Addressed.{is_addressed, is_addressed_by, seen_of}
 use Rattle.cidr_filter.specs.Filters.{FirstListed, IsVerdict, addresses_in}
@@ -14,7 +14,7 @@ use Rattle.log_programs.proofs.LogStats.{line_seen, lines_with, within_limit}
 use Rattle.log_programs.specs.LogStats.{with_line}
 use Rattle.log_programs.specs.declared.log_stats.LogStats.{LogStats}
 
-some_listed : (filter : Filter) (all : List IpAddr) (told : Option IpNetwork) → FirstListed filter all told → 0 < length all
+some_listed : (filter : Filter) (all : List Spelled) (told : Option IpNetwork) → FirstListed filter all told → 0 < length all
 some_listed filter [] told h = absurd h
 some_listed filter (address ∷ all) told h = omega arith
 
@@ -22,7 +22,7 @@ some_listed filter (address ∷ all) told h = omega arith
 pub addressed_by : (filter : Filter) (line : List ℕ) (verdict : Verdict) → length line ≤ 1048576 → IsVerdict filter line verdict → is_addressed_by verdict ≡ is_addressed filter line
 addressed_by filter line (verdicts.Inside told) within judges = sym (positive (length (addresses_in filter line)) (some_listed filter (addresses_in filter line) told judges.1))
 addressed_by filter line verdicts.Outside within judges = sym (positive (length (addresses_in filter line)) (judges.1).0)
-addressed_by filter line verdicts.NoAddress within judges = sym (ap (λ (l : List IpAddr). nat_lt 0 (length l)) judges.1)
+addressed_by filter line verdicts.NoAddress within judges = sym (ap (λ (l : List Spelled). nat_lt 0 (length l)) judges.1)
 addressed_by filter line verdicts.TooLong within judges = absurd (omega (arith, judges, within))
 
 module _ (filter : Filter) (first : List LogLine) (next : LogLine) (verdict : Verdict) (mid between new : LogStats) (judges : IsVerdict filter (content next) verdict)

@@ -21,7 +21,7 @@ told : MembershipComputed → (sets : Sets) (address : IpAddr) → (has_address 
 told computed sets (addresses.V4 a) = among_told computed 32 sets.v4 a
 told computed sets (addresses.V6 a) = among_told computed 128 sets.v6 a
 
-same_bool : (a b : Bool) → (a ≡ true → b ≡ true) → (b ≡ true → a ≡ true) → a ≡ b
+pub same_bool : (a b : Bool) → (a ≡ true → b ≡ true) → (b ≡ true → a ≡ true) → a ≡ b
 same_bool true b f g = sym (f refl)
 same_bool false true f g = absurd (true≢false (sym (g refl)))
 same_bool false false f g = refl

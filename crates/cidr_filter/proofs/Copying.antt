@@ -5,13 +5,14 @@ use Rattle.std.proofs.Math.Bool.{beq}
 use Rattle.std.specs.Option.{option_to_list}
 use Rattle.ipnetwork_addr.specs.declared.ip.IpAddr.{IpAddr}
 use Rattle.line_addresses.specs.Addresses.{Spelled, spelled}
-use Rattle.line_addresses.specs.Areas.{part_of, picked_in, each_in}
+use Rattle.line_addresses.specs.Areas.{part_of, picked_in, each_in, spelled_in}
+use Rattle.line_addresses.specs.declared.area.Area.{Area}
 use Rattle.line_addresses.specs.declared.area.Pick.{Pick}
 use Rattle.line_addresses.specs.declared.area.Pick.TheVariants as picks
 use Rattle.log_programs.specs.Finding.{found_in}
-use Rattle.cidr_filter.specs.Filters.{IsVerdict, IsVerdictOfAddresses, FirstListed, TellsBlock, addresses_in, asked, asked_of}
-use Rattle.cidr_filter.specs.Matcher.{HasAddress, IsIn}
-use Rattle.cidr_filter.specs.Private.Copying.{IsSelectedByAddress}
+use Rattle.cidr_filter.specs.Filters.{IsVerdict, IsVerdictOfAddresses, FirstListed, TellsBlock, addresses_in}
+use Rattle.cidr_filter.specs.Matcher.{HasAddress, IsIn, asked, reads_networks}
+use Rattle.cidr_filter.specs.Private.Copying.{HasOnly, IsSelectedByAddress}
 use Rattle.cidr_filter.specs.declared.filter.Filter.{Filter}
 use Rattle.cidr_filter.specs.declared.filter.Verdict.TheVariants as verdicts
 use Rattle.cidr_filter.specs.declared.matcher.Matcher.{Matcher}
@@ -20,20 +21,22 @@ use Rattle.cidr_filter.specs.declared.matcher.Sets.{Sets}
 
 -- ---- the address that is looked for
 
-one_found : (filter : Filter) (one : Option Spelled) (found : Option IpAddr) → found ≡ option_map (λ (s : Spelled). s.address) one → IfSome found (λ address. asked_of filter (option_to_list one) ≡ asked filter.mapped address ∷ [])
-one_found filter None found e = subst (λ (o : Option IpAddr). IfSome o (λ address. asked_of filter [] ≡ asked filter.mapped address ∷ [])) (sym e) tt
-one_found filter (Some one) found e = subst (λ (o : Option IpAddr). IfSome o (λ address. asked filter.mapped one.address ∷ [] ≡ asked filter.mapped address ∷ [])) (sym e) refl
+abbrev IsOnly : List Spelled → IpAddr → Type 0
+IsOnly found address = (text : List ℕ) × (found ≡ record { text = text; address = address } ∷ [])
 
-whole_found : (filter : Filter) (part : Option (List ℕ)) (found : Option IpAddr) → found ≡ option_map (λ (s : Spelled). s.address) (picked_in picks.Whole part)
-    → IfSome found (λ address. asked_of filter (each_in picks.Whole part) ≡ asked filter.mapped address ∷ [])
-whole_found filter None found e = one_found filter None found e
-whole_found filter (Some text) found e = one_found filter (spelled text) found e
+one_found : (one : Option Spelled) (found : Option IpAddr) → found ≡ option_map (λ (s : Spelled). s.address) one → IfSome found (IsOnly (option_to_list one))
+one_found None found e = subst (λ (o : Option IpAddr). IfSome o (IsOnly [])) (sym e) tt
+one_found (Some one) found e = subst (λ (o : Option IpAddr). IfSome o (IsOnly (one ∷ []))) (sym e) (one.text, refl)
 
-pub only_found : (filter : Filter) (line : List ℕ) → filter.area.pick ≡ picks.Whole → (found : Option IpAddr) → found ≡ found_in filter.area line → IfSome found (λ address. addresses_in filter line ≡ asked filter.mapped address ∷ [])
-only_found filter line is found e =
-    let part = part_of filter.area.part line in
-    subst (λ (p : Pick). IfSome found (λ address. asked_of filter (each_in p part) ≡ asked filter.mapped address ∷ [])) (sym is)
-    (whole_found filter part found (e ∙ ap (λ (p : Pick). option_map (λ (s : Spelled). s.address) (picked_in p part)) is))
+whole_found : (part : Option (List ℕ)) (found : Option IpAddr) → found ≡ option_map (λ (s : Spelled). s.address) (picked_in false picks.Whole part) → IfSome found (IsOnly (each_in false picks.Whole part))
+whole_found None found e = one_found None found e
+whole_found (Some text) found e = one_found (spelled text) found e
+
+pub only_found : (area : Area) (line : List ℕ) → area.pick ≡ picks.Whole → (found : Option IpAddr) → found ≡ found_in area line → IfSome found (HasOnly area line)
+only_found area line is found e =
+    let part = part_of area.part line in
+    subst (λ (p : Pick). IfSome found (IsOnly (each_in false p part))) (sym is)
+    (whole_found part found (e ∙ ap (λ (p : Pick). option_map (λ (s : Spelled). s.address) (picked_in false p part)) is))
 
 -- ---- whether a line is selected
 
@@ -45,22 +48,27 @@ unlike_false : (inverts : Bool) → not (beq false inverts) ≡ inverts
 unlike_false true = refl
 unlike_false false = refl
 
-module _ (filter : Filter) (line : List ℕ) (sets : Sets) (address : IpAddr) (short : length line ≤ 1048576) (is : filter.listed ≡ Addresses sets)
-    (only : addresses_in filter line ≡ address ∷ []) where
-  inside : HasAddress sets address → IsVerdict filter line (verdicts.Inside None)
+module _ (filter : Filter) (line : List ℕ) (sets : Sets) (address : IpAddr) (short : length line ≤ 1048576) (is : filter.listed ≡ Addresses sets) (only : HasOnly filter.area line address) where
+  abbrev one : Spelled
+  one = record { text = only.0; address = address }
+
+  alone : addresses_in filter line ≡ one ∷ []
+  alone = ap (λ (l : Matcher). spelled_in (reads_networks l) filter.area line) is ∙ only.1
+
+  inside : HasAddress sets (asked filter.mapped address) → IsVerdict filter line (verdicts.Inside None)
   inside has = (
     short,
-    subst (λ (l : List IpAddr). FirstListed filter l None) (sym only)
-        (inl (subst (λ (l : Matcher). IsIn l address) (sym is) has, subst (λ (l : Matcher). TellsBlock l address None) (sym is) refl)),
+    subst (λ (l : List Spelled). FirstListed filter l None) (sym alone)
+        (inl (subst (λ (l : Matcher). IsIn l filter.mapped one) (sym is) has, subst (λ (l : Matcher). TellsBlock l (asked filter.mapped address) None) (sym is) refl)),
   )
 
-  outside : ¬ (HasAddress sets address) → IsVerdict filter line verdicts.Outside
+  outside : ¬ (HasAddress sets (asked filter.mapped address)) → IsVerdict filter line verdicts.Outside
   outside none = (
     short,
-    subst (λ (l : List IpAddr). IsVerdictOfAddresses filter l verdicts.Outside) (sym only)
-        (omega arith, ((λ h. none (subst (λ (l : Matcher). IsIn l address) is h)), tt)),
+    subst (λ (l : List Spelled). IsVerdictOfAddresses filter l verdicts.Outside) (sym alone)
+        (omega arith, ((λ h. none (subst (λ (l : Matcher). IsIn l filter.mapped one) is h)), tt)),
   )
 
-  pub by_address : (is_in : Bool) → IsTrue is_in ↔ HasAddress sets address → IsSelectedByAddress filter line (not (beq is_in filter.inverts))
+  pub by_address : (is_in : Bool) → IsTrue is_in ↔ HasAddress sets (asked filter.mapped address) → IsSelectedByAddress filter line (not (beq is_in filter.inverts))
   by_address true h = (verdicts.Inside None, inside (h.0 refl), refl, refl, unlike_true filter.inverts)
   by_address false h = (verdicts.Outside, outside (λ a. true≢false (sym (h.1 a))), refl, refl, unlike_false filter.inverts)

@@ -6,15 +6,16 @@ use Rattle.std.specs.String.{string_bytes}
 use Rattle.ipnetwork_addr.specs.Computed.Ipv6Text.{v6_of, gap_below}
 use Rattle.ipnetwork_addr.specs.declared.ip.IpAddr.{IpAddr}
 use Rattle.ipnetwork_addr.specs.declared.ip.IpAddr.TheVariants as addresses
-use Rattle.line_addresses.specs.Addresses.{address_of, before_port, address_in}
+use Rattle.line_addresses.specs.Addresses.{Spelled, address_of, before_port, address_in}
 use Rattle.ipnetwork.specs.IpNetworks.{IpMember}
 use Rattle.ipnetwork.specs.declared.ip_network.IpNetwork.TheVariants.{V4, V6}
 use Rattle.lists.specs.declared.entry.EntryFault.TheVariants.{Prefix}
 use Rattle.lists.specs.declared.fault.LineFault.TheVariants.{Entry}
 use Rattle.line_addresses.specs.Fields.{field_of}
+use Rattle.line_addresses.specs.Networks.{named_network, network_in}
 use Rattle.cidr_filter.specs.Filters.{IsListed, IsVerdict, addresses_in, is_selected, is_refused, mark_of, shown_of, output_of}
 use Rattle.program.specs.LogLines.{LogLine, log_lines, ended_lines, content, printed}
-use Rattle.cidr_filter.specs.Matcher.{IsStored, IsLongestBlock}
+use Rattle.cidr_filter.specs.Matcher.{IsStored, IsLongestBlock, asked, covers_named, unmapped_network}
 use Rattle.program.specs.LogFaults.{log_fault_text}
 use Rattle.cidr_filter.specs.Logs.{label_of}
 use Rattle.cidr_filter.specs.Addressed.{closed_text, lacking_by}
@@ -33,7 +34,7 @@ use Rattle.line_addresses.specs.declared.area.Part.TheVariants as parts
 use Rattle.line_addresses.proofs.Areas.{whole, anywhere, after}
 use Rattle.cidr_filter.specs.declared.filter.Verdict.{Verdict}
 use Rattle.cidr_filter.specs.declared.filter.Verdict.TheVariants as verdicts
-use Rattle.cidr_filter.specs.declared.matcher.Matcher.TheVariants.{Addresses, Blocks}
+use Rattle.cidr_filter.specs.declared.matcher.Matcher.TheVariants.{Addresses, Networks, Blocks}
 use Rattle.cidr_filter.specs.declared.matcher.Sets.{Sets}
 use Rattle.cidr_filter.specs.declared.matcher.Tables.{Tables}
 use Rattle.program.specs.declared.log_fault.LogFault.TheVariants as faults
@@ -98,11 +99,19 @@ counting bad = record (by false bad) { shows = shows.Count }
 abbrev pub looking : Area → Bool → Filter
 looking area mapped = record (by false without.Drop) { area = area; mapped = mapped }
 
-pub line_inside : IsListed (by false without.Drop) (addresses.V4 0x0a000001) → IsVerdict (by false without.Drop) (codes "10.0.0.1 x") (verdicts.Inside None)
+-- 10.0.0.1, as it is spelled
+abbrev pub ten : Spelled
+ten = record { text = codes "10.0.0.1"; address = addresses.V4 0x0a000001 }
+
+-- the addresses for which the lists are asked
+abbrev pub asked_in : Filter → List ℕ → List IpAddr
+asked_in filter line = map (λ found. asked filter.mapped found.address) (addresses_in filter line)
+
+pub line_inside : IsListed (by false without.Drop) ten → IsVerdict (by false without.Drop) (codes "10.0.0.1 x") (verdicts.Inside None)
 unfolding address_of digits v6_of gap_below
 line_inside listed = (omega arith, inl (listed, refl))
 
-pub line_outside : ¬ (IsListed (by true without.Drop) (addresses.V4 0x0a000001)) → IsVerdict (by true without.Drop) (codes "10.0.0.1 x") verdicts.Outside
+pub line_outside : ¬ (IsListed (by true without.Drop) ten) → IsVerdict (by true without.Drop) (codes "10.0.0.1 x") verdicts.Outside
 unfolding address_of digits v6_of gap_below
 line_outside not = (omega arith, (omega arith, (not, tt)))
 
@@ -111,33 +120,57 @@ unfolding address_of digits v6_of gap_below
 address_in_another_field = (omega arith, refl)
 
 -- the second word, behind two blanks
-pub address_in_a_word : addresses_in (looking (whole (parts.Word 2)) false) (codes "a  10.0.0.1 b") ≡ addresses.V4 0x0a000001 ∷ []
+pub address_in_a_word : asked_in (looking (whole (parts.Word 2)) false) (codes "a  10.0.0.1 b") ≡ addresses.V4 0x0a000001 ∷ []
 unfolding address_of digits v6_of gap_below
 address_in_a_word = refl
 
-pub addresses_anywhere : addresses_in (looking anywhere false) (codes "a=10.0.0.1:80 [10.0.0.2]") ≡ addresses.V4 0x0a000001 ∷ addresses.V4 0x0a000002 ∷ []
+pub addresses_anywhere : asked_in (looking anywhere false) (codes "a=10.0.0.1:80 [10.0.0.2]") ≡ addresses.V4 0x0a000001 ∷ addresses.V4 0x0a000002 ∷ []
 unfolding address_in before_port address_of digits v6_of gap_below
 addresses_anywhere = refl
 
 -- only the first that follows the first position of a text
-pub address_after : addresses_in (looking (after (codes "SRC=")) false) (codes "DST=10.0.0.9 SRC=10.0.0.1 SRC=10.0.0.2") ≡ addresses.V4 0x0a000001 ∷ []
+pub address_after : asked_in (looking (after (codes "SRC=")) false) (codes "DST=10.0.0.9 SRC=10.0.0.1 SRC=10.0.0.2") ≡ addresses.V4 0x0a000001 ∷ []
 unfolding address_in before_port address_of digits v6_of gap_below
 address_after = refl
 
-pub no_text : addresses_in (looking (after (codes "SRC=")) false) (codes "DST=10.0.0.9") ≡ []
+pub no_text : asked_in (looking (after (codes "SRC=")) false) (codes "DST=10.0.0.9") ≡ []
 no_text = refl
 
 -- an IPv4-mapped address counts as its IPv4 one only if the option says so
-pub mapped_address : addresses_in (looking (whole (parts.Field 1 32)) true) (codes "::ffff:10.0.0.1 x") ≡ addresses.V4 0x0a000001 ∷ []
+pub mapped_address : asked_in (looking (whole (parts.Field 1 32)) true) (codes "::ffff:10.0.0.1 x") ≡ addresses.V4 0x0a000001 ∷ []
 unfolding address_of digits v6_of gap_below
 mapped_address = refl
 
-pub address_as_it_is : addresses_in (looking (whole (parts.Field 1 32)) false) (codes "::ffff:10.0.0.1 x") ≡ addresses.V6 0xffff0a000001 ∷ []
+pub address_as_it_is : asked_in (looking (whole (parts.Field 1 32)) false) (codes "::ffff:10.0.0.1 x") ≡ addresses.V6 0xffff0a000001 ∷ []
 unfolding address_of digits v6_of gap_below
 address_as_it_is = refl
 
+-- with `--networks` a network is found by its text, and without it only its address
+pub network_found : addresses_in (record (looking anywhere false) { listed = Networks [] }) (codes "to 10.0.0.1/24.") ≡ record { text = codes "10.0.0.1/24"; address = addresses.V4 0x0a000001 } ∷ []
+unfolding network_in named_network address_in before_port address_of digits v6_of gap_below
+network_found = refl
+
+pub address_of_a_network : addresses_in (looking anywhere false) (codes "to 10.0.0.1/24.") ≡ ten ∷ []
+unfolding address_in before_port address_of digits v6_of gap_below
+address_of_a_network = refl
+
+-- a network within the block of a list is in it, host bits or not; one around it, beside it, and a text of none are not
+pub networks_covered : map (covers_named (V4 (record { address = 0x0a000000; prefix = 9 }) ∷ []) false) (codes "10.1.2.3/9" ∷ codes "10.0.0.0/8" ∷ codes "10.128.0.0/9" ∷ codes "10.0.0.7" ∷ codes "x" ∷ [])
+    ≡ true ∷ false ∷ false ∷ true ∷ false ∷ []
+unfolding digits v6_of gap_below
+networks_covered = refl
+
+-- a network of IPv4-mapped addresses is asked as that of their IPv4 ones; one that has others too is not, nor a mapped
+-- address with fewer bits
+pub mapped_networks : map unmapped_network
+    (V6 (record { address = 0xffff0a010000; prefix = 112 }) ∷ V6 (record { address = 0xffff0a010000; prefix = 96 }) ∷ V6 (record { address = 0xffff0a010000; prefix = 95 })
+    ∷ V6 (record { address = 0x0a010000; prefix = 112 }) ∷ V4 (record { address = 0x0a010000; prefix = 16 }) ∷ [])
+    ≡ V4 (record { address = 0x0a010000; prefix = 16 }) ∷ V4 (record { address = 0x0a010000; prefix = 0 }) ∷ V6 (record { address = 0xffff0a010000; prefix = 95 })
+    ∷ V6 (record { address = 0x0a010000; prefix = 112 }) ∷ V4 (record { address = 0x0a010000; prefix = 16 }) ∷ []
+mapped_networks = refl
+
 -- of two addresses the second is in the lists
-pub second_address_inside : ¬ (IsListed (looking anywhere false) (addresses.V4 0x0a000001)) → IsListed (looking anywhere false) (addresses.V4 0x0a000002)
+pub second_address_inside : ¬ (IsListed (looking anywhere false) ten) → IsListed (looking anywhere false) (record { text = codes "10.0.0.2"; address = addresses.V4 0x0a000002 })
     → IsVerdict (looking anywhere false) (codes "10.0.0.1 10.0.0.2") (verdicts.Inside None)
 unfolding address_in before_port address_of digits v6_of gap_below
 second_address_inside not listed = (omega arith, inr (not, inl (listed, refl)))

@@ -1,6 +1,7 @@
 pub mod Addressed
 pub mod Among
 pub mod Copying
+pub mod Covering
 pub mod Enough
 pub mod EnoughExamples
 pub mod Examples
@@ -23,5 +24,6 @@ pub mod Stopping
 pub mod Tables
 pub mod Texts
 pub mod Reported
+pub mod Unmapping
 pub mod UsageExamples
 pub mod WholeLines

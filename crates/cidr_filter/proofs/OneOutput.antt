@@ -5,14 +5,15 @@ use Rattle.ipnetwork_addr.specs.declared.ip.IpAddr.TheVariants as addresses
 use Rattle.ipnetwork.specs.declared.ip_network.IpNetwork.{IpNetwork}
 use Rattle.ipnetwork.specs.declared.ip_network.IpNetwork.TheVariants as networks
 use Rattle.ipnetwork_table.specs.Laws.{BlocksOfAnyWidthThatMeet}
+use Rattle.line_addresses.specs.Addresses.{Spelled}
 use Rattle.cidr_filter.specs.Filters.{TellsBlock, addresses_in, FirstListed, NoneListed, is_selected, output_of, one_if, Filters}
 use Rattle.cidr_filter.specs.Laws.{LinesHaveOneVerdict, LogsHaveOneOutput}
 use Rattle.program.specs.LogLines.{LogLine, log_lines}
 use Rattle.cidr_filter.specs.declared.filter.Filter.{Filter}
-use Rattle.cidr_filter.specs.Matcher.{IsLongestBlock}
+use Rattle.cidr_filter.specs.Matcher.{IsLongestBlock, asked}
 use Rattle.cidr_filter.specs.declared.filter.Verdict.TheVariants as verdicts
 use Rattle.cidr_filter.specs.declared.matcher.Matcher.{Matcher}
-use Rattle.cidr_filter.specs.declared.matcher.Matcher.TheVariants.{Addresses, Blocks}
+use Rattle.cidr_filter.specs.declared.matcher.Matcher.TheVariants.{Addresses, Networks, Blocks}
 use Rattle.cidr_filter.specs.declared.matcher.Tables.{Tables}
 
 -- one address has one longest block
@@ -29,24 +30,25 @@ same_block meet tables (addresses.V6 a) (networks.V6 m) (networks.V6 n) p q =
 -- and of one address one thing is told
 same_told : BlocksOfAnyWidthThatMeet → (listed : Matcher) (address : IpAddr) (a b : Option IpNetwork) → TellsBlock listed address a → TellsBlock listed address b → a ≡ b
 same_told meet (Addresses sets) address a b p q = p ∙ sym q
+same_told meet (Networks set) address a b p q = p ∙ sym q
 same_told meet (Blocks tables) address a b p q = p.1 ∙ ap Some (same_block meet tables address p.0 q.0 p.2 q.2) ∙ sym q.1
 
 -- so one thing is told of the first that is in the lists
-one_first : BlocksOfAnyWidthThatMeet → (filter : Filter) (all : List IpAddr) (a b : Option IpNetwork) → FirstListed filter all a → FirstListed filter all b → a ≡ b
+one_first : BlocksOfAnyWidthThatMeet → (filter : Filter) (all : List Spelled) (a b : Option IpNetwork) → FirstListed filter all a → FirstListed filter all b → a ≡ b
 one_first meet filter [] a b p q = absurd p
-one_first meet filter (address ∷ all) a b (inl p) (inl q) = same_told meet filter.listed address a b p.1 q.1
+one_first meet filter (address ∷ all) a b (inl p) (inl q) = same_told meet filter.listed (asked filter.mapped address.address) a b p.1 q.1
 one_first meet filter (address ∷ all) a b (inl p) (inr q) = absurd (q.0 p.0)
 one_first meet filter (address ∷ all) a b (inr p) (inl q) = absurd (p.0 q.0)
 one_first meet filter (address ∷ all) a b (inr p) (inr q) = one_first meet filter all a b p.1 q.1
 
 -- one of some addresses is in the lists, or none is
-apart : (filter : Filter) (all : List IpAddr) (told : Option IpNetwork) → FirstListed filter all told → NoneListed filter all → ⊥
+apart : (filter : Filter) (all : List Spelled) (told : Option IpNetwork) → FirstListed filter all told → NoneListed filter all → ⊥
 apart filter [] told p q = p
 apart filter (address ∷ all) told (inl p) q = q.0 p.0
 apart filter (address ∷ all) told (inr p) q = apart filter all told p.1 q.1
 
-none_of_none : (filter : Filter) (all : List IpAddr) (told : Option IpNetwork) → FirstListed filter all told → all ≡ [] → ⊥
-none_of_none filter all told p none = subst (λ (l : List IpAddr). FirstListed filter l told) none p
+none_of_none : (filter : Filter) (all : List Spelled) (told : Option IpNetwork) → FirstListed filter all told → all ≡ [] → ⊥
+none_of_none filter all told p none = subst (λ (l : List Spelled). FirstListed filter l told) none p
 
 pub one_verdict : BlocksOfAnyWidthThatMeet → LinesHaveOneVerdict
 one_verdict meet filter line (verdicts.Inside told) (verdicts.Inside other) p q = ap verdicts.Inside (one_first meet filter (addresses_in filter line) told other p.1 q.1)

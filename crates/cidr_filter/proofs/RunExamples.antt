@@ -13,8 +13,8 @@ use Rattle.cidr_filter.specs.Filters.{IsVerdict, is_count}
 use Rattle.program.specs.LogFaults.{log_fault_text, Wrote}
 use Rattle.program.specs.Logs.{HaltsBy, IsAllOf, IsFirstOf}
 use Rattle.cidr_filter.specs.Logs.{EndsRunBy, FiltersLogs, GoesOn, LeavesLog, ReadsLog, is_enough, is_short}
-use Rattle.cidr_filter.specs.Reading.{ReadsItems, HoldsRead}
-use Rattle.options.specs.Given.{is_given, inputs_of}
+use Rattle.cidr_filter.specs.Reading.{ReadsItems, HoldsRead, question_of}
+use Rattle.options.specs.Given.{inputs_of}
 use Rattle.options.specs.declared.items.Item.{Item}
 use Rattle.options.specs.declared.items.Item.TheVariants as says
 use Rattle.program.specs.Endings.{Ending, Refuses, HasTold, HasWritten}
@@ -49,7 +49,7 @@ no_number = refl
 -- without a refused line that ends it a run is not silent: there is no memory, or the logs are filtered
 pub not_silent : {W E : Type 0} (known : KnownLists) (items : List Item) (read : ReadLists) (end : Ending W E) → is_stopped_by items read.refused ≡ false → EndsFiltering known items read end
     → Refuses (codes "out of memory\n") end
-    ⊎ ((listed : Matcher) × HoldsRead (is_given items 12) read listed × EndsLogs (filter_of items listed) known (inputs_of items) end)
+    ⊎ ((listed : Matcher) × HoldsRead (question_of items) read listed × EndsLogs (filter_of items listed) known (inputs_of items) end)
 not_silent known items read end none (inl ends) = absurd (true≢false (sym ends.0 ∙ none))
 not_silent known items read end none (inr ends) = ends.1
 

@@ -1,5 +1,5 @@
 -- How a run ends.
-use Rattle.std.proofs.Common.{◌≡◌, ◌==◌, ◌+◌, ◌-◌, ◌^◌, ◌<◌, ◌≤◌, ◌++◌, ◌∷◌, ◌∙◌, [], ◌||◌, ◌&&◌, ℕ, List, Bool, true, false, not, refl, sym, ap, subst, ◌⊎◌, inl, inr, arith, length, min, map, take, drop, take-append-drop, append_assoc, append-nil, decimal, codes}
+use Rattle.std.proofs.Common.{◌≡◌, ◌+◌, ◌-◌, ◌^◌, ◌<◌, ◌≤◌, ◌++◌, ◌∷◌, ◌∙◌, [], ◌||◌, ◌&&◌, ℕ, List, Bool, true, false, refl, sym, ap, subst, ◌⊎◌, inl, inr, arith, length, min, map, take, drop, take-append-drop, append_assoc, append-nil, decimal, codes}
 use Rattle.std.specs.Prelude.{Option, Result, Ok, Err, OnOk, OnErr, IfErr, IfOk, IsTrue, is_err, if◌then◌else◌, String}
 use Rattle.std.specs.String.{string_bytes}
 use Rattle.std.specs.Io.KnownBytes.{Appends}
@@ -19,8 +19,7 @@ use Rattle.cidr_filter.specs.Logs.{is_enough, EndsRunBy, is_short, filter_for}
 use Rattle.program.specs.Counts.{Counts}
 use Rattle.program.specs.LogFaults.{log_fault_text, IfWrite, Wrote, HandsOn, StopsBy}
 use Rattle.program.specs.Logs.{HaltsBy}
-use Rattle.cidr_filter.specs.Reading.{StopsAtItems, HoldsRead}
-use Rattle.cidr_filter.specs.Options as own
+use Rattle.cidr_filter.specs.Reading.{StopsAtItems, HoldsRead, question_of}
 use Rattle.cidr_filter.specs.Runs.{StopsAtLog, total_text, status_by, EndsWith, FiltersAll, EndsLogs, filter_of, is_stopped_by, EndsReading}
 use Rattle.cidr_filter.specs.Stands.{Stand, stand, begun}
 use Rattle.cidr_filter.specs.Stops.{FiltersLines, WritesBeginning}
@@ -28,7 +27,7 @@ use Rattle.program.specs.Reported.{fault_text, refusals_text}
 use Rattle.cidr_filter.specs.Reported.{in_option}
 use Rattle.cidr_filter.specs.Private.Reading.{ReadsAll}
 use Rattle.cidr_filter.specs.Private.Runs.{FiltersNames}
-use Rattle.options.specs.Given.{is_given, inputs_of}
+use Rattle.options.specs.Given.{inputs_of}
 use Rattle.options.specs.declared.items.Item.{Item}
 use Rattle.cidr_filter.specs.declared.filter.Filter.{Filter}
 use Rattle.cidr_filter.specs.declared.matcher.Matcher.{Matcher}
@@ -289,9 +288,9 @@ module _ {Z W E : Type 0} (known : KnownLists) (items : List Item) (names : List
   reading_stopped {T} result fault is stops h =
       (refused, told, tells, inl (fault, subst (λ (r : Result T ReadFault). IfErr r (λ f. StopsAtItems known 0 items (nothing_read no_refusals) f refused)) is stops, h))
 
-  module _ {T F X : Type 0} (result : Result T F) (done : T) (listed : Result Matcher X) (is : result ≡ Ok done) (all : OnOk result (ReadsAll known items (is_given items own.longest) listed refused)) where
-    was_read : ReadsAll known items (is_given items own.longest) listed refused
-    was_read = subst (λ (r : Result T F). OnOk r (ReadsAll known items (is_given items own.longest) listed refused)) is all
+  module _ {T F X : Type 0} (result : Result T F) (done : T) (listed : Result Matcher X) (is : result ≡ Ok done) (all : OnOk result (ReadsAll known items (question_of items) listed refused)) where
+    was_read : ReadsAll known items (question_of items) listed refused
+    was_read = subst (λ (r : Result T F). OnOk r (ReadsAll known items (question_of items) listed refused)) is all
 
     module _ (stops : Bool) (e : stops ≡ is_stopped_by items refused) where
       by_lines : (is : Bool) → stops ≡ is → is_stopped_by items was_read.read.refused ≡ is
@@ -303,7 +302,7 @@ module _ {Z W E : Type 0} (known : KnownLists) (items : List Item) (names : List
 
     module _ (stops : Bool) (e : stops ≡ is_stopped_by items refused) (none : stops ≡ false) where
       -- none does, and the filtering ended so
-      goes_on : Refuses (codes "out of memory\n") (record end { errors = told }) ⊎ ((held : Matcher) × HoldsRead (is_given items own.longest) was_read.read held
+      goes_on : Refuses (codes "out of memory\n") (record end { errors = told }) ⊎ ((held : Matcher) × HoldsRead (question_of items) was_read.read held
           × EndsLogs (filter_of items held) known (inputs_of items) (record end { errors = told })) → EndsReading known items names end
       goes_on h = (refused, told, tells, inr (was_read.read, was_read.is_read, was_read.refused_lines, inr (by_lines stops e false none, h)))
 
@@ -312,7 +311,7 @@ module _ {Z W E : Type 0} (known : KnownLists) (items : List Item) (names : List
 
       pub logs_filtered : (held : Matcher) → listed ≡ Ok held → EndsLogs (filter_of items held) known (inputs_of items) (record end { errors = told })
           → EndsReading known items names end
-      logs_filtered held has h = goes_on (inr (held, subst (λ (l : Result Matcher X). IfOk l (HoldsRead (is_given items own.longest) was_read.read)) has was_read.holds, h))
+      logs_filtered held has h = goes_on (inr (held, subst (λ (l : Result Matcher X). IfOk l (HoldsRead (question_of items) was_read.read)) has was_read.holds, h))
 
 -- how all logs ended
 pub all_by : {W E T F : Type 0} (filter : Filter) (known : KnownLists) (names : List (List ℕ)) (missed : Bool)

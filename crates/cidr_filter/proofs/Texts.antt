@@ -1,23 +1,24 @@
 -- The addresses of a line that are printed.
 use Rattle.std.proofs.Common.{◌≡◌, ◌≢◌, ℕ, List, [], ◌++◌, drop, None, Some, ap, sym, subst, ◌∙◌, append_assoc, append-nil}
 use Rattle.std.specs.Prelude.{Option}
-use Rattle.std.specs.List.{slice_range}
 use Rattle.std.specs.Option.{option_to_list}
 use Rattle.lines.specs.Outputs.{Puts, AppendsBeginning}
 use Rattle.lines.proofs.Putting.{begins_within, begins_after_puts}
-use Rattle.line_addresses.specs.Addresses.{addresses_of}
-use Rattle.line_addresses.specs.Areas.{part_of, picked, each_of, each_in, spelled_in}
+use Rattle.line_addresses.specs.Areas.{part_of, picked, each_of, each_in}
 use Rattle.line_addresses.specs.declared.area.Pick.{Pick}
 use Rattle.line_addresses.specs.declared.area.Pick.TheVariants as picks
 use Rattle.line_addresses.proofs.Picks.{each_is_one}
-use Rattle.line_addresses.specs.Found.{IsNextAddress, spelled_at}
+use Rattle.line_addresses.specs.Found.{IsNextOf, spelled_at}
 use Rattle.line_addresses.specs.declared.found.Found.{Found}
-use Rattle.cidr_filter.specs.Filters.{text_of, texts_of}
+use Rattle.line_addresses.specs.Networks.{found_of}
+use Rattle.cidr_filter.specs.Filters.{addresses_in, text_of, texts_of}
+use Rattle.cidr_filter.specs.Matcher.{reads_networks}
 use Rattle.cidr_filter.specs.declared.filter.Filter.{Filter}
+use Rattle.cidr_filter.proofs.Judging.{all_of}
 
 -- the text of the next address, and those after it
-pub next_text : (filter : Filter) (head line : List ℕ) (at : ℕ) (found : Found) → IsNextAddress line at found
-    → texts_of filter head (addresses_of (drop at line)) ≡ text_of filter head found.address (slice_range line found.start found.end) ++ texts_of filter head (addresses_of (drop found.next line))
+pub next_text : (filter : Filter) (head line : List ℕ) (at : ℕ) (found : Found) → IsNextOf (found_of (reads_networks filter.listed)) line at found
+    → texts_of filter head (all_of filter (drop at line)) ≡ text_of filter head (spelled_at line found) ++ texts_of filter head (all_of filter (drop found.next line))
 next_text filter head line at found next = ap (texts_of filter head) next.first
 
 -- one text more was put
@@ -34,29 +35,29 @@ fails_at held mid holds waited between all done text rest left p e f b =
 
 -- all texts were put
 pub all_put : (filter : Filter) (head line : List ℕ) (at : ℕ) (held holds : Option (List ℕ)) (waited waits : List ℕ) (done : List ℕ) → Puts held waited holds waits done
-    → texts_of filter head (addresses_of line) ≡ done ++ texts_of filter head (addresses_of (drop at line)) → addresses_of (drop at line) ≡ [] → Puts held waited holds waits (texts_of filter head (addresses_of line))
+    → texts_of filter head (all_of filter line) ≡ done ++ texts_of filter head (all_of filter (drop at line)) → all_of filter (drop at line) ≡ [] → Puts held waited holds waits (texts_of filter head (all_of filter line))
 all_put filter head line at held holds waited waits done p e none =
     subst (λ (t : List ℕ). Puts held waited holds waits t) (sym (e ∙ ap (λ l. done ++ texts_of filter head l) none ∙ append-nil done)) p
 
 -- ---- what is printed, by the part that is looked at
 
-pub of_part : (filter : Filter) (head line part : List ℕ) → part_of filter.area.part line ≡ Some part → texts_of filter head (each_of filter.area.pick part) ≡ texts_of filter head (spelled_in filter.area line)
-of_part filter head line part is = sym (ap (λ (o : Option (List ℕ)). texts_of filter head (each_in filter.area.pick o)) is)
+pub of_part : (filter : Filter) (head line part : List ℕ) → part_of filter.area.part line ≡ Some part → texts_of filter head (each_of (reads_networks filter.listed) filter.area.pick part) ≡ texts_of filter head (addresses_in filter line)
+of_part filter head line part is = sym (ap (λ (o : Option (List ℕ)). texts_of filter head (each_in (reads_networks filter.listed) filter.area.pick o)) is)
 
 module _ (filter : Filter) (head part : List ℕ) where
-  pub of_each : filter.area.pick ≡ picks.Each → texts_of filter head (addresses_of part) ≡ texts_of filter head (each_of filter.area.pick part)
-  of_each each = sym (ap (λ (p : Pick). texts_of filter head (each_of p part)) each)
+  pub of_each : filter.area.pick ≡ picks.Each → texts_of filter head (all_of filter part) ≡ texts_of filter head (each_of (reads_networks filter.listed) filter.area.pick part)
+  of_each each = sym (ap (λ (p : Pick). texts_of filter head (each_of (reads_networks filter.listed) p part)) each)
 
-  pub of_one : filter.area.pick ≢ picks.Each → texts_of filter head (option_to_list (picked filter.area.pick part)) ≡ texts_of filter head (each_of filter.area.pick part)
-  of_one other = sym (ap (texts_of filter head) (each_is_one filter.area.pick part other))
+  pub of_one : filter.area.pick ≢ picks.Each → texts_of filter head (option_to_list (picked (reads_networks filter.listed) filter.area.pick part)) ≡ texts_of filter head (each_of (reads_networks filter.listed) filter.area.pick part)
+  of_one other = sym (ap (texts_of filter head) (each_is_one (reads_networks filter.listed) filter.area.pick part other))
 
-pub of_no_part : (filter : Filter) (head line : List ℕ) → part_of filter.area.part line ≡ None → [] ≡ texts_of filter head (spelled_in filter.area line)
-of_no_part filter head line none = sym (ap (λ (o : Option (List ℕ)). texts_of filter head (each_in filter.area.pick o)) none)
+pub of_no_part : (filter : Filter) (head line : List ℕ) → part_of filter.area.part line ≡ None → [] ≡ texts_of filter head (addresses_in filter line)
+of_no_part filter head line none = sym (ap (λ (o : Option (List ℕ)). texts_of filter head (each_in (reads_networks filter.listed) filter.area.pick o)) none)
 
 -- the one that is looked at
-pub of_picked : (filter : Filter) (head part : List ℕ) (pick : Pick) (found : Found) → picked pick part ≡ Some (spelled_at part found)
-    → text_of filter head found.address (slice_range part found.start found.end) ≡ texts_of filter head (option_to_list (picked pick part))
-of_picked filter head part pick found is = sym (ap (λ o. texts_of filter head (option_to_list o)) is ∙ append-nil (text_of filter head found.address (slice_range part found.start found.end)))
+pub of_picked : (filter : Filter) (head part : List ℕ) (pick : Pick) (found : Found) → picked (reads_networks filter.listed) pick part ≡ Some (spelled_at part found)
+    → text_of filter head (spelled_at part found) ≡ texts_of filter head (option_to_list (picked (reads_networks filter.listed) pick part))
+of_picked filter head part pick found is = sym (ap (λ o. texts_of filter head (option_to_list o)) is ∙ append-nil (text_of filter head (spelled_at part found)))
 
-pub of_no_picked : (filter : Filter) (head part : List ℕ) (pick : Pick) → picked pick part ≡ None → [] ≡ texts_of filter head (option_to_list (picked pick part))
+pub of_no_picked : (filter : Filter) (head part : List ℕ) (pick : Pick) → picked (reads_networks filter.listed) pick part ≡ None → [] ≡ texts_of filter head (option_to_list (picked (reads_networks filter.listed) pick part))
 of_no_picked filter head part pick none = sym (ap (λ o. texts_of filter head (option_to_list o)) none)

@@ -21,12 +21,12 @@ abbrev word_told : List ℕ → List ℕ → Option Fault
 word_told word problem = Some (about (subjects.Word word) problem)
 
 pub words_by_themselves : map (λ word. first_fault rows false (free_items rows word)) (codes "-k0" ∷ codes "-d--" ∷ codes "-mx" ∷ codes "--bad=" ∷ codes "--bae=drop" ∷ codes "--help=" ∷ codes "-vx" ∷ codes "-k7" ∷ [])
-    ≡ word_told (codes "-k0") (codes "is no field number") ∷ word_told (codes "-d--") (codes "is not one ASCII byte other than LF, CR and NUL")
-    ∷ word_told (codes "-mx") (codes "is no number of lines") ∷ word_told (codes "--bad=") (codes "is not drop, keep, stop or report") ∷ word_told (codes "--bae=drop") (codes "is no option")
-    ∷ word_told (codes "--help=") (codes "is no option") ∷ word_told (codes "-vx") (codes "is no option") ∷ None ∷ []
+    ≡ word_told (codes "-k0") (codes "not a field number") ∷ word_told (codes "-d--") (codes "not one ASCII byte other than LF, CR and NUL")
+    ∷ word_told (codes "-mx") (codes "not a number of lines") ∷ word_told (codes "--bad=") (codes "not drop, keep, stop or report") ∷ word_told (codes "--bae=drop") (codes "unknown option")
+    ∷ word_told (codes "--help=") (codes "unknown option") ∷ word_told (codes "-vx") (codes "unknown option") ∷ None ∷ []
 words_by_themselves = refl
 
-pub not_the_only_word : first_fault rows false (free_items rows (codes "--help")) ≡ Some (about (subjects.Option 7) (codes "is not the only argument"))
+pub not_the_only_word : first_fault rows false (free_items rows (codes "--help")) ≡ Some (about (subjects.Option 7) (codes "not the only argument"))
 not_the_only_word = refl
 
 -- ---- an option and its value, which is the next word, or follows several letters
@@ -35,25 +35,25 @@ abbrev value_told : ℕ → List ℕ → List ℕ → Option Fault
 value_told row value problem = Some (about (subjects.Value row value) problem)
 
 pub values_of_options : map (λ item. first_fault rows false (item ∷ [])) (says.Value 6 [] ∷ says.Value 10 [] ∷ says.Value 2 (codes "0") ∷ says.Value 3 (codes "xx") ∷ says.Value 13 (codes "x") ∷ says.Value 4 [] ∷ says.Lacks 2 ∷ says.Value 6 (codes "-v") ∷ [])
-    ≡ value_told 6 [] (codes "is no file name") ∷ value_told 10 [] (codes "is no network or range") ∷ value_told 2 (codes "0") (codes "is no field number")
-    ∷ value_told 3 (codes "xx") (codes "is not one ASCII byte other than LF, CR and NUL") ∷ value_told 13 (codes "x") (codes "is not drop, keep, stop or report")
+    ≡ value_told 6 [] (codes "not a file name") ∷ value_told 10 [] (codes "not a network or range") ∷ value_told 2 (codes "0") (codes "not a field number")
+    ∷ value_told 3 (codes "xx") (codes "not one ASCII byte other than LF, CR and NUL") ∷ value_told 13 (codes "x") (codes "not drop, keep, stop or report")
     ∷ value_told 4 [] (codes "is no text") ∷ Some (about (subjects.Option 2) (codes "has no value")) ∷ None ∷ []
 values_of_options = refl
 
-pub value_behind_letters : first_fault rows false (free_items rows (codes "-vk0")) ≡ value_told 2 (codes "0") (codes "is no field number")
+pub value_behind_letters : first_fault rows false (free_items rows (codes "-vk0")) ≡ value_told 2 (codes "0") (codes "not a field number")
 value_behind_letters = refl
 
 -- ---- which is told
 
 -- of two wrong words the first, of a wrong word and an empty FILE before it the word, and of these and options that do not
 -- go together the FILE
-pub first_of_two_wrong_words : fault (says.Joined 2 (codes "0") (codes "-k0") ∷ says.Unknown (codes "--longer") ∷ []) ≡ word_told (codes "-k0") (codes "is no field number")
+pub first_of_two_wrong_words : fault (says.Joined 2 (codes "0") (codes "-k0") ∷ says.Unknown (codes "--longer") ∷ []) ≡ word_told (codes "-k0") (codes "not a field number")
 first_of_two_wrong_words = refl
 
-pub word_behind_an_empty_file : fault (says.File [] ∷ says.Unknown (codes "-x") ∷ []) ≡ word_told (codes "-x") (codes "is no option")
+pub word_behind_an_empty_file : fault (says.File [] ∷ says.Unknown (codes "-x") ∷ []) ≡ word_told (codes "-x") (codes "unknown option")
 word_behind_an_empty_file = refl
 
-pub empty_file_beside_a_pair : fault (says.Flag 14 ∷ says.Flag 12 ∷ says.File [] ∷ []) ≡ word_told [] (codes "is no file name")
+pub empty_file_beside_a_pair : fault (says.Flag 14 ∷ says.Flag 12 ∷ says.File [] ∷ []) ≡ word_told [] (codes "not a file name")
 empty_file_beside_a_pair = refl
 
 -- right words that are wrong together; of two pairs the first is told, and before a missing list
@@ -73,6 +73,6 @@ no_words = refl
 -- ---- what is reported
 
 pub texts : map (refusal_text (codes "p") (codes "usage\n") rows)
-    (about subjects.CommandLine (codes "x") ∷ about (subjects.Word []) (codes "is no file name") ∷ about (subjects.Option 13) (codes "has no value") ∷ about (subjects.Value 2 (codes "0")) (codes "is no field number") ∷ [])
-    ≡ codes "p: x\nusage\n" ∷ codes "p: '': is no file name\nusage\n" ∷ codes "p: --bad: has no value\nusage\n" ∷ codes "p: -k: 0 is no field number\nusage\n" ∷ []
+    (about subjects.CommandLine (codes "x") ∷ about (subjects.Word []) (codes "not a file name") ∷ about (subjects.Option 13) (codes "has no value") ∷ about (subjects.Value 2 (codes "0")) (codes "not a field number") ∷ [])
+    ≡ codes "p: x\nusage\n" ∷ codes "p: '': not a file name\nusage\n" ∷ codes "p: --bad: has no value\nusage\n" ∷ codes "p: -k: 0 is no field number\nusage\n" ∷ []
 texts = refl

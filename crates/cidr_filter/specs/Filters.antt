@@ -1,6 +1,6 @@
 -- Which lines of a log are selected.
 use Rattle.std.specs.Prelude.{◌≡◌, ℕ, ◌+◌, ◌-◌, ◌^◌, ◌<◌, ◌≤◌, ◌⊎◌, Bool, true, false, not, List, [], ◌∷◌, ◌++◌, Option}
-use Rattle.std.specs.Prelude.{None, Some, length, map, flat_map, codes, decimal, min, nat_lt, nat_le}
+use Rattle.std.specs.Prelude.{None, Some, length, flat_map, codes, decimal, min, nat_lt, nat_le}
 use Rattle.std.specs.Prelude.{if◌then◌else◌}
 use Rattle.std.specs.List.{AllByRecursion}
 use Rattle.ipnetwork_addr.specs.declared.ip.IpAddr.{IpAddr}
@@ -8,9 +8,8 @@ use Rattle.ipnetwork.specs.IpNetworkText.{ip_network_text}
 use Rattle.ipnetwork.specs.declared.ip_network.IpNetwork.{IpNetwork}
 use Rattle.line_addresses.specs.Addresses.{Spelled}
 use Rattle.line_addresses.specs.Areas.{spelled_in}
-use Rattle.ipnetwork_addr.specs.Either.{unmapped}
 use Rattle.program.specs.LogLines.{LogLine, content, printed, IsWhole}
-use Rattle.cidr_filter.specs.Matcher.{IsIn, IsLongestBlock, has_address}
+use Rattle.cidr_filter.specs.Matcher.{IsIn, IsLongestBlock, asked, covers_named, has_address, reads_networks}
 use Rattle.log_programs.specs.WithoutAddress.{is_stopped}
 use Rattle.log_programs.specs.declared.without_address.WithoutAddress.{WithoutAddress}
 use Rattle.log_programs.specs.declared.without_address.WithoutAddress.TheVariants as without
@@ -20,42 +19,39 @@ use Rattle.cidr_filter.specs.declared.filter.OutputMode.TheVariants as shows
 use Rattle.cidr_filter.specs.declared.filter.Verdict.{Verdict}
 use Rattle.cidr_filter.specs.declared.filter.Verdict.TheVariants as verdicts
 use Rattle.cidr_filter.specs.declared.matcher.Matcher.{Matcher}
-use Rattle.cidr_filter.specs.declared.matcher.Matcher.TheVariants.{Addresses, Blocks}
+use Rattle.cidr_filter.specs.declared.matcher.Matcher.TheVariants.{Addresses, Networks, Blocks}
 
--- an address of the lists
-abbrev pub IsListed : Filter → IpAddr → Type 0
-IsListed filter address = IsIn filter.listed address
+-- what was found in a line is in the lists
+abbrev pub IsListed : Filter → Spelled → Type 0
+IsListed filter found = IsIn filter.listed filter.mapped found
 
 -- what the lists say about an address of theirs: nothing, or the longest block that holds it
 abbrev pub TellsBlock : Matcher → IpAddr → Option IpNetwork → Type 0
 TellsBlock (Addresses sets) address told = told ≡ None
+TellsBlock (Networks set) address told = told ≡ None
 TellsBlock (Blocks tables) address told = (block : IpNetwork) × (told ≡ Some block)
     × IsLongestBlock tables address block
 
--- the address for which the lists are asked: of an IPv4-mapped one its IPv4 one, if the option says so
-abbrev pub asked : Bool → IpAddr → IpAddr
-asked mapped address = if mapped then unmapped address else address
+abbrev pub TellsOf : Filter → Spelled → Option IpNetwork → Type 0
+TellsOf filter found told = TellsBlock filter.listed (asked filter.mapped found.address) told
 
--- those of a line
-abbrev pub asked_of : Filter → List Spelled → List IpAddr
-asked_of filter found = map (λ one. asked filter.mapped one.address) found
+-- the addresses of a line, and with `--networks` its networks
+abbrev pub addresses_in : Filter → List ℕ → List Spelled
+addresses_in filter line = spelled_in (reads_networks filter.listed) filter.area line
 
-abbrev pub addresses_in : Filter → List ℕ → List IpAddr
-addresses_in filter line = asked_of filter (spelled_in filter.area line)
-
--- one of these addresses is in the lists, and this is what they say about the first that is
-abbrev pub FirstListed : Filter → List IpAddr → Option IpNetwork → Type 0
+-- one of these is in the lists, and this is what they say about the first that is
+abbrev pub FirstListed : Filter → List Spelled → Option IpNetwork → Type 0
 FirstListed filter [] told = ⊥
 FirstListed filter (address ∷ addresses) told =
-    (IsListed filter address × TellsBlock filter.listed address told)
+    (IsListed filter address × TellsOf filter address told)
     ⊎ (¬ (IsListed filter address) × FirstListed filter addresses told)
 
 -- none of them is
-abbrev pub NoneListed : Filter → List IpAddr → Type 0
+abbrev pub NoneListed : Filter → List Spelled → Type 0
 NoneListed filter addresses = AllByRecursion (λ address. ¬ (IsListed filter address)) addresses
 
 -- what a line with these addresses is to the lists
-abbrev pub IsVerdictOfAddresses : Filter → List IpAddr → Verdict → Type 0
+abbrev pub IsVerdictOfAddresses : Filter → List Spelled → Verdict → Type 0
 IsVerdictOfAddresses filter addresses (verdicts.Inside told) = FirstListed filter addresses told
 IsVerdictOfAddresses filter addresses verdicts.Outside = (0 < length addresses) × NoneListed filter addresses
 IsVerdictOfAddresses filter addresses verdicts.NoAddress = addresses ≡ []
@@ -105,13 +101,15 @@ block_text (Some block) = ip_network_text block
 -- what stands before a line of this verdict: that and a tab, with `--longest`
 abbrev pub mark_of : Matcher → Verdict → List ℕ
 mark_of (Addresses sets) verdict = []
+mark_of (Networks set) verdict = []
 mark_of (Blocks tables) verdict = block_text (block_in verdict) ++ 9 ∷ []
 
--- whether an address is in the lists, as a test. Of blocks none is asked, since `-o` is not given together with
+-- whether what was found is in the lists, as a test. Of blocks none is asked, since `-o` is not given together with
 -- `--longest`
-abbrev pub is_listed : Matcher → IpAddr → Bool
-is_listed (Addresses sets) address = has_address sets address
-is_listed (Blocks tables) address = false
+abbrev pub is_listed : Matcher → Bool → Spelled → Bool
+is_listed (Addresses sets) mapped found = has_address sets (asked mapped found.address)
+is_listed (Networks set) mapped found = covers_named set mapped found.text
+is_listed (Blocks tables) mapped found = false
 
 -- what stands first: the name of the log and a colon, with `-H`; and the number of the line and a
 -- colon, with `-n`, up to the greatest number of 64 bits
@@ -126,12 +124,11 @@ abbrev pub head_of : Filter → ℕ → List ℕ
 head_of filter number = name_head filter.name ++ number_head filter.numbered number
 
 -- with `-o`: the text of an address and a line feed, if it is in the lists, behind what stands first
-abbrev pub text_of : Filter → List ℕ → IpAddr → List ℕ → List ℕ
-text_of filter head address text = if is_listed filter.listed (asked filter.mapped address) then head
-    ++ (text ++ 10 ∷ []) else []
+abbrev pub text_of : Filter → List ℕ → Spelled → List ℕ
+text_of filter head found = if is_listed filter.listed filter.mapped found then head ++ (found.text ++ 10 ∷ []) else []
 
 abbrev pub texts_of : Filter → List ℕ → List Spelled → List ℕ
-texts_of filter head found = flat_map (λ one. text_of filter head one.address one.text) found
+texts_of filter head found = flat_map (text_of filter head) found
 
 -- lines are only counted
 abbrev pub is_count : OutputMode → Bool
@@ -143,7 +140,7 @@ is_count other = false
 -- before each; or with `-l` the name of its log; or nothing, with `-c` and with `-q`
 abbrev pub shown_by : OutputMode → Filter → List ℕ → Verdict → List ℕ → List ℕ → List ℕ
 shown_by shows.Lines filter head verdict line text = head ++ (mark_of filter.listed verdict ++ text)
-shown_by shows.Addresses filter head verdict line text = texts_of filter head (spelled_in filter.area line)
+shown_by shows.Addresses filter head verdict line text = texts_of filter head (addresses_in filter line)
 shown_by shows.Count filter head verdict line text = []
 shown_by shows.Names filter head verdict line text = filter.name ++ 10 ∷ []
 shown_by shows.Nothing filter head verdict line text = []

@@ -1,17 +1,25 @@
 -- The networks of the lists, and what they say about an address.
-use Rattle.std.specs.Prelude.{◌≡◌, ◌≤◌, ◌↔◌, ℕ, Bool, List, IsSome}
+use Rattle.std.specs.Prelude.{◌≡◌, ◌≤◌, ◌↔◌, ◌/◌, ◌%◌, ◌-◌, ◌^◌, ◌==◌, ◌&&◌, ℕ, Bool, true, false, List, IsSome}
+use Rattle.std.specs.Prelude.{nat_le, if◌then◌else◌, Result, Ok, Err}
 use Rattle.std.specs.FinMap.{FinMap, get}
 use Rattle.std.specs.List.{Contains, list_any}
 use Rattle.ipnetwork_addr.specs.declared.ip.IpAddr.{IpAddr}
 use Rattle.ipnetwork_addr.specs.declared.ip.IpAddr.TheVariants as addresses
+use Rattle.ipnetwork_addr.specs.Either.{unmapped}
 use Rattle.ipnetwork_blocks.specs.Aggregate.{InUnion}
+use Rattle.ipnetwork_blocks.specs.AggregateIpLaws.{LiesInIpUnion}
 use Rattle.ipnetwork_family.specs.Computed.Network.{is_member}
 use Rattle.ipnetwork_family.specs.Network.{Network, HostBitsAreZero, block_of, network_cmp}
+use Rattle.ipnetwork_family.specs.declared.error.CidrFault.{CidrFault}
+use Rattle.ipnetwork.specs.Computed.IpNetworks.{is_ip_subnet}
+use Rattle.ipnetwork.specs.Computed.IpNetworkText.{ip_network_of}
+use Rattle.ipnetwork.specs.IpNetworkText.{NamesIpNetwork}
 use Rattle.ipnetwork.specs.IpNetworks.{IpMember, prefix_of}
 use Rattle.ipnetwork.specs.declared.ip_network.IpNetwork.{IpNetwork}
 use Rattle.ipnetwork.specs.declared.ip_network.IpNetwork.TheVariants.{V4, V6}
+use Rattle.line_addresses.specs.Addresses.{Spelled}
 use Rattle.cidr_filter.specs.declared.matcher.Matcher.{Matcher}
-use Rattle.cidr_filter.specs.declared.matcher.Matcher.TheVariants.{Addresses, Blocks}
+use Rattle.cidr_filter.specs.declared.matcher.Matcher.TheVariants.{Addresses, Networks, Blocks}
 use Rattle.cidr_filter.specs.declared.matcher.Sets.{Sets}
 use Rattle.cidr_filter.specs.declared.matcher.Tables.{Tables}
 
@@ -54,7 +62,47 @@ pub record IsLongestBlock (tables : Tables) (address : IpAddr) (block : IpNetwor
 abbrev pub NoBlockHolds : Tables → IpAddr → Type 0
 NoBlockHolds tables address = (block : IpNetwork) → IsStored tables block → ¬ (IpMember block address)
 
--- an address of the lists
-abbrev pub IsIn : Matcher → IpAddr → Type 0
-IsIn (Addresses sets) address = HasAddress sets address
-IsIn (Blocks tables) address = (block : IpNetwork) × IsStored tables block × IpMember block address
+-- the address for which the lists are asked: of an IPv4-mapped one its IPv4 one, if the option says so
+abbrev pub asked : Bool → IpAddr → IpAddr
+asked mapped address = if mapped then unmapped address else address
+
+-- the network for which they are asked: of one whose addresses are all IPv4-mapped that of their IPv4 ones, if the
+-- option says so
+abbrev pub unmapped_network : IpNetwork → IpNetwork
+unmapped_network (V4 n) = V4 n
+unmapped_network (V6 n) =
+    if nat_le 96 n.prefix && n.address / 2 ^ 32 == 0xffff
+    then V4 (record { address = n.address % 2 ^ 32; prefix = n.prefix - 96 }) else V6 n
+
+abbrev pub asked_network : Bool → IpNetwork → IpNetwork
+asked_network mapped network = if mapped then unmapped_network network else network
+
+-- the text names a network, and each address of the one that is asked is in the set
+abbrev pub CoversNamed : List IpNetwork → Bool → List ℕ → Type 0
+CoversNamed set mapped text = (network : IpNetwork) × NamesIpNetwork text network
+    × LiesInIpUnion (asked_network mapped network) set
+
+-- what was found in a line is in the lists: its address, or with `--networks` each address of the network that its text
+-- names
+abbrev pub IsIn : Matcher → Bool → Spelled → Type 0
+IsIn (Addresses sets) mapped found = HasAddress sets (asked mapped found.address)
+IsIn (Networks set) mapped found = CoversNamed set mapped found.text
+IsIn (Blocks tables) mapped found = (block : IpNetwork) × IsStored tables block
+    × IpMember block (asked mapped found.address)
+
+-- the same as tests: the network lies within a block of the set
+abbrev pub is_within : List IpNetwork → IpNetwork → Bool
+is_within set network = list_any (is_ip_subnet network) set
+
+abbrev pub is_read_within : List IpNetwork → Bool → Result IpNetwork CidrFault → Bool
+is_read_within set mapped (Ok network) = is_within set (asked_network mapped network)
+is_read_within set mapped (Err fault) = false
+
+abbrev pub covers_named : List IpNetwork → Bool → List ℕ → Bool
+covers_named set mapped text = is_read_within set mapped (ip_network_of text)
+
+-- whether networks of lines are looked for, beside addresses
+abbrev pub reads_networks : Matcher → Bool
+reads_networks (Addresses sets) = false
+reads_networks (Networks set) = true
+reads_networks (Blocks tables) = false

@@ -6,7 +6,7 @@ use Rattle.options.specs.declared.table.Kind.TheVariants as kinds
 use Rattle.options.specs.declared.table.Table.{Table}
 
 -- the rows of the options that this program alone has: `-e`, `-m`, `--longest`, `--bad`, `-v`, `-c`, `-o`, `-H`, `-h`,
--- `-n`, `-l`, `-q` and `--skip-bad`
+-- `-n`, `-l`, `-q`, `--skip-bad` and `--networks`
 abbrev pub text : ℕ
 text = 10
 
@@ -46,17 +46,22 @@ quiet = 21
 abbrev pub skips_bad : ℕ
 skips_bad = 22
 
+abbrev pub networks : ℕ
+networks = 23
+
 -- the options, in the order of their rows
 abbrev pub entries : List Entry
 entries = rows.shared
-    ++ valued (codes "e") kinds.Text (codes "is no network or range")
-    ∷ valued (codes "m") kinds.Number (codes "is no number of lines")
-    ∷ long_flag (codes "--longest") ∷ long (codes "--bad") kinds.Rule true (codes "is not drop, keep, stop or report")
+    ++ valued (codes "e") kinds.Text (codes "not a network or range")
+    ∷ valued (codes "m") kinds.Number (codes "not a number of lines")
+    ∷ long_flag (codes "--longest") ∷ long (codes "--bad") kinds.Rule true (codes "not drop, keep, stop or report")
     ∷ flag (codes "v") ∷ flag (codes "c") ∷ flag (codes "o") ∷ flag (codes "H") ∷ flag (codes "h") ∷ flag (codes "n")
-    ∷ flag (codes "l") ∷ flag (codes "q") ∷ long_flag (codes "--skip-bad") ∷ []
+    ∷ flag (codes "l") ∷ flag (codes "q") ∷ long_flag (codes "--skip-bad")
+    ∷ long_flag (codes "--networks") ∷ []
 
 -- which of them do not go together: `--longest` with `-v` or `-c`, those that say where addresses are looked for, `-o`
--- with `-v` or `--longest`, and `-H` with `-c` or `-h`. Of several such pairs the first is told
+-- with `-v` or `--longest`, `-H` with `-c` or `-h`, and `--networks` with `--longest`. Of several such pairs the first
+-- is told
 abbrev pub pairs : List (ℕ × ℕ × List ℕ)
 pairs =
     (longest, inverts, codes "--longest goes with neither -v nor -c")
@@ -64,7 +69,7 @@ pairs =
     ++ (only, inverts, codes "-o goes with neither -v nor --longest")
     ∷ (only, longest, codes "-o goes with neither -v nor --longest")
     ∷ (named, counts, codes "-H goes with neither -c nor -h") ∷ (named, unnamed, codes "-H goes with neither -c nor -h")
-    ∷ []
+    ∷ (networks, longest, codes "--networks does not go with --longest") ∷ []
 
 -- the table has these, and of `-f` and `-e` one at least is given
 abbrev pub IsOptions : Table → Type 0

@@ -1,5 +1,5 @@
 -- What is read of lists.
-use Rattle.std.specs.Prelude.{◌≡◌, ℕ, ◌+◌, ◌==◌, Bool, true, false, List, [], ◌∷◌, ◌⊎◌, if◌then◌else◌}
+use Rattle.std.specs.Prelude.{◌≡◌, ℕ, ◌+◌, ◌==◌, false, List, [], ◌∷◌, ◌⊎◌, if◌then◌else◌}
 use Rattle.std.specs.Str.Lines.{lines}
 use Rattle.ipnetwork_blocks.specs.Aggregate.{IsAggregate}
 use Rattle.lists.specs.Lists.{ReadLists, nothing_read, at_list, TakesLines}
@@ -8,12 +8,17 @@ use Rattle.lists.specs.KnownLists.{KnownLists}
 use Rattle.lists.specs.Reading.{ReadsList, StopsAt, StopsAtText}
 use Rattle.lists.specs.declared.named.ReadFault.{ReadFault}
 use Rattle.log_programs.specs.Rows as rows
+use Rattle.ipnetwork_family.specs.Network.{Network}
+use Rattle.ipnetwork_sets.specs.IpSets.{v4_then_v6}
+use Rattle.options.specs.Given.{is_given}
 use Rattle.options.specs.declared.items.Item.{Item}
 use Rattle.options.specs.declared.items.Item.TheVariants as says
 use Rattle.cidr_filter.specs.Matcher.{HasBlocksOf}
 use Rattle.cidr_filter.specs.Options as own
 use Rattle.cidr_filter.specs.declared.matcher.Matcher.{Matcher}
-use Rattle.cidr_filter.specs.declared.matcher.Matcher.TheVariants.{Addresses, Blocks}
+use Rattle.cidr_filter.specs.declared.matcher.Matcher.TheVariants.{Addresses, Networks, Blocks}
+use Rattle.cidr_filter.specs.declared.reading.Question.{Question}
+use Rattle.cidr_filter.specs.declared.reading.Question.TheVariants as questions
 use Rattle.cidr_filter.specs.declared.reading.Source.{Source}
 use Rattle.cidr_filter.specs.declared.reading.Source.TheVariants as sources
 
@@ -67,9 +72,16 @@ pub record IsReadOf (known : KnownLists) (items : List Item) (read : ReadLists) 
   pub lists : ReadsItems known 0 items (nothing_read no_refusals) read
   pub memory : read.is_out_of_memory ≡ false
 
+-- what the lists are asked, by the options: for the longest block of an address, for networks, or for addresses
+abbrev pub question_of : List Item → Question
+question_of items = if is_given items own.longest then questions.Block
+    else if is_given items own.networks then questions.Network else questions.Address
+
 -- these are the addresses of the networks that were read or, with `--longest`, their blocks
-abbrev pub HoldsRead : Bool → ReadLists → Matcher → Type 0
-HoldsRead longest read (Addresses sets) = (longest ≡ false) × IsAggregate 32 read.v4 sets.v4
+abbrev pub HoldsRead : Question → ReadLists → Matcher → Type 0
+HoldsRead question read (Addresses sets) = (question ≡ questions.Address) × IsAggregate 32 read.v4 sets.v4
     × IsAggregate 128 read.v6 sets.v6
-HoldsRead longest read (Blocks tables) = (longest ≡ true) × HasBlocksOf 32 read.v4 tables.v4
+HoldsRead question read (Networks set) = (question ≡ questions.Network) × (v4 : List Network) × (v6 : List Network)
+    × IsAggregate 32 read.v4 v4 × IsAggregate 128 read.v6 v6 × (set ≡ v4_then_v6 v4 v6)
+HoldsRead question read (Blocks tables) = (question ≡ questions.Block) × HasBlocksOf 32 read.v4 tables.v4
     × HasBlocksOf 128 read.v6 tables.v6

@@ -24,7 +24,7 @@ use Rattle.cidr_filter.specs.Filters.{Filters, is_count}
 use Rattle.program.specs.LogFaults.{log_fault_text, FailsWriting, Wrote}
 use Rattle.program.specs.Logs.{HaltsBy}
 use Rattle.cidr_filter.specs.Logs.{FiltersLogs, is_enough, EndsRunBy, is_short, filter_for}
-use Rattle.cidr_filter.specs.Reading.{IsReadOf, StopsAtItems, HoldsRead}
+use Rattle.cidr_filter.specs.Reading.{IsReadOf, StopsAtItems, HoldsRead, question_of}
 use Rattle.cidr_filter.specs.Options as own
 use Rattle.cidr_filter.specs.Options.{IsOptions}
 use Rattle.program.specs.LogLines.{LogLine}
@@ -142,7 +142,7 @@ abbrev pub EndsFiltering : {W E : Type 0} → KnownLists → List Item → ReadL
 EndsFiltering known items read end =
     ((is_stopped_by items read.refused ≡ true) × Refuses [] end)
     ⊎ ((is_stopped_by items read.refused ≡ false) × (Refuses (codes "out of memory\n") end
-    ⊎ ((listed : Matcher) × HoldsRead (is_given items own.longest) read listed
+    ⊎ ((listed : Matcher) × HoldsRead (question_of items) read listed
     × EndsLogs (filter_of items listed) known (inputs_of items) end)))
 
 -- the lists were not read to their ends, and these lines were refused before: nothing was written, and the cause was

@@ -1,15 +1,18 @@
 //! What a line is to the lists, and whether it is selected.
-ghost use Rattle.std.specs.Prelude.{◌≡◌, ◌≤◌, ◌∷◌, [], IfSome, MatchOption};
+ghost use Rattle.std.specs.Prelude.{◌≡◌, ◌≤◌, IfSome, MatchOption, length};
 ghost use Rattle.std.specs.Option.{option_to_list};
-ghost use Rattle.line_addresses.specs.Addresses.{addresses_of};
 ghost use Rattle.line_addresses.specs.Areas.{each_of, picked, spelled_in};
+ghost use Rattle.line_addresses.specs.Found.{spelled_at};
+ghost use Rattle.line_addresses.specs.Networks.{found_of};
 ghost use Rattle.cidr_filter.specs.Addressed.{is_addressed_by};
-ghost use Rattle.cidr_filter.specs.Filters.{is_listed, IsVerdict, IsVerdictOfAddresses, IsListed, TellsBlock, addresses_in, asked, asked_of, is_selected, is_refused, is_count, is_silent};
-ghost use Rattle.cidr_filter.specs.Private.Copying.{IsSelectedByAddress};
+ghost use Rattle.cidr_filter.specs.Filters.{is_listed, IsVerdict, IsVerdictOfAddresses, IsListed, TellsOf, addresses_in, is_selected, is_refused, is_count, is_silent};
+ghost use Rattle.cidr_filter.specs.Matcher.{asked, reads_networks};
+ghost use Rattle.cidr_filter.specs.Private.Copying.{HasOnly, IsSelectedByAddress};
 
 use crate::matcher::Matcher;
+use crate::networks::covers;
 use ipnetwork::{IpAddr, IpNetwork};
-use line_addresses::{Area, Pick, Text, next_address, part_of, picked};
+use line_addresses::{Area, Found, Pick, Text, next_found, part_of, picked};
 use log_programs::finding::found_in;
 use log_programs::without_address::WithoutAddress;
 use program::log_reader::LINE_MAX;
@@ -114,8 +117,7 @@ impl Filter<'_> {
     // The address that the part of a line is in which it is looked for.
     #[inline(always)]
     fn only_address(&self, line: &[u8]) -> Option<IpAddr>
-        ensures { IfSome result (λ address.
-            addresses_in self.now line.now ≡ asked self.now.mapped address ∷ []) }
+        ensures { IfSome result (HasOnly self.now.area line.now) }
     {
         match self.area.pick {
             Pick::Whole => found_in(&self.area, line),
@@ -127,7 +129,7 @@ impl Filter<'_> {
     #[inline(always)]
     fn judge_within(&self, line: &[u8]) -> Verdict
         ensures { IsVerdictOfAddresses self.now
-            (asked_of self.now (spelled_in self.now.area line.now)) result }
+            (addresses_in self.now line.now) result }
     {
         match part_of(&self.area.part, line) {
             Some(part) => self.judge_part(part),
@@ -139,7 +141,7 @@ impl Filter<'_> {
     #[inline(always)]
     fn judge_part(&self, part: &[u8]) -> Verdict
         ensures { IsVerdictOfAddresses self.now
-            (asked_of self.now (each_of self.now.area.pick part.now)) result }
+            (each_of (reads_networks self.now.listed) self.now.area.pick part.now) result }
     {
         match self.area.pick {
             Pick::Each => self.judge_each(part),
@@ -151,10 +153,10 @@ impl Filter<'_> {
     #[inline(always)]
     fn judge_picked(&self, part: &[u8], pick: Pick) -> Verdict
         ensures { IsVerdictOfAddresses self.now
-            (asked_of self.now (option_to_list (picked pick part.now))) result }
+            (option_to_list (picked (reads_networks self.now.listed) pick part.now)) result }
     {
-        match picked(part, pick) {
-            Some(found) => match self.told_of(found.address) {
+        match picked(part, pick, self.listed.reads_networks()) {
+            Some(found) => match self.told_of(part, &found) {
                 Some(told) => Verdict::Inside(told),
                 None => Verdict::Outside,
             },
@@ -164,12 +166,14 @@ impl Filter<'_> {
 
     // What a line is to the list of which all addresses of this part are looked at.
     fn judge_each(&self, line: &[u8]) -> Verdict
-        ensures { IsVerdictOfAddresses self.now (asked_of self.now (addresses_of line.now)) result }
+        ensures { IsVerdictOfAddresses self.now
+            (found_of (reads_networks self.now.listed) line.now) result }
     {
         let mut at = 0;
         let mut is_seen = false;
-        'addresses: while let Some(found) = next_address(line, at) {
-            if let Some(told) = self.told_of(found.address) {
+        let networks = self.listed.reads_networks();
+        'addresses: while let Some(found) = next_found(line, at, networks) {
+            if let Some(told) = self.told_of(line, &found) {
                 return Verdict::Inside(told);
             }
             is_seen = true;
@@ -182,36 +186,47 @@ impl Filter<'_> {
         }
     }
 
-    // If an address is one of the list, what is told of it.
+    // If an address or network of a line is one of the list, what is told of it.
     #[inline(always)]
-    fn told_of(&self, address: IpAddr) -> Option<Option<IpNetwork>>
-        ensures { MatchOption result (¬ (IsListed self.now (asked self.now.mapped address)))
-            (λ told. IsListed self.now (asked self.now.mapped address)
-            × TellsBlock self.now.listed (asked self.now.mapped address) told) }
+    fn told_of(&self, line: &[u8], found: &Found) -> Option<Option<IpNetwork>>
+        requires ordered { found.now.start ≤ found.now.end }
+        requires within { found.now.end ≤ length line.now }
+        ensures { MatchOption result (¬ (IsListed self.now (spelled_at line.now found.now)))
+            (λ told. IsListed self.now (spelled_at line.now found.now)
+            × TellsOf self.now (spelled_at line.now found.now) told) }
     {
-        let address = self.asked(address);
         match &self.listed {
             Matcher::Addresses(sets) => {
-                if sets.contains(address) {
+                if sets.contains(self.asked(found.address)) {
                     Some(None)
                 } else {
                     None
                 }
             }
-            Matcher::Blocks(tables) => match tables.longest(address) {
+            Matcher::Networks(set) => {
+                if covers(set, self.mapped, &line[found.start..found.end]) {
+                    Some(None)
+                } else {
+                    None
+                }
+            }
+            Matcher::Blocks(tables) => match tables.longest(self.asked(found.address)) {
                 Some(block) => Some(Some(block)),
                 None => None,
             },
         }
     }
 
-    /// Whether an address of a line is printed in place of it: whether it is in the list. Of blocks
-    /// none is, since `-o` is not given together with `--longest`.
-    pub(crate) fn prints(&self, address: IpAddr) -> bool
-        ensures { result ≡ is_listed self.now.listed (asked self.now.mapped address) }
+    /// Whether an address or network of a line is printed in place of it: whether it is in the list.
+    /// Of blocks none is, since `-o` is not given together with `--longest`.
+    pub(crate) fn prints(&self, line: &[u8], found: &Found) -> bool
+        requires ordered { found.now.start ≤ found.now.end }
+        requires within { found.now.end ≤ length line.now }
+        ensures { result ≡ is_listed self.now.listed self.now.mapped (spelled_at line.now found.now) }
     {
         match &self.listed {
-            Matcher::Addresses(sets) => sets.has(self.asked(address)),
+            Matcher::Addresses(sets) => sets.has(self.asked(found.address)),
+            Matcher::Networks(set) => covers(set, self.mapped, &line[found.start..found.end]),
             Matcher::Blocks(_) => false,
         }
     }

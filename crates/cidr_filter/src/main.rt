@@ -9,6 +9,7 @@ mod log;
 mod logs;
 mod matcher;
 mod naming;
+mod networks;
 mod printing;
 mod printing_addresses;
 mod reading;

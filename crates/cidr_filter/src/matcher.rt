@@ -1,11 +1,11 @@
 //! The networks of the lists, and what they say about an address.
 ghost use Rattle.std.specs.Prelude.{◌≡◌, ◌↔◌, IsTrue, IfOk, MatchOption};
-ghost use Rattle.cidr_filter.specs.Matcher.{HasAddress, has_address, HasBlocksOf, IsLongestBlock, NoBlockHolds};
+ghost use Rattle.cidr_filter.specs.Matcher.{HasAddress, has_address, HasBlocksOf, IsLongestBlock, NoBlockHolds, reads_networks};
 
 use ipnetwork::{IpAddr, IpNetwork, Ipv4Network, Ipv6Network};
 use ipnetwork_family::laws;
 use ipnetwork_index::{AddressIndex, BlockIndex};
-use ipnetwork_sets::AddressSet;
+use ipnetwork_sets::{AddressSet, IpAddressSet};
 use std::alloc::{AllocError, Global};
 
 /// The networks of lists.
@@ -13,8 +13,23 @@ use std::alloc::{AllocError, Global};
 pub enum Matcher {
     /// Their addresses.
     Addresses(Sets),
+    /// Their addresses, of which networks are asked.
+    Networks(IpAddressSet),
     /// Their blocks.
     Blocks(Tables),
+}
+
+impl Matcher {
+    /// Whether networks of lines are looked for, beside addresses.
+    #[inline(always)]
+    pub(crate) fn reads_networks(&self) -> bool
+        ensures { result ≡ reads_networks self.now }
+    {
+        match self {
+            Matcher::Networks(_) => true,
+            Matcher::Addresses(_) | Matcher::Blocks(_) => false,
+        }
+    }
 }
 
 /// The addresses of networks, by family.

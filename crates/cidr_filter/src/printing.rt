@@ -92,7 +92,7 @@ fn put_mark<W: Write>(
     ensures { PutsOrFails result output.old output.new (mark_of listed.now verdict.now) }
 {
     match listed {
-        Matcher::Addresses(_) => Ok(()),
+        Matcher::Addresses(_) | Matcher::Networks(_) => Ok(()),
         Matcher::Blocks(_) => put_block(block_in(verdict), output),
     }
 }

@@ -1,16 +1,17 @@
-//! Prints the addresses of a line that are in the list.
-ghost use Rattle.std.specs.Prelude.{◌++◌, ◌∷◌, []};
+//! Prints the addresses and networks of a line that are in the list.
+ghost use Rattle.std.specs.Prelude.{◌≤◌, ◌++◌, ◌∷◌, [], length};
 ghost use Rattle.lines.specs.Outputs.{Prints};
 ghost use Rattle.std.specs.Option.{option_to_list};
-ghost use Rattle.line_addresses.specs.Addresses.{addresses_of};
-ghost use Rattle.line_addresses.specs.Areas.{each_of, picked, spelled_in};
-ghost use Rattle.cidr_filter.specs.Filters.{head_of, text_of, texts_of};
+ghost use Rattle.line_addresses.specs.Areas.{each_of, picked};
+ghost use Rattle.line_addresses.specs.Found.{spelled_at};
+ghost use Rattle.line_addresses.specs.Networks.{found_of};
+ghost use Rattle.cidr_filter.specs.Filters.{addresses_in, head_of, text_of, texts_of};
+ghost use Rattle.cidr_filter.specs.Matcher.{reads_networks};
 ghost use Rattle.program.specs.Putting.{PutsOrFails};
 
 use crate::filter::Filter;
 use crate::naming::put_head;
-use ipnetwork::IpAddr;
-use line_addresses::{Pick, next_address, part_of, picked};
+use line_addresses::{Found, Pick, next_found, part_of, picked};
 use lines::fault::RunFault;
 use lines::output::Output;
 use program::putting::put_both;
@@ -26,7 +27,7 @@ pub(crate) fn print_addresses<W: Write>(
 ) -> Result<(), RunFault>
     ensures { PutsOrFails result output.old output.new
         (texts_of filter.now (head_of filter.now line_number)
-        (spelled_in filter.now.area line.now)) }
+        (addresses_in filter.now line.now)) }
 {
     let of_line = OfLine {
         filter,
@@ -50,7 +51,8 @@ impl OfLine<'_> {
     fn print_part<W: Write>(&self, part: &[u8], output: &mut Output<'_, W>) -> Result<(), RunFault>
         ensures { PutsOrFails result output.old output.new
             (texts_of self.now.filter.now (head_of self.now.filter.now self.now.number)
-            (each_of self.now.filter.now.area.pick part.now)) }
+            (each_of (reads_networks self.now.filter.now.listed)
+            self.now.filter.now.area.pick part.now)) }
     {
         match self.filter.area.pick {
             Pick::Each => self.print_each(part, output),
@@ -67,13 +69,10 @@ impl OfLine<'_> {
     ) -> Result<(), RunFault>
         ensures { PutsOrFails result output.old output.new
             (texts_of self.now.filter.now (head_of self.now.filter.now self.now.number)
-            (option_to_list (picked pick part.now))) }
+            (option_to_list (picked (reads_networks self.now.filter.now.listed) pick part.now))) }
     {
-        match picked(part, pick) {
-            Some(found) => {
-                let text = &part[found.start..found.end];
-                self.print_found(found.address, text, output)
-            }
+        match picked(part, pick, self.filter.listed.reads_networks()) {
+            Some(found) => self.print_found(part, &found, output),
             None => Ok(()),
         }
     }
@@ -82,32 +81,34 @@ impl OfLine<'_> {
     fn print_each<W: Write>(&self, line: &[u8], output: &mut Output<'_, W>) -> Result<(), RunFault>
         ensures { PutsOrFails result output.old output.new
             (texts_of self.now.filter.now (head_of self.now.filter.now self.now.number)
-            (addresses_of line.now)) }
+            (found_of (reads_networks self.now.filter.now.listed) line.now)) }
     {
         let mut at = 0;
-        'addresses: while let Some(found) = next_address(line, at) {
-            let text = &line[found.start..found.end];
-            self.print_found(found.address, text, output)?;
+        let networks = self.filter.listed.reads_networks();
+        'addresses: while let Some(found) = next_found(line, at, networks) {
+            self.print_found(line, &found, output)?;
             at = found.next;
         }
         Ok(())
     }
 
-    // Writes the text of an address and a line feed, if it is in the list.
+    // Writes the text of what was found in a line and a line feed, if it is in the list.
     fn print_found<W: Write>(
         &self,
-        address: IpAddr,
-        text: &[u8],
+        line: &[u8],
+        found: &Found,
         output: &mut Output<'_, W>,
     ) -> Result<(), RunFault>
+        requires ordered { found.now.start ≤ found.now.end }
+        requires within { found.now.end ≤ length line.now }
         ensures { PutsOrFails result output.old output.new
             (text_of self.now.filter.now (head_of self.now.filter.now self.now.number)
-            address text.now) }
+            (spelled_at line.now found.now)) }
     {
-        if !self.filter.prints(address) {
+        if !self.filter.prints(line, found) {
             return Ok(());
         }
-        self.print_text(text, output)
+        self.print_text(&line[found.start..found.end], output)
     }
 
     // Writes what stands first, and then a text and a line feed.

@@ -2,15 +2,16 @@
 ghost use Rattle.std.specs.Prelude.{◌≡◌, false, OnOk, IfOk, IfErr};
 ghost use Rattle.lists.specs.Lists.{nothing_read};
 ghost use Rattle.lists.specs.Refusals.{no_refusals};
-ghost use Rattle.cidr_filter.specs.Reading.{source_by, source_of, ReadsItem, ReadsItems, StopsAtItem, StopsAtItems, HoldsRead};
+ghost use Rattle.cidr_filter.specs.Reading.{question_of, source_by, source_of, ReadsItem, ReadsItems, StopsAtItem, StopsAtItems, HoldsRead};
 ghost use Rattle.cidr_filter.specs.Private.Reading.{ReadsAll, HasSets, HasBlocks};
 
 use crate::matcher::{Matcher, Sets, Tables};
-use crate::rows::TEXT;
+use crate::rows::{LONGEST, NETWORKS, TEXT};
 use ipnetwork::{Ipv4Network, Ipv6Network};
-use ipnetwork_sets::AddressSet;
+use ipnetwork_sets::{AddressSet, IpAddressSet};
 use lists::{ListReader, OpenLists, ReadFault, Refusals, read_named, read_text};
 use log_programs::rows::LIST;
+use options::given::is_given;
 use options::items::{Item, Text};
 use std::alloc::{AllocError, Global};
 
@@ -25,42 +26,74 @@ pub enum Source<'a> {
     Nothing,
 }
 
-/// Reads the lists that the options name, in their order. Returns the networks (as blocks if `longest`, and else as a
-/// set of addresses), the refused lines, and whether all lists were read to the end.
+/// What the lists are asked.
+#[derive(Clone, Copy, Debug, PartialEq, Eq)]
+pub enum Question {
+    /// Whether an address is in them.
+    Address,
+    /// Whether each address of a network is.
+    Network,
+    /// Which is the longest block that holds an address.
+    Block,
+}
+
+/// What the options say that the lists are asked.
+pub(crate) fn question_of(items: &[Item<'_>]) -> Question
+    ensures { result ≡ question_of items.now }
+{
+    if is_given(items, LONGEST) {
+        Question::Block
+    } else if is_given(items, NETWORKS) {
+        Question::Network
+    } else {
+        Question::Address
+    }
+}
+
+/// Reads the lists that the options name, in their order. Returns the networks, as they are asked, the refused lines,
+/// and whether all lists were read to the end.
 pub(crate) fn read_listed<L: OpenLists>(
     alloc: Global,
     lists: &L,
     items: &[Item<'_>],
-    longest: bool,
+    question: Question,
 ) -> (Result<Matcher, AllocError>, Refusals, Result<(), ReadFault>)
     ensures read { OnOk result.2
-        (ReadsAll (L.known lists.now) items.now longest result.0 result.1) }
+        (ReadsAll (L.known lists.now) items.now question result.0 result.1) }
     ensures stopped { IfErr result.2
         (λ fault. StopsAtItems (L.known lists.now) 0 items.now (nothing_read no_refusals) fault
         result.1) }
 {
     let mut reader = ListReader::new(alloc, Refusals::new());
     let end = read_lists(lists, items, &mut reader);
-    let (listed, refusals) = listed_by(alloc, longest, reader);
+    let (listed, refusals) = listed_by(alloc, question, reader);
     (listed, refusals, end)
 }
 
-// The networks that were read, and the refused lines: the blocks of the networks if `longest`, and else their
-// addresses.
+// The networks that were read, as they are asked, and the refused lines.
 fn listed_by(
     alloc: Global,
-    longest: bool,
+    question: Question,
     reader: ListReader,
 ) -> (Result<Matcher, AllocError>, Refusals)
-    ensures listed { IfOk result.0 (HoldsRead longest reader) }
+    ensures listed { IfOk result.0 (HoldsRead question reader) }
     ensures refused { result.1 ≡ reader.refused }
 {
-    if longest {
-        let (v4, v6, refusals) = reader.into_networks();
-        return (blocks_of(alloc, v4, v6), refusals);
+    match question {
+        Question::Address => {
+            let (v4, v6, refusals) = reader.into_sets();
+            (addresses_of(alloc, &v4, &v6), refusals)
+        }
+        Question::Network => {
+            let (v4, v6, refusals) = reader.into_sets();
+            let set = IpAddressSet::from_parts(v4, v6);
+            (Ok(Matcher::Networks(set)), refusals)
+        }
+        Question::Block => {
+            let (v4, v6, refusals) = reader.into_networks();
+            (blocks_of(alloc, v4, v6), refusals)
+        }
     }
-    let (v4, v6, refusals) = reader.into_sets();
-    (addresses_of(alloc, &v4, &v6), refusals)
 }
 
 // Reads the lists that the options name.

@@ -43,12 +43,15 @@ pub(crate) const QUIET: usize = 21;
 /// The row of `--skip-bad`.
 pub(crate) const SKIPS_BAD: usize = 22;
 
+/// The row of `--networks`.
+pub(crate) const NETWORKS: usize = 23;
+
 // The options.
-const ROWS: [Row; 23] = log_rows![
-    letter!(b'e', Text, "is no network or range"),
-    letter!(b'm', Number, "is no number of lines"),
+const ROWS: [Row; 24] = log_rows![
+    letter!(b'e', Text, "not a network or range"),
+    letter!(b'm', Number, "not a number of lines"),
     long!("--longest", Flag, false, ""),
-    long!("--bad", Rule, true, "is not drop, keep, stop or report"),
+    long!("--bad", Rule, true, "not drop, keep, stop or report"),
     letter!(b'v', Flag, ""),
     letter!(b'c', Flag, ""),
     letter!(b'o', Flag, ""),
@@ -58,10 +61,11 @@ const ROWS: [Row; 23] = log_rows![
     letter!(b'l', Flag, ""),
     letter!(b'q', Flag, ""),
     long!("--skip-bad", Flag, false, ""),
+    long!("--networks", Flag, false, ""),
 ];
 
 // Which do not go together.
-const PAIRS: [Pair; 11] = log_pairs![
+const PAIRS: [Pair; 12] = log_pairs![
     [
         pair!(LONGEST, INVERTS, "--longest goes with neither -v nor -c"),
         pair!(LONGEST, COUNTS, "--longest goes with neither -v nor -c"),
@@ -71,6 +75,7 @@ const PAIRS: [Pair; 11] = log_pairs![
         pair!(ONLY, LONGEST, "-o goes with neither -v nor --longest"),
         pair!(NAMED, COUNTS, "-H goes with neither -c nor -h"),
         pair!(NAMED, UNNAMED, "-H goes with neither -c nor -h"),
+        pair!(NETWORKS, LONGEST, "--networks does not go with --longest"),
     ],
 ];
 

@@ -10,9 +10,9 @@ use crate::filter::{Filter, OutputMode};
 use crate::help::{HELP, PROGRAM, USAGE, VERSION};
 use crate::logs::filter_logs;
 use crate::matcher::Matcher;
-use crate::reading::read_listed;
+use crate::reading::{question_of, read_listed};
 use crate::rows::{
-    BAD, COUNTS, INVERTS, LONGEST, MOST, NAMED, NAMES, NUMBERED, ONLY, QUIET, SKIPS_BAD, table,
+    BAD, COUNTS, INVERTS, MOST, NAMED, NAMES, NUMBERED, ONLY, QUIET, SKIPS_BAD, table,
 };
 use crate::telling::{InOptions, names_of};
 use line_addresses::Text;
@@ -99,8 +99,8 @@ fn filter_files<L: OpenLists, W: Write, E: Write>(
     ensures { EndsReading (L.known lists.now) items.now names.now
         (ending output.old output.new errors.old errors.new result) }
 {
-    let longest = is_given(items, LONGEST);
-    let (listed, refusals, read) = read_listed(alloc, lists, items, longest);
+    let question = question_of(items);
+    let (listed, refusals, read) = read_listed(alloc, lists, items, question);
     tell_refusals(names, &InOptions { items }, &refusals, errors);
     if let Err(fault) = read {
         tell_fault(names, fault, errors);

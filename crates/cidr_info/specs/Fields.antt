@@ -1,4 +1,4 @@
--- What there is to tell of a network.
+-- The fields that are printed about a network.
 use Rattle.std.specs.Prelude.{ℕ, ◌+◌, ◌-◌, ◌^◌, List, [], ◌∷◌, ◌++◌, nat_lt, if◌then◌else◌, codes, decimal}
 use Rattle.ipnetwork_addr.specs.Either.{canonical_ip}
 use Rattle.ipnetwork_addr.specs.declared.ip.IpAddr.{IpAddr}
@@ -13,49 +13,53 @@ use Rattle.cidr_info.specs.Zones.{zone_of}
 use Rattle.cidr_info.specs.declared.field.Field.{Field}
 use Rattle.cidr_info.specs.declared.field.Field.TheVariants as says
 
--- all fields, in the order in which they are printed
+-- the fields, in the order in which they are printed
 abbrev pub fields : List Field
 fields = says.Address ∷ says.Network ∷ says.Mask ∷ says.Wildcard ∷ says.First ∷ says.Last ∷ says.Hosts
     ∷ says.Addresses ∷ says.Reverse ∷ says.Integer ∷ says.Hexadecimal ∷ []
 
--- the network without host bits, as a text
+-- the text of a network without its host bits
 abbrev pub block_text : IpNetwork → List ℕ
 block_text network = ip_network_text (made_of (ip_low network) (prefix_of network))
 
--- the complement of the mask, as an address
+-- the wildcard of a network: the complement of its mask, as an address
 abbrev pub wildcard_of : IpNetwork → IpAddr
 wildcard_of (V4 network) = addresses.V4 (2 ^ 32 - 1 - mask_of 32 network.prefix)
 wildcard_of (V6 network) = addresses.V6 (2 ^ 128 - 1 - mask_of 128 network.prefix)
 
--- the first and the last address that a host may have: of an IPv4 network, up to prefix length 30, neither the least
--- nor the greatest (RFC 1122, section 3.2.1.3); else these (RFC 3021)
+-- the first and the last address that a host of an IPv4 network may have: up to prefix length 30 the lowest and the
+-- highest address are left out (RFC 1122, section 3.2.1.3), and above 30 they are not (RFC 3021)
 abbrev pub v4_hosts_of : Network → ℕ × ℕ
 v4_hosts_of network =
     if nat_lt 30 network.prefix then (low 32 network, high 32 network)
     else (low 32 network + 1, high 32 network - 1)
 
+-- the first and the last address that a host of a network may have; in an IPv6 network these are the lowest and the
+-- highest
 abbrev pub hosts_of : IpNetwork → IpAddr × IpAddr
 hosts_of (V4 network) = (addresses.V4 (v4_hosts_of network).0, addresses.V4 (v4_hosts_of network).1)
 hosts_of (V6 network) = (addresses.V6 (low 128 network), addresses.V6 (high 128 network))
 
+-- the first and the last address that a host may have, in canonical form, with ` - ` between them
 abbrev pub hosts_text : IpNetwork → List ℕ
 hosts_text network = canonical_ip (hosts_of network).0 ++ codes " - " ++ canonical_ip (hosts_of network).1
 
--- how many bits of its addresses are not fixed
+-- the number of host bits: the bits of an address of the family less the prefix length
 abbrev pub host_bits : IpNetwork → ℕ
 host_bits (V4 network) = 32 - network.prefix
 host_bits (V6 network) = 128 - network.prefix
 
--- an address as a number, and how many digits of base 16 those of its family have
+-- the address as a number
 abbrev pub number_of : IpAddr → ℕ
 number_of (addresses.V4 address) = address
 number_of (addresses.V6 address) = address
 
+-- the number of hexadecimal digits of an address of this family: 8 for IPv4, 32 for IPv6
 abbrev pub hex_width : IpAddr → ℕ
 hex_width (addresses.V4 address) = 8
 hex_width (addresses.V6 address) = 32
 
--- what a field tells of a network
+-- the value of a field of a network, as text
 abbrev pub value_of : Field → IpNetwork → List ℕ
 value_of says.Address network = canonical_ip (address_of network)
 value_of says.Network network = block_text network

@@ -1,4 +1,4 @@
--- What is reported of texts that name no network, and of standard input.
+-- What is reported about texts that name no network, and about standard input.
 use Rattle.std.specs.Prelude.{ℕ, Bool, List, [], ◌∷◌, ◌++◌, Option, None, Some, nat_lt, if◌then◌else◌, codes, decimal}
 use Rattle.std.specs.List.{flat_map}
 use Rattle.ipnetwork_addr.specs.Computed.Either.{ip_of}
@@ -12,37 +12,41 @@ use Rattle.lists.specs.declared.bytes.BytesFault.TheVariants as faults
 use Rattle.program.specs.Usage.{shown}
 use Rattle.cidr_info.specs.Words.{Saying}
 
--- why a text names no network, in a word: it has several slashes, what stands before the first is no address, or what
--- stands behind it is no prefix length
+-- the cause of a refusal, by the address that stands before the slash: `address` if there is none, else `prefix`
 abbrev pub cause_by : Option IpAddr → List ℕ
 cause_by None = codes "address"
 cause_by (Some address) = codes "prefix"
 
+-- why a text names no network, in one word: `format` if it has more than one slash, `address` if what stands before the
+-- slash is no address, and else `prefix`
 abbrev pub plain_text : List ℕ → List ℕ
 plain_text text = if nat_lt 1 (slashes text) then codes "format" else cause_by (ip_of (before_slash text))
 
--- or its encoding, if it is no plain text
+-- the name of the encoding, if the text has one, and else why the text names no network
 abbrev pub told_text : Option Encoding → List ℕ → List ℕ
 told_text None text = plain_text text
 told_text (Some encoding) text = encoding_text encoding
 
+-- the name of the encoding of a text that is not plain text, and else why the text names no network
 abbrev pub cause_text : List ℕ → List ℕ
 cause_text text = told_text (encoding_of text) text
 
--- where a text stands: the word, or `-` and the number of its line
+-- where a text stands: `-:` and its line number for a line of standard input, and the word itself, as messages show it,
+-- for a word of the command line
 abbrev pub place_text : Saying → List ℕ
 place_text said =
     if nat_lt 0 said.line then codes "-:" ++ decimal said.line else shown said.text
 
--- what is reported of a text that names no network
+-- the line that is reported about a text that names no network
 abbrev pub refusal_text : Saying → List ℕ
 refusal_text said = codes "cidr_info: " ++ place_text said ++ codes ": refused " ++ cause_text said.text ++ codes "\n"
 
--- and of several texts
+-- the line that is reported about a text if it names no network, and else nothing
 abbrev pub if_refused : Saying → Option IpNetwork → List ℕ
 if_refused said None = refusal_text said
 if_refused said (Some network) = []
 
+-- the lines that are reported about those of the texts that name no network, in their order
 abbrev pub refusals_text : List Saying → List ℕ
 refusals_text all = flat_map (λ said. if_refused said said.network) all
 

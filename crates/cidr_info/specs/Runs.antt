@@ -29,83 +29,91 @@ use Rattle.cidr_info.specs.Words.{Saying, network_in, networks_in, reads_input, 
 
 -- ---- the command line
 
--- the network that `--in` gives
+-- the network that the value of `--in` names, if the option is given and its value names one
 abbrev pub outer_of : List Item → Option IpNetwork
 outer_of items = if is_given items own.in_network then network_in (value_of items own.in_network) else None
 
--- what is wrong with its value, and with a command line
+-- the fault of a command line that gives `--in` with a value that names no network
 abbrev pub in_fault : List Item → Option Fault
 in_fault items =
     if is_given items own.in_network && not (is_some (outer_of items))
-    then Some (about (subjects.Value own.in_network (value_of items own.in_network)) (codes "is no network")) else None
+    then Some (about (subjects.Value own.in_network (value_of items own.in_network)) (codes "not a network")) else None
 
+-- the fault of a command line: the one that its table of options finds, or else the fault of the value of `--in`
 abbrev pub fault_of : Table → List Item → Option Fault
 fault_of table items = option_or (operands_fault table items) (in_fault items)
 
 -- ---- the answer
 
--- a text names a network that lies within this one
+-- a text names a network, and that network lies within `outer`
 abbrev pub is_within : IpNetwork → Option IpNetwork → Bool
 is_within outer None = false
 is_within outer (Some network) = is_ip_subnet network outer
 
+-- each of the texts names a network that lies within `outer`
 abbrev pub all_within : IpNetwork → List Saying → Bool
 all_within outer all = list_all (λ said. is_within outer said.network) all
 
--- the exit status: 2 if a text names no network, and with `--in` 1 if one does not lie within that network, or there is
--- none
+-- the text names no network
 abbrev pub is_refused : Saying → Bool
 is_refused said = not (is_some said.network)
 
+-- the exit status if every text names a network: 1 if `--in` names a network and one of theirs does not lie within it,
+-- or there is no text; and else 0
 abbrev pub within_status : Option IpNetwork → List Saying → ℕ
 within_status None all = 0
 within_status (Some outer) all = if not (length all == 0) && all_within outer all then 0 else 1
 
+-- the exit status: 2 if a text names no network, and else that of texts that each name one
 abbrev pub status_of : Option IpNetwork → List Saying → ℕ
 status_of outer all = if list_any is_refused all then 2 else within_status outer all
 
--- what is printed: nothing, if `--in` is given, and else what there is to tell of the networks
+-- what is printed: nothing if `--in` is given, and else the fields of the networks, as JSON if `--json` is given
 abbrev pub answer_text : List Item → List Saying → List ℕ
 answer_text items all =
     if is_given items own.in_network then [] else infos_text (is_given items own.json) (networks_in all)
 
 -- ---- the run
 
--- the text was written and the other one reported, and the status is this; or the writer failed, which took a beginning
--- of what waited and the text, and that was reported after the other one
+-- either `text` was written, `told` was reported and the exit status is `status`; or the writer failed after it took a
+-- beginning of what waited and of `text`, `told` and a write error were reported, and the exit status is 2
 abbrev pub EndsWith : {W E : Type 0} → List ℕ → List ℕ → ℕ → Ending W E → Type 0
 EndsWith text told status end = (HasWritten end text × HasTold end told × (end.status ≡ status))
     ⊎ (FailsWriting end text × HasTold end (told ++ codes "write error\n") × (end.status ≡ 2))
 
--- these texts were answered: those that name no network were reported
+-- the run wrote the answer to these texts, reported those that name no network, and has their exit status, or the
+-- writer failed
 abbrev pub EndsSaid : {W E : Type 0} → List Item → List Saying → Ending W E → Type 0
 EndsSaid items all end = EndsWith (answer_text items all) (refusals_text all) (status_of (outer_of items) all) end
 
--- the words and the lines of this input were, unless there was no memory for them
+-- the run reported that memory ran out, or it answered the words of the command line, with the lines of this input in
+-- the place of each `-`
 abbrev pub EndsAnswering : {W E : Type 0} → List Item → List ℕ → Ending W E → Type 0
 EndsAnswering items input end = Refuses (codes "out of memory\n") end ⊎ EndsSaid items (words_said input items) end
 
--- these are the bytes of standard input, if a word asks for it; it was not read, for this reason
+-- these bytes are all of standard input if a word asks for it, and none otherwise
 abbrev pub IsInput : KnownLists → List Item → List ℕ → Type 0
 IsInput known items input = (reads_input items ≡ true → IsAllOf known (codes "-") input)
     × (reads_input items ≡ false → input ≡ [])
 
+-- a word asks for standard input, and this fault stopped the reading of it, of at most 1,073,741,824 bytes
 abbrev pub NoInput : KnownLists → List Item → BytesFault → Type 0
 NoInput known items fault = (reads_input items ≡ true) × BytesStop known (codes "-") 1073741824 fault
 
--- standard input was not read, nothing was written, and the cause was reported; or it was, if a word asks for it, and
--- the words and its lines were answered
+-- either standard input was not read and the run reported only why; or the run answered the words of the command line,
+-- with what was read of standard input if a word asks for it
 abbrev pub EndsReading : {W E : Type 0} → KnownLists → List Item → Ending W E → Type 0
 EndsReading known items end = ((fault : BytesFault) × NoInput known items fault × Refuses (input_fault_text fault) end)
     ⊎ ((input : List ℕ) × IsInput known items input × EndsAnswering items input end)
 
--- something is wrong with what the words say, and that and the usage are reported; or it is done
+-- if the command line has a fault, the run reported the fault and the usage; otherwise it ended as the words ask
 abbrev pub EndsItems : {W E : Type 0} → Table → List ℕ → List ℕ → KnownLists → List Item → Ending W E → Type 0
 EndsItems table program usage known items end =
     MatchOption (fault_of table items) (EndsReading known items end)
     (λ fault. Refuses (refusal_text program usage table.rows.now fault) end)
 
--- how a run ends of a program of this name, help, version and usage, by the table of its options
+-- how a run ends by the words of its command line, the program's name, help, version and usage: it prints the help or
+-- the version if the only word asks for it; otherwise it reports that memory ran out, or ends by what the words say
 abbrev pub EndsAs : {Z W E : Type 0} → List ℕ → List ℕ → List ℕ → List ℕ → KnownLists → List (String Z) → Ending W E
     → Type 0
 EndsAs program help version usage known words end =

@@ -1,4 +1,4 @@
--- What is printed of networks.
+-- How the fields of networks are printed.
 use Rattle.std.specs.Prelude.{ℕ, ◌-◌, ◌||◌, Bool, true, false, List, [], ◌∷◌, ◌++◌, length, codes, replicate}
 use Rattle.std.specs.Prelude.{if◌then◌else◌}
 use Rattle.std.specs.List.{flat_map}
@@ -21,43 +21,47 @@ name_of says.Reverse = codes "reverse"
 name_of says.Integer = codes "integer"
 name_of says.Hexadecimal = codes "hexadecimal"
 
--- what stands before a member of an object, and behind its string
+-- what stands before a member of a JSON object: `{` before the first one, and a comma before each other
 abbrev pub opening : Field → List ℕ
 opening says.Address = codes "{"
 opening field = codes ","
 
+-- what follows the string of a member of a JSON object: its closing quote, and after the last one also `}` and a line
+-- feed
 abbrev pub closing : Field → List ℕ
 closing says.Hexadecimal = codes "\"}\n"
 closing field = codes "\""
 
--- what stands before the value of a field: its name, with blanks (32) up to the thirteenth byte, or, as JSON, the name
--- as a string, a colon and a quote
+-- what stands before the value of a field: its name, padded with spaces (byte 32) to 13 bytes; or, as JSON, its name as
+-- a string, a colon and an opening quote
 abbrev pub before_value : Bool → Field → List ℕ
 before_value false field = name_of field ++ replicate (13 - length (name_of field)) 32
 before_value true field = opening field ++ codes "\"" ++ name_of field ++ codes "\":\""
 
--- what stands behind it
+-- what follows the value of a field: a line feed; or, as JSON, the closing quote and, after the last field, the end of
+-- the object
 abbrev pub behind_value : Bool → Field → List ℕ
 behind_value false field = codes "\n"
 behind_value true field = closing field
 
--- the row of a field
+-- a field of a network as it is printed: what stands before its value, the value, and what follows it
 abbrev pub row_text : Bool → IpNetwork → Field → List ℕ
 row_text json network field = before_value json field ++ value_of field network ++ behind_value json field
 
--- a network: a line for each field, or an object in a line
+-- a network as it is printed: each field on a line of its own, or all of them as a JSON object on one line
 unfoldable pub info_text : Bool → IpNetwork → List ℕ
 info_text json network = flat_map (row_text json network) fields
 
--- what stands before a network, which is the first or not: an empty line between two, but nothing between objects
+-- what stands before a network: an empty line, but nothing before the first network or a JSON object
 abbrev pub separator : Bool → Bool → List ℕ
 separator is_first json = if is_first || json then [] else codes "\n"
 
--- networks, the first of which is the first of all or not
+-- several networks as they are printed, where `is_first` says whether the first of them is the first that is printed
 abbrev pub infos_from : Bool → Bool → List IpNetwork → List ℕ
 infos_from is_first json [] = []
 infos_from is_first json (network ∷ networks) =
     (separator is_first json ++ info_text json network) ++ infos_from false json networks
 
+-- several networks as they are printed
 abbrev pub infos_text : Bool → List IpNetwork → List ℕ
 infos_text json networks = infos_from true json networks

@@ -1,4 +1,4 @@
-//! What there is to tell of networks.
+//! Prints the addresses, masks, numbers and reverse names of networks.
 #![tactic(auto)]
 
 mod field;

@@ -1,4 +1,4 @@
-//! Numbers as texts.
+//! Decimal and hexadecimal texts of numbers.
 ghost use Rattle.std.specs.Prelude.{◌≡◌, ◌+◌, ◌<◌, ◌≤◌, ◌^◌, ◌++◌, decimal};
 ghost use Rattle.arrayvec.specs.ArrayString.{array_string_len};
 ghost use Rattle.cidr_info.specs.Numbers.{hex_text, hex_digits, hex_digit};
@@ -7,7 +7,7 @@ use crate::value::VALUE_MAX;
 use arrayvec::ArrayString;
 use ipnetwork_addr::decimal::push_number;
 
-/// Two to the power of a number of bits, in decimal.
+/// Returns two to the power of `bits`, in decimal.
 pub(crate) fn power_text(bits: u8) -> ArrayString<VALUE_MAX>
     requires { bits ≤ 128 }
     ensures { result.bytes ≡ decimal (2 ^ bits) }
@@ -20,7 +20,7 @@ pub(crate) fn power_text(bits: u8) -> ArrayString<VALUE_MAX>
     decimal_text(1 << bits)
 }
 
-/// A number in decimal.
+/// Returns a number in decimal.
 pub(crate) fn decimal_text(number: u128) -> ArrayString<VALUE_MAX>
     ensures { result.bytes ≡ decimal number }
 {
@@ -29,7 +29,7 @@ pub(crate) fn decimal_text(number: u128) -> ArrayString<VALUE_MAX>
     text
 }
 
-/// A number in base 16, behind `0x`, with this many digits.
+/// Returns `0x` and the last `count` hexadecimal digits of a number.
 pub(crate) fn hex_text(number: u128, count: u8) -> ArrayString<VALUE_MAX>
     requires { count ≤ 32 }
     ensures { result.bytes ≡ hex_text count number }
@@ -40,7 +40,7 @@ pub(crate) fn hex_text(number: u128, count: u8) -> ArrayString<VALUE_MAX>
     text
 }
 
-// Writes the last digits of base 16 of a number, this many.
+// Appends the last `count` hexadecimal digits of a number.
 fn push_hex(text: &mut ArrayString<VALUE_MAX>, number: u128, count: u8)
     requires { array_string_len text.old + count ≤ VALUE_MAX }
     ensures bytes { text.new.bytes ≡ text.old.bytes ++ hex_digits count number }
@@ -52,7 +52,7 @@ fn push_hex(text: &mut ArrayString<VALUE_MAX>, number: u128, count: u8)
     }
 }
 
-/// A digit of base 16.
+/// Returns the character of a hexadecimal digit.
 pub(crate) fn hex_digit(digit: u8) -> char
     requires { digit < 16 }
     ensures value { result ≡ hex_digit digit }

@@ -1,4 +1,4 @@
-//! What is printed of networks.
+//! Prints the fields of networks.
 ghost use Rattle.std.specs.Prelude.{◌≡◌, ◌++◌, ◌&&◌};
 ghost use Rattle.std.specs.Option.{is_none};
 ghost use Rattle.program.specs.Putting.{PutsOrFails};
@@ -14,7 +14,7 @@ use lines::output::Output;
 use program::putting::put_all;
 use std::io::Write;
 
-/// Prints what there is to tell of the networks that these texts name: blocks of lines, or as JSON.
+/// Prints the fields of the networks that these texts name: as blocks of lines, or as JSON.
 pub(crate) fn put_infos<W: Write>(
     json: bool,
     all: &[Said<'_>],
@@ -30,14 +30,14 @@ pub(crate) fn put_infos<W: Write>(
     Ok(())
 }
 
-// Whether the network behind this one, if there is one, is the first.
+// Whether the next network will be the first to be printed.
 fn stays_first(is_first: bool, network: Option<IpNetwork>) -> bool
     ensures { result ≡ (is_first && is_none network) }
 {
     is_first && network.is_none()
 }
 
-// Prints what there is to tell of a network, if there is one, which may be the first.
+// Prints the fields of a network, if there is one.
 fn put_if_named<W: Write>(
     is_first: bool,
     json: bool,
@@ -53,14 +53,14 @@ fn put_if_named<W: Write>(
     }
 }
 
-// What stands before a network, which is the first or not.
+// Returns what stands before a network: an empty line, but nothing before the first or before JSON.
 fn separator(is_first: bool, json: bool) -> &'static str
     ensures { result.now ≡ separator is_first json }
 {
     if is_first || json { "" } else { "\n" }
 }
 
-// Prints this, and then what there is to tell of a network.
+// Prints `before`, and then the fields of a network.
 fn put_info<W: Write>(
     before: &str,
     json: bool,
@@ -73,7 +73,7 @@ fn put_info<W: Write>(
     put_rows(json, network, output)
 }
 
-// Prints what there is to tell of a network.
+// Prints the fields of a network.
 fn put_rows<W: Write>(
     json: bool,
     network: &IpNetwork,
@@ -87,7 +87,7 @@ fn put_rows<W: Write>(
     Ok(())
 }
 
-// Prints what a field tells of a network.
+// Prints one field of a network.
 fn put_row<W: Write>(
     json: bool,
     field: Field,

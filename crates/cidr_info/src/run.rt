@@ -1,4 +1,4 @@
-//! The run that the program makes.
+//! A run of the program.
 ghost use Rattle.std.specs.Prelude.{◌≡◌, None, IfOk, IfErr, OnOk, OnErr, is_err, ◌||◌, [], true, string_bytes};
 ghost use Rattle.std.specs.List.{list_any};
 ghost use Rattle.lines.specs.Outputs.{Writes, FailsIn};
@@ -29,7 +29,7 @@ use program::start::text_asked;
 use std::alloc::Global;
 use std::io::Write;
 
-/// The most bytes of standard input.
+/// The most bytes that are read of standard input.
 const INPUT_MAX: usize = 1_073_741_824;
 
 /// Does what the words after the program's name ask for, and returns the exit status.
@@ -56,7 +56,7 @@ pub(crate) fn run<L: OpenLists, W: Write, E: Write>(
     read(alloc, items.as_slice(), lists, output, errors)
 }
 
-// What is wrong with a command line that says this: with its words, or with the value of `--in`.
+// Returns what is wrong with a command line: with its words, or else with the value of `--in`.
 fn fault_of<'a>(table: &Table<'_>, items: &[Item<'a>]) -> Option<Fault<'a>>
     ensures { result ≡ fault_of table.now items.now }
 {
@@ -66,7 +66,7 @@ fn fault_of<'a>(table: &Table<'_>, items: &[Item<'a>]) -> Option<Fault<'a>>
     }
 }
 
-// What is wrong with the value of `--in`, if it is given: it names no network.
+// Returns the fault of `--in`, if the option is given with a value that names no network.
 fn in_fault<'a>(items: &[Item<'a>]) -> Option<Fault<'a>>
     ensures { result ≡ in_fault items.now }
 {
@@ -77,7 +77,8 @@ fn in_fault<'a>(items: &[Item<'a>]) -> Option<Fault<'a>>
     None
 }
 
-// The network that `--in` gives.
+// Returns the network that the value of `--in` names, if the option is given and its value names
+// one.
 fn outer_of(items: &[Item<'_>]) -> Option<IpNetwork>
     ensures { result ≡ outer_of items.now }
 {
@@ -108,7 +109,7 @@ fn read<L: OpenLists, W: Write, E: Write>(
     }
 }
 
-// The bytes of standard input, or none if no word asks for it.
+// Returns the bytes of standard input, or none if no word asks for it.
 fn input_of<L: OpenLists>(
     alloc: Global,
     items: &[Item<'_>],
@@ -124,7 +125,7 @@ fn input_of<L: OpenLists>(
     }
 }
 
-// Answers what is asked for of the words and of the lines of this input.
+// Answers the words of the command line, with the lines of this input in the place of `-`.
 fn answer<W: Write, E: Write>(
     alloc: Global,
     items: &[Item<'_>],
@@ -145,7 +146,7 @@ fn answer<W: Write, E: Write>(
     end(written, status, errors)
 }
 
-// The exit status by these texts: 2 if one of them names no network.
+// Returns the exit status for these texts: 2 if one of them names no network.
 fn status_of(outer: Option<IpNetwork>, all: &[Said<'_>]) -> u8
     ensures { result ≡ status_of outer all.now }
 {
@@ -162,7 +163,8 @@ fn is_refused(all: &[Said<'_>]) -> bool
     all.iter().any(|said| said.network().is_none())
 }
 
-// The exit status if each of them names one: 1 if one is to lie within a network and does not, or there is none to.
+// Returns the exit status if each text names a network: with an outer network, 1 if one of them
+// does not lie within it, or if there are no texts; else 0.
 fn within_status(outer: Option<IpNetwork>, all: &[Said<'_>]) -> u8
     ensures { result ≡ within_status outer all.now }
 {
@@ -178,18 +180,19 @@ fn within_status(outer: Option<IpNetwork>, all: &[Said<'_>]) -> u8
     }
 }
 
-// Whether each of these texts names a network that lies within this one.
+// Whether each of these texts names a network that lies within `outer`.
 fn all_within(outer: IpNetwork, all: &[Said<'_>]) -> bool
     ensures { result ≡ all_within outer all.now }
 {
     all.iter().all(|said| is_within(outer, said.network()))
 }
 
-// Whether a network lies within another.
+// Whether there is a network, and it lies within `outer`.
 fn is_within(outer: IpNetwork, network: Option<IpNetwork>) -> bool
     ensures { result ≡ is_within outer network }
 {
-    // Does nothing: the proof of this body needs the law, and from the next two calls that these are networks.
+    // This call does nothing: the proof of this body needs its law, and learns from the two calls
+    // of `prefix` that these are networks.
     laws::ip_subnet_is_computed();
     match network {
         Some(network) => {
@@ -201,7 +204,7 @@ fn is_within(outer: IpNetwork, network: Option<IpNetwork>) -> bool
     }
 }
 
-// Writes what waits and what there is to tell of the networks of these texts, unless `--in` is given.
+// Writes what waits and, unless `--in` is given, the fields of the networks that these texts name.
 fn write_answer<W: Write>(
     items: &[Item<'_>],
     all: &[Said<'_>],

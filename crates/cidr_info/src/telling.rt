@@ -1,4 +1,4 @@
-//! What is reported of texts that name no network, and of standard input.
+//! Reports texts that name no network, and faults of standard input.
 ghost use Rattle.std.specs.Prelude.{◌≡◌, None};
 ghost use Rattle.program.specs.Messages.{Reports};
 ghost use Rattle.cidr_info.specs.Words.{network_in};
@@ -45,7 +45,8 @@ fn tell_refusal<E: Write>(said: &Said<'_>, errors: &mut Output<'_, E>)
     tell("\n", errors);
 }
 
-// Writes where a text stands: the word, without what a terminal obeys, or `-` and the number of the line.
+// Writes where a text stands: the word, with control characters escaped, or `-` and the line
+// number.
 fn tell_place<E: Write>(said: &Said<'_>, errors: &mut Output<'_, E>)
     ensures { Reports errors.old errors.new (place_text said.now) }
 {
@@ -58,7 +59,8 @@ fn tell_place<E: Write>(said: &Said<'_>, errors: &mut Output<'_, E>)
     }
 }
 
-// Why a text names no network, in a word, or what it is, if it is no plain text.
+// Returns the name of the encoding, if the text is not plain text, and else why it names no
+// network.
 fn cause_word(text: &[u8]) -> &'static str
     requires { network_in text.now ≡ None }
     ensures { result.now ≡ cause_text text.now }
@@ -69,12 +71,12 @@ fn cause_word(text: &[u8]) -> &'static str
     }
 }
 
-// Why a plain text names no network, in a word.
+// Returns why a plain text names no network, in one word.
 fn plain_word(text: &[u8]) -> &'static str
     requires { network_in text.now ≡ None }
     ensures { result.now ≡ plain_text text.now }
 {
-    // Do nothing: the proof of this body needs the laws.
+    // These two calls do nothing: the proof of this body needs their laws.
     laws::ip_network_reading_is_computed();
     laws::ip_reading_is_computed();
     match cause(text) {

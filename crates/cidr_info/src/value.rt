@@ -1,4 +1,4 @@
-//! What a field tells of a network.
+//! The values of the fields of a network.
 ghost use Rattle.std.specs.Prelude.{◌≡◌, ◌≤◌, length};
 ghost use Rattle.cidr_info.specs.Fields.{value_of, wildcard_of, block_text, hosts_of, v4_hosts_of, hosts_text, host_bits, number_of, hex_width};
 ghost use Rattle.ipnetwork_addr.specs.Either.{canonical_ip};
@@ -10,10 +10,10 @@ use arrayvec::ArrayString;
 use ipnetwork::{IpAddr, IpNetwork, Ipv4Addr, Ipv4Network, Ipv6Addr};
 use ipnetwork_addr::decimal::push_decimal;
 
-/// The most bytes of a value: two addresses of IPv6 with ` - ` between them.
+/// The most bytes of a value: two IPv6 addresses with ` - ` between them.
 pub(crate) const VALUE_MAX: usize = 81;
 
-/// What a field tells of a network.
+/// Returns the value of a field of a network, as text.
 pub(crate) fn value_of(field: Field, network: &IpNetwork) -> ArrayString<VALUE_MAX>
     ensures { result.bytes ≡ value_of field network.now }
 {
@@ -32,7 +32,7 @@ pub(crate) fn value_of(field: Field, network: &IpNetwork) -> ArrayString<VALUE_M
     }
 }
 
-// The canonical text of an address.
+// Returns the canonical text of an address.
 fn address_text(address: IpAddr) -> ArrayString<VALUE_MAX>
     ensures bytes { result.bytes ≡ canonical_ip address }
     ensures short { length result.bytes ≤ 39 }
@@ -42,7 +42,7 @@ fn address_text(address: IpAddr) -> ArrayString<VALUE_MAX>
     text
 }
 
-// The canonical text of a network without host bits.
+// Returns the canonical text of a network without its host bits.
 fn block_text(network: &IpNetwork) -> ArrayString<VALUE_MAX>
     ensures { result.bytes ≡ block_text network.now }
 {
@@ -52,7 +52,7 @@ fn block_text(network: &IpNetwork) -> ArrayString<VALUE_MAX>
     text
 }
 
-// The complement of the mask of a network, as an address.
+// Returns the complement of the mask of a network, as an address.
 fn wildcard_of(network: &IpNetwork) -> IpAddr
     ensures { result ≡ wildcard_of network.now }
 {
@@ -62,7 +62,7 @@ fn wildcard_of(network: &IpNetwork) -> IpAddr
     }
 }
 
-// The first and the last address of a network that a host may have, with ` - ` between them.
+// Returns the first and the last address that a host may have, with ` - ` between them.
 fn hosts_text(network: &IpNetwork) -> ArrayString<VALUE_MAX>
     ensures { result.bytes ≡ hosts_text network.now }
 {
@@ -73,7 +73,7 @@ fn hosts_text(network: &IpNetwork) -> ArrayString<VALUE_MAX>
     text
 }
 
-// The first and the last address of a network that a host may have.
+// Returns the first and the last address that a host of a network may have.
 fn hosts_of(network: &IpNetwork) -> (IpAddr, IpAddr)
     ensures { result ≡ hosts_of network.now }
 {
@@ -92,7 +92,7 @@ fn hosts_of(network: &IpNetwork) -> (IpAddr, IpAddr)
     }
 }
 
-// The same of an IPv4 network, as numbers.
+// Returns the first and the last address that a host of an IPv4 network may have, as numbers.
 fn v4_hosts_of(network: &Ipv4Network) -> (u32, u32)
     ensures { result ≡ v4_hosts_of network.now }
 {
@@ -105,7 +105,7 @@ fn v4_hosts_of(network: &Ipv4Network) -> (u32, u32)
     }
 }
 
-// How many bits of the addresses of a network are not fixed.
+// Returns the number of host bits of a network.
 fn host_bits(network: &IpNetwork) -> u8
     ensures value { result ≡ host_bits network.now }
     ensures few { result ≤ 128 }
@@ -116,7 +116,7 @@ fn host_bits(network: &IpNetwork) -> u8
     }
 }
 
-// An address as a number.
+// Returns an address as a number.
 fn number_of(address: IpAddr) -> u128
     ensures { result ≡ number_of address }
 {
@@ -126,7 +126,7 @@ fn number_of(address: IpAddr) -> u128
     }
 }
 
-// How many digits of base 16 the addresses of an address's family have.
+// Returns the number of hexadecimal digits of an address of this family.
 fn hex_width(address: IpAddr) -> u8
     ensures value { result ≡ hex_width address }
     ensures few { result ≤ 32 }

@@ -8,7 +8,7 @@ use lists::{ByteKind, trim};
 use options::items::Item;
 use std::alloc::{AllocError, Global};
 
-// What may stand around a text in a line: spaces, tabs and carriage returns.
+// The bytes that are trimmed from a line: spaces, tabs and carriage returns.
 struct Blank;
 
 impl ByteKind for Blank {
@@ -21,7 +21,7 @@ impl ByteKind for Blank {
     }
 }
 
-/// Whether one of the words is `-`, which is standard input.
+/// Whether one of the words is `-`, which stands for standard input.
 pub(crate) fn reads_input(items: &[Item<'_>]) -> bool
     ensures { result ≡ reads_input items.now }
 {
@@ -38,7 +38,9 @@ fn is_input(item: &Item<'_>) -> bool
     }
 }
 
-/// What the words say, in turn, of which `-` stands for the lines of this input.
+/// Returns what the words say, in their order; `-` stands for the lines of `input`.
+///
+/// An error is returned if memory runs out.
 pub(crate) fn words_said<'a>(
     alloc: Global,
     items: &[Item<'a>],
@@ -55,7 +57,7 @@ pub(crate) fn words_said<'a>(
     Ok(all)
 }
 
-// Adds what a word says.
+// Appends what a word says.
 fn put_word<'a>(item: &Item<'a>, input: &'a [u8], all: &mut Vec<Said<'a>>) -> Result<(), AllocError>
     ensures { OnOk result (all.new.items ≡ all.old.items ++ word_said input.now item.now) }
 {
@@ -69,7 +71,7 @@ fn put_word<'a>(item: &Item<'a>, input: &'a [u8], all: &mut Vec<Said<'a>>) -> Re
     Ok(())
 }
 
-// Adds what the lines of an input say.
+// Appends what the lines of an input say.
 fn put_lines<'a>(input: &'a [u8], all: &mut Vec<Said<'a>>) -> Result<(), AllocError>
     ensures { OnOk result (all.new.items ≡ all.old.items
         ++ lines_said 1 (slice_split (λ byte. byte == 10) input.now)) }
@@ -82,7 +84,7 @@ fn put_lines<'a>(input: &'a [u8], all: &mut Vec<Said<'a>>) -> Result<(), AllocEr
     Ok(())
 }
 
-// Adds what a line says, if that is something.
+// Appends what a line says, unless it is empty or a comment.
 fn put_line<'a>(line: u64, bytes: &'a [u8], all: &mut Vec<Said<'a>>) -> Result<(), AllocError>
     ensures { OnOk result (all.new.items ≡ all.old.items ++ line_said line bytes.now) }
 {
@@ -93,7 +95,7 @@ fn put_line<'a>(line: u64, bytes: &'a [u8], all: &mut Vec<Said<'a>>) -> Result<(
     Ok(())
 }
 
-// Whether a text, without the blanks around it, is empty or a comment.
+// Whether a text without the blanks around it is empty or a comment.
 fn is_skipped(text: &[u8]) -> bool
     ensures { result ≡ is_skipped text.now }
 {

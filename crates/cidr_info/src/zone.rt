@@ -1,4 +1,4 @@
-//! The zone of the reverse names of a network.
+//! The zone that holds the reverse names of a network.
 ghost use Rattle.std.specs.Prelude.{◌≡◌, ◌+◌, ◌*◌, ◌<◌, ◌≤◌, ◌^◌, ◌++◌};
 ghost use Rattle.arrayvec.specs.ArrayString.{array_string_len};
 ghost use Rattle.cidr_info.specs.Zones.{zone_of, octet_at, nibble_at, octet_labels, nibble_labels};
@@ -9,7 +9,8 @@ use arrayvec::ArrayString;
 use ipnetwork::IpNetwork;
 use ipnetwork_addr::decimal::push_decimal;
 
-/// The zone of the reverse names of the whole octets of an IPv4 network, or of the whole nibbles of an IPv6 network.
+/// Returns the reverse zone of a network: that of the octets that its prefix length covers in full,
+/// or of the nibbles of an IPv6 network.
 pub(crate) fn zone_text(network: &IpNetwork) -> ArrayString<VALUE_MAX>
     ensures { result.bytes ≡ zone_of network.now }
 {
@@ -27,7 +28,7 @@ pub(crate) fn zone_text(network: &IpNetwork) -> ArrayString<VALUE_MAX>
     text
 }
 
-// Writes the first octets of an address, this many, the last of them first, each with a dot behind it.
+// Appends the first `count` octets of an address, the last of them first, each followed by a dot.
 fn push_octets(text: &mut ArrayString<VALUE_MAX>, address: u32, count: u8)
     requires count { count ≤ 4 }
     requires room { array_string_len text.old + 4 * count ≤ VALUE_MAX }
@@ -41,7 +42,7 @@ fn push_octets(text: &mut ArrayString<VALUE_MAX>, address: u32, count: u8)
     }
 }
 
-// The octet behind this many others of an address.
+// Returns the octet of an address that comes after `place` others.
 fn octet_at(place: u8, address: u32) -> u8
     requires { place < 4 }
     ensures { result ≡ octet_at place address }
@@ -49,7 +50,7 @@ fn octet_at(place: u8, address: u32) -> u8
     ((address >> (8 * (3 - place))) % 256) as u8
 }
 
-// Writes the first nibbles of an address, this many, the last of them first, each with a dot behind it.
+// Appends the first `count` nibbles of an address, the last of them first, each followed by a dot.
 fn push_nibbles(text: &mut ArrayString<VALUE_MAX>, address: u128, count: u8)
     requires count { count ≤ 32 }
     requires room { array_string_len text.old + 2 * count ≤ VALUE_MAX }
@@ -63,7 +64,7 @@ fn push_nibbles(text: &mut ArrayString<VALUE_MAX>, address: u128, count: u8)
     }
 }
 
-// The nibble behind this many others of an address.
+// Returns the nibble of an address that comes after `place` others.
 fn nibble_at(place: u8, address: u128) -> u8
     requires { place < 32 }
     ensures value { result ≡ nibble_at place address }

@@ -15,6 +15,8 @@ use Rattle.cidr_join.specs.Entries.{is_blank, is_word, cause_text}
 use Rattle.cidr_join.specs.Groups.{block_in}
 use Rattle.cidr_join.specs.Joins.{is_left_out, is_refused, mark_of, shown_of}
 use Rattle.cidr_join.specs.Options.{entries, pairs}
+use Rattle.cidr_join.specs.Reported.{refused_text}
+use Rattle.cidr_join.specs.Runs.{lacks_tally, lack_text}
 use Rattle.cidr_join.specs.Tallies.{row_text}
 use Rattle.options.specs.Faults.{about, together, fault_by}
 use Rattle.options.specs.Items.{free_items, free_mode}
@@ -89,10 +91,17 @@ next_words = refl
 pub wrong_words : map (fault_by rows (pairs_of pairs) (6 ∷ 14 ∷ []) (codes "neither -f nor --group is given"))
     ((says.Joined 2 (codes "0") (codes "-k0") ∷ says.Unknown (codes "--lastwins") ∷ []) ∷ (says.Value 14 (codes "33,0") ∷ says.Unknown (codes "--lastwins") ∷ [])
     ∷ (says.Value 6 (codes "a") ∷ says.Value 6 (codes "a") ∷ []) ∷ (says.Value 14 (codes "0,0") ∷ says.Flag 11 ∷ []) ∷ (says.Flag 10 ∷ says.Flag 13 ∷ []) ∷ [] ∷ (says.Value 6 (codes "a") ∷ says.Flag 10 ∷ []) ∷ [])
-    ≡ Some (about (subjects.Word (codes "-k0")) (codes "is no field number")) ∷ Some (about (subjects.Value 14 (codes "33,0")) (codes "is not N,M with N up to 32 and M up to 128"))
-    ∷ together (codes "-f is given more than once") ∷ together (codes "--group goes with none of -f, --network and --last-wins") ∷ together (codes "--last does not go with --tally")
+    ≡ Some (about (subjects.Word (codes "-k0")) (codes "not a field number")) ∷ Some (about (subjects.Value 14 (codes "33,0")) (codes "not N,M with N up to 32 and M up to 128"))
+    ∷ together (codes "-f is given more than once") ∷ together (codes "--group goes with none of -f, --network, --last-wins and --zero") ∷ together (codes "--last does not go with --tally")
     ∷ together (codes "neither -f nor --group is given") ∷ None ∷ []
 wrong_words = refl
+
+-- `--zero` alone, with `--tally`, and that alone
+pub zeros_of_a_tally : map lacks_tally ((says.Flag 16 ∷ []) ∷ (says.Flag 16 ∷ says.Flag 13 ∷ []) ∷ (says.Flag 13 ∷ []) ∷ []) ≡ true ∷ false ∷ false ∷ []
+zeros_of_a_tally = refl
+
+pub zeros_are_told : lack_text (codes "cidr_join") (codes "usage\n") ≡ codes "cidr_join: --zero goes only with --tally\nusage\n"
+zeros_are_told = refl
 
 -- ---- blocks of two lengths
 
@@ -117,6 +126,11 @@ blanks = refl
 pub causes_in_words : map cause_text (causes.Entry faults.Format ∷ causes.Entry faults.Address ∷ causes.Entry faults.Prefix ∷ causes.Entry faults.Range ∷ causes.Value ∷ causes.Twice ∷ causes.Length ∷ [])
     ≡ codes "format" ∷ codes "address" ∷ codes "prefix" ∷ codes "range" ∷ codes "value: there is none" ∷ codes "repetition" ∷ codes "length" ∷ []
 causes_in_words = refl
+
+-- two lines that are left out
+pub refused_lines_are_told : refused_text (codes "list") ((0, causes.Value) ∷ (8, causes.Twice) ∷ []) ≡ codes "list:1: refused value: there is none\nlist:9: refused repetition\n"
+unfolding digits
+refused_lines_are_told = refl
 
 -- ---- what is printed
 

@@ -2,6 +2,7 @@ pub mod Addressed
 pub mod Examples
 pub mod Joining
 pub mod LawExamples
+pub mod Listing
 pub mod LogParts
 pub mod LogsInTurn
 pub mod Marks

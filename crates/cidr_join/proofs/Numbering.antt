@@ -1,9 +1,11 @@
 -- How the networks of a list are numbered, and what the number that is found stands for.
 use Rattle.std.proofs.Common.{◌≡◌, ℕ, zero, suc, ◌==◌, Bool, true, false, cond, List, [], ◌∷◌, ◌++◌, length, Option, None, Some, ◌⊎◌, inl, inr, refl, sym, ap, subst, ◌∙◌, slice_get, is_some}
-use Rattle.std.specs.Prelude.{IsSome, Result, Ok, Err, IfOk, vec_len}
+use Rattle.std.specs.Prelude.{IsSome, Result, Ok, Err, IfOk, map, vec_len, if◌then◌else◌}
+use Rattle.std.specs.List.{flat_map}
 use Rattle.std.specs.FinMap.{FinMap, get, insert, empty, entries, get-empty, get-insert}
 use Rattle.std.specs.Ordering.{eq_by_cmp}
 use Rattle.std.proofs.lemmas.Cmp.{eq_by_cmp_equiv}
+use Rattle.std.proofs.lemmas.Grind.{flat_map-append}
 use Rattle.std.proofs.lemmas.Option.{none-some}
 use Rattle.ipnetwork_addr.specs.declared.ip.IpAddr.{IpAddr}
 use Rattle.ipnetwork_addr.specs.declared.ip.IpAddr.TheVariants as addresses
@@ -15,7 +17,9 @@ use Rattle.ipnetwork_table.proofs.Pairs.{total, one_network, tie_of}
 use Rattle.cidr_join.specs.Joins.{Finds, FindsBy}
 use Rattle.cidr_join.specs.Routes.{Values}
 use Rattle.cidr_join.specs.Runs.{answers_by}
-use Rattle.cidr_join.specs.Private.Numbering.{AreNumbered, AddsNumbers, NumbersRoutes, IsNumbering, StandsFor, StandsForRoute, found_by, number_or_none}
+use Rattle.cidr_join.specs.TallyRuns.{named}
+use Rattle.cidr_join.specs.Private.Counting.{named_by}
+use Rattle.cidr_join.specs.Private.Numbering.{AreNumbered, AddsNumbers, founds_of, NumbersRoutes, IsNumbering, StandsFor, StandsForRoute, found_by, number_or_none}
 use Rattle.cidr_join.specs.declared.answers.Answers.TheVariants as answers
 use Rattle.cidr_join.specs.declared.answers.Answers.{Answers as Answering}
 use Rattle.cidr_join.specs.declared.found.Found.{Found}
@@ -122,7 +126,7 @@ module _ (by : Network → Value → Found) (table : Values) where
   }
 
   pub numbers_added : {E : Type 0} (numbers : FinMap network_cmp ℕ) (before founds : List Found) (result : Result (FinMap network_cmp ℕ) E) → IfOk result (λ index. index ≡ numbers)
-      → ((added : List Found) × (founds ≡ before ++ added)) → AreNumbered by table numbers founds → IfOk result (λ index. AddsNumbers by table index before founds)
+      → founds ≡ before ++ founds_of by table → AreNumbered by table numbers founds → IfOk result (λ index. AddsNumbers by table index before founds)
   numbers_added numbers before founds (Ok index) is behind h = record { behind = behind; numbered = subst (λ (m : FinMap network_cmp ℕ). AreNumbered by table m founds) (sym is) h }
   numbers_added numbers before founds (Err fault) is behind h = tt
 
@@ -145,11 +149,11 @@ routes_numbered network routes numbered t4 t6 first second is4 is6 one h4 h6 =
     let by = found_by network (λ n. families.V4 n) in
     record {
       v4 = subst (λ (t : Values). AreNumbered by t numbered.v4 items) is4
-          (subst (λ (f : List Found). AreNumbered by t4 numbered.v4 f) (sym h6.behind.1) (still_numbered by t4 numbered.v4 second h6.behind.0 h4.numbered));
+          (subst (λ (f : List Found). AreNumbered by t4 numbered.v4 f) (sym h6.behind) (still_numbered by t4 numbered.v4 second (founds_of (found_by network (λ n. families.V6 n)) t6) h4.numbered));
       v6 = subst (λ (t : Values). AreNumbered (found_by network (λ n. families.V6 n)) t numbered.v6 items) is6 h6.numbered;
-      nothing = ap (λ (f : List Found). slice_get f 0) h6.behind.1
-          ∙ get_front second h6.behind.0 0 prints.Nothing (ap (λ (f : List Found). slice_get f 0) h4.behind.1
-          ∙ get_front first h4.behind.0 0 prints.Nothing (ap (λ (f : List Found). slice_get f 0) one));
+      founds = h6.behind ∙ ap (λ (f : List Found). f ++ founds_of (found_by network (λ n. families.V6 n)) t6) (h4.behind ∙ ap (λ (f : List Found). f ++ founds_of by t4) one)
+          ∙ ap (λ (t : Values). prints.Nothing ∷ (founds_of by t ++ founds_of (found_by network (λ n. families.V6 n)) t6)) is4
+          ∙ ap (λ (t : Values). prints.Nothing ∷ (founds_of by routes.v4 ++ founds_of (found_by network (λ n. families.V6 n)) t)) is6;
     }
 
 clear_at : {V : Type 0} (w : ℕ) (t : FinMap network_cmp V) (n : Network) (v : V) → HasOnlyBlocks w t → get t n ≡ Some v → HostBitsAreZero w n
@@ -165,26 +169,29 @@ stands w by table numbers founds IsSo a (Some found) h nothing is blocks nowhere
     let s = found_at by table w numbers founds a found.0 found.1 h is in
     (by found.0 s.0, s.2, longest found.0 s.0 s.1 (clear_at w numbers found.0 found.1 blocks is.stored))
 
+-- what stands for no network
+at_zero : (founds rest : List Found) → founds ≡ prints.Nothing ∷ rest → slice_get founds 0 ≡ Some prints.Nothing
+at_zero founds rest is = ap (λ (f : List Found). slice_get f 0) is
+
 module _ (routes : Routes) (numbered : ValueIds) where
   pub stands_v4 : (network : Bool) (a : ℕ) (found : Option (Network × ℕ)) → NumbersRoutes network routes numbered → Answers 32 numbered.v4 a found → HasOnlyBlocks 32 numbered.v4
       → (f : Found) × (slice_get numbered.founds.items (number_or_none found) ≡ Some f) × FindsBy (answers_by network routes) (addresses.V4 a) f
-  stands_v4 true a found h is blocks = stands 32 _ _ _ _ (FindsBy (answers_by true routes) (addresses.V4 a)) a found h.v4 h.nothing is blocks (λ none. none) (λ n v longest clear. (v, (longest, clear)))
-  stands_v4 false a found h is blocks = stands 32 _ _ _ _ (FindsBy (answers_by false routes) (addresses.V4 a)) a found h.v4 h.nothing is blocks (λ none. none) (λ n v longest clear. (families.V4 n, (longest, clear)))
+  stands_v4 true a found h is blocks = stands 32 _ _ _ _ (FindsBy (answers_by true routes) (addresses.V4 a)) a found h.v4 (at_zero _ _ h.founds) is blocks (λ none. none) (λ n v longest clear. (v, (longest, clear)))
+  stands_v4 false a found h is blocks = stands 32 _ _ _ _ (FindsBy (answers_by false routes) (addresses.V4 a)) a found h.v4 (at_zero _ _ h.founds) is blocks (λ none. none) (λ n v longest clear. (families.V4 n, (longest, clear)))
 
   pub stands_v6 : (network : Bool) (a : ℕ) (found : Option (Network × ℕ)) → NumbersRoutes network routes numbered → Answers 128 numbered.v6 a found → HasOnlyBlocks 128 numbered.v6
       → (f : Found) × (slice_get numbered.founds.items (number_or_none found) ≡ Some f) × FindsBy (answers_by network routes) (addresses.V6 a) f
-  stands_v6 true a found h is blocks = stands 128 _ _ _ _ (FindsBy (answers_by true routes) (addresses.V6 a)) a found h.v6 h.nothing is blocks (λ none. none) (λ n v longest clear. (v, (longest, clear)))
-  stands_v6 false a found h is blocks = stands 128 _ _ _ _ (FindsBy (answers_by false routes) (addresses.V6 a)) a found h.v6 h.nothing is blocks (λ none. none) (λ n v longest clear. (families.V6 n, (longest, clear)))
+  stands_v6 true a found h is blocks = stands 128 _ _ _ _ (FindsBy (answers_by true routes) (addresses.V6 a)) a found h.v6 (at_zero _ _ h.founds) is blocks (λ none. none) (λ n v longest clear. (v, (longest, clear)))
+  stands_v6 false a found h is blocks = stands 128 _ _ _ _ (FindsBy (answers_by false routes) (addresses.V6 a)) a found h.v6 (at_zero _ _ h.founds) is blocks (λ none. none) (λ n v longest clear. (families.V6 n, (longest, clear)))
 
 pub not_empty : (numbered : ValueIds) (empty : Bool) → empty ≡ (vec_len numbered.founds == 0) → empty ≡ false → ¬ (numbered.founds.items ≡ [])
 not_empty numbered empty is not none =
     let f : true ≡ false = sym (ap (λ (xs : List Found). length xs == 0) none) ∙ sym (ap (λ n. n == 0) numbered.founds.ok.0) ∙ sym is ∙ not in
     absurd (cc)
 
--- what stands for no network
 pub stands_for_none : (by : Answering) (numbered : ValueIds) → ¬ (numbered.founds.items ≡ []) → IsNumbering by numbered → StandsFor by None numbered.founds.items 0
-stands_for_none (answers.Values routes) numbered some h = h.nothing
-stands_for_none (answers.Networks routes) numbered some h = h.nothing
+stands_for_none (answers.Values routes) numbered some h = at_zero _ _ h.founds
+stands_for_none (answers.Networks routes) numbered some h = at_zero _ _ h.founds
 stands_for_none (answers.Blocks lengths) numbered some h = absurd (some h)
 
 pub stands_for_some : (by : Answering) (numbered : ValueIds) (address : IpAddr) (number : ℕ) → ¬ (numbered.founds.items ≡ []) → StandsForRoute numbered address number → IsNumbering by numbered
@@ -198,3 +205,33 @@ pub line_found : (join : Join) (address : Option IpAddr) (items : List Found) (n
     → (found : Found) × (slice_get items number ≡ Some found) × Finds join address found
 line_found join None items number stands = (prints.Nothing, stands, refl)
 line_found join (Some address) items number stands = stands
+
+-- ---- what is named
+
+not_named : (found : Found) → named_by false found ≡ []
+not_named (prints.Network network) = refl
+not_named (prints.Value value) = refl
+not_named prints.Nothing = refl
+
+none_named : (founds : List Found) → flat_map (named_by false) founds ≡ []
+none_named [] = refl
+none_named (found ∷ founds) = ap (λ (l : List (List ℕ)). l ++ flat_map (named_by false) founds) (not_named found) ∙ none_named founds
+
+each_named : (f : Network × Value → Found) (g : Network × Value → List ℕ) → ((e : Network × Value) → named_by true (f e) ≡ g e ∷ []) → (es : List (Network × Value))
+    → flat_map (named_by true) (map f es) ≡ map g es
+each_named f g is [] = refl
+each_named f g is (e ∷ es) = ap (λ (l : List (List ℕ)). l ++ flat_map (named_by true) (map f es)) (is e) ∙ ap (λ (l : List (List ℕ)). g e ∷ l) (each_named f g is es)
+
+both_named : (founds : List Found) (f h : Network × Value → Found) (g k : Network × Value → List ℕ) (first second : List (Network × Value)) → founds ≡ prints.Nothing ∷ (map f first ++ map h second)
+    → ((e : Network × Value) → named_by true (f e) ≡ g e ∷ []) → ((e : Network × Value) → named_by true (h e) ≡ k e ∷ [])
+    → flat_map (named_by true) founds ≡ map g first ++ map k second
+both_named founds f h g k first second is fg hk =
+    ap (flat_map (named_by true)) is ∙ flat_map-append (named_by true) (map f first) (map h second)
+    ∙ ap (λ (l : List (List ℕ)). l ++ flat_map (named_by true) (map h second)) (each_named f g fg first) ∙ ap (λ (l : List (List ℕ)). map g first ++ l) (each_named h k hk second)
+
+-- what the list gives addresses, if that is asked for
+pub named_listed : (by : Answering) (numbered : ValueIds) (zeros : Bool) → IsNumbering by numbered → flat_map (named_by zeros) numbered.founds.items ≡ (if zeros then named by else [])
+named_listed by numbered false h = none_named numbered.founds.items
+named_listed (answers.Values routes) numbered true h = both_named _ _ _ _ _ _ _ h.founds (λ e. refl) (λ e. refl)
+named_listed (answers.Networks routes) numbered true h = both_named _ _ _ _ _ _ _ h.founds (λ e. refl) (λ e. refl)
+named_listed (answers.Blocks lengths) numbered true h = ap (flat_map (named_by true)) h

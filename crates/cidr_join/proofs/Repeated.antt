@@ -2,9 +2,9 @@
 use Rattle.std.proofs.Common.{◌≡◌, ℕ, zero, suc, ◌+◌, ◌-◌, ◌*◌, ◌^◌, ◌<◌, ◌≤◌, Bool, true, false, cond, List, [], ◌∷◌, ◌++◌, length, take, drop, replicate, set, get_or, min, Some, sym, refl, ap, subst, ◌∙◌, arith, slice_get, append_assoc, append-nil, length-take}
 use Rattle.std.specs.Prelude.{Vec, Result, Ok, Err, OnOk, IfOk, map}
 use Rattle.std.specs.HashMap.{HashMap}
-use Rattle.std.specs.List.{count_by}
+use Rattle.std.specs.List.{count_by, flat_map}
 use Rattle.std.specs.Str.{bytes_eq}
-use Rattle.std.proofs.lemmas.List.{take_more, take_all, drop_all, length-set, length-replicate}
+use Rattle.std.proofs.lemmas.List.{take_more, take_all, drop_all, flat_map_more, length-set, length-replicate}
 use Rattle.std.proofs.lemmas.List.Folds.{sum_by-replicate}
 use Rattle.std.proofs.lemmas.List.Sums.{sum_by-append, sum_by_push}
 use Rattle.std.proofs.lemmas.Option.{none-some}
@@ -17,22 +17,41 @@ use Rattle.cidr_join.specs.Private.TallyProgress.{IsCounted, CountsAll}
 use Rattle.cidr_join.specs.declared.counts.Counts.{Counts}
 use Rattle.cidr_join.specs.declared.found.Found.{Found}
 use Rattle.cidr_join.specs.declared.tally.Tally.{Tally}
+use Rattle.cidr_join.proofs.Tallying.{count_both}
 
 -- ---- texts
 
-module _ {Z S : Type 0} where
-  pub texts_none : (counts : HashMap (Vec ℕ Z) ℕ S) → CountsTexts [] counts counts
-  texts_none counts texts counted = subst (λ (t : List (List ℕ)). Counted t counts) (sym (append-nil texts)) counted
+some_same : (a b count : ℕ) → (a ≡ 0 → b ≡ 0) → (b ≡ 0 → a ≡ 0) → some_count a count ≡ some_count b count
+some_same zero zero count f g = refl
+some_same zero (suc b) count f g = absurd (let none = f refl in omega (arith, none))
+some_same (suc a) zero count f g = absurd (let none = g refl in omega (arith, none))
+some_same (suc a) (suc b) count f g = refl
 
-  pub texts_both : (old mid new : HashMap (Vec ℕ Z) ℕ S) (first second : List (List ℕ)) → CountsTexts first old mid → CountsTexts second mid new → CountsTexts (first ++ second) old new
-  texts_both old mid new first second p q texts counted =
-      subst (λ (t : List (List ℕ)). Counted t new) (append_assoc texts first second) (q (texts ++ first) (p texts counted))
+module _ {Z S : Type 0} where
+  pub texts_none : (counts : HashMap (Vec ℕ Z) ℕ S) → CountsTexts [] [] counts counts
+  texts_none counts names texts counted =
+      subst (λ (l : List (List ℕ)). Counted l (texts ++ []) counts) (sym (append-nil names)) (subst (λ (t : List (List ℕ)). Counted names t counts) (sym (append-nil texts)) counted)
+
+  pub texts_both : (old mid new : HashMap (Vec ℕ Z) ℕ S) (named more first second : List (List ℕ)) → CountsTexts named first old mid → CountsTexts more second mid new
+      → CountsTexts (named ++ more) (first ++ second) old new
+  texts_both old mid new named more first second p q names texts counted =
+      subst (λ (l : List (List ℕ)). Counted l (texts ++ (first ++ second)) new) (append_assoc names named more)
+      (subst (λ (t : List (List ℕ)). Counted ((names ++ named) ++ more) t new) (append_assoc texts first second) (q (names ++ named) (texts ++ first) (p names texts counted)))
 
   -- texts that stand as often among others
-  pub counted_as : (counts : HashMap (Vec ℕ Z) ℕ S) (texts others : List (List ℕ)) → ((text : List ℕ) → count_of text texts ≡ count_of text others) → Counted texts counts → Counted others counts
-  counted_as counts texts others same counted text = counted text ∙ ap some_count (same text)
+  pub counted_as : (counts : HashMap (Vec ℕ Z) ℕ S) (named texts others : List (List ℕ)) → ((text : List ℕ) → count_of text texts ≡ count_of text others) → Counted named texts counts
+      → Counted named others counts
+  counted_as counts named texts others same counted text =
+      let was = count_both text named texts in
+      let is = count_both text named others in
+      counted text ∙ ap (some_count (count_by (bytes_eq text) (named ++ texts))) (same text)
+      ∙ some_same (count_by (bytes_eq text) (named ++ texts)) (count_by (bytes_eq text) (named ++ others)) (count_of text others) (λ none. omega (arith, none, was, is, same text)) (λ none. omega (arith, none, was, is, same text))
 
 -- ---- what the numbers stand for, one after the other
+
+-- what is made of those up to a place, and of what stands there
+pub flat_more : {X Y : Type 0} (f : X → List Y) (xs : List X) (i : ℕ) (x : X) → i < length xs → x ≡ get_or xs i x → flat_map f (take (i + 1) xs) ≡ flat_map f (take i xs) ++ f x
+flat_more f xs i x within is = ap (flat_map f) (take_more xs i x within ∙ ap (λ y. take i xs ++ y ∷ []) (sym is)) ∙ sym (flat_map_more f [] (take i xs) x)
 
 repeated_push : (founds : List Found) (numbers : List ℕ) (found : Found) (number : ℕ) → length founds ≡ length numbers
     → repeated (founds ++ found ∷ []) (numbers ++ number ∷ []) ≡ repeated founds numbers ++ replicate number (mark_of found)
@@ -51,10 +70,6 @@ repeated_more founds numbers i found within among is =
     let second : take (i + 1) numbers ≡ take i numbers ++ get_or numbers i 0 ∷ [] = take_more numbers i 0 among in
     ap (λ (f : List Found). repeated f (take (i + 1) numbers)) first ∙ ap (λ (n : List ℕ). repeated (take i founds ++ found ∷ []) n) second
     ∙ repeated_push (take i founds) (take i numbers) found (get_or numbers i 0) (omega (arith, length-take i founds, length-take i numbers, within, among))
-
-pub repeated_all : (founds : List Found) (numbers : List ℕ) (i : ℕ) → length founds ≤ i → length numbers ≤ i → repeated (take i founds) (take i numbers) ≡ repeated founds numbers
-repeated_all founds numbers i past beyond =
-    ap (λ (f : List Found). repeated f (take i numbers)) (take_all i founds past) ∙ ap (λ (n : List ℕ). repeated founds n) (take_all i numbers beyond)
 
 nothing_repeated : (founds : List Found) (count : ℕ) → repeated founds (replicate count 0) ≡ []
 nothing_repeated [] count = refl
@@ -123,7 +138,7 @@ get_within (y ∷ xs) zero x at = omega arith
 get_within (y ∷ xs) (suc i) x at = let h = get_within xs i x at in omega (arith, h)
 
 module _ (founds : List Found) where
-  pub none_counted : (counts : Counts) (count : ℕ) → Counted [] counts.tally.counts → counts.numbers.items ≡ replicate count 0 → count ≡ length founds → IsCounted founds [] counts
+  pub none_counted : (counts : Counts) (count : ℕ) → Counted [] [] counts.tally.counts → counts.numbers.items ≡ replicate count 0 → count ≡ length founds → IsCounted founds [] counts
   none_counted counts count none zeros same = record {
     kept = [];
     is_kept = none;
@@ -141,7 +156,7 @@ module _ (founds : List Found) where
       let count = min (get_or old.numbers.items number 0 + 1) (2 ^ 64 - 1) in
       record {
         kept = counted.kept;
-        is_kept = subst (λ (t : Tally). Counted counted.kept t.counts) (sym same) counted.is_kept;
+        is_kept = subst (λ (t : Tally). Counted [] counted.kept t.counts) (sym same) counted.is_kept;
         size = ap length is ∙ length-set old.numbers.items number count ∙ counted.size;
         all = λ text.
             let f = λ (mark : List ℕ). cond (bytes_eq text mark) 1 0 in
@@ -155,25 +170,25 @@ module _ (founds : List Found) where
       }
 
   -- texts were counted by their bytes
-  pub texts_counted : (marks : List (List ℕ)) (old new : Counts) → new.numbers.items ≡ old.numbers.items → CountsTexts marks old.tally.counts new.tally.counts → CountsAll founds marks old new
+  pub texts_counted : (marks : List (List ℕ)) (old new : Counts) → new.numbers.items ≡ old.numbers.items → CountsTexts [] marks old.tally.counts new.tally.counts → CountsAll founds marks old new
   texts_counted marks old new same more texts counted = record {
     kept = counted.kept ++ marks;
-    is_kept = more counted.kept counted.is_kept;
+    is_kept = more [] counted.kept counted.is_kept;
     size = ap length same ∙ counted.size;
     all = λ text. ap (λ (n : List ℕ). count_of text ((counted.kept ++ marks) ++ repeated founds n)) same ∙ moved_behind text counted.kept marks (repeated founds old.numbers.items) texts (counted.all text);
   }
 
 -- a text was counted by its bytes, in any numbers
-pub text_counted : {T E : Type 0} (result : Result T E) (old new : Counts) (mark : List ℕ) → new.numbers.items ≡ old.numbers.items → OnOk result (CountsTexts (replicate 1 mark) old.tally.counts new.tally.counts)
+pub text_counted : {T E : Type 0} (result : Result T E) (old new : Counts) (mark : List ℕ) → new.numbers.items ≡ old.numbers.items → OnOk result (CountsTexts [] (replicate 1 mark) old.tally.counts new.tally.counts)
     → OnOk result ((founds : List Found) → CountsAll founds (mark ∷ []) old new)
 text_counted (Ok done) old new mark same h = λ founds. texts_counted founds (mark ∷ []) old new same h
 text_counted (Err fault) old new mark same h = tt
 
 -- when what the numbers stand for was counted by its bytes too
-pub rows_counted : {Z E : Type 0} (founds : List Found) (counts : Counts) (tally : Tally) (rows : Result (Vec (Reverse ℕ × Vec ℕ Z) Z) E)
-    → (length counts.numbers.items ≡ length founds → CountsTexts (repeated founds counts.numbers.items) counts.tally.counts tally.counts)
-    → IfOk rows (λ all. (texts : List (List ℕ)) → Counted texts tally.counts → IsTally texts (map row_of all.items))
-    → IfOk rows (λ all. (texts : List (List ℕ)) → IsCounted founds texts counts → IsTally texts (map row_of all.items))
-rows_counted founds counts tally (Ok all) counted rows = λ texts h.
-    rows texts (counted_as tally.counts (h.kept ++ repeated founds counts.numbers.items) texts h.all (counted h.size h.kept h.is_kept))
-rows_counted founds counts tally (Err fault) counted rows = tt
+pub rows_counted : {Z E : Type 0} (founds : List Found) (named : List (List ℕ)) (counts : Counts) (tally : Tally) (rows : Result (Vec (Reverse ℕ × Vec ℕ Z) Z) E)
+    → (length counts.numbers.items ≡ length founds → CountsTexts named (repeated founds counts.numbers.items) counts.tally.counts tally.counts)
+    → IfOk rows (λ all. (names texts : List (List ℕ)) → Counted names texts tally.counts → IsTally names texts (map row_of all.items))
+    → IfOk rows (λ all. (texts : List (List ℕ)) → IsCounted founds texts counts → IsTally named texts (map row_of all.items))
+rows_counted founds named counts tally (Ok all) counted rows = λ texts h.
+    rows named texts (counted_as tally.counts named (h.kept ++ repeated founds counts.numbers.items) texts h.all (counted h.size [] h.kept h.is_kept))
+rows_counted founds named counts tally (Err fault) counted rows = tt

@@ -1,6 +1,6 @@
 -- How a run ends.
 use Rattle.std.proofs.Common.{◌≡◌, ◌∙◌, ◌==◌, ◌+◌, ◌++◌, ◌∷◌, [], ◌||◌, ℕ, List, Bool, true, false, true≢false, refl, sym, ap, subst, inl, inr, length, map, take, drop, append_assoc, codes}
-use Rattle.std.specs.Prelude.{Option, None, Result, OnOk, OnErr, IsTrue, is_err, String}
+use Rattle.std.specs.Prelude.{Option, None, Result, Ok, Err, OnOk, OnErr, IsTrue, is_err, String}
 use Rattle.std.specs.List.{slice_split}
 use Rattle.std.specs.String.{string_bytes}
 use Rattle.std.specs.Io.KnownBytes.{Appends}
@@ -19,13 +19,12 @@ use Rattle.cidr_join.specs.Joins.{Joins}
 use Rattle.program.specs.LogLines.{LogLine}
 use Rattle.cidr_join.specs.Logs.{EndsRunBy}
 use Rattle.program.specs.Logs.{HaltsBy}
-use Rattle.cidr_join.specs.Routes.{Values, no_networks}
+use Rattle.cidr_join.specs.Routes.{Values}
 use Rattle.cidr_join.specs.Runs.{StopsAtLog, JoinsAll, EndsLogs, EndsAsked, EndsFinding, EndsGrouping, EndsJoining, EndsFiles, answers_of, join_of, list_name, lengths_of, rules_of}
 use Rattle.cidr_join.specs.TallyRuns.{EndsTally, status_by}
 use Rattle.cidr_join.specs.Stands.{stand, begun}
 use Rattle.cidr_join.specs.Stops.{JoinsLines, WritesBeginning}
-use Rattle.cidr_join.specs.Takes.{TakesLines}
-use Rattle.cidr_join.specs.Reported.{bytes_fault_text}
+use Rattle.cidr_join.specs.Reported.{EndsList, bytes_fault_text, take_fault_text}
 use Rattle.cidr_join.specs.Private.Runs.{JoinsNames}
 use Rattle.cidr_join.specs.declared.answers.Answers.{Answers}
 use Rattle.options.specs.Given.{is_given, inputs_of}
@@ -33,6 +32,7 @@ use Rattle.options.specs.declared.items.Item.{Item}
 use Rattle.cidr_join.specs.Options as own
 use Rattle.cidr_join.specs.declared.join.Join.{Join}
 use Rattle.cidr_join.specs.declared.lengths.Lengths.{Lengths}
+use Rattle.cidr_join.specs.declared.list.TakeFault.{TakeFault}
 use Rattle.program.specs.declared.log_fault.LogFault.{LogFault}
 use Rattle.program.specs.declared.log_fault.LogFault.TheVariants as faults
 use Rattle.cidr_join.specs.declared.routes.Networks.{Networks}
@@ -164,11 +164,31 @@ same_routes routes networks a b =
       with_both v4 v6 = record { v4 = v4; v6 = v6 }
 
 -- what is printed of addresses was found, and the logs were joined by it
-pub taken : {W E : Type 0} (known : KnownLists) (items : List Item) (name text : List ℕ) (end : Ending W E) (networks : Networks) (by : Answers) → by ≡ answers_of items networks
-    → TakesLines (rules_of items) no_networks (slice_split (λ b. b == 10) text) networks → EndsFinding known items by end → EndsJoining known items name text end
-taken known items name text end networks by same takes (inl h) = inr (inl h)
-taken known items name text end networks by same takes (inr h) =
-    inr (inr (networks, takes, subst (λ (a : Answers). EndsAsked (is_given items own.tally) (join_of items a) known (inputs_of items) end) same h))
+module _ {W E : Type 0} (known : KnownLists) (items : List Item) (name text : List ℕ) (end : Ending W E) (told : Written E) (networks : Networks)
+    (read : EndsList name (rules_of items) (slice_split (λ b. b == 10) text) end.errors told (Ok networks)) where
+  pub taken : (by : Answers) → by ≡ answers_of items networks → EndsFinding known items by (record end { errors = told }) → EndsJoining known items name text end
+  taken by same (inl h) = (read.0.refused, told, read.3, inr (inl h))
+  taken by same (inr h) = (
+    read.0.refused,
+    told,
+    read.3,
+    inr (inr (
+      read.0,
+      read.1,
+      refl,
+      subst (λ (a : Answers). EndsAsked (is_given items own.tally) (join_of items a) known (inputs_of items) (record end { errors = told })) (same ∙ ap (answers_of items) read.2) h,
+    )),
+  )
+
+  -- there was no memory to find them
+  pub not_indexed : Refuses (codes "out of memory\n") (record end { errors = told }) → EndsJoining known items name text end
+  not_indexed h = (read.0.refused, told, read.3, inr (inl h))
+
+-- the list was not read to its end
+pub not_taken : {W E : Type 0} (known : KnownLists) (items : List Item) (name text : List ℕ) (end : Ending W E) (told : Written E) (fault : TakeFault)
+    → EndsList name (rules_of items) (slice_split (λ b. b == 10) text) end.errors told (Err fault) → Refuses (take_fault_text name fault) (record end { errors = told })
+    → EndsJoining known items name text end
+not_taken known items name text end told fault read h = (read.0, told, read.2, inl (fault, read.1, h))
 
 -- whether lines are grouped
 pub by_group : {W E : Type 0} (known : KnownLists) (items : List Item) (end : Ending W E) (group : Option Lengths) → lengths_of items ≡ group → EndsGrouping group known items end

@@ -1,27 +1,24 @@
 -- How a tally counts a text so often.
-use Rattle.std.proofs.Common.{◌≡◌, ℕ, zero, suc, ◌+◌, ◌-◌, ◌*◌, ◌^◌, ◌<◌, ◌≤◌, ◌==◌, Bool, true, false, cond, List, [], ◌∷◌, ◌++◌, inl, inr, refl, sym, ap, subst, ◌∙◌, arith, min, replicate}
-use Rattle.std.specs.Prelude.{Option, None, Some, Vec, nat_eq, IfSome, map, length}
+use Rattle.std.proofs.Common.{◌≡◌, ℕ, zero, suc, ◌+◌, ◌-◌, ◌*◌, ◌^◌, ◌<◌, ◌≤◌, Bool, true, false, true≢false, cond, List, [], ◌∷◌, ◌++◌, inl, inr, refl, sym, ap, subst, ◌∙◌, arith, min, replicate}
+use Rattle.std.specs.Prelude.{None, Some, Vec, nat_eq, map, length}
 use Rattle.std.specs.Cmp.Lexicographic.{pointwise, bytes_decides, nat_list_eq_equiv}
 use Rattle.std.specs.HashMap.{HashMap, UpdatesBy}
 use Rattle.std.specs.Cmp.{IsEquivalence}
-use Rattle.std.specs.List.{count_by, sum_by, IsDistinct, AllByRecursion, All, slice_index_or}
+use Rattle.std.specs.List.{count_by, sum_by, IsDistinct, AllByRecursion, slice_index_or}
 use Rattle.std.specs.List.Sorted.{IsPermutation, IsSortedBy}
-use Rattle.std.specs.Option.{unwrap_or}
+use Rattle.std.specs.Option.{unwrap_or, is_some}
 use Rattle.std.specs.Ordering.{is_lt}
 use Rattle.std.specs.declared.cmp.Reverse.{Reverse}
-use Rattle.std.specs.Map.{lookup, keys_of, values_of, IsKeyTest, AreApart, KeepsOthers}
+use Rattle.std.specs.Map.{lookup, keys_of, IsKeyTest, AreApart, KeepsOthers}
 use Rattle.std.specs.Str.{bytes_eq}
 use Rattle.std.proofs.lemmas.Bool.{cases_Bool, cond-true, cond-false}
-use Rattle.std.proofs.lemmas.Bool.{ne_eqb}
 use Rattle.std.proofs.lemmas.List.{get_or-map, length-map}
-use Rattle.std.proofs.lemmas.List.Elements.{All-head, All-tail}
 use Rattle.std.proofs.lemmas.List.Sorted.{IsPermutation-map, sum_by-IsPermutation}
 use Rattle.std.proofs.lemmas.List.Folds.{sum_by-replicate}
 use Rattle.std.proofs.lemmas.List.Sums.{sum_by-append, sum_by-cons}
-use Rattle.std.proofs.lemmas.Map.Views.{All-values_from_lookup}
 use Rattle.std.proofs.lemmas.Option.{none-some}
 use Rattle.cidr_join.specs.Tallies.{Row, count_of, counted_by, rows_of, row_cmp, IsTally}
-use Rattle.cidr_join.specs.Private.Counting.{found_for, some_count, row_of, Counted, CountsTexts}
+use Rattle.cidr_join.specs.Private.Counting.{found_for, some_count, row_of, named_if, Counted, CountsTexts}
 
 -- an entry of the map as a row
 abbrev pub entry_row : {Z : Type 0} → Vec ℕ Z × ℕ → Row
@@ -51,17 +48,20 @@ module _ {Z S : Type 0} (text : List ℕ) (old new : HashMap (Vec ℕ Z) ℕ S) 
 
 -- ---- counts
 
-some_is : (number count : ℕ) → some_count number ≡ Some count → number ≡ count
-some_is zero count e = absurd (none-some count e)
-some_is (suc number) count e = cc
+some_is : (number count was : ℕ) → some_count number count ≡ Some was → count ≡ was
+some_is zero count was e = absurd (none-some was e)
+some_is (suc number) count was e = cc
 
-none_is : (number : ℕ) → some_count number ≡ None → number ≡ 0
-none_is zero e = refl
-none_is (suc number) e = absurd (none-some (suc number) (sym e))
+none_is : (number count : ℕ) → some_count number count ≡ None → number ≡ 0
+none_is zero count e = refl
+none_is (suc number) count e = absurd (none-some count (sym e))
 
-some_at : (number : ℕ) → 0 < number → some_count number ≡ Some number
-some_at zero h = absurd (omega (arith, h))
-some_at (suc number) h = refl
+some_at : (number count : ℕ) → 0 < number → some_count number count ≡ Some count
+some_at zero count h = absurd (omega (arith, h))
+some_at (suc number) count h = refl
+
+pub count_both : (text : List ℕ) (first second : List (List ℕ)) → count_by (bytes_eq text) (first ++ second) ≡ count_by (bytes_eq text) first + count_by (bytes_eq text) second
+count_both text first second = sum_by-append _ first second
 
 count_more : (other text : List ℕ) (texts : List (List ℕ)) (n : ℕ) → count_by (bytes_eq other) (texts ++ replicate n text) ≡ count_by (bytes_eq other) texts + n * cond (bytes_eq other text) 1 0
 count_more other text texts n =
@@ -77,34 +77,58 @@ same_else other text texts n differ =
     let none = count_more other text texts n ∙ ap (λ b. count_by (bytes_eq other) texts + n * cond b 1 0) (nat_list_eq_equiv.symm other text ∙ differ) in
     omega (arith, none)
 
-module _ {Z S : Type 0} (text : List ℕ) (old new : HashMap (Vec ℕ Z) ℕ S) (n count : ℕ)
+-- a text that is named is one more
+named_is : (named : Bool) (text : List ℕ) → named_if named text ≡ replicate (cond named 1 0) text
+named_is true text = refl
+named_is false text = refl
+
+pub some_named : (n : ℕ) (named : Bool) → named ≡ true → 1 ≤ cond named 1 0 + n
+some_named n true h = omega arith
+some_named n false h = absurd (true≢false (sym h))
+
+pub some_counted : (n : ℕ) (named : Bool) → ¬ (n ≡ 0) → 1 ≤ cond named 1 0 + n
+some_counted zero named h = absurd (h refl)
+some_counted (suc n) named h = omega arith
+
+module _ {Z S : Type 0} (text : List ℕ) (old new : HashMap (Vec ℕ Z) ℕ S) (n count : ℕ) (named : Bool) (some : 1 ≤ cond named 1 0 + n)
     (h : UpdatesBy same_items (λ key. pointwise nat_eq text key.items) old new (Some count)) where
-  counts_so_often : ((texts : List (List ℕ)) → Counted texts old → some_count (min (count_by (bytes_eq text) texts + n) (2 ^ 64 - 1)) ≡ Some count) → CountsTexts (replicate n text) old new
-  counts_so_often one texts counted other = elim (cases_Bool (bytes_eq text other)) [
-    | inl same ↦
-        let is : text ≡ other = (bytes_decides text other).0 same in
-        subst (λ (t : List ℕ). found_for new t ≡ some_count (count_of t (texts ++ replicate n text))) is
-        (found_here text old new count h ∙ sym (one texts counted) ∙ ap (λ k. some_count (min k (2 ^ 64 - 1))) (sym (same_here text texts n)))
-    | inr differ ↦
-        found_else text old new count h other differ ∙ counted other
-        ∙ ap (λ k. some_count (min k (2 ^ 64 - 1))) (sym (same_else other text texts n differ))
-  ]
+  counts_so_often : ((names texts : List (List ℕ)) → Counted names texts old → min (count_by (bytes_eq text) texts + n) (2 ^ 64 - 1) ≡ count) → CountsTexts (named_if named text) (replicate n text) old new
+  counts_so_often one names texts counted other =
+      let all = names ++ named_if named text in
+      let more = texts ++ replicate n text in
+      let whole = λ (t : List ℕ). count_both t all more in
+      elim (cases_Bool (bytes_eq text other)) [
+        | inl same ↦
+            let is : text ≡ other = (bytes_decides text other).0 same in
+            let times : count_by (bytes_eq text) all ≡ count_by (bytes_eq text) names + cond named 1 0 =
+            ap (λ (l : List (List ℕ)). count_by (bytes_eq text) (names ++ l)) (named_is named text) ∙ same_here text names (cond named 1 0) in
+            let sum : count_of text more ≡ count = ap (λ k. min k (2 ^ 64 - 1)) (same_here text texts n) ∙ one names texts counted in
+            subst (λ (t : List ℕ). found_for new t ≡ some_count (count_by (bytes_eq t) (all ++ more)) (count_of t more)) is
+            (found_here text old new count h ∙ sym (some_at (count_by (bytes_eq text) (all ++ more)) (count_of text more) (omega (arith, whole text, times, same_here text texts n, some)) ∙ ap Some sum))
+        | inr differ ↦
+            let times : count_by (bytes_eq other) all ≡ count_by (bytes_eq other) names =
+            ap (λ (l : List (List ℕ)). count_by (bytes_eq other) (names ++ l)) (named_is named text) ∙ same_else other text names (cond named 1 0) differ in
+            let sum : count_by (bytes_eq other) more ≡ count_by (bytes_eq other) texts = same_else other text texts n differ in
+            let among : count_by (bytes_eq other) (names ++ texts) ≡ count_by (bytes_eq other) (all ++ more) = omega (arith, count_both other names texts, whole other, times, sum) in
+            found_else text old new count h other differ ∙ counted other ∙ ap (λ k. some_count k (count_of other texts)) among
+            ∙ ap (λ k. some_count (count_by (bytes_eq other) (all ++ more)) (min k (2 ^ 64 - 1))) (sym sum)
+      ]
 
 -- a text that was counted before
-pub counts_again : {Z S : Type 0} (text : List ℕ) (old new : HashMap (Vec ℕ Z) ℕ S) (n was count : ℕ) → 1 ≤ n → found_for old text ≡ Some was
-    → count ≡ min (was + n) (2 ^ 64 - 1) → UpdatesBy same_items (λ key. pointwise nat_eq text key.items) old new (Some count) → CountsTexts (replicate n text) old new
-counts_again text old new n was count some found sum h =
-    counts_so_often text old new n count h (λ texts counted.
-    let is = some_is _ was (sym (counted text) ∙ found) in
-    some_at _ (omega (arith, some)) ∙ ap Some (omega (arith, is, sum)))
+pub counts_again : {Z S : Type 0} (text : List ℕ) (old new : HashMap (Vec ℕ Z) ℕ S) (n was count : ℕ) (named : Bool) → 1 ≤ cond named 1 0 + n → found_for old text ≡ Some was
+    → count ≡ min (was + n) (2 ^ 64 - 1) → UpdatesBy same_items (λ key. pointwise nat_eq text key.items) old new (Some count)
+    → CountsTexts (named_if named text) (replicate n text) old new
+counts_again text old new n was count named some found sum h =
+    counts_so_often text old new n count named some h (λ names texts counted.
+    let is = some_is (count_by (bytes_eq text) (names ++ texts)) (count_of text texts) was (sym (counted text) ∙ found) in omega (arith, is, sum))
 
 -- one that was not
-pub counts_first : {Z S : Type 0} (text : List ℕ) (key : Vec ℕ Z) (old new : HashMap (Vec ℕ Z) ℕ S) (n : ℕ) → 1 ≤ n → n < 2 ^ 64 → key.items ≡ text → found_for old text ≡ None
-    → UpdatesBy same_items (same_items key) old new (Some n) → CountsTexts (replicate n text) old new
-counts_first {Z} {S} text key old new n some fits same none h =
-    subst (λ (t : List ℕ). CountsTexts (replicate n t) old new) same (counts_so_often key.items old new n n h (λ texts counted.
-    let is = none_is _ (sym (counted key.items) ∙ ap (found_for old) same ∙ none) in
-    some_at _ (omega (arith, some)) ∙ ap Some (omega (arith, is, fits))))
+pub counts_first : {Z S : Type 0} (text : List ℕ) (key : Vec ℕ Z) (old new : HashMap (Vec ℕ Z) ℕ S) (n : ℕ) (named : Bool) → 1 ≤ cond named 1 0 + n → n < 2 ^ 64 → key.items ≡ text
+    → found_for old text ≡ None → UpdatesBy same_items (same_items key) old new (Some n) → CountsTexts (named_if named text) (replicate n text) old new
+counts_first {Z} {S} text key old new n named some fits same none h =
+    subst (λ (t : List ℕ). CountsTexts (named_if named t) (replicate n t) old new) same (counts_so_often key.items old new n n named some h (λ names texts counted.
+    let is = none_is (count_by (bytes_eq key.items) (names ++ texts)) (count_of key.items texts) (sym (counted key.items) ∙ ap (found_for old) same ∙ none) in
+    omega (arith, is, count_both key.items names texts, fits)))
 
 -- ---- the rows of a map
 
@@ -121,9 +145,6 @@ weight text row = cond (bytes_eq text row.text) row.count 0
 abbrev one_of : List ℕ → Row → ℕ
 one_of text row = cond (bytes_eq text row.text) 1 0
 
-abbrev one_at_zero : Row → ℕ
-one_at_zero row = cond (row.count == 0) 1 0
-
 module _ {Z : Type 0} where
   -- no other entry has the text of this one
   no_more : (e : Vec ℕ Z) (es : List (Vec ℕ Z × ℕ)) → AllByRecursion (λ y. same_items e y ≡ false) (keys_of es)
@@ -136,11 +157,12 @@ module _ {Z : Type 0} where
       (omega (arith, count, more.0), omega (arith, rows, more.1))
 
   abbrev Found : List (Vec ℕ Z × ℕ) → List ℕ → Type 0
-  Found es text = (counted_by (map entry_row es) text ≡ unwrap_or (lookup (λ key. pointwise nat_eq text key.items) es) 0) × (rows_of (map entry_row es) text ≤ 1)
+  Found es text = (counted_by (map entry_row es) text ≡ unwrap_or (lookup (λ key. pointwise nat_eq text key.items) es) 0)
+      × (rows_of (map entry_row es) text ≡ cond (is_some (lookup (λ key. pointwise nat_eq text key.items) es)) 1 0)
 
   found_in : (es : List (Vec ℕ Z × ℕ)) → IsDistinct same_items (keys_of es) → (text : List ℕ) → Found es text
   unfolding IsDistinct
-  found_in [] h text = (refl, omega arith)
+  found_in [] h text = (refl, refl)
   found_in (x ∷ es) h text = elim (cases_Bool (bytes_eq text x.0.items)) [
     | inl same ↦
         let none = no_more x.0 es h.0 in
@@ -151,7 +173,7 @@ module _ {Z : Type 0} where
         let zero_count = subst (λ (t : List ℕ). counted_by (map entry_row es) t ≡ 0) is none.0 in
         let zero_rows = subst (λ (t : List ℕ). rows_of (map entry_row es) t ≡ 0) is none.1 in (
           omega (arith, count, zero_count) ∙ ap (λ o. unwrap_or o 0) (sym found),
-          omega (arith, rows, zero_rows),
+          omega (arith, rows, zero_rows) ∙ ap (λ o. cond (is_some o) 1 0) (sym found),
         )
     | inr differ ↦
         let more = found_in es h.1 text in
@@ -159,25 +181,17 @@ module _ {Z : Type 0} where
         let rows = sum_by-cons (one_of text) (entry_row x) (map entry_row es) ∙ ap (λ b. cond b 1 0 + rows_of (map entry_row es) text) differ in
         let found = cond-false (bytes_eq text x.0.items) (Some x.1) (lookup (λ key. pointwise nat_eq text key.items) es) differ in (
           omega (arith, count, more.0) ∙ ap (λ o. unwrap_or o 0) (sym found),
-          omega (arith, rows, more.1),
+          omega (arith, rows, more.1) ∙ ap (λ o. cond (is_some o) 1 0) (sym found),
         )
   ]
 
-  none_zero : (es : List (Vec ℕ Z × ℕ)) → All (λ v. 0 < v) (values_of es) → count_by (λ row. row.count == 0) (map entry_row es) ≡ 0
-  none_zero [] h = refl
-  none_zero (x ∷ es) h =
-      let more = none_zero es (All-tail (λ v. 0 < v) x.1 (values_of es) h) in
-      let some : 0 < x.1 = All-head (λ v. 0 < v) x.1 (values_of es) h in
-      let zeros = sum_by-cons one_at_zero (entry_row x) (map entry_row es) ∙ ap (λ b. cond b 1 0 + count_by (λ row. row.count == 0) (map entry_row es)) (ne_eqb x.1 0 (λ e. omega (arith, e, some))) in
-      omega (arith, zeros, more)
+unwrapped : (number count : ℕ) → (number ≡ 0 → count ≡ 0) → unwrap_or (some_count number count) 0 ≡ count
+unwrapped zero count none = sym (none refl)
+unwrapped (suc number) count none = refl
 
-some_counted : (number : ℕ) → IfSome (some_count number) (λ v. 0 < v)
-some_counted zero = tt
-some_counted (suc number) = omega arith
-
-unwrapped : (number : ℕ) → unwrap_or (some_count number) 0 ≡ number
-unwrapped zero = refl
-unwrapped (suc number) = refl
+one_if : (number count : ℕ) → cond (is_some (some_count number count)) 1 0 ≡ min number 1
+one_if zero count = refl
+one_if (suc number) count = omega arith
 
 -- ---- in order
 
@@ -189,16 +203,17 @@ sorted_map f lt (x ∷ xs) h k d low less =
     let first = get_or-map f (x ∷ xs) k x d (omega (arith, within)) in
     ap (λ y. lt y (slice_index_or (map f (x ∷ xs)) k d)) second ∙ ap (λ y. lt (f (slice_index_or (x ∷ xs) (k + 1) x)) y) first ∙ h k x low within
 
-module _ {Z S : Type 0} (texts : List (List ℕ)) (counts : HashMap (Vec ℕ Z) ℕ S) (counted : Counted texts counts)
+module _ {Z S : Type 0} (named texts : List (List ℕ)) (counts : HashMap (Vec ℕ Z) ℕ S) (counted : Counted named texts counts)
     (distinct : IsDistinct same_items (keys_of counts.entries)) (made sorted : List (Reverse ℕ × Vec ℕ Z)) (is : map row_of made ≡ map entry_row counts.entries)
     (moved : IsPermutation made sorted) where
   same_sum : (f : Row → ℕ) → sum_by f (map row_of sorted) ≡ sum_by f (map entry_row counts.entries)
   same_sum f = sum_by-IsPermutation f _ _ (IsPermutation-map row_of made sorted moved) ∙ ap (λ rows. sum_by f rows) is
 
-  pub tally_of : IsSortedBy (λ a b. is_lt (row_cmp (row_of a) (row_of b))) sorted → IsTally texts (map row_of sorted)
+  pub tally_of : IsSortedBy (λ a b. is_lt (row_cmp (row_of a) (row_of b))) sorted → IsTally named texts (map row_of sorted)
   tally_of in_order = record {
-    counts = λ text. same_sum _ ∙ (found_in counts.entries distinct text).0 ∙ ap (λ o. unwrap_or o 0) (counted text) ∙ unwrapped _;
-    once = λ text. let rows = same_sum (λ row. cond (bytes_eq text row.text) 1 0) in omega (arith, rows, (found_in counts.entries distinct text).1);
-    none = same_sum _ ∙ none_zero counts.entries (All-values_from_lookup same_laws (λ v. 0 < v) counts.entries distinct (λ key. subst (λ (o : Option ℕ). IfSome o (λ v. 0 < v)) (sym (counted key.items)) (some_counted _)));
+    counts = λ text.
+        same_sum _ ∙ (found_in counts.entries distinct text).0 ∙ ap (λ o. unwrap_or o 0) (counted text)
+        ∙ unwrapped (count_by (bytes_eq text) (named ++ texts)) (count_of text texts) (λ none. omega (arith, none, count_both text named texts));
+    once = λ text. same_sum _ ∙ (found_in counts.entries distinct text).1 ∙ ap (λ o. cond (is_some o) 1 0) (counted text) ∙ one_if (count_by (bytes_eq text) (named ++ texts)) (count_of text texts);
     ordered = sorted_map row_of (λ a b. is_lt (row_cmp a b)) sorted in_order;
   }

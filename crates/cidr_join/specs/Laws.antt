@@ -3,7 +3,7 @@ use Rattle.std.specs.Prelude.{◌≡◌, ℕ, ◌+◌, ◌-◌, ◌^◌, min, Li
 use Rattle.program.specs.LogLines.{LogLine, log_lines}
 use Rattle.cidr_join.specs.Joins.{Joins}
 use Rattle.cidr_join.specs.Tallies.{Row, counted_by, IsTally}
-use Rattle.cidr_join.specs.TallyRuns.{Marks}
+use Rattle.cidr_join.specs.TallyRuns.{Marks, named_in}
 use Rattle.cidr_join.specs.declared.join.Join.{Join}
 
 -- for the lines of a log at most one output is written
@@ -18,7 +18,7 @@ OutputsOfPartsFollow = (join : Join) (first second a b : List ℕ) → Joins joi
 
 -- the rows are the tally of these lines
 abbrev pub Tallies : Join → List LogLine → List Row → Type 0
-Tallies join lines rows = (marks : List (List ℕ)) × Marks join lines marks × IsTally marks rows
+Tallies join lines rows = (marks : List (List ℕ)) × Marks join lines marks × IsTally (named_in join) marks rows
 
 -- if a log is cut after a line feed, the tally of the whole counts for each text what those of its parts count together
 abbrev pub TalliesOfPartsAddUp : Type 0

@@ -5,8 +5,8 @@ use Rattle.options.specs.Table.{Entry, IsTable, long_flag, long}
 use Rattle.options.specs.declared.table.Kind.TheVariants as kinds
 use Rattle.options.specs.declared.table.Table.{Table}
 
--- the rows of the options that this program alone has: `--last`, `--last-wins`, `--network`, `--tally`, `--group` and
--- `--bad`
+-- the rows of the options that this program alone has: `--last`, `--last-wins`, `--network`, `--tally`, `--group`,
+-- `--bad`, `--zero` and `--skip-bad`
 abbrev pub last : ℕ
 last = 10
 
@@ -25,13 +25,20 @@ group = 14
 abbrev pub bad : ℕ
 bad = 15
 
+abbrev pub zeros : ℕ
+zeros = 16
+
+abbrev pub skips_bad : ℕ
+skips_bad = 17
+
 -- the options, in the order of their rows
 abbrev pub entries : List Entry
 entries = rows.shared
     ++ long_flag (codes "--last") ∷ long_flag (codes "--last-wins") ∷ long_flag (codes "--network")
     ∷ long_flag (codes "--tally")
-    ∷ long (codes "--group") kinds.Lengths false (codes "is not N,M with N up to 32 and M up to 128")
-    ∷ long (codes "--bad") kinds.Rule true (codes "is not drop, keep, stop or report") ∷ []
+    ∷ long (codes "--group") kinds.Lengths false (codes "not N,M with N up to 32 and M up to 128")
+    ∷ long (codes "--bad") kinds.Rule true (codes "not drop, keep, stop or report")
+    ∷ long_flag (codes "--zero") ∷ []
 
 -- which of them do not go together: those that say where addresses are looked for, `--tally` with `--last`, a second
 -- `-f`, and `--group` with `-f` or what says something of its list. Of several such pairs the first is told
@@ -39,9 +46,11 @@ abbrev pub pairs : List (ℕ × ℕ × List ℕ)
 pairs = rows.together
     ++ (tally, last, codes "--last does not go with --tally")
     ∷ (rows.list, rows.list, codes "-f is given more than once")
-    ∷ (group, rows.list, codes "--group goes with none of -f, --network and --last-wins")
-    ∷ (group, network, codes "--group goes with none of -f, --network and --last-wins")
-    ∷ (group, last_wins, codes "--group goes with none of -f, --network and --last-wins") ∷ []
+    ∷ (group, rows.list, codes "--group goes with none of -f, --network, --last-wins, --skip-bad and --zero")
+    ∷ (group, network, codes "--group goes with none of -f, --network, --last-wins, --skip-bad and --zero")
+    ∷ (group, last_wins, codes "--group goes with none of -f, --network, --last-wins, --skip-bad and --zero")
+    ∷ (group, zeros, codes "--group goes with none of -f, --network, --last-wins, --skip-bad and --zero")
+    ∷ (group, skips_bad, codes "--group goes with none of -f, --network, --last-wins, --skip-bad and --zero") ∷ []
 
 -- the table has these, and of `-f` and `--group` one at least is given
 abbrev pub IsOptions : Table → Type 0

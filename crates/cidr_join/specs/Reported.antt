@@ -1,11 +1,18 @@
 -- What is reported on standard error.
-use Rattle.std.specs.Prelude.{ℕ, List, ◌++◌, codes}
+use Rattle.std.specs.Prelude.{◌≡◌, ℕ, ◌-◌, List, ◌++◌, take, length, codes, Result, Ok, Err}
+use Rattle.std.specs.List.{flat_map}
+use Rattle.lines.specs.Outputs.{Written}
 use Rattle.lists.specs.Opening.{open_fault_text}
 use Rattle.lists.specs.declared.bytes.BytesFault.{BytesFault}
 use Rattle.lists.specs.declared.bytes.BytesFault.TheVariants as bytes
 use Rattle.program.specs.LogFaults.{line_text}
+use Rattle.program.specs.Messages.{Reports}
+use Rattle.program.specs.Reported.{more_text}
 use Rattle.cidr_join.specs.Entries.{cause_text}
+use Rattle.cidr_join.specs.Takes.{Refused, Listed, nothing_listed, TakesLines, StopsTaking}
+use Rattle.cidr_join.specs.declared.list.ListRules.{ListRules}
 use Rattle.cidr_join.specs.declared.list.TakeFault.{TakeFault}
+use Rattle.cidr_join.specs.declared.routes.Networks.{Networks}
 use Rattle.cidr_join.specs.declared.routes.RouteFault.{RouteFault}
 use Rattle.cidr_join.specs.declared.routes.RouteFault.TheVariants as routes
 
@@ -20,6 +27,24 @@ bytes_fault_text name bytes.OutOfMemory = codes "out of memory\n"
 abbrev pub route_fault_text : List ℕ → ℕ → RouteFault → List ℕ
 route_fault_text name before routes.OutOfMemory = codes "out of memory\n"
 route_fault_text name before (routes.Refused cause) = line_text name before (cause_text cause)
+
+-- what is reported of the refused lines of the list of this name that are left out: of the first hundred where they
+-- stand and why they are refused, and how many more there are
+abbrev pub first_refused_text : List ℕ → List Refused → List ℕ
+first_refused_text name refused =
+    flat_map (λ (line : Refused). line_text name line.0 (cause_text line.1)) (take 100 refused)
+
+abbrev pub refused_text : List ℕ → List Refused → List ℕ
+refused_text name refused = first_refused_text name refused ++ more_text (length refused - 100)
+
+-- these lines of the list of this name were read: those that are left out were reported, and the others give these
+-- networks, or one has the fault
+abbrev pub EndsList : {E : Type 0} → List ℕ → ListRules → List (List ℕ) → Written E → Written E
+    → Result Networks TakeFault → Type 0
+EndsList name rules lines errors told (Ok networks) = (listed : Listed) × TakesLines rules nothing_listed lines listed
+    × (networks ≡ listed.networks) × Reports errors told (refused_text name listed.refused)
+EndsList name rules lines errors told (Err fault) = (refused : List Refused)
+    × StopsTaking rules nothing_listed lines fault refused × Reports errors told (refused_text name refused)
 
 abbrev pub take_fault_text : List ℕ → TakeFault → List ℕ
 take_fault_text name fault = route_fault_text name fault.lines fault.fault

@@ -1,5 +1,7 @@
 -- The networks of a list with their values, and which of them an address has.
-use Rattle.std.specs.Prelude.{◌≡◌, ℕ, Bool, false, List, [], ◌∷◌, ◌++◌, None, IsSome}
+use Rattle.std.specs.Prelude.{◌≡◌, ℕ, ◌&&◌, Bool, true, false, not, List, [], ◌∷◌, None, IsSome}
+use Rattle.std.specs.List.{list_any}
+use Rattle.std.specs.Option.{is_some}
 use Rattle.std.specs.FinMap.{FinMap, get, insert, empty}
 use Rattle.ipnetwork_addr.specs.declared.ip.IpAddr.{IpAddr}
 use Rattle.ipnetwork_addr.specs.declared.ip.IpAddr.TheVariants as addresses
@@ -36,23 +38,28 @@ SetsOne w last_wins before n value after = (after ≡ insert before (block_of w 
 abbrev pub HasOne : ℕ → Bool → Values → Network → Type 0
 HasOne w last_wins before n = (last_wins ≡ false) × IsSome (get before (block_of w n))
 
--- the blocks of these networks did, in turn
-abbrev pub SetsAll : ℕ → Bool → Values → List Network → Value → Values → Type 0
-SetsAll w last_wins before [] value after = after ≡ before
-SetsAll w last_wins before (n ∷ networks) value after = (between : Values) × SetsOne w last_wins before n value between
-    × SetsAll w last_wins between networks value after
+-- the blocks of these networks got this value
+abbrev pub SetsAll : ℕ → Values → List Network → Value → Values → Type 0
+SetsAll w before [] value after = after ≡ before
+SetsAll w before (n ∷ networks) value after = SetsAll w (insert before (block_of w n) value) networks value after
 
--- the fewest blocks of a range did
+-- one of them has a value
+abbrev pub one_has : ℕ → Values → List Network → Bool
+one_has w values networks = list_any (λ n. is_some (get values (block_of w n))) networks
+
+-- a range is refused if one of its fewest blocks has a value, unless later values win
+abbrev pub RefusesRange : ℕ → Bool → Values → ℕ → ℕ → Bool → Type 0
+RefusesRange w last_wins before first last refused = (blocks : List Network)
+    × IsLeastList w (FromTo first last) blocks × (refused ≡ (not last_wins && one_has w before blocks))
+
+abbrev pub RangeHasOne : ℕ → Bool → Values → ℕ → ℕ → Type 0
+RangeHasOne w last_wins before first last = RefusesRange w last_wins before first last true
+
+-- or else these blocks got this value
 abbrev pub SetsRange : ℕ → Bool → Values → ℕ → ℕ → Value → Values → Type 0
 SetsRange w last_wins before first last value after =
-    (blocks : List Network) × IsLeastList w (FromTo first last) blocks × SetsAll w last_wins before blocks value after
-
--- one of them has a value, when those before it got theirs
-abbrev pub RangeHasOne : ℕ → Bool → Values → ℕ → ℕ → Value → Type 0
-RangeHasOne w last_wins before first last value =
-    (done : List Network) × (block : Network) × (left : List Network) × (between : Values)
-    × IsLeastList w (FromTo first last) (done ++ block ∷ left)
-    × SetsAll w last_wins before done value between × HasOne w last_wins between block
+    (blocks : List Network) × IsLeastList w (FromTo first last) blocks
+    × ((not last_wins && one_has w before blocks) ≡ false) × SetsAll w before blocks value after
 
 -- an entry whose range, if it is one, has its ends in order
 abbrev pub IsGoodEntry : Entry → Type 0
@@ -73,15 +80,15 @@ SetsEntry last_wins before (entries.Range (addresses.V6 first) (addresses.V6 las
     SetsRange 128 last_wins before.v6 first last value after.v6 × (after.v4 ≡ before.v4)
 
 -- one of these has a value, and later values do not win
-abbrev pub EntryHasOne : Bool → Networks → Entry → Value → Type 0
-EntryHasOne last_wins before (entries.Network (families.V4 n)) value = HasOne 32 last_wins before.v4 n
-EntryHasOne last_wins before (entries.Network (families.V6 n)) value = HasOne 128 last_wins before.v6 n
-EntryHasOne last_wins before (entries.Range (addresses.V4 first) (addresses.V4 last)) value =
-    RangeHasOne 32 last_wins before.v4 first last value
-EntryHasOne last_wins before (entries.Range (addresses.V4 first) (addresses.V6 last)) value = ⊥
-EntryHasOne last_wins before (entries.Range (addresses.V6 first) (addresses.V4 last)) value = ⊥
-EntryHasOne last_wins before (entries.Range (addresses.V6 first) (addresses.V6 last)) value =
-    RangeHasOne 128 last_wins before.v6 first last value
+abbrev pub EntryHasOne : Bool → Networks → Entry → Type 0
+EntryHasOne last_wins before (entries.Network (families.V4 n)) = HasOne 32 last_wins before.v4 n
+EntryHasOne last_wins before (entries.Network (families.V6 n)) = HasOne 128 last_wins before.v6 n
+EntryHasOne last_wins before (entries.Range (addresses.V4 first) (addresses.V4 last)) =
+    RangeHasOne 32 last_wins before.v4 first last
+EntryHasOne last_wins before (entries.Range (addresses.V4 first) (addresses.V6 last)) = ⊥
+EntryHasOne last_wins before (entries.Range (addresses.V6 first) (addresses.V4 last)) = ⊥
+EntryHasOne last_wins before (entries.Range (addresses.V6 first) (addresses.V6 last)) =
+    RangeHasOne 128 last_wins before.v6 first last
 
 -- the fault is that memory ran out, or a repetition, of which this is true
 abbrev pub IsRefusal : Type 0 → RouteFault → Type 0
@@ -90,6 +97,11 @@ IsRefusal repeated (faults.Refused (causes.Entry fault)) = ⊥
 IsRefusal repeated (faults.Refused causes.Value) = ⊥
 IsRefusal repeated (faults.Refused causes.Twice) = repeated
 IsRefusal repeated (faults.Refused causes.Length) = ⊥
+
+-- a line that is refused leaves all as it was
+abbrev pub Keeps : {A : Type 0} → A → A → RouteFault → Type 0
+Keeps before after faults.OutOfMemory = Unit {0}
+Keeps before after (faults.Refused cause) = after ≡ before
 
 -- the network is one of the list's, without host bits, it has the address and this value, and no network of the list
 -- that has the address has a greater prefix length

@@ -1,15 +1,20 @@
 -- How a run ends: its exit status, what was written, and what was reported.
-use Rattle.std.specs.Prelude.{◌≡◌, ℕ, Bool, List, ◌∷◌, ◌++◌, true, false, ◌⊎◌, if◌then◌else◌, Option, None, Some}
-use Rattle.std.specs.Prelude.{length, codes, String, ◌==◌}
+use Rattle.std.specs.Prelude.{◌≡◌, ℕ, ◌&&◌, Bool, not, List, [], ◌∷◌, ◌++◌, true, false, ◌⊎◌, Option}
+use Rattle.std.specs.Prelude.{None, Some, if◌then◌else◌, length, codes, String, ◌==◌}
 use Rattle.std.specs.List.{slice_split}
+use Rattle.lines.specs.Outputs.{Written}
 use Rattle.lists.specs.Bytes.{IsAllOf, BytesStop}
 use Rattle.lists.specs.KnownLists.{KnownLists}
 use Rattle.program.specs.Endings.{Ending, Refuses, HasTold}
+use Rattle.program.specs.Messages.{Reports}
 use Rattle.log_programs.specs.Areas.{area_of}
 use Rattle.log_programs.specs.Rows as rows
 use Rattle.log_programs.specs.WithoutAddress.{bad_in}
 use Rattle.options.specs.Given.{is_given, value_of, inputs_of}
+use Rattle.options.specs.Faults.{about}
+use Rattle.options.specs.Refusing.{refusal_text}
 use Rattle.options.specs.Runs as runs
+use Rattle.options.specs.declared.faults.Subject.TheVariants as subjects
 use Rattle.options.specs.Values.{lengths_in}
 use Rattle.options.specs.declared.items.Item.{Item}
 use Rattle.options.specs.declared.table.Table.{Table}
@@ -21,10 +26,9 @@ use Rattle.program.specs.LogLines.{LogLine}
 use Rattle.cidr_join.specs.Logs.{JoinsLogs, EndsRunBy}
 use Rattle.program.specs.LogFaults.{log_fault_text, Wrote}
 use Rattle.program.specs.Logs.{HaltsBy}
-use Rattle.cidr_join.specs.Routes.{no_networks}
 use Rattle.cidr_join.specs.TallyRuns.{EndsTally, EndsWith}
-use Rattle.cidr_join.specs.Takes.{TakesLines, StopsTaking}
-use Rattle.cidr_join.specs.Reported.{bytes_fault_text, take_fault_text}
+use Rattle.cidr_join.specs.Takes.{Refused, Listed, nothing_listed, TakesLines, StopsTaking}
+use Rattle.cidr_join.specs.Reported.{bytes_fault_text, refused_text, take_fault_text}
 use Rattle.lists.specs.declared.bytes.BytesFault.{BytesFault}
 use Rattle.cidr_join.specs.declared.answers.Answers.{Answers}
 use Rattle.cidr_join.specs.declared.answers.Answers.TheVariants as answers
@@ -93,6 +97,7 @@ join_of items by = record {
   mapped = is_given items rows.mapped;
   last = is_given items own.last;
   bad = bad_in (value_of items own.bad);
+  zeros = is_given items own.zeros;
 }
 
 -- what it asks for of the logs: that what the list gives their lines is counted, or that they are joined to the list
@@ -100,20 +105,31 @@ abbrev pub EndsAsked : {W E : Type 0} → Bool → Join → KnownLists → List 
 EndsAsked true join known names end = EndsTally join known names end
 EndsAsked false join known names end = EndsLogs join known names end
 
--- how its lines are taken: with `--network` a value may be missing
+-- how its lines are taken: with `--network` a value may be missing, and with `--skip-bad` a refused one is left out
 abbrev pub rules_of : List Item → ListRules
-rules_of items = record { last_wins = is_given items own.last_wins; bare = is_given items own.network }
+rules_of items = record {
+  last_wins = is_given items own.last_wins;
+  bare = is_given items own.network;
+  skips = is_given items own.skips_bad;
+}
 
--- the list of this name has these bytes. A line of it is refused, or memory runs out, and nothing is written. Else the
--- logs are joined to its networks, or counted by them
-abbrev pub EndsJoining : {W E : Type 0} → KnownLists → List Item → List ℕ → List ℕ → Ending W E → Type 0
-EndsJoining known items name text end =
-    ((fault : TakeFault) × StopsTaking (rules_of items) no_networks
-    (slice_split (λ b. b == 10) text) fault × Refuses (take_fault_text name fault) end)
+-- of the lines of the list these were refused and left out. One ends the run, or memory runs out, and nothing is
+-- written. Else the logs are joined to its networks, or counted by them
+abbrev pub EndsListed : {W E : Type 0} → KnownLists → List Item → List ℕ → List (List ℕ) → List Refused → Ending W E
+    → Type 0
+EndsListed known items name lines refused end =
+    ((fault : TakeFault) × StopsTaking (rules_of items) nothing_listed lines fault refused
+    × Refuses (take_fault_text name fault) end)
     ⊎ (Refuses (codes "out of memory\n") end
-    ⊎ ((networks : Networks) × TakesLines (rules_of items) no_networks
-    (slice_split (λ b. b == 10) text) networks
-    × EndsAsked (is_given items own.tally) (join_of items (answers_of items networks)) known (inputs_of items) end))
+    ⊎ ((listed : Listed) × TakesLines (rules_of items) nothing_listed lines listed × (listed.refused ≡ refused)
+    × EndsAsked (is_given items own.tally) (join_of items (answers_of items listed.networks)) known (inputs_of items)
+    end))
+
+-- the list of this name has these bytes: what is left out of it is reported, and then the run ends so
+abbrev pub EndsJoining : {W E : Type 0} → KnownLists → List Item → List ℕ → List ℕ → Ending W E → Type 0
+EndsJoining {W} {E} known items name text end = (refused : List Refused) × (told : Written E)
+    × Reports end.errors told (refused_text name refused)
+    × EndsListed known items name (slice_split (λ b. b == 10) text) refused (record end { errors = told })
 
 -- this is printed of addresses: memory runs out, or the logs are joined or counted by it
 abbrev pub EndsFinding : {W E : Type 0} → KnownLists → List Item → Answers → Ending W E → Type 0
@@ -141,15 +157,25 @@ EndsGrouping None known items end =
 abbrev pub EndsFiles : {W E : Type 0} → KnownLists → List Item → Ending W E → Type 0
 EndsFiles known items end = EndsGrouping (lengths_of items) known items end
 
--- what is asked for is done, unless there is no memory for the names of the logs
-abbrev pub DoesRequest : {W E : Type 0} → KnownLists → Ending W E → List Item → Type 0
-DoesRequest known end items = Refuses (codes "out of memory\n") end ⊎ EndsFiles known items end
+-- `--zero` is given without `--tally`, and what is told of that
+abbrev pub lacks_tally : List Item → Bool
+lacks_tally items = is_given items own.zeros && not (is_given items own.tally)
 
-abbrev pub EndsRequest : {W E : Type 0} → KnownLists → List Item → Ending W E → Type 0
-EndsRequest known items end = DoesRequest known end items
+abbrev pub lack_text : List ℕ → List ℕ → List ℕ
+lack_text program usage =
+    refusal_text program usage [] (about subjects.CommandLine (codes "--zero goes only with --tally"))
+
+-- what is asked for is done, unless there is no memory for the names of the logs
+abbrev pub EndsRequest : {W E : Type 0} → List ℕ → List ℕ → KnownLists → List Item → Ending W E → Type 0
+EndsRequest program usage known items end = ((lacks_tally items ≡ true) × Refuses (lack_text program usage) end)
+    ⊎ ((lacks_tally items ≡ false) × (Refuses (codes "out of memory\n") end ⊎ EndsFiles known items end))
+
+abbrev pub DoesRequest : {W E : Type 0} → List ℕ → List ℕ → KnownLists → Ending W E → List Item → Type 0
+DoesRequest program usage known end items = EndsRequest program usage known items end
 
 -- how a run ends of a program of this name, help, version and usage, by the table of its options
 abbrev pub EndsAs : {Z W E : Type 0} → List ℕ → List ℕ → List ℕ → List ℕ → KnownLists → List (String Z) → Ending W E
     → Type 0
 EndsAs program help version usage known words end =
-    (table : Table) × IsOptions table × runs.EndsAs table program help version usage words (DoesRequest known end) end
+    (table : Table) × IsOptions table
+    × runs.EndsAs table program help version usage words (DoesRequest program usage known end) end

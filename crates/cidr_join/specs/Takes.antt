@@ -1,8 +1,9 @@
 -- What the lines of a list are taken for.
-use Rattle.std.specs.Prelude.{◌≡◌, ◌⊎◌, ℕ, List, [], ◌∷◌, ◌++◌, length}
+use Rattle.std.specs.Prelude.{◌≡◌, ◌⊎◌, ℕ, ◌+◌, List, [], ◌∷◌, ◌++◌, Option, None, Some, if◌then◌else◌}
 use Rattle.lists.specs.declared.entry.Entry.{Entry}
 use Rattle.cidr_join.specs.Entries.{SaysNothing, Says, LineFaults}
-use Rattle.cidr_join.specs.Routes.{SetsEntry, EntryHasOne}
+use Rattle.cidr_join.specs.Routes.{no_networks, SetsEntry, EntryHasOne}
+use Rattle.cidr_join.specs.declared.line.Cause.{Cause}
 use Rattle.cidr_join.specs.declared.line.Cause.TheVariants as causes
 use Rattle.cidr_join.specs.declared.list.ListRules.{ListRules}
 use Rattle.cidr_join.specs.declared.list.TakeFault.{TakeFault}
@@ -16,24 +17,50 @@ abbrev pub TakesLine : ListRules → Networks → List ℕ → Networks → Type
 TakesLine rules before line after = (SaysNothing line × (after ≡ before))
     ⊎ ((entry : Entry) × (value : Value) × Says rules.bare line entry value × SetsEntry rules.last_wins before entry value after)
 
--- these lines are, in turn
-abbrev pub TakesLines : ListRules → Networks → List (List ℕ) → Networks → Type 0
-TakesLines rules before [] after = after ≡ before
-TakesLines rules before (line ∷ lines) after = (between : Networks) × TakesLine rules before line between
-    × TakesLines rules between lines after
-
 -- why a line cannot be taken
 abbrev pub LineFails : ListRules → Networks → List ℕ → RouteFault → Type 0
 LineFails rules before line faults.OutOfMemory = Unit {0}
 LineFails rules before line (faults.Refused (causes.Entry fault)) = LineFaults rules.bare line (causes.Entry fault)
 LineFails rules before line (faults.Refused causes.Value) = LineFaults rules.bare line causes.Value
 LineFails rules before line (faults.Refused causes.Twice) = (entry : Entry) × (value : Value)
-    × Says rules.bare line entry value × EntryHasOne rules.last_wins before entry value
+    × Says rules.bare line entry value × EntryHasOne rules.last_wins before entry
 LineFails rules before line (faults.Refused causes.Length) = LineFaults rules.bare line causes.Length
 
--- the first lines are taken, and the next one has the fault
-abbrev pub StopsTaking : ListRules → Networks → List (List ℕ) → TakeFault → Type 0
-StopsTaking rules before lines fault = (first : List (List ℕ)) × (line : List ℕ) × (others : List (List ℕ))
-    × (between : Networks)
-    × (lines ≡ first ++ line ∷ others) × (fault.lines ≡ length first) × TakesLines rules before first between
-    × LineFails rules between line fault.fault
+-- a refused line, by how many lines come before it, and why it is
+abbrev pub Refused : Type 0
+Refused = ℕ × Cause
+
+-- what was taken of lines: how many there were, their networks, and those that were refused and left out
+pub record Listed : Type 0 where
+  pub lines : ℕ
+  pub networks : Networks
+  pub refused : List Refused
+
+abbrev pub nothing_listed : Listed
+nothing_listed = record { lines = 0; networks = no_networks; refused = [] }
+
+-- why a line of this fault is left out, if it is: it is refused, and the rules say so
+abbrev pub left_out : ListRules → RouteFault → Option Cause
+left_out rules faults.OutOfMemory = None
+left_out rules (faults.Refused cause) = if rules.skips then Some cause else None
+
+-- a line more was taken, or it is left out
+pub record TakesNext (rules : ListRules) (before : Listed) (line : List ℕ) (after : Listed) : Type 0 where
+  pub lines : after.lines ≡ before.lines + 1
+  pub takes : (TakesLine rules before.networks line after.networks × (after.refused ≡ before.refused))
+      ⊎ ((fault : RouteFault) × (cause : Cause) × LineFails rules before.networks line fault
+      × (left_out rules fault ≡ Some cause) × (after.networks ≡ before.networks)
+      × (after.refused ≡ before.refused ++ (before.lines, cause) ∷ []))
+
+-- these lines were, in turn
+abbrev pub TakesLines : ListRules → Listed → List (List ℕ) → Listed → Type 0
+TakesLines rules before [] after = after ≡ before
+TakesLines rules before (line ∷ lines) after = (between : Listed) × TakesNext rules before line between
+    × TakesLines rules between lines after
+
+-- the first lines are taken, of which these are refused and left out, and the next one has the fault, and is not
+abbrev pub StopsTaking : ListRules → Listed → List (List ℕ) → TakeFault → List Refused → Type 0
+StopsTaking rules before lines fault refused = (first : List (List ℕ)) × (line : List ℕ) × (others : List (List ℕ))
+    × (between : Listed) × (lines ≡ first ++ line ∷ others) × TakesLines rules before first between
+    × LineFails rules between.networks line fault.fault × (left_out rules fault.fault ≡ None)
+    × (fault.lines ≡ between.lines) × (refused ≡ between.refused)

@@ -1,5 +1,5 @@
 -- How often texts were counted.
-use Rattle.std.specs.Prelude.{◌≡◌, ℕ, ◌-◌, ◌^◌, ◌≤◌, ◌==◌, min, List, [], ◌∷◌, ◌++◌, if◌then◌else◌, decimal}
+use Rattle.std.specs.Prelude.{◌≡◌, ℕ, ◌-◌, ◌^◌, min, List, [], ◌∷◌, ◌++◌, if◌then◌else◌, decimal}
 use Rattle.std.specs.Cmp.Lexicographic.{slice_cmp}
 use Rattle.std.specs.List.{count_by, sum_by}
 use Rattle.std.specs.List.Sorted.{IsSorted}
@@ -27,11 +27,11 @@ rows_of rows text = count_by (λ row. bytes_eq text row.text) rows
 abbrev pub row_cmp : Row → Row → Ordering
 row_cmp first second = ordering_then (nat_cmp second.count first.count) (slice_cmp nat_cmp first.text second.text)
 
--- the rows count how often each text is among these, one row for each that is, in that order
-pub record IsTally (marks : List (List ℕ)) (rows : List Row) : Type 0 where
+-- the rows count how often each text is among the marks, one row for each that is among these or is named, in that
+-- order
+pub record IsTally (named marks : List (List ℕ)) (rows : List Row) : Type 0 where
   pub counts : (text : List ℕ) → counted_by rows text ≡ count_of text marks
-  pub once : (text : List ℕ) → rows_of rows text ≤ 1
-  pub none : count_by (λ row. row.count == 0) rows ≡ 0
+  pub once : (text : List ℕ) → rows_of rows text ≡ min (count_by (bytes_eq text) (named ++ marks)) 1
   pub ordered : IsSorted row_cmp rows
 
 -- a row as it is printed: the count in decimal, a tab, the text

@@ -1,6 +1,10 @@
 -- The tally of a run.
-use Rattle.std.specs.Prelude.{◌≡◌, ◌⊎◌, ℕ, Bool, false, Err, List, [], ◌∷◌, ◌++◌, Option, length, codes, if◌then◌else◌}
+use Rattle.std.specs.Prelude.{◌≡◌, ◌⊎◌, ℕ, Bool, false, Err, List, [], ◌∷◌, ◌++◌, Option}
+use Rattle.std.specs.Prelude.{length, map, codes, if◌then◌else◌}
+use Rattle.std.specs.FinMap.{entries}
 use Rattle.ipnetwork_addr.specs.declared.ip.IpAddr.{IpAddr}
+use Rattle.ipnetwork.specs.IpNetworkText.{ip_network_text}
+use Rattle.ipnetwork.specs.declared.ip_network.IpNetwork.TheVariants as families
 use Rattle.lists.specs.KnownLists.{KnownLists}
 use Rattle.program.specs.Endings.{Ending, Refuses, HasTold, HasWritten}
 use Rattle.cidr_join.specs.Joins.{Finds, asked_in, is_left_out, is_refused, mark_of}
@@ -10,6 +14,8 @@ use Rattle.cidr_join.specs.Logs.{ReadsLogs, EndsRunBy}
 use Rattle.program.specs.LogFaults.{ended_by_write, log_fault_text, FailsWriting}
 use Rattle.program.specs.Logs.{HaltsBy}
 use Rattle.cidr_join.specs.Tallies.{Row, IsTally, rows_text}
+use Rattle.cidr_join.specs.declared.answers.Answers.{Answers}
+use Rattle.cidr_join.specs.declared.answers.Answers.TheVariants as answers
 use Rattle.cidr_join.specs.declared.found.Found.{Found}
 use Rattle.cidr_join.specs.declared.join.Join.{Join}
 use Rattle.program.specs.declared.log_fault.LogFault.{LogFault}
@@ -25,6 +31,18 @@ Marks join [] marks = marks ≡ []
 Marks join (line ∷ lines) marks = (found : Found) × (others : List (List ℕ))
     × (is_refused join.bad (asked_in join line) ≡ false) × Finds join (asked_in join line) found
     × Marks join lines others × (marks ≡ counted_for join (asked_in join line) found ++ others)
+
+-- what the list gives addresses, and lines maybe not: the value of each of its networks, or the network
+abbrev pub named : Answers → List (List ℕ)
+named (answers.Values routes) = map (λ e. e.1.bytes.now) (entries routes.v4)
+    ++ map (λ e. e.1.bytes.now) (entries routes.v6)
+named (answers.Networks routes) = map (λ e. ip_network_text (families.V4 e.0)) (entries routes.v4)
+    ++ map (λ e. ip_network_text (families.V6 e.0)) (entries routes.v6)
+named (answers.Blocks lengths) = []
+
+-- what a tally has that was counted never, if the option says so
+abbrev pub named_in : Join → List (List ℕ)
+named_in join = if join.zeros then named join.answers else []
 
 -- what is counted for the lines of the logs of these names, which were read to their ends, or could not be opened, what
 -- is reported, and whether one could not be opened or a line is missed
@@ -84,4 +102,5 @@ EndsWith text told missed end = (HasWritten end text × HasTold end told × (end
 abbrev pub EndsTally : {W E : Type 0} → Join → KnownLists → List (List ℕ) → Ending W E → Type 0
 EndsTally join known names end = ((text : List ℕ) × StopsTally join known names text × Refuses text end)
     ⊎ ((marks : List (List ℕ)) × (told : List ℕ) × (missed : Bool) × (rows : List Row)
-    × MarksLogs join known names marks told missed × IsTally marks rows × EndsWith (rows_text rows) told missed end)
+    × MarksLogs join known names marks told missed × IsTally (named_in join) marks rows
+    × EndsWith (rows_text rows) told missed end)

@@ -1,8 +1,9 @@
 //! How often the texts of lines were counted.
 ghost use Rattle.std.specs.Prelude.{◌≡◌, ◌<◌, ◌+◌, ◌-◌, ◌^◌, ◌∷◌, [], min, length, map, replicate, List, ℕ, IfOk, OnOk, Some, slice_get, slice_set, slice_index_or};
+ghost use Rattle.std.specs.List.{flat_map};
 ghost use Rattle.cidr_join.specs.Joins.{mark_of};
 ghost use Rattle.cidr_join.specs.Tallies.{IsTally};
-ghost use Rattle.cidr_join.specs.Private.Counting.{row_of, repeated, CountsTexts};
+ghost use Rattle.cidr_join.specs.Private.Counting.{row_of, named_by, repeated, CountsTexts};
 ghost use Rattle.cidr_join.specs.Private.TallyProgress.{IsCounted, CountsAll};
 ghost use Rattle.cidr_join.specs.declared.found.Found.{Found as FoundOf};
 
@@ -46,21 +47,23 @@ impl Counts {
         ensures { OnOk result ((founds : List FoundOf)
             → CountsAll founds (text.now ∷ []) self.old self.new) }
     {
-        self.tally.count(alloc, text, 1)
+        self.tally.count(alloc, text, 1, false)
     }
 
     /// The counts and their texts, most first, and those of one count by the bytes of the texts, if
-    /// these are what the numbers stand for.
+    /// these are what the numbers stand for. If `zeros`, what a number stands for that was not
+    /// counted has the count 0.
     pub(crate) fn into_rows(
         self,
         alloc: Global,
         founds: &[Found<'_>],
+        zeros: bool,
     ) -> Result<Vec<Row>, AllocError>
         ensures { IfOk result (λ rows. (texts : List (List ℕ)) → IsCounted founds.now texts self
-            → IsTally texts (map row_of rows.items)) }
+            → IsTally (flat_map (named_by zeros) founds.now) texts (map row_of rows.items)) }
     {
         let mut tally = self.tally;
-        count_each(alloc, founds, self.numbers.as_slice(), &mut tally)?;
+        count_each(alloc, founds, self.numbers.as_slice(), zeros, &mut tally)?;
         tally.into_rows(alloc)
     }
 }
@@ -79,35 +82,36 @@ fn count_each(
     alloc: Global,
     founds: &[Found<'_>],
     numbers: &[u64],
+    zeros: bool,
     tally: &mut Tally,
 ) -> Result<(), AllocError>
     ensures { OnOk result (length numbers.now ≡ length founds.now
-        → CountsTexts (repeated founds.now numbers.now) tally.old.counts tally.new.counts) }
+        → CountsTexts (flat_map (named_by zeros) founds.now) (repeated founds.now numbers.now)
+        tally.old.counts tally.new.counts) }
 {
     for place in 0..founds.len().min(numbers.len()) {
-        count_found(alloc, &founds[place], numbers[place], tally)?;
+        count_found(alloc, &founds[place], numbers[place], zeros, tally)?;
     }
     Ok(())
 }
 
-// Counts what is printed of an address so often.
+// Counts what is printed of an address so often. If `zeros`, it keeps what is of a network and was
+// counted never.
 fn count_found(
     alloc: Global,
     found: &Found<'_>,
     count: u64,
+    zeros: bool,
     tally: &mut Tally,
 ) -> Result<(), AllocError>
-    ensures { OnOk result (CountsTexts (replicate count (mark_of found.now))
-        tally.old.counts tally.new.counts) }
+    ensures { OnOk result (CountsTexts (named_by zeros found.now)
+        (replicate count (mark_of found.now)) tally.old.counts tally.new.counts) }
 {
-    if count == 0 {
-        return Ok(());
-    }
     match found {
         Found::Network(network) => {
-            tally.count(alloc, network.canonical().as_str().as_bytes(), count)
+            tally.count(alloc, network.canonical().as_str().as_bytes(), count, zeros)
         }
-        Found::Value(value) => tally.count(alloc, value.bytes(), count),
-        Found::Nothing => tally.count(alloc, b"-", count),
+        Found::Value(value) => tally.count(alloc, value.bytes(), count, zeros),
+        Found::Nothing => tally.count(alloc, b"-", count, false),
     }
 }

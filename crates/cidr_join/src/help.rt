@@ -2,59 +2,63 @@
 
 /// What `--help` prints.
 pub(crate) const HELP: &str = "\
-Prints each line of logs behind the value that a list gives its address.
+Prints the lines of logs, each with the value that a list gives its address.
 
     cidr_join [OPTION..] -f LIST [FILE..]
     cidr_join [OPTION..] --group N,M [FILE..]
 
-    -f LIST         networks (10.0.0.0/8, 10.0.0.1, 2001:db8::/32) and ranges (A - B), one a line,
-                    each with a value behind it, after a tab, a comma or blanks. A line that begins
-                    with # or ; is a comment. - is standard input
-    --last-wins     a network that stands twice in the list has its last value; without this option
-                    it is refused
-    -k N            the address is the Nth field; without this option the first
-    -d CHAR         fields are cut at each single CHAR; without this option at each space
-    -w              fields are what stands between runs of spaces and tabs. Not with -d
-    -a              the address is the first that stands anywhere in a line, or with -k, -d or -w in
-                    that field: 10.1.1.1:51234, [10.1.1.1], SRC=10.1.1.1 and [2001:db8::1]:443 have
-                    one; v10.1.2.3, 1.2.3.4.5 and 12:34:56 have none
-    --nth WHICH     only this one counts of the addresses that stand there, found as by -a, which
-                    need not be given: first, last, or a number from 1 on
-    --after TEXT    the address is the first that follows the first TEXT of a line, found as by -a,
-                    or the one that --nth says; a line without TEXT has none: --after SRC=. Not with
+    -f LIST         read networks (10.0.0.0/8, 10.0.0.1, 2001:db8::/32) and ranges (A - B) from a
+                    file, one on each line, followed by a tab, a comma or blanks, and a value. A
+                    line that begins with # or ; is a comment. - is standard input
+    --last-wins     a network that the list has twice gets its last value; without this option, the
+                    second one is refused
+    --skip-bad      report refused lines of the list and use the others; without this option, the
+                    first refused line ends the program before any log is read
+    -k N            the address is field N; the default is 1
+    -d CHAR         every single CHAR separates fields; the default is every space
+    -w              runs of spaces and tabs separate fields. Not with -d
+    -a              the address is the first one anywhere in a line, or anywhere in the field that
+                    -k, -d or -w select: 10.1.1.1:51234, [10.1.1.1], SRC=10.1.1.1 and
+                    [2001:db8::1]:443 have one; v10.1.2.3, 1.2.3.4.5 and 12:34:56 have none
+    --nth WHICH     use only this one of the addresses found: first, last, or a number from 1 up; -a
+                    need not be given
+    --after TEXT    the address is the first one after the first TEXT in a line, found as by -a, or
+                    the one that --nth selects; a line without TEXT has none: --after SRC=. Not with
                     -a, -k, -d or -w
-    --mapped        an address ::ffff:A.B.C.D of a line counts as A.B.C.D
-    --last          print the value behind a line, after a tab, and not before it
-    --network       print the network in place of its value, which may be missing in the list; a
-                    range counts as the fewest networks that make it up
-    --tally         print no line: print how many lines have each value, and a tab and the value,
-                    most first, and those of one count in the order of their bytes. Lines that would
-                    have a minus sign count as one. Not with --last
-    --group N,M     no list: before a line print the block of length N that has its address, or of
-                    length M if that is of IPv6: --group 24,64. Not with -f, --network or
-                    --last-wins
-    --bad drop      a line without an address is not printed and not counted, and nothing is told
-                    of lines that are too long
-    --bad keep      it is printed behind a minus sign (so it is without this option)
+    --mapped        treat an address ::ffff:A.B.C.D of a line as A.B.C.D
+    --last          print the value after the line and a tab, not before it
+    --network       print the network instead of its value, which the list may leave out; a range
+                    counts as the fewest networks that make it up
+    --tally         count lines: print for each value the number of lines that have it, a tab and
+                    the value, the greatest number first, values with the same number in the order of
+                    their bytes. Lines without a value count under a minus sign. Not with --last
+    --zero          print the values of the list that no line has too, or with --network its
+                    networks, with the number 0. Only with --tally
+    --group N,M     use no list: print before each line the block of length N that has its address,
+                    or for IPv6 that of length M: --group 24,64. Not with -f, --network, --last-wins,
+                    --skip-bad or --zero
+    --bad drop      a line without an address is neither printed nor counted, and lines that are too
+                    long are not reported
+    --bad keep      it is printed after a minus sign (the default)
     --bad stop      it ends the program, and so does one that is too long
-    --bad report    it is printed behind a minus sign; told is of each FILE how many there are, and
-                    how many are too long
+    --bad report    it is printed after a minus sign; for each FILE is reported how many there are,
+                    and how many are too long
     --quiet         as the first word: do not show on a terminal how much was read
     --help          print this text
     --version       print the version
 
-Before each line the program prints the value of the longest network of the list that has the
-address of the line, and a tab; a minus sign if no network has it, or the line has no address.
-Options may stand behind FILEs; what follows a -- are FILEs. Options of one letter may be one word,
-with the value of the last behind it: -wk1, -flist; and so may --bad=keep. A FILE is a name, or -
-for standard input, as is no FILE at all. A line is printed as it was; a last line without a line
-feed gets one. A line has at most 1,048,576 bytes; a longer one is not printed and counts as one
-without an address, and the first of a FILE is reported. A line of the list has at most 1,024 bytes,
-and the list 1,073,741,824. A FILE that cannot be opened is reported, and the others are read. So is
-a FILE with lines of which none has an address where it is looked for.
+Each line is printed after the value of the longest network of the list that has its address, and a
+tab; after a minus sign and a tab if no network has it, or the line has no address. Options may
+follow FILEs; every word after -- is a FILE. Options of one letter can be joined, the last with its
+value: -wk1, -flist; --bad=keep is --bad keep. A FILE is a name, or - for standard input, which is
+read if no FILE is given. Lines are printed unchanged; a last line without a line feed gets one. A
+line has at most 1,048,576 bytes; a longer one is not printed and counts as one without an address,
+and the first in each FILE is reported. A line of the list has at most 1,024 bytes, and the list
+1,073,741,824. A FILE that cannot be opened is reported, and the others are read. A FILE with lines
+of which none has an address in that place is reported too.
 
-Status: 0, or 2 on wrong usage, a refused line, one that is too long without --bad drop, a file that
-cannot be opened or read, a failed write or out of memory.
+Status: 0, or 2 after wrong usage, a refused line, one that is too long without --bad drop, a file
+that cannot be opened or read, a failed write, or lack of memory.
 
 Examples:
     cidr_join -f teams.txt access.log
@@ -73,5 +77,5 @@ pub(crate) const PROGRAM: &str = "cidr_join";
 /// How the program is used: what is reported for arguments that are not a command, after what is wrong with them.
 pub(crate) const USAGE: &str =
     "usage: cidr_join [--after TEXT | [-a] [-k N] [-d CHAR | -w]] [--nth first|last|N] [--mapped] \
-     [--bad drop|keep|stop|report] [--last | --tally] \
-     (-f LIST [--network] [--last-wins] | --group N,M) [FILE..]; try --help\n";
+     [--bad drop|keep|stop|report] [--last | --tally [--zero]] \
+     (-f LIST [--network] [--last-wins] [--skip-bad] | --group N,M) [FILE..]; try --help\n";

@@ -20,6 +20,8 @@ pub struct Join<'a> {
     /// Whether that stands behind the line, and not before it.
     pub(crate) last: bool,
     pub(crate) bad: WithoutAddress,
+    /// Whether a tally has what the list gives addresses of which no line has one.
+    pub(crate) zeros: bool,
 }
 
 impl<'a> Join<'a> {

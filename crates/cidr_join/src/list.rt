@@ -1,16 +1,25 @@
 //! Reads the networks of a list with their values.
-ghost use Rattle.std.specs.Prelude.{◌≡◌, ◌==◌, ◌≤◌, length, drop, IfOk, IfErr, OnOk, OnErr};
+ghost use Rattle.std.specs.Prelude.{◌≡◌, ◌==◌, ◌≤◌, ◌<◌, ◌+◌, ◌^◌, IfErr, OnOk};
 ghost use Rattle.std.specs.List.{slice_split};
-ghost use Rattle.cidr_join.specs.Routes.{no_networks, IsGoodEntry, SetsEntry, EntryHasOne, IsRefusal};
-ghost use Rattle.cidr_join.specs.Takes.{TakesLine, TakesLines, LineFails, StopsTaking};
+ghost use Rattle.program.specs.LogFaults.{line_text};
+ghost use Rattle.program.specs.Messages.{Reports};
+ghost use Rattle.cidr_join.specs.Entries.{cause_text};
+ghost use Rattle.cidr_join.specs.Reported.{EndsList};
+ghost use Rattle.cidr_join.specs.Routes.{IsGoodEntry, SetsEntry, EntryHasOne, IsRefusal, Keeps};
+ghost use Rattle.cidr_join.specs.Takes.{TakesLine, LineFails, left_out};
+ghost use Rattle.cidr_join.specs.Private.Listing.{nothing_taken, EndsLines, ListsNext, FailsNext};
 
-use crate::line::read_route;
+use crate::line::{Cause, read_route};
 use crate::routes::{Networks, RouteFault, set_one, set_range};
 use crate::value::Value;
 use byte_search::find_from;
 use ipnetwork::{IpAddr, IpNetwork};
+use lines::output::Output;
 use lists::Entry;
+use program::log_fault::tell_line;
+use program::telling::tell_more;
 use std::alloc::Global;
+use std::io::Write;
 
 /// How the lines of a list are taken.
 #[derive(Clone, Copy, Debug, PartialEq, Eq)]
@@ -19,6 +28,8 @@ pub struct ListRules {
     pub last_wins: bool,
     /// A line may have no value.
     pub bare: bool,
+    /// A refused line is reported and left out, and is no fault.
+    pub skips: bool,
 }
 
 /// Why a list is not taken to its end: a fault of the line after these.
@@ -30,31 +41,125 @@ pub struct TakeFault {
     pub fault: RouteFault,
 }
 
-/// The networks and values of the lines of a list, taken by these rules.
-pub(crate) fn networks_of<'a>(
+/// How many of the refused lines that are left out are reported; of the others it is told how many
+/// they are.
+const TOLD_MAX: usize = 100;
+
+/// What was taken of the lines of a list.
+#[derive(Drop)]
+pub struct Listing<'a> {
+    pub(crate) networks: Networks<'a>,
+    // How many lines there were.
+    pub(crate) lines: usize,
+    // How many of them were refused and left out.
+    pub(crate) skipped: usize,
+}
+
+/// The networks and values of the lines of the list of this name, taken by these rules.
+pub(crate) fn networks_of<'a, E: Write>(
     alloc: Global,
+    name: &str,
     text: &'a [u8],
     rules: ListRules,
+    errors: &mut Output<'_, E>,
 ) -> Result<Networks<'a>, TakeFault>
-    ensures ok { IfOk result (TakesLines rules no_networks
-        (slice_split (λ b. b == 10) text.now)) }
-    ensures err { IfErr result (StopsTaking rules no_networks
-        (slice_split (λ b. b == 10) text.now)) }
+    ensures { EndsList name.now rules (slice_split (λ b. b == 10) text.now)
+        errors.old errors.new result }
 {
-    let mut networks = Networks::new(alloc);
-    let mut lines = 0;
+    let mut listing = Listing {
+        networks: Networks::new(alloc),
+        lines: 0,
+        skipped: 0,
+    };
+    let end = take_lines(&mut listing, name, text, rules, errors);
+    tell_more(listing.skipped.saturating_sub(TOLD_MAX) as u64, errors);
+    match end {
+        Ok(()) => Ok(listing.networks),
+        Err(fault) => Err(fault),
+    }
+}
+
+// Takes the lines of a list of this name.
+fn take_lines<'a, E: Write>(
+    listing: &mut Listing<'a>,
+    name: &str,
+    text: &'a [u8],
+    rules: ListRules,
+    errors: &mut Output<'_, E>,
+) -> Result<(), TakeFault>
+    requires { listing.old ≡ nothing_taken }
+    ensures { EndsLines name.now rules (slice_split (λ b. b == 10) text.now)
+        errors.old errors.new listing.new result }
+{
     let mut at = 0;
     'lines: while let Some(end) = find_from(text, at, b'\n') {
-        if let Err(fault) = take_line(&mut networks, &text[at..end], rules) {
-            return Err(TakeFault { lines, fault });
+        if let Err(fault) = take_next(listing, name, &text[at..end], rules, errors) {
+            return Err(fault);
         }
-        lines += 1;
         at = end + 1;
     }
-    if let Err(fault) = take_line(&mut networks, &text[at..], rules) {
-        return Err(TakeFault { lines, fault });
+    take_next(listing, name, &text[at..], rules, errors)
+}
+
+// Takes the next line, or leaves it out.
+fn take_next<'a, E: Write>(
+    listing: &mut Listing<'a>,
+    name: &str,
+    line: &'a [u8],
+    rules: ListRules,
+    errors: &mut Output<'_, E>,
+) -> Result<(), TakeFault>
+    requires { (listing.old.skipped ≤ listing.old.lines) × (listing.old.lines + 1 < 2 ^ 64) }
+    ensures ok { OnOk result (ListsNext name.now rules line.now errors.old errors.new
+        listing.old listing.new) }
+    ensures err { IfErr result (FailsNext rules line.now errors.old errors.new
+        listing.old listing.new) }
+    ensures lines { listing.new.lines ≡ listing.old.lines + 1 }
+    ensures few { listing.new.skipped ≤ listing.new.lines }
+{
+    let lines = listing.lines;
+    listing.lines += 1;
+    match take_line(&mut listing.networks, line, rules) {
+        Ok(()) => Ok(()),
+        Err(fault) => match left_out(rules, fault) {
+            Some(cause) => {
+                skip(&mut listing.skipped, name, lines, cause, errors);
+                Ok(())
+            }
+            None => Err(TakeFault { lines, fault }),
+        },
     }
-    Ok(networks)
+}
+
+// Why a line of this fault is left out, if it is.
+fn left_out(rules: ListRules, fault: RouteFault) -> Option<Cause>
+    ensures { result ≡ left_out rules fault }
+{
+    match fault {
+        RouteFault::Refused(cause) if rules.skips => Some(cause),
+        _ => None,
+    }
+}
+
+// Counts a line that is left out, the one after this many, and reports it, if it is one of the
+// first.
+fn skip<E: Write>(
+    skipped: &mut usize,
+    name: &str,
+    lines: usize,
+    cause: Cause,
+    errors: &mut Output<'_, E>,
+)
+    requires { skipped.old + 1 < 2 ^ 64 }
+    ensures counts { skipped.new ≡ skipped.old + 1 }
+    ensures first { skipped.old < 100
+        → Reports errors.old errors.new (line_text name.now lines (cause_text cause)) }
+    ensures others { 100 ≤ skipped.old → errors.new ≡ errors.old }
+{
+    *skipped += 1;
+    if *skipped <= TOLD_MAX {
+        tell_line(name, lines as u64, cause.text(), errors);
+    }
 }
 
 // Takes what a line says.
@@ -66,6 +171,7 @@ fn take_line<'a>(
 ) -> Result<(), RouteFault>
     ensures ok { OnOk result (TakesLine rules networks.old line.now networks.new) }
     ensures err { IfErr result (LineFails rules networks.old line.now) }
+    ensures kept { IfErr result (Keeps networks.old networks.new) }
 {
     match read_route(line, rules.bare) {
         Ok(None) => Ok(()),
@@ -75,6 +181,7 @@ fn take_line<'a>(
 }
 
 // Gives the network of an entry, or the blocks of its range, a value.
+#[tactic(auto, using(crate::proofs::Taking::kept_v4, crate::proofs::Taking::kept_v6))]
 fn set_entry<'a>(
     networks: &mut Networks<'a>,
     entry: Entry,
@@ -83,7 +190,8 @@ fn set_entry<'a>(
 ) -> Result<(), RouteFault>
     requires { IsGoodEntry entry }
     ensures ok { OnOk result (SetsEntry last_wins networks.old entry value.entry networks.new) }
-    ensures err { IfErr result (IsRefusal (EntryHasOne last_wins networks.old entry value.entry)) }
+    ensures err { IfErr result (IsRefusal (EntryHasOne last_wins networks.old entry)) }
+    ensures kept { IfErr result (Keeps networks.old networks.new) }
 {
     match entry {
         Entry::Network(network) => match network {

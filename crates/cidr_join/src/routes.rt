@@ -1,11 +1,14 @@
 //! The networks of a list with their values, and which of them an address has.
-ghost use Rattle.std.specs.Prelude.{◌≡◌, ◌≤◌, IfOk, IfErr, MatchOption, OnOk};
-ghost use Rattle.cidr_join.specs.Routes.{IsLongestRoute, NoRouteHolds, SetsOne, HasOne, SetsRange, RangeHasOne, IsRefusal, no_networks};
+ghost use Rattle.std.specs.Prelude.{◌≡◌, ◌<◌, ◌≤◌, ◌^◌, IfOk, IfErr, MatchOption, OnOk};
+ghost use Rattle.ipnetwork_blocks.specs.LeastList.{IsLeastList};
+ghost use Rattle.ipnetwork_blocks.specs.Ranges.{FromTo};
+ghost use Rattle.cidr_join.specs.Routes.{IsLongestRoute, NoRouteHolds, SetsOne, HasOne, SetsRange, RangeHasOne, RefusesRange, IsRefusal, Keeps, no_networks};
 
 use crate::line::Cause;
 use crate::value::Value;
 use ipnetwork::{IpAddr, IpNetwork, Ipv4Network, Ipv6Network};
-use ipnetwork_blocks::{AddressSpace, range_to_blocks};
+use ipnetwork_blocks::laws::ranges_are_shortest;
+use ipnetwork_blocks::{AddressSpace, RangeBlocks, range_to_blocks};
 use ipnetwork_index::RouteIndex;
 use ipnetwork_table::PrefixTable;
 use std::alloc::{AllocError, Global};
@@ -75,7 +78,8 @@ impl<'a> Routes<'a> {
     }
 }
 
-/// Gives a network a value. One that has a value gets this one if `last_wins`, and is refused if not.
+/// Gives a network a value. One that has a value gets this one if `last_wins`, and if not, it keeps
+/// its own, and this one is refused.
 pub(crate) fn set_one<'a, N: AddressSpace>(
     table: &mut PrefixTable<N, Value<'a>>,
     network: N,
@@ -85,17 +89,19 @@ pub(crate) fn set_one<'a, N: AddressSpace>(
     ensures ok { OnOk result
         (SetsOne N.WIDTH last_wins table.old (N.pair network) value.entry table.new) }
     ensures err { IfErr result (IsRefusal (HasOne N.WIDTH last_wins table.old (N.pair network))) }
+    ensures kept { IfErr result (Keeps table.old table.new) }
 {
-    let Ok(had) = table.insert(network, value) else {
-        return Err(RouteFault::OutOfMemory);
-    };
-    if had.is_some() && !last_wins {
+    if !last_wins && table.get(network).is_some() {
         return Err(RouteFault::Refused(Cause::Twice));
     }
-    Ok(())
+    match table.insert(network, value) {
+        Ok(_) => Ok(()),
+        Err(_) => Err(RouteFault::OutOfMemory),
+    }
 }
 
-/// Gives a value to each of the fewest blocks that have the addresses from `first` to `last`.
+/// Gives a value to each of the fewest blocks that have the addresses from `first` to `last`, or to
+/// none of them.
 pub(crate) fn set_range<'a, N: AddressSpace>(
     table: &mut PrefixTable<N, Value<'a>>,
     first: N::Addr,
@@ -107,15 +113,53 @@ pub(crate) fn set_range<'a, N: AddressSpace>(
     ensures ok { OnOk result (SetsRange N.WIDTH last_wins table.old
         (N.number first) (N.number last) value.entry table.new) }
     ensures err { IfErr result (IsRefusal (RangeHasOne N.WIDTH last_wins table.old
-        (N.number first) (N.number last) value.entry)) }
+        (N.number first) (N.number last))) }
+    ensures kept { IfErr result (Keeps table.old table.new) }
+{
+    if refuses_range(table, first, last, last_wins) {
+        return Err(RouteFault::Refused(Cause::Twice));
+    }
+    ranges_are_shortest();
+    let mut blocks = blocks_of::<N>(first, last);
+    while let Some(block) = blocks.next() {
+        set_one(table, block, value, true)?;
+    }
+    Ok(())
+}
+
+// Whether a range is refused: one of the fewest blocks that have its addresses has a value, unless
+// `last_wins`.
+fn refuses_range<N: AddressSpace>(
+    table: &PrefixTable<N, Value<'_>>,
+    first: N::Addr,
+    last: N::Addr,
+    last_wins: bool,
+) -> bool
+    requires { N.number first ≤ N.number last }
+    ensures { RefusesRange N.WIDTH last_wins table.now (N.number first) (N.number last) result }
+{
+    let mut blocks = blocks_of::<N>(first, last);
+    if last_wins {
+        return false;
+    }
+    while let Some(block) = blocks.next() {
+        if table.get(block).is_some() {
+            return true;
+        }
+    }
+    false
+}
+
+// The fewest blocks that have the addresses from `first` to `last`.
+fn blocks_of<N: AddressSpace>(first: N::Addr, last: N::Addr) -> RangeBlocks<N>
+    requires { N.number first ≤ N.number last }
+    ensures blocks { IsLeastList N.WIDTH (FromTo (N.number first) (N.number last)) result }
+    ensures address { N.number last < 2 ^ N.WIDTH }
 {
     // The clause `address` of this call says that `last` is an address of the family.
     let _ = N::block(last, N::WIDTH);
-    let Some(mut blocks) = range_to_blocks::<N>(first, last) else {
+    let Some(blocks) = range_to_blocks::<N>(first, last) else {
         unreachable!()
     };
-    while let Some(block) = blocks.next() {
-        set_one(table, block, value, last_wins)?;
-    }
-    Ok(())
+    blocks
 }

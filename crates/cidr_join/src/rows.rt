@@ -22,8 +22,14 @@ pub(crate) const GROUP: usize = 14;
 /// The row of `--bad`.
 pub(crate) const BAD: usize = 15;
 
+/// The row of `--zero`.
+pub(crate) const ZERO: usize = 16;
+
+/// The row of `--skip-bad`.
+pub(crate) const SKIPS_BAD: usize = 17;
+
 // The options.
-const ROWS: [Row; 16] = log_rows![
+const ROWS: [Row; 18] = log_rows![
     long!("--last", Flag, false, ""),
     long!("--last-wins", Flag, false, ""),
     long!("--network", Flag, false, ""),
@@ -32,13 +38,15 @@ const ROWS: [Row; 16] = log_rows![
         "--group",
         Lengths,
         false,
-        "is not N,M with N up to 32 and M up to 128"
+        "not N,M with N up to 32 and M up to 128"
     ),
-    long!("--bad", Rule, true, "is not drop, keep, stop or report"),
+    long!("--bad", Rule, true, "not drop, keep, stop or report"),
+    long!("--zero", Flag, false, ""),
+    long!("--skip-bad", Flag, false, ""),
 ];
 
 // Which do not go together, and that `-f` is given once at the most.
-const PAIRS: [Pair; 10] = log_pairs![
+const PAIRS: [Pair; 12] = log_pairs![
     [],
     [
         pair!(TALLY, LAST, "--last does not go with --tally"),
@@ -46,17 +54,27 @@ const PAIRS: [Pair; 10] = log_pairs![
         pair!(
             GROUP,
             LIST,
-            "--group goes with none of -f, --network and --last-wins"
+            "--group goes with none of -f, --network, --last-wins, --skip-bad and --zero"
         ),
         pair!(
             GROUP,
             NETWORK,
-            "--group goes with none of -f, --network and --last-wins"
+            "--group goes with none of -f, --network, --last-wins, --skip-bad and --zero"
         ),
         pair!(
             GROUP,
             LAST_WINS,
-            "--group goes with none of -f, --network and --last-wins"
+            "--group goes with none of -f, --network, --last-wins, --skip-bad and --zero"
+        ),
+        pair!(
+            GROUP,
+            ZERO,
+            "--group goes with none of -f, --network, --last-wins, --skip-bad and --zero"
+        ),
+        pair!(
+            GROUP,
+            SKIPS_BAD,
+            "--group goes with none of -f, --network, --last-wins, --skip-bad and --zero"
         ),
     ],
 ];

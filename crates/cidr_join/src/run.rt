@@ -3,7 +3,7 @@ ghost use Rattle.std.specs.Prelude.{◌≡◌, map};
 ghost use Rattle.std.specs.String.{string_bytes};
 ghost use Rattle.options.specs.Given.{inputs_of};
 ghost use Rattle.program.specs.Endings.{ending};
-ghost use Rattle.cidr_join.specs.Runs.{EndsRequest, EndsFiles, EndsAs, EndsFinding, EndsJoining, answers_by, join_of, lengths_of, rules_of};
+ghost use Rattle.cidr_join.specs.Runs.{EndsRequest, EndsFiles, EndsAs, EndsFinding, EndsJoining, answers_by, join_of, lacks_tally, lengths_of, rules_of};
 
 use crate::answers::Answers;
 use crate::help::{HELP, PROGRAM, USAGE, VERSION};
@@ -13,7 +13,7 @@ use crate::list::{ListRules, networks_of};
 use crate::logs::join_logs;
 use crate::missing::status;
 use crate::routes::Routes;
-use crate::rows::{BAD, GROUP, LAST, LAST_WINS, NETWORK, TALLY, table};
+use crate::rows::{BAD, GROUP, LAST, LAST_WINS, NETWORK, SKIPS_BAD, TALLY, ZERO, table};
 use crate::tally_logs::tally_logs;
 use crate::telling::{tell_bytes_fault, tell_take_fault};
 use lines::output::Output;
@@ -22,8 +22,10 @@ use log_programs::areas::area_of;
 use log_programs::rows::{LIST, MAPPED};
 use log_programs::without_address::bad_in;
 use options::asking::{About, asked};
+use options::faults::{Subject, about};
 use options::given::{inputs_of, is_given, value_of};
 use options::items::Item;
+use options::refusing::refuse;
 use options::values::lengths_in;
 use program::ending::{FAILED, end};
 use program::log_reader::BUFFER_LEN;
@@ -65,13 +67,24 @@ fn join<L: OpenLists, W: Write, E: Write>(
     output: &mut Output<'_, W>,
     errors: &mut Output<'_, E>,
 ) -> u8
-    ensures { EndsRequest (L.known lists.now) items.now
+    ensures { EndsRequest PROGRAM.now USAGE.now (L.known lists.now) items.now
         (ending output.old output.new errors.old errors.new result) }
 {
+    if lacks_tally(items) {
+        let fault = about(Subject::CommandLine, "--zero goes only with --tally");
+        return refuse(PROGRAM, USAGE, &[], &fault, errors);
+    }
     match inputs_of(alloc, items) {
         Ok(files) => join_files(alloc, items, files.as_slice(), lists, output, errors),
         Err(_) => refuse_memory(errors),
     }
+}
+
+// Whether `--zero` is given without `--tally`.
+fn lacks_tally(items: &[Item<'_>]) -> bool
+    ensures { result ≡ lacks_tally items.now }
+{
+    is_given(items, ZERO) && !is_given(items, TALLY)
 }
 
 // Reads the list, and then joins these logs to it, if their lines are not grouped in blocks.
@@ -135,7 +148,7 @@ fn join_to<L: OpenLists, W: Write, E: Write>(
     ensures { EndsJoining (L.known lists.now) items.now name.now text.now
         (ending output.old output.new errors.old errors.new result) }
 {
-    let networks = match networks_of(alloc, text, rules_of(items)) {
+    let networks = match networks_of(alloc, name, text, rules_of(items), errors) {
         Ok(networks) => networks,
         Err(fault) => {
             tell_take_fault(name, fault, errors);
@@ -157,6 +170,7 @@ fn rules_of(items: &[Item<'_>]) -> ListRules
     ListRules {
         last_wins: is_given(items, LAST_WINS),
         bare: is_given(items, NETWORK),
+        skips: is_given(items, SKIPS_BAD),
     }
 }
 
@@ -210,5 +224,6 @@ fn join_of<'a>(items: &[Item<'a>], answers: Answers<'a>) -> Join<'a>
         mapped: is_given(items, MAPPED),
         last: is_given(items, LAST),
         bad: bad_in(value_of(items, BAD)),
+        zeros: is_given(items, ZERO),
     }
 }

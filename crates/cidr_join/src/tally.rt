@@ -1,7 +1,7 @@
 //! How often texts were counted.
-ghost use Rattle.std.specs.Prelude.{List, ℕ, ◌≤◌, [], map, replicate, IfOk, OnOk};
+ghost use Rattle.std.specs.Prelude.{List, ℕ, [], map, replicate, IfOk, OnOk};
 ghost use Rattle.cidr_join.specs.Tallies.{IsTally};
-ghost use Rattle.cidr_join.specs.Private.Counting.{row_of, Counted, CountsTexts};
+ghost use Rattle.cidr_join.specs.Private.Counting.{row_of, named_if, Counted, CountsTexts};
 
 use std::alloc::{AllocError, Global};
 use std::cmp::Reverse;
@@ -19,19 +19,28 @@ pub struct Tally {
 impl Tally {
     /// Nothing was counted.
     pub(crate) fn new(alloc: Global) -> Tally
-        ensures { Counted [] result.counts }
+        ensures { Counted [] [] result.counts }
     {
         Tally {
             counts: HashMap::new(alloc),
         }
     }
 
-    /// Counts a text so often. Allocates only if it was not counted before.
-    pub(crate) fn count(&mut self, alloc: Global, text: &[u8], count: u64) -> Result<(), AllocError>
-        requires { 1 ≤ count }
-        ensures { OnOk result
-            (CountsTexts (replicate count text.now) self.old.counts self.new.counts) }
+    /// Counts a text so often, of which it keeps that it was counted never, if `named`. Allocates
+    /// only if it does not have the text.
+    pub(crate) fn count(
+        &mut self,
+        alloc: Global,
+        text: &[u8],
+        count: u64,
+        named: bool,
+    ) -> Result<(), AllocError>
+        ensures { OnOk result (CountsTexts (named_if named text.now) (replicate count text.now)
+            self.old.counts self.new.counts) }
     {
+        if count == 0 && !named {
+            return Ok(());
+        }
         if let Some(before) = self.counts.get_mut(text) {
             *before = before.saturating_add(count);
             return Ok(());
@@ -43,8 +52,8 @@ impl Tally {
 
     /// The counts and their texts, most first, and those of one count by the bytes of the texts.
     pub(crate) fn into_rows(self, alloc: Global) -> Result<Vec<Row>, AllocError>
-        ensures { IfOk result (λ rows. (texts : List (List ℕ)) → Counted texts self.counts
-            → IsTally texts (map row_of rows.items)) }
+        ensures { IfOk result (λ rows. (named texts : List (List ℕ))
+            → Counted named texts self.counts → IsTally named texts (map row_of rows.items)) }
     {
         let mut rows = Vec::with_capacity(alloc, self.counts.len())?;
         for (text, count) in self.counts {

@@ -21,6 +21,7 @@ use Rattle.cidr_merge.specs.Answers.{block_line, range_line}
 use Rattle.cidr_merge.specs.Faults.{files_among, files_fault, takes}
 use Rattle.cidr_merge.specs.Forms.{form_of, shape_of, prefix_in}
 use Rattle.cidr_merge.specs.Options.{entries, pairs}
+use Rattle.cidr_merge.specs.SetNames.{Names, usual_names}
 use Rattle.cidr_merge.specs.Sides.{before_dashes, behind_dashes}
 use Rattle.cidr_merge.specs.Tasks.{task_called}
 use Rattle.cidr_merge.specs.Runs.{answer_status}
@@ -39,23 +40,27 @@ use Rattle.cidr_merge.specs.declared.tasks.Task.TheVariants as tasks
 abbrev pub ten : Network
 ten = record { address = 167772160; prefix = 8 }
 
-pub block_of_a_union : block_line Union v4_family
+-- `[` before each line, and `;` after it
+abbrev pub around : Names
+around = record { table = []; set = []; before = codes "["; after = codes ";" }
+
+pub block_of_a_union : block_line usual_names Union v4_family
     (record { side = First; part = ten }) ≡ codes "10.0.0.0/8\n"
 unfolding digits
 block_of_a_union = refl
 
-pub block_of_the_first_alone : block_line Differ v4_family
-    (record { side = First; part = ten }) ≡ codes "< 10.0.0.0/8\n"
+pub block_of_the_first_alone : block_line around Differ v4_family
+    (record { side = First; part = ten }) ≡ codes "< [10.0.0.0/8;\n"
 unfolding digits
 block_of_the_first_alone = refl
 
-pub range_of_the_second_alone : range_line Differ v4_family
+pub range_of_the_second_alone : range_line around Differ v4_family
     (record { side = Second; part = (167772160, 184549375) })
-    ≡ codes "> 10.0.0.0 - 10.255.255.255\n"
+    ≡ codes "> [10.0.0.0 - 10.255.255.255;\n"
 unfolding digits
 range_of_the_second_alone = refl
 
-pub range_of_a_difference : range_line Minus v4_family
+pub range_of_a_difference : range_line usual_names Minus v4_family
     (record { side = First; part = (0, 4294967295) }) ≡ codes "0.0.0.0 - 255.255.255.255\n"
 unfolding digits
 range_of_a_difference = refl
@@ -166,17 +171,18 @@ pub no_files : (files_among tasks.Find 2 (codes "-" ∷ [] ∷ codes "-" ∷ [])
     × (files_among tasks.Check 2 (codes "-" ∷ [] ∷ codes "-" ∷ []) ≡ codes "-" ∷ [] ∷ codes "-" ∷ [])
 no_files = (refl, refl)
 
--- of `--ranges`, `--skip-bad`, `--strict`, `--prefix` and `--help` each task takes its own
-pub options_of_tasks : map (λ task. map (takes task) (0 ∷ 3 ∷ 5 ∷ 8 ∷ 9 ∷ [])) (tasks.Merge Differ ∷ tasks.List ∷ tasks.Split ∷ tasks.Check ∷ tasks.Overlaps ∷ tasks.Find ∷ [])
-    ≡ (true ∷ true ∷ true ∷ false ∷ false ∷ []) ∷ (true ∷ true ∷ true ∷ false ∷ false ∷ []) ∷ (false ∷ true ∷ true ∷ true ∷ false ∷ [])
-    ∷ (false ∷ false ∷ true ∷ false ∷ false ∷ []) ∷ (false ∷ false ∷ false ∷ false ∷ false ∷ []) ∷ (false ∷ false ∷ false ∷ false ∷ false ∷ []) ∷ []
+-- of `--ranges`, `--skip-bad`, `--strict`, `--line-prefix`, `--prefix` and `--help` each task takes its own
+pub options_of_tasks : map (λ task. map (takes task) (0 ∷ 3 ∷ 5 ∷ 8 ∷ 10 ∷ 11 ∷ [])) (tasks.Merge Differ ∷ tasks.List ∷ tasks.Split ∷ tasks.Check ∷ tasks.Overlaps ∷ tasks.Find ∷ [])
+    ≡ (true ∷ true ∷ true ∷ true ∷ false ∷ false ∷ []) ∷ (true ∷ true ∷ true ∷ true ∷ false ∷ false ∷ [])
+    ∷ (false ∷ true ∷ true ∷ true ∷ true ∷ false ∷ []) ∷ (false ∷ false ∷ true ∷ false ∷ false ∷ false ∷ [])
+    ∷ (false ∷ false ∷ false ∷ false ∷ false ∷ false ∷ []) ∷ (false ∷ false ∷ false ∷ false ∷ false ∷ false ∷ []) ∷ []
 options_of_tasks = refl
 
 -- two ways to print, one of them twice, a form that is given twice, also without a value, and two lengths
 pub ways_to_print : map (λ items. is_some (pair_fault items (pairs_of pairs)))
     ((says.Flag 0 ∷ says.Flag 1 ∷ []) ∷ (says.Flag 1 ∷ says.Flag 1 ∷ []) ∷ (says.Value 2 (codes "csv") ∷ []) ∷ (says.Value 2 (codes "csv") ∷ says.Lacks 2 ∷ [])
     ∷ (says.Value 2 (codes "csv") ∷ says.Flag 1 ∷ []) ∷ (says.Value 2 (codes "csv") ∷ says.Flag 0 ∷ [])
-    ∷ (says.Value 8 (codes "8") ∷ says.Joined 8 (codes "9") (codes "--prefix=9") ∷ []) ∷ []) ≡ true ∷ false ∷ false ∷ true ∷ true ∷ true ∷ true ∷ []
+    ∷ (says.Value 10 (codes "8") ∷ says.Joined 10 (codes "9") (codes "--prefix=9") ∷ []) ∷ []) ≡ true ∷ false ∷ false ∷ true ∷ true ∷ true ∷ true ∷ []
 ways_to_print = refl
 
 pub forms_said : map (form_of Blocks) ((says.Flag 3 ∷ says.Flag 1 ∷ []) ∷ (says.Flag 3 ∷ says.Value 2 (codes "csv") ∷ []) ∷ [] ∷ (says.Flag 0 ∷ []) ∷ [])

@@ -30,7 +30,7 @@ values = (refl, refl)
 
 -- what `nft -f` reads, and `ipset restore`, with the whole of IPv6
 abbrev blocked : Names
-blocked = record { table = codes "fw"; set = codes "blocked" }
+blocked = record { table = codes "fw"; set = codes "blocked"; before = codes "deny "; after = codes ";" }
 
 pub sets : (export_text blocked Nft (ten ∷ one ∷ []) []
     ≡ codes "add table inet fw\n"

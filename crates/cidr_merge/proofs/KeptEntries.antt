@@ -78,10 +78,6 @@ pub record Swept {X : Type 0} (r : X → X → Bool) (old now : List X) (kept pl
   pub same : (j : ℕ) (d : X) → place ≤ j → j < length old
       → filter (r (get_or old j d)) (take kept now) ≡ filter (r (get_or old j d)) (take place old)
 
-pub swept_none : {X : Type 0} (r : X → X → Bool) (old : List X) → Swept r old old 0 0
-swept_none r old =
-    record { ahead = refl; long = refl; within = omega arith; same = λ j d l m. refl }
-
 -- what a later one asks for, an earlier one does: the test is so on a list
 abbrev pub Falls : {X : Type 0} → (X → X → Bool) → List X → Type 0
 Falls {X} r old =

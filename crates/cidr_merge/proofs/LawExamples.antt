@@ -88,13 +88,13 @@ pub no_options : (rows : List Row) → NoOtherOption rows → (is_of (tasks.Merg
     × (is_of (tasks.Merge Differ) (named (codes "--prefix") rows) ≡ false)
 no_options rows law = (
   law Common (codes "--skip") (no refl) (no refl) (no refl) (no refl) (no refl) (no refl)
-      (no refl) (no refl),
+      (no refl) (no refl) (no refl) (no refl),
   law Union (codes "--") (no refl) (no refl) (no refl) (no refl) (no refl) (no refl)
-      (no refl) (no refl),
+      (no refl) (no refl) (no refl) (no refl),
   law Minus (codes "--counts") (no refl) (no refl) (no refl) (no refl) (no refl) (no refl)
-      (no refl) (no refl),
+      (no refl) (no refl) (no refl) (no refl),
   law Differ (codes "--prefix") (no refl) (no refl) (no refl) (no refl) (no refl) (no refl)
-      (no refl) (no refl),
+      (no refl) (no refl) (no refl) (no refl),
 )
 
 pub ranges_are_no_form : NoOtherForm → form_called (codes "ranges") ≡ None
@@ -130,12 +130,14 @@ module _ {Z : Type 0} (minus a dashes b ranges : String Z) (o : string_bytes min
   right : AreRight table (tasks.Merge Minus) (first ++ second) (codes "a" ∷ []) (codes "b" ∷ [])
   right = record {
     each = (AFile (codes "a"), (AFile (codes "b"), (AFlag 0 refl, tt)));
-    apart = (refl, (refl, (refl, (refl, (refl, (refl, (refl, tt)))))));
+    apart = (refl, (refl, (refl, (refl, (refl, (refl, (refl, (refl, (refl, tt)))))))));
     strict = λ t s. absurd (true≢false (sym s));
     form = λ e. absurd (let x = e in cc);
     prefix = λ e. absurd (let x = e in cc);
     sets = λ s. absurd (true≢false (sym s));
     sets_table = λ s. absurd (true≢false (sym s));
+    before = λ s. absurd (true≢false (sym s));
+    after = λ s. absurd (true≢false (sym s));
     some = λ e. absurd (let x = e in cc);
     others = λ t e. absurd (let x = e in cc);
     named = refl;

@@ -40,21 +40,22 @@ same_place : (text : List ℕ) (rows : List Row) → position_or_len (has_name t
 same_place text [] = refl
 same_place text (row ∷ rows) = ap (λ (n : ℕ). cond (not (bytes_eq row.name.now text)) (1 + n) 0) (same_place text rows)
 
--- the operations take those of the first eight rows
-behind_eight : (operation : Operation) (row : ℕ) → 8 ≤ row → takes (tasks.Merge operation) row ≡ false
-behind_eight operation row far =
+-- the operations take those of the first ten rows
+behind_ten : (operation : Operation) (row : ℕ) → 10 ≤ row → takes (tasks.Merge operation) row ≡ false
+behind_ten operation row far =
     rw (ne_eqb 0 row (λ e. omega (arith, far, e)), ne_eqb 1 row (λ e. omega (arith, far, e)), ne_eqb 2 row (λ e. omega (arith, far, e)))
     (rw (ne_eqb 3 row (λ e. omega (arith, far, e)), ne_eqb 4 row (λ e. omega (arith, far, e)), ne_eqb 5 row (λ e. omega (arith, far, e)))
-    (rw (ne_eqb 6 row (λ e. omega (arith, far, e)), ne_eqb 7 row (λ e. omega (arith, far, e))) refl))
+    (rw (ne_eqb 6 row (λ e. omega (arith, far, e)), ne_eqb 7 row (λ e. omega (arith, far, e)), ne_eqb 8 row (λ e. omega (arith, far, e)))
+    (rw (ne_eqb 9 row (λ e. omega (arith, far, e))) refl)))
 
-of_another : (operation : Operation) (text : List ℕ) (rows : List Row) → 8 ≤ position_or_len (has_name text) rows → is_of (tasks.Merge operation) (named text rows) ≡ false
+of_another : (operation : Operation) (text : List ℕ) (rows : List Row) → 10 ≤ position_or_len (has_name text) rows → is_of (tasks.Merge operation) (named text rows) ≡ false
 of_another operation text rows far = by (nat_lt (position_or_len (has_name text) rows) (length rows)) where
   by : (b : Bool) → is_of (tasks.Merge operation) (cond b (Some (position_or_len (has_name text) rows)) None) ≡ false
-  by true = behind_eight operation (position_or_len (has_name text) rows) far
+  by true = behind_ten operation (position_or_len (has_name text) rows) far
   by false = refl
 
 pub no_other_option : (table : Table) → IsOptions table → NoOtherOption table.rows.now
-no_other_option table options operation text ranges count format set name skip json strict =
-    of_another operation text table.rows.now (subst (λ (n : ℕ). 8 ≤ n) (sym (same_place text table.rows.now ∙ ap (place_among text) options.has_options)) far) where
-      far : 8 ≤ place_among text entries
-      far = rw (apart_from ranges, apart_from count, apart_from format, apart_from skip, apart_from json, apart_from strict, apart_from set, apart_from name) (grind arith)
+no_other_option table options operation text ranges count format set name skip json strict before after =
+    of_another operation text table.rows.now (subst (λ (n : ℕ). 10 ≤ n) (sym (same_place text table.rows.now ∙ ap (place_among text) options.has_options)) far) where
+      far : 10 ≤ place_among text entries
+      far = rw (apart_from ranges, apart_from count, apart_from format, apart_from skip, apart_from json, apart_from strict, apart_from set, apart_from name, apart_from before, apart_from after) (grind arith)

@@ -26,6 +26,7 @@ use Rattle.lists.specs.Printed.{printed, PrintedListsNameTheirNetworks}
 use Rattle.lists.specs.Refusals.{no_refusals}
 use Rattle.lists.proofs.Printed.{contains_map, map_contains}
 use Rattle.cidr_merge.specs.Answers.{IsLeft, IsLeftOfSecond, merged, block_line, AreBlockLines}
+use Rattle.cidr_merge.specs.SetNames.{usual_names}
 use Rattle.cidr_merge.specs.Parts.{UnionPrints, UnionsPrint, HaveLines, AreShort}
 use Rattle.cidr_merge.specs.Parts.{UnionsOfPartsPrintTheSame}
 use Rattle.cidr_merge.specs.declared.command_line.Operation.TheVariants.{Union}
@@ -33,7 +34,7 @@ use Rattle.cidr_merge.specs.declared.command_line.Operation.TheVariants.{Union}
 -- ---- what a union prints
 
 of_the_first : {w : ℕ} (family : Family w) (blocks : List Network)
-    → flat_map (block_line Union family) (merged blocks []) ≡ flat_map
+    → flat_map (block_line usual_names Union family) (merged blocks []) ≡ flat_map
     (λ b. text_of family b ++ 10 ∷ []) blocks
 of_the_first family [] = refl
 of_the_first family (b ∷ blocks) =
@@ -49,7 +50,7 @@ record Half {w : ℕ} (family : Family w) (set : ℕ → Type 0) (text : List �
 half : AggregateHasUnion
     → {w : ℕ} (family : Family w) (set : ℕ → Type 0) (read first second : List Network)
     (text : List ℕ) → IsAggregate w read first → ((x : ℕ) → InUnion w read x ↔ set x)
-    → AreBlockLines Union family first second text → Half family set text
+    → AreBlockLines usual_names Union family first second text → Half family set text
 half has {w} family set read first second text aggregate names lines_are =
     let firsts = lines_are.0 in
     let least = lines_are.2 in
@@ -70,7 +71,7 @@ half has {w} family set read first second text aggregate names lines_are =
         (λ i. (same x).0 ((has w first firsts own x).0 i)),
         (λ s. (has w first firsts own x).1 ((same x).1 s)),
       );
-      is = lines_are.4 ∙ ap (λ l. flat_map (block_line Union family) (merged firsts l)) none
+      is = lines_are.4 ∙ ap (λ l. flat_map (block_line usual_names Union family) (merged firsts l)) none
           ∙ of_the_first family firsts;
     }
 

@@ -210,13 +210,3 @@ have_what_they_name members (Range first last) address =
       λ h. let k = both.0 h in (one.0 k.0, other.0 k.1),
       λ h. both.1 (one.1 h.0, other.1 h.1),
     )
-
--- two tests of the same are one
-pub same_test : {P : Type 0} (a b : Bool) → (IsTrue a ↔ P) → (IsTrue b ↔ P) → a ≡ b
-same_test true b h k = sym (k.1 (h.0 refl))
-same_test false true h k = h.1 (k.0 refl)
-same_test false false h k = refl
-
-pub same_range : (first last : IpAddr) (a : Bool) → (IsTrue a ↔ IsRange first last)
-    → a ≡ is_range first last
-same_range first last a h = same_test a (is_range first last) h (range_test first last)

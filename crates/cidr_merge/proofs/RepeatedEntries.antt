@@ -1,14 +1,14 @@
 -- Which entries have addresses that another has, entry by entry.
-use Rattle.std.proofs.Common.{◌≡◌, ◌+◌, ◌||◌, ◌<◌, ◌≤◌, ◌∙◌, ℕ, Bool, List, ◌++◌, sym, ap, length}
+use Rattle.std.proofs.Common.{◌≡◌, ◌+◌, ◌||◌, ◌<◌, ◌∙◌, ℕ, Bool, List, ◌++◌, sym, ap, length}
 use Rattle.std.proofs.Common.{map, drop, get_or}
 use Rattle.std.specs.Prelude.{String}
-use Rattle.std.proofs.lemmas.List.{at_drop_more, at_drop_all}
+use Rattle.std.proofs.lemmas.List.{at_drop_more}
 use Rattle.lines.specs.Outputs.{Written}
 use Rattle.cidr_merge.specs.Private.Entries.{listed_as}
 use Rattle.cidr_merge.specs.Private.Reported.{TellsFound}
 use Rattle.cidr_merge.specs.Repetitions.{further, other_of, overlap_with, repetitions_after}
 use Rattle.cidr_merge.specs.declared.placed.Placed.{Placed}
-use Rattle.cidr_merge.proofs.Found.{ToldSoFar, more_so_far, all_so_far}
+use Rattle.cidr_merge.proofs.Found.{ToldSoFar, more_so_far}
 
 -- the findings of these last entries
 abbrev pub left_of : {Z : Type 0} → List (String Z) → Placed → Placed → List Placed → List (List ℕ)
@@ -42,13 +42,3 @@ repetitions_told_more names all previous furthest other next entries place d old
     ∙ ap (λ y. overlap_with names (listed_as later) (listed_as other)
     ++ repetitions_after names (listed_as later) y rest) (sym n) in
     more_so_far all _ _ _ old mid new found more both h after k b
-
--- all were
-pub repetitions_told_all : {Z W : Type 0} (names : List (String Z)) (all : List (List ℕ))
-    (previous furthest : Placed) (entries : List Placed) (place : ℕ) (old new : Written W)
-    (found : Bool)
-    → length entries ≤ place
-    → ToldSoFar all (left_of names previous furthest (drop place entries)) old new found
-    → TellsFound all old new found
-repetitions_told_all names all previous furthest entries place old new found l h =
-    all_so_far all _ old new found h (at_drop_all (left_of names previous furthest) entries place l)

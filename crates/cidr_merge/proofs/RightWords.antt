@@ -18,7 +18,7 @@ use Rattle.options.specs.declared.table.Pair.{Pair}
 use Rattle.options.specs.declared.table.Row.{Row}
 use Rattle.options.specs.declared.table.Table.{Table}
 use Rattle.cidr_merge.specs.CommandLines.{asked_for, command_if, command_of, first_said, second_said, unless}
-use Rattle.cidr_merge.specs.Faults.{cannot_print, fault_of, files_among, files_fault, is_exported, is_value, item_fault, items_fault, lacks_json, lacks_prefix, option_fault, sides_fault, takes, times_named, together_fault, value_fault, has_sets, has_table}
+use Rattle.cidr_merge.specs.Faults.{cannot_print, fault_of, files_among, files_fault, is_exported, is_value, item_fault, items_fault, lacks_json, lacks_prefix, option_fault, sides_fault, takes, times_named, together_fault, value_fault, has_lines, has_sets, has_table}
 use Rattle.cidr_merge.specs.Forms.{form_of}
 use Rattle.cidr_merge.specs.Options as own
 use Rattle.cidr_merge.specs.RightWords.{AFile, AFlag, AJoined, AValue, AreRight, AskFor, IsRightItem, IsValue, RightWordsAreTaken, SaySides}
@@ -242,6 +242,8 @@ module _ (table : Table) (task : Task) (name : List ℕ) (dashes : ℕ) (items :
       let s = fails (lacks_prefix task items) _ _ r.1 in
       let u = fails (is_given items own.set && not (has_sets (form_of Blocks items))) _ _ s.1 in
       let v = fails (is_given items own.table && not (has_table (form_of Blocks items))) _ _ u.1 in
+      let x = fails (is_given items own.before && not (has_lines (form_of Blocks items))) _ _ v.1 in
+      let y = fails (is_given items own.after && not (has_lines (form_of Blocks items))) _ _ x.1 in
       let t = right_sides task name dashes firsts seconds (subst (λ (n : ℕ). sides_fault task name dashes (length firsts) n ≡ None) behind b.1) in
       let f = right_files (files_among task (length firsts) (firsts ++ seconds)) c.1 in (
         t.cut,
@@ -253,6 +255,8 @@ module _ (table : Table) (task : Task) (name : List ℕ) (dashes : ℕ) (items :
           prefix = λ e. given (is_given items own.prefix) (subst (λ (o : Task). lacks_prefix o items ≡ false) e s.0);
           sets = implied (is_given items own.set) (has_sets (form_of Blocks items)) u.0;
           sets_table = implied (is_given items own.table) (has_table (form_of Blocks items)) v.0;
+          before = implied (is_given items own.before) (has_lines (form_of Blocks items)) x.0;
+          after = implied (is_given items own.after) (has_lines (form_of Blocks items)) y.0;
           some = t.some;
           others = t.others;
           named = f.0;
@@ -273,8 +277,11 @@ module _ (table : Table) (task : Task) (name : List ℕ) (dashes : ℕ) (items :
       (rw (
         not_lacking (is_given items own.set) (has_sets (form_of Blocks items)) r.sets,
         not_lacking (is_given items own.table) (has_table (form_of Blocks items)) r.sets_table,
+        not_lacking (is_given items own.before) (has_lines (form_of Blocks items)) r.before,
+      ) (rw (
+        not_lacking (is_given items own.after) (has_lines (form_of Blocks items)) r.after,
         sides,
-      ) (no_files_fault (files_among task (length firsts) (firsts ++ seconds)) r.named r.input)))
+      ) (no_files_fault (files_among task (length firsts) (firsts ++ seconds)) r.named r.input))))
 
 -- ---- all words
 

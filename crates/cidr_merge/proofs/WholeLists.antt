@@ -3,7 +3,7 @@ use Rattle.std.proofs.Common.{◌≡◌, ◌+◌, ◌<◌, ◌≤◌, ◌∙◌,
 use Rattle.std.proofs.Common.{subst, arith, length, map, take, drop, get_or, length-take}
 use Rattle.std.specs.Prelude.{String}
 use Rattle.std.specs.String.{string_bytes}
-use Rattle.std.proofs.lemmas.List.{take_all, map-append, length-map}
+use Rattle.std.proofs.lemmas.List.{map-append, length-map}
 use Rattle.lists.specs.Bytes.{IsAllOf, BytesStop}
 use Rattle.lists.specs.KnownLists.{KnownLists}
 use Rattle.lists.specs.declared.bytes.BytesFault.{BytesFault}
@@ -72,13 +72,6 @@ text_more items known names place name word texts text l is w h k =
     (sym (map-append items texts (text ∷ [])))
     (texts_on known names place name (map items texts) (items text) l is h
     (subst (λ (n : List ℕ). IsAllOf known n (items text)) w k))
-
--- all were
-pub all_texts : {Z : Type 0} (known : KnownLists) (names : List (String Z)) (place : ℕ)
-    (texts : List (List ℕ)) → length names ≤ place → AreTexts known (take place names) texts
-    → AreTexts known names texts
-all_texts known names place texts l h =
-    subst (λ ns. AreTexts known ns texts) (take_all place names l) h
 
 -- or it was not
 pub texts_stop : {Z : Type 0} (known : KnownLists) (number place at : ℕ) (names : List (String Z))

@@ -17,7 +17,7 @@ use Rattle.cidr_merge.specs.declared.command_line.Form.TheVariants.{Blocks, Rang
 use Rattle.cidr_merge.specs.declared.command_line.Form.TheVariants.{Exported}
 use Rattle.cidr_merge.specs.declared.exports.Export.{Export}
 use Rattle.cidr_merge.specs.Exports.{export_text}
-use Rattle.cidr_merge.specs.SetNames.{Names}
+use Rattle.cidr_merge.specs.SetNames.{Names, line_of}
 use Rattle.cidr_merge.specs.declared.reading.Sets.{Sets}
 use Rattle.cidr_merge.specs.declared.merge_join.Side.{Side}
 use Rattle.cidr_merge.specs.declared.merge_join.Side.TheVariants.{First, Second}
@@ -70,31 +70,31 @@ sign_of Differ First = codes "< "
 sign_of Differ Second = codes "> "
 
 -- the line of a block: its canonical text
-abbrev pub block_line : {w : ℕ} → Operation → Family w → Sided Network → List ℕ
-block_line operation family sided =
-    sign_of operation sided.side ++ text_of family sided.part ++ 10 ∷ []
+abbrev pub block_line : {w : ℕ} → Names → Operation → Family w → Sided Network → List ℕ
+block_line names operation family sided =
+    sign_of operation sided.side ++ line_of names (text_of family sided.part ∷ [])
 
 -- the line of a range: the canonical texts of its first and its last address
-abbrev pub range_line : {w : ℕ} → Operation → Family w → Sided (ℕ × ℕ) → List ℕ
-range_line operation family sided =
-    sign_of operation sided.side ++ family.canonical sided.part.0 ++ codes " - "
-    ++ family.canonical sided.part.1 ++ 10 ∷ []
+abbrev pub range_line : {w : ℕ} → Names → Operation → Family w → Sided (ℕ × ℕ) → List ℕ
+range_line names operation family sided =
+    sign_of operation sided.side ++ line_of names
+    (family.canonical sided.part.0 ∷ codes " - " ∷ family.canonical sided.part.1 ∷ [])
 
 -- the lines of the blocks that the operation leaves of two sets of a family
-abbrev pub AreBlockLines : {w : ℕ} → Operation → Family w → List Network → List Network → List ℕ
+abbrev pub AreBlockLines : {w : ℕ} → Names → Operation → Family w → List Network → List Network → List ℕ
     → Type 0
-AreBlockLines {w} operation family first second text =
+AreBlockLines {w} names operation family first second text =
     (firsts seconds : List Network) × IsLeastList w (IsLeft operation w first second) firsts
     × IsLeastList w (IsLeftOfSecond operation w first second) seconds
-    × (text ≡ flat_map (block_line operation family) (merged firsts seconds))
+    × (text ≡ flat_map (block_line names operation family) (merged firsts seconds))
 
 -- the lines of the ranges
-abbrev pub AreRangeLines : {w : ℕ} → Operation → Family w → List Network → List Network → List ℕ
+abbrev pub AreRangeLines : {w : ℕ} → Names → Operation → Family w → List Network → List Network → List ℕ
     → Type 0
-AreRangeLines {w} operation family first second text =
+AreRangeLines {w} names operation family first second text =
     (firsts seconds : List (ℕ × ℕ)) × IsRangeList (IsLeft operation w first second) firsts
     × IsRangeList (IsLeftOfSecond operation w first second) seconds
-    × (text ≡ flat_map (range_line operation family) (merged_ranges firsts seconds))
+    × (text ≡ flat_map (range_line names operation family) (merged_ranges firsts seconds))
 
 -- the line of the counts of a set, after its name: how many blocks its least list has, and how many
 -- addresses there are in it
@@ -139,10 +139,10 @@ IsExport names operation export first second text =
 -- the text is the answer in this form
 abbrev pub IsAnswer : Names → Operation → Form → Sets → Sets → List ℕ → Type 0
 IsAnswer names operation Blocks first second text =
-    AreBoth (AreBlockLines operation v4_family first.v4 second.v4)
-    (AreBlockLines operation v6_family first.v6 second.v6) text
+    AreBoth (AreBlockLines names operation v4_family first.v4 second.v4)
+    (AreBlockLines names operation v6_family first.v6 second.v6) text
 IsAnswer names operation Ranges first second text =
-    AreBoth (AreRangeLines operation v4_family first.v4 second.v4)
-    (AreRangeLines operation v6_family first.v6 second.v6) text
+    AreBoth (AreRangeLines names operation v4_family first.v4 second.v4)
+    (AreRangeLines names operation v6_family first.v6 second.v6) text
 IsAnswer names operation Counts first second text = AreCounts operation first second text
 IsAnswer names operation (Exported export) first second text = IsExport names operation export first second text

@@ -19,13 +19,13 @@ use Rattle.cidr_merge.specs.Splits.{EndsSplitting}
 use Rattle.cidr_merge.specs.declared.command_line.Command.{Command}
 use Rattle.cidr_merge.specs.declared.command_line.Command.TheVariants as commands
 
--- what is asked for is done, of the FILEs of these names; exports have sets of those
+-- what is asked for is done, of the FILEs of these names; sets have those, and those texts stand around each line
 abbrev pub EndsCommand : {Z W E : Type 0} → List ℕ → List ℕ → List Row → KnownLists → List (String Z) → Names → Command
     → Ending W E → Type 0
 EndsCommand program usage rows known words sets (commands.Merge request) end =
     EndsMerging known words sets request end
 EndsCommand program usage rows known words sets (commands.Split request) end =
-    EndsSplitting known words request end
+    EndsSplitting known words sets request end
 EndsCommand program usage rows known words sets (commands.Inspect inspection) end =
     EndsInspecting known words inspection end
 EndsCommand program usage rows known words sets (commands.Find middle) end =

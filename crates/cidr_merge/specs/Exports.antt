@@ -5,7 +5,7 @@ use Rattle.std.specs.Prelude.{codes}
 use Rattle.std.specs.List.{concat, flat_map}
 use Rattle.ipnetwork_family.specs.Network.{Network, block_size, mask_of, low, high, members}
 use Rattle.ipnetwork_family.specs.Family.{Family, text_of, v4_family, v6_family}
-use Rattle.cidr_merge.specs.SetNames.{Names}
+use Rattle.cidr_merge.specs.SetNames.{Names, line_of}
 use Rattle.cidr_merge.specs.declared.exports.Export.{Export}
 use Rattle.cidr_merge.specs.declared.exports.Export.TheVariants.{Netmask, Wildcard, Csv, Nft, Ipset}
 use Rattle.cidr_merge.specs.declared.exports.Export.TheVariants.{Json, Addresses}
@@ -67,10 +67,10 @@ closing _ = []
 
 -- a line with the address of an IPv4 block and a mask; IPv6 has no masks, and there the block's
 -- text stands
-abbrev pub with_mask : {w : ℕ} → Version → Family w → Network → ℕ → List ℕ
-with_mask V4 family block mask =
-    concat (family.canonical block.address ∷ codes " " ∷ family.canonical mask ∷ codes "\n" ∷ [])
-with_mask V6 family block mask = concat (text_of family block ∷ codes "\n" ∷ [])
+abbrev pub with_mask : {w : ℕ} → Names → Version → Family w → Network → ℕ → List ℕ
+with_mask names V4 family block mask =
+    line_of names (family.canonical block.address ∷ codes " " ∷ family.canonical mask ∷ [])
+with_mask names V6 family block mask = line_of names (text_of family block ∷ [])
 
 abbrev pub family_name : Version → List ℕ
 family_name V4 = codes "IPv4"
@@ -103,19 +103,19 @@ ipset_lines set version family block =
     else ipset_line set (family_word version) (text_of family block)
 
 -- the line of an address
-abbrev pub address_line : {w : ℕ} → Family w → ℕ → List ℕ
-address_line family address = family.canonical address ++ codes "\n"
+abbrev pub address_line : {w : ℕ} → Names → Family w → ℕ → List ℕ
+address_line names family address = line_of names (family.canonical address ∷ [])
 
 -- how a block is written; the bits of a wildcard are those of the mask turned round
 abbrev pub element : {w : ℕ} → Names → Export → Version → Family w → Network → List ℕ
-element {w} names Netmask version family block = with_mask version family block (mask_of w block.prefix)
+element {w} names Netmask version family block = with_mask names version family block (mask_of w block.prefix)
 element {w} names Wildcard version family block =
-    with_mask version family block (block_size w block.prefix - 1)
+    with_mask names version family block (block_size w block.prefix - 1)
 element names Csv version family block = csv_line version family block
 element names Nft version family block = text_of family block
 element names Ipset version family block = ipset_lines names.set version family block
 element names Json version family block = concat (codes "\"" ∷ text_of family block ∷ codes "\"" ∷ [])
-element {w} names Addresses version family block = flat_map (address_line family) (members w block)
+element {w} names Addresses version family block = flat_map (address_line names family) (members w block)
 
 -- ---- all blocks
 

@@ -21,9 +21,9 @@ use Rattle.cidr_merge.specs.Options.{taken}
 use Rattle.cidr_merge.specs.SetNames.{is_set_name}
 use Rattle.cidr_merge.specs.Tasks.{is_two_sided, no_option, no_first, one_side}
 use Rattle.cidr_merge.specs.declared.command_line.Form.{Form}
-use Rattle.cidr_merge.specs.declared.command_line.Form.TheVariants.{Blocks, Exported}
+use Rattle.cidr_merge.specs.declared.command_line.Form.TheVariants.{Blocks, Counts, Exported}
 use Rattle.cidr_merge.specs.declared.command_line.Operation.TheVariants as operations
-use Rattle.cidr_merge.specs.declared.exports.Export.TheVariants.{Nft, Ipset}
+use Rattle.cidr_merge.specs.declared.exports.Export.TheVariants.{Csv, Nft, Ipset, Json}
 use Rattle.cidr_merge.specs.declared.tasks.Task.{Task}
 use Rattle.cidr_merge.specs.declared.tasks.Task.TheVariants as tasks
 
@@ -113,12 +113,26 @@ abbrev pub has_table : Form → Bool
 has_table (Exported Nft) = true
 has_table form = false
 
+-- a form has lines, around which texts can stand, and an option says such a text in another
+abbrev pub has_lines : Form → Bool
+has_lines Counts = false
+has_lines (Exported Csv) = false
+has_lines (Exported Nft) = false
+has_lines (Exported Ipset) = false
+has_lines (Exported Json) = false
+has_lines form = true
+
+abbrev pub no_lines : List ℕ
+no_lines = codes "not together with --count, nor with --format csv, nft, ipset or json"
+
 abbrev pub names_fault : List Item → Form → Option Fault
 names_fault items form =
     if is_given items own.set && not (has_sets form)
     then Some (about (subjects.Option own.set) (codes "only together with --format nft or ipset"))
     else if is_given items own.table && not (has_table form)
     then Some (about (subjects.Option own.table) (codes "only together with --format nft"))
+    else if is_given items own.before && not (has_lines form) then Some (about (subjects.Option own.before) no_lines)
+    else if is_given items own.after && not (has_lines form) then Some (about (subjects.Option own.after) no_lines)
     else None
 
 -- what is wrong with options together
@@ -152,7 +166,7 @@ times_named text names = count_by (λ name. bytes_eq name text) names
 -- what is wrong with the names of lists: that one is empty, or that standard input is among them twice
 abbrev pub files_fault : List (List ℕ) → Option Fault
 files_fault files =
-    if nat_lt 0 (times_named [] files) then Some (at [] (codes "not the name of a file"))
+    if nat_lt 0 (times_named [] files) then Some (at [] (codes "not a file name"))
     else if nat_lt 1 (times_named (codes "-") files)
     then Some (at (codes "-") (codes "standard input can be read only once"))
     else None

@@ -34,12 +34,12 @@ abbrev pub is_of : Task → Option ℕ → Bool
 is_of task None = false
 is_of task (Some row) = takes task row
 
--- no text but these eight is an option of an operation
+-- no text but these ten is an option of an operation
 abbrev pub NoOtherOption : List Row → Type 0
 NoOtherOption rows =
     (operation : Operation) (text : List ℕ) → text ≢ codes "--ranges" → text ≢ codes "--count"
     → text ≢ codes "--format" → text ≢ codes "--set" → text ≢ codes "--table" → text ≢ codes "--skip-bad"
-    → text ≢ codes "--json" → text ≢ codes "--strict"
+    → text ≢ codes "--json" → text ≢ codes "--strict" → text ≢ codes "--line-prefix" → text ≢ codes "--line-suffix"
     → is_of (tasks.Merge operation) (named text rows) ≡ false
 
 -- the lists of the sides of a request are the FILEs before the first `--`, and those behind it

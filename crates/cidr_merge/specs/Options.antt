@@ -31,8 +31,14 @@ set = 6
 abbrev pub table : ℕ
 table = 7
 
+abbrev pub before : ℕ
+before = 8
+
+abbrev pub after : ℕ
+after = 9
+
 abbrev pub prefix : ℕ
-prefix = 8
+prefix = 10
 
 -- what is told of a name that is none
 abbrev pub no_name : List ℕ
@@ -46,6 +52,7 @@ entries =
     (codes "not a form; the forms are plain, range, netmask, wildcard, csv, nft, ipset, json and addresses")
     ∷ long_flag (codes "--skip-bad") ∷ long_flag (codes "--json") ∷ long_flag (codes "--strict")
     ∷ long (codes "--set") kinds.Text true no_name ∷ long (codes "--table") kinds.Text true no_name
+    ∷ long (codes "--line-prefix") kinds.Text true [] ∷ long (codes "--line-suffix") kinds.Text true []
     ∷ long (codes "--prefix") kinds.Text true (codes "not a prefix length, 0 to 128")
     ∷ alone (codes "--help") (codes "taken only alone")
     ∷ alone (codes "--version") (codes "taken only alone")
@@ -59,7 +66,8 @@ abbrev pub pairs : List (ℕ × ℕ × List ℕ)
 pairs = (ranges, count, codes "--ranges: not together with --count") ∷ (format, format, another_form)
     ∷ (format, ranges, another_form) ∷ (format, count, another_form)
     ∷ (prefix, prefix, codes "--prefix: given twice")
-    ∷ (set, set, codes "--set: given twice") ∷ (table, table, codes "--table: given twice") ∷ []
+    ∷ (set, set, codes "--set: given twice") ∷ (table, table, codes "--table: given twice")
+    ∷ (before, before, codes "--line-prefix: given twice") ∷ (after, after, codes "--line-suffix: given twice") ∷ []
 
 -- the table has these
 abbrev pub IsOptions : Table → Type 0
@@ -67,9 +75,11 @@ IsOptions options = IsTable options entries pairs [] []
 
 -- those that a task takes
 abbrev pub taken : Task → List ℕ
-taken (tasks.Merge operation) = ranges ∷ count ∷ format ∷ set ∷ table ∷ skip_bad ∷ json ∷ strict ∷ []
-taken tasks.List = ranges ∷ count ∷ format ∷ set ∷ table ∷ skip_bad ∷ json ∷ strict ∷ []
-taken tasks.Split = prefix ∷ skip_bad ∷ json ∷ strict ∷ []
+taken (tasks.Merge operation) =
+    ranges ∷ count ∷ format ∷ set ∷ table ∷ before ∷ after ∷ skip_bad ∷ json ∷ strict ∷ []
+taken tasks.List =
+    ranges ∷ count ∷ format ∷ set ∷ table ∷ before ∷ after ∷ skip_bad ∷ json ∷ strict ∷ []
+taken tasks.Split = prefix ∷ before ∷ after ∷ skip_bad ∷ json ∷ strict ∷ []
 taken tasks.Check = strict ∷ []
 taken tasks.Overlaps = []
 taken tasks.Find = []

@@ -4,6 +4,7 @@ use Rattle.std.specs.List.{flat_map}
 use Rattle.ipnetwork_family.specs.Network.{Network}
 use Rattle.ipnetwork_family.specs.Family.{Family, text_of, v4_family, v6_family}
 use Rattle.ipnetwork_blocks.specs.Subnets.{subnets_of}
+use Rattle.cidr_merge.specs.SetNames.{Names, line_of}
 use Rattle.cidr_merge.specs.declared.reading.Sets.{Sets}
 
 -- a network is cut into those of a prefix length, if it is not longer and its family has networks
@@ -13,15 +14,15 @@ pieces w number block =
     if nat_le block.prefix number && nat_le number w then subnets_of w block number else block ∷ []
 
 -- the line of a network: its canonical text
-abbrev pub network_line : {w : ℕ} → Family w → Network → List ℕ
-network_line family network = text_of family network ++ 10 ∷ []
+abbrev pub network_line : {w : ℕ} → Names → Family w → Network → List ℕ
+network_line names family network = line_of names (text_of family network ∷ [])
 
 -- the lines of the pieces of a network
-abbrev pub pieces_text : {w : ℕ} → Family w → ℕ → Network → List ℕ
-pieces_text {w} family number block = flat_map (network_line family) (pieces w number block)
+abbrev pub pieces_text : {w : ℕ} → Names → Family w → ℕ → Network → List ℕ
+pieces_text {w} names family number block = flat_map (network_line names family) (pieces w number block)
 
 -- the lines of those of both families
-abbrev pub split_text : ℕ → Sets → List ℕ
-split_text number sets =
-    flat_map (pieces_text v4_family number) sets.v4
-    ++ flat_map (pieces_text v6_family number) sets.v6
+abbrev pub split_text : Names → ℕ → Sets → List ℕ
+split_text names number sets =
+    flat_map (pieces_text names v4_family number) sets.v4
+    ++ flat_map (pieces_text names v6_family number) sets.v6

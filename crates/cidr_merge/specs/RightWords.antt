@@ -14,7 +14,7 @@ use Rattle.options.specs.declared.table.Row.{Row}
 use Rattle.options.specs.declared.table.Table.{Table}
 use Rattle.program.specs.Words.{count}
 use Rattle.cidr_merge.specs.CommandLines.{asked_for, command_of}
-use Rattle.cidr_merge.specs.Faults.{is_exported, files_among, has_sets, has_table, takes, times_named}
+use Rattle.cidr_merge.specs.Faults.{is_exported, files_among, has_lines, has_sets, has_table, takes, times_named}
 use Rattle.cidr_merge.specs.Forms.{form_called, form_of, prefix_in}
 use Rattle.cidr_merge.specs.Options as own
 use Rattle.cidr_merge.specs.SetNames.{is_set_name}
@@ -60,6 +60,8 @@ pub record AreRight (table : Table) (task : Task) (items : List Item) (first sec
   pub prefix : task ≡ tasks.Split → IsTrue (is_given items own.prefix)
   pub sets : IsTrue (is_given items own.set) → IsTrue (has_sets (form_of Blocks items))
   pub sets_table : IsTrue (is_given items own.table) → IsTrue (has_table (form_of Blocks items))
+  pub before : IsTrue (is_given items own.before) → IsTrue (has_lines (form_of Blocks items))
+  pub after : IsTrue (is_given items own.after) → IsTrue (has_lines (form_of Blocks items))
   pub some : first ≢ []
   pub others : IsTrue (is_two_sided task) → second ≢ []
   pub named : times_named [] (files_among task (length first) (first ++ second)) ≡ 0

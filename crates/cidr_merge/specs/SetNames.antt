@@ -1,15 +1,17 @@
--- What other programs call the sets that an export fills.
-use Rattle.std.specs.Prelude.{ℕ, ◌==◌, ◌&&◌, ◌||◌, Bool, false, List, [], ◌∷◌, length, nat_lt, nat_le, if◌then◌else◌}
+-- What other programs call the sets that an export fills, and what stands around each line.
+use Rattle.std.specs.Prelude.{ℕ, ◌==◌, ◌&&◌, ◌||◌, Bool, false, List, [], ◌∷◌, ◌++◌, length, nat_lt, nat_le, if◌then◌else◌}
 use Rattle.std.specs.Prelude.{codes}
-use Rattle.std.specs.List.{list_all}
+use Rattle.std.specs.List.{concat, list_all}
 use Rattle.options.specs.Given.{is_given, value_of}
 use Rattle.options.specs.declared.items.Item.{Item}
 use Rattle.cidr_merge.specs.Options as own
 
--- the table of nftables, and what the names of both sets begin with
+-- the table of nftables, what the names of both sets begin with, and what stands before and after each line
 pub record Names : Type 0 where
   pub table : List ℕ
   pub set : List ℕ
+  pub before : List ℕ
+  pub after : List ℕ
 
 -- a text as a name; nothing, if it has more than 22 bytes
 abbrev pub name_in : List ℕ → List ℕ
@@ -20,7 +22,16 @@ abbrev pub name_by : ℕ → List Item → List ℕ
 name_by row items = if is_given items row then name_in (value_of items row) else name_in (codes "cidr_merge")
 
 abbrev pub names_of : List Item → Names
-names_of items = record { table = name_by own.table items; set = name_by own.set items }
+names_of items = record {
+  table = name_by own.table items;
+  set = name_by own.set items;
+  before = value_of items own.before;
+  after = value_of items own.after;
+}
+
+-- a line of these texts, with what stands before and after each line
+abbrev pub line_of : Names → List (List ℕ) → List ℕ
+line_of names texts = concat (names.before ∷ texts ++ names.after ∷ codes "\n" ∷ [])
 
 -- those without an option
 abbrev pub usual_names : Names

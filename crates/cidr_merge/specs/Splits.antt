@@ -11,6 +11,7 @@ use Rattle.program.specs.Messages.{Reports}
 use Rattle.program.specs.Reported.{was_refused, fault_text, in_list, refusals_text}
 use Rattle.cidr_merge.specs.Pieces.{split_text}
 use Rattle.cidr_merge.specs.Reading.{ReadsSide}
+use Rattle.cidr_merge.specs.SetNames.{Names}
 use Rattle.cidr_merge.specs.Shapes.{source}
 use Rattle.cidr_merge.specs.Stopping.{Stops}
 use Rattle.cidr_merge.specs.Writing.{FailsToWrite}
@@ -19,18 +20,18 @@ use Rattle.cidr_merge.specs.declared.command_line.SplitRequest.{SplitRequest}
 
 -- the pieces were written, and nothing more was reported; the exit status is 3 if lines were
 -- skipped, and else 0
-abbrev pub WritesPieces : {W E : Type 0} → ℕ → Bool → Sets → Ending W E → Type 0
-WritesPieces number skips sets end =
-    HasWritten end (split_text number sets) × HasTold end []
+abbrev pub WritesPieces : {W E : Type 0} → Names → ℕ → Bool → Sets → Ending W E → Type 0
+WritesPieces names number skips sets end =
+    HasWritten end (split_text names number sets) × HasTold end []
     × (end.status ≡ (if skips then 3 else 0))
 
 -- the lists were read: if lines were refused and are not to be skipped, nothing is written, and else the pieces are,
 -- unless the writer fails
-abbrev pub EndsCutting : {W E : Type 0} → SplitRequest → Bool → Sets → Ending W E → Type 0
-EndsCutting request skips sets end =
+abbrev pub EndsCutting : {W E : Type 0} → Names → SplitRequest → Bool → Sets → Ending W E → Type 0
+EndsCutting names request skips sets end =
     ((skips && not request.skips_bad ≡ true) × IsSilent end × HasTold end [])
     ⊎ ((skips && not request.skips_bad ≡ false)
-    × (FailsToWrite end ⊎ WritesPieces request.length skips sets end))
+    × (FailsToWrite end ⊎ WritesPieces names request.length skips sets end))
 
 -- the lists were not read to their ends: nothing was written, and the cause was reported
 abbrev pub StopsSplitting : {Z W E : Type 0} → KnownLists → List (String Z) → SplitRequest → Refused
@@ -41,10 +42,10 @@ StopsSplitting known words request refused end = (fault : ReadFault)
 
 -- the refused lines were reported, and then either why the reading stopped, or the pieces were
 -- printed of the least list of what the lists name
-abbrev pub EndsSplitting : {Z W E : Type 0} → KnownLists → List (String Z) → SplitRequest
+abbrev pub EndsSplitting : {Z W E : Type 0} → KnownLists → List (String Z) → Names → SplitRequest
     → Ending W E → Type 0
-EndsSplitting {Z} {W} {E} known words request end = (refused : Refused) × (told : Written E)
+EndsSplitting {Z} {W} {E} known words names request end = (refused : Refused) × (told : Written E)
     × Reports end.errors told (refusals_text words in_list refused)
     × (StopsSplitting known words request refused (record end { errors = told })
     ⊎ ((sets : Sets) × ReadsSide (source known request.shape) 0 words no_refusals sets refused
-    × EndsCutting request (was_refused refused) sets (record end { errors = told })))
+    × EndsCutting names request (was_refused refused) sets (record end { errors = told })))

@@ -5,31 +5,37 @@ ghost use Rattle.lines.specs.Outputs.{Prints};
 ghost use Rattle.program.specs.Putting.{PutsOrFails};
 ghost use Rattle.cidr_merge.specs.Exports.{address_line};
 
+use crate::set_names::{SetNames, put_line};
 use ipnetwork::{Address, NetworkIterator};
 use lines::fault::RunFault;
 use lines::output::Output;
-use program::putting::put_all;
 use std::io::Write;
 
 /// Prints each of the addresses on a line.
 #[tactic(auto, using(crate::proofs::Printed::none_printed, crate::proofs::Printed::all_printed, crate::proofs::Merging::shorter))]
 pub(crate) fn print_addresses<A: Address, W: Write>(
+    names: &SetNames<'_>,
     mut addresses: NetworkIterator<A>,
     output: &mut Output<'_, W>,
 ) -> Result<(), RunFault>
     ensures text { OnOk result (Prints output.old output.new
-        (flat_map (address_line A.family) addresses)) }
+        (flat_map (address_line names.now A.family) addresses)) }
     ensures failed { output.new.failed ≡ (output.old.failed || is_err result) }
 {
     while let Some(address) = addresses.next() {
-        put_address(address, output)?;
+        put_address(names, address, output)?;
     }
     Ok(())
 }
 
 // Prints an address on a line.
-fn put_address<A: Address, W: Write>(address: A, output: &mut Output<'_, W>) -> Result<(), RunFault>
-    ensures { PutsOrFails result output.old output.new (address_line A.family (A.number address)) }
+fn put_address<A: Address, W: Write>(
+    names: &SetNames<'_>,
+    address: A,
+    output: &mut Output<'_, W>,
+) -> Result<(), RunFault>
+    ensures { PutsOrFails result output.old output.new
+        (address_line names.now A.family (A.number address)) }
 {
-    put_all(&[address.canonical().as_str(), "\n"], output)
+    put_line(names, address.canonical().as_str(), output)
 }

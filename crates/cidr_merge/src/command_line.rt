@@ -99,13 +99,13 @@ pub enum Command {
 
 /// What is asked for, and the FILEs, those of the first side first.
 #[derive(Drop)]
-pub struct Asked {
+pub struct Asked<'a> {
     /// What is asked for.
     pub command: Command,
     /// The FILEs.
     pub names: Vec<String>,
-    /// The names of the sets that an export fills.
-    pub sets: SetNames,
+    /// The names of the sets that an export fills, and what stands around each line.
+    pub sets: SetNames<'a>,
 }
 
 /// What the words after the program's name ask for, or what is wrong with them, unless memory runs out.
@@ -113,7 +113,7 @@ pub(crate) fn command_of<'a>(
     alloc: Global,
     table: &Table<'_>,
     words: &'a [String],
-) -> Result<Result<Asked, Fault<'a>>, AllocError>
+) -> Result<Result<Asked<'a>, Fault<'a>>, AllocError>
     ensures asked { IfOk result (λ asked. told_of asked ≡ command_of table.now words.now) }
     ensures sets { IfOk result (λ asked. IfOk asked
         (λ all. all.sets ≡ sets_of table.now words.now)) }
@@ -136,7 +136,7 @@ fn command_for<'a>(
     task: Task,
     name: &'a str,
     others: &'a [String],
-) -> Result<Result<Asked, Fault<'a>>, AllocError>
+) -> Result<Result<Asked<'a>, Fault<'a>>, AllocError>
     ensures asked { IfOk result
         (λ asked. told_of asked ≡ command_for table.now name.now task others.now) }
     ensures sets { IfOk result (λ asked. IfOk asked

@@ -5,28 +5,29 @@ ghost use Rattle.lines.specs.Outputs.{Prints};
 ghost use Rattle.program.specs.Putting.{PutsOrFails};
 ghost use Rattle.cidr_merge.specs.Pieces.{network_line, pieces_text};
 
+use crate::set_names::{SetNames, put_line};
 use ipnetwork::{Address, CidrNetwork, Network};
 use ipnetwork_blocks::subnets;
 use ipnetwork_sets::AddressSet;
 use lines::fault::RunFault;
 use lines::output::Output;
-use program::putting::put_all;
 use std::io::Write;
 
 /// Prints the pieces of this prefix length of each block of a set.
 #[tactic(auto, using(crate::proofs::Printed::none_printed, crate::proofs::Printed::all_printed, crate::proofs::Merging::shorter))]
 pub(crate) fn print_pieces<A: Address, W: Write>(
+    names: &SetNames<'_>,
     length: u8,
     set: &AddressSet<Network<A>>,
     output: &mut Output<'_, W>,
 ) -> Result<(), RunFault>
     ensures text { OnOk result (Prints output.old output.new
-        (flat_map (pieces_text A.family length) set.now)) }
+        (flat_map (pieces_text names.now A.family length) set.now)) }
     ensures failed { output.new.failed ≡ (output.old.failed || is_err result) }
 {
     let mut blocks = set.iter();
     while let Some(block) = blocks.next() {
-        print_block(length, block, output)?;
+        print_block(names, length, block, output)?;
     }
     Ok(())
 }
@@ -34,28 +35,30 @@ pub(crate) fn print_pieces<A: Address, W: Write>(
 // Prints the pieces of a block.
 #[tactic(auto, using(crate::proofs::Printed::none_printed, crate::proofs::Printed::all_printed, crate::proofs::Merging::shorter))]
 fn print_block<A: Address, W: Write>(
+    names: &SetNames<'_>,
     length: u8,
     block: Network<A>,
     output: &mut Output<'_, W>,
 ) -> Result<(), RunFault>
-    ensures text { OnOk result (Prints output.old output.new (pieces_text A.family length block)) }
+    ensures text { OnOk result (Prints output.old output.new (pieces_text names.now A.family length block)) }
     ensures failed { output.new.failed ≡ (output.old.failed || is_err result) }
 {
     let Some(mut pieces) = subnets(block, length) else {
-        return put_network(block, output);
+        return put_network(names, block, output);
     };
     while let Some(piece) = pieces.next() {
-        put_network(piece, output)?;
+        put_network(names, piece, output)?;
     }
     Ok(())
 }
 
-// Prints a network on a line.
-fn put_network<A: Address, W: Write>(
+/// Prints a network on a line.
+pub(crate) fn put_network<A: Address, W: Write>(
+    names: &SetNames<'_>,
     network: Network<A>,
     output: &mut Output<'_, W>,
 ) -> Result<(), RunFault>
-    ensures { PutsOrFails result output.old output.new (network_line A.family network) }
+    ensures { PutsOrFails result output.old output.new (network_line names.now A.family network) }
 {
-    put_all(&[network.canonical().as_str(), "\n"], output)
+    put_line(names, network.canonical().as_str(), output)
 }

@@ -1,11 +1,11 @@
 //! What is wrong with the words of a command line.
 ghost use Rattle.std.specs.Prelude.{◌≡◌, ◌≤◌, length, map};
 ghost use Rattle.std.specs.String.{string_bytes};
-ghost use Rattle.cidr_merge.specs.Faults.{at, problem_of_row, no_task_fault, takes, option_fault, is_value, value_fault, item_fault, items_fault, lacks_json, lacks_prefix, cannot_print, has_sets, has_table, names_fault, together_fault, sides_fault, files_fault, files_among, fault_of};
+ghost use Rattle.cidr_merge.specs.Faults.{at, problem_of_row, no_task_fault, takes, option_fault, is_value, value_fault, item_fault, items_fault, lacks_json, lacks_prefix, cannot_print, has_sets, has_table, has_lines, names_fault, together_fault, sides_fault, files_fault, files_among, fault_of};
 
 use crate::command_line::{Form, Operation, form_called, form_of, prefix_in};
 use crate::exports::Export;
-use crate::rows::{FORMAT, JSON, PREFIX, SET, STRICT, TABLE, taken};
+use crate::rows::{AFTER, BEFORE, FORMAT, JSON, PREFIX, SET, STRICT, TABLE, taken};
 use crate::set_names::is_set_name;
 use crate::tasks::{ONE_SIDE, Task, is_two_sided, no_first, no_option};
 use options::faults::{Fault, Subject, about, pair_fault, problem_at};
@@ -155,7 +155,20 @@ fn has_table(form: Form) -> bool
     matches!(form, Form::Exported(Export::Nft))
 }
 
-// What is wrong with options that name sets, in this form.
+// Whether a form has lines, around which texts can stand.
+fn has_lines(form: Form) -> bool
+    ensures { result ≡ has_lines form }
+{
+    !matches!(
+        form,
+        Form::Counts | Form::Exported(Export::Csv | Export::Nft | Export::Ipset | Export::Json)
+    )
+}
+
+// What is told of a text around lines in another form.
+const NO_LINES: &str = "not together with --count, nor with --format csv, nft, ipset or json";
+
+// What is wrong with options that name sets, or texts around lines, in this form.
 fn names_fault<'a>(items: &[Item<'a>], form: Form) -> Option<Fault<'a>>
     ensures { result ≡ names_fault items.now form }
 {
@@ -167,6 +180,12 @@ fn names_fault<'a>(items: &[Item<'a>], form: Form) -> Option<Fault<'a>>
     }
     if is_given(items, TABLE) && !has_table(form) {
         return Some(about(Subject::Option(TABLE), "only together with --format nft"));
+    }
+    if is_given(items, BEFORE) && !has_lines(form) {
+        return Some(about(Subject::Option(BEFORE), NO_LINES));
+    }
+    if is_given(items, AFTER) && !has_lines(form) {
+        return Some(about(Subject::Option(AFTER), NO_LINES));
     }
     None
 }
@@ -229,7 +248,7 @@ fn files_fault<'a>(files: &[String]) -> Option<Fault<'a>>
     ensures { result ≡ files_fault (map string_bytes files.now) }
 {
     if count_of(files, "") > 0 {
-        Some(at("", "not the name of a file"))
+        Some(at("", "not a file name"))
     } else if count_of(files, "-") > 1 {
         Some(at("-", "standard input can be read only once"))
     } else {

@@ -30,8 +30,8 @@ pub fn no_other_tasks()
     ensures { NoOtherTask }
 {}
 
-/// No word but `--ranges`, `--count`, `--format`, `--set`, `--table`, `--skip-bad`, `--json` and `--strict` is an option of
-/// an operation.
+/// No word but `--ranges`, `--count`, `--format`, `--set`, `--table`, `--line-prefix`, `--line-suffix`, `--skip-bad`, `--json` and
+/// `--strict` is an option of an operation.
 pub fn no_other_options(table: &Table<'_>)
     ensures { IsOptions table.now → NoOtherOption table.now.rows.now }
 {

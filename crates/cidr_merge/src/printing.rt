@@ -28,8 +28,8 @@ use std::io::Write;
 pub(crate) struct Merging<'a> {
     /// The request.
     pub request: Request,
-    /// The names of the sets of an export.
-    pub sets: &'a SetNames,
+    /// The names of the sets of an export, and what stands around each line.
+    pub sets: &'a SetNames<'a>,
     /// The addresses of the first side.
     pub first: &'a Sets,
     /// Those of the second.
@@ -49,20 +49,21 @@ pub(crate) fn print<W: Write>(
     let operation = merging.request.operation;
     let first = merging.first;
     let second = merging.second;
+    let sets = merging.sets;
     match merging.request.form {
         Form::Blocks => {
-            print_lines(false, operation, &first.v4, &second.v4, output)?;
-            print_lines(false, operation, &first.v6, &second.v6, output)
+            print_lines(false, sets, operation, &first.v4, &second.v4, output)?;
+            print_lines(false, sets, operation, &first.v6, &second.v6, output)
         }
         Form::Ranges => {
-            print_lines(true, operation, &first.v4, &second.v4, output)?;
-            print_lines(true, operation, &first.v6, &second.v6, output)
+            print_lines(true, sets, operation, &first.v4, &second.v4, output)?;
+            print_lines(true, sets, operation, &first.v6, &second.v6, output)
         }
         Form::Counts => print_counts(merging, output),
         Form::Exported(export) => {
             let v4 = Sweep::of(operation, &first.v4, &second.v4);
             let v6 = Sweep::of(operation, &first.v6, &second.v6);
-            print_export(export, merging.sets, v4, v6, output)
+            print_export(export, sets, v4, v6, output)
         }
     }
 }
@@ -70,39 +71,47 @@ pub(crate) fn print<W: Write>(
 // Prints the ranges or the blocks that the operation leaves of two sets of one family.
 fn print_lines<A: Address, W: Write>(
     in_ranges: bool,
+    names: &SetNames<'_>,
     operation: Operation,
     first: &AddressSet<Network<A>>,
     second: &AddressSet<Network<A>>,
     output: &mut Output<'_, W>,
 ) -> Result<(), RunFault>
-    ensures text { OnOk result (PrintsSome (AreLines in_ranges operation A.family first.now
-        second.now) output.old output.new) }
+    ensures text { OnOk result (PrintsSome (AreLines in_ranges names.now operation A.family
+        first.now second.now) output.old output.new) }
     ensures failed { output.new.failed ≡ (output.old.failed || is_err result) }
 {
     let firsts = Sweep::of(operation, first, second);
     let seconds = Sweep::of(Operation::Minus, second, first);
     if in_ranges {
-        return print_parts(operation, Ranges::of(firsts), Ranges::of(seconds), output);
+        return print_parts(
+            names,
+            operation,
+            Ranges::of(firsts),
+            Ranges::of(seconds),
+            output,
+        );
     }
-    print_parts(operation, firsts, seconds, output)
+    print_parts(names, operation, firsts, seconds, output)
 }
 
 // Prints the parts of the first side, and for `differ` among them those of the second.
 #[tactic(auto, using(crate::proofs::Printed::none_printed, crate::proofs::Printed::all_printed, crate::proofs::Merging::shorter))]
 fn print_parts<P: Parts, W: Write>(
+    names: &SetNames<'_>,
     operation: Operation,
     firsts: P,
     seconds: P,
     output: &mut Output<'_, W>,
 ) -> Result<(), RunFault>
     ensures text { OnOk result (Prints output.old output.new
-        (flat_map (P.line operation)
+        (flat_map (P.line names.now operation)
         (merged_by P.begin (P.left firsts) (left_of_second operation (P.left seconds))))) }
     ensures failed { output.new.failed ≡ (output.old.failed || is_err result) }
 {
     let mut parts = MergeJoin::of(operation, firsts, seconds);
     while let Some(next) = parts.next() {
-        P::put(operation, next.0, next.1, output)?;
+        P::put(names, operation, next.0, next.1, output)?;
     }
     Ok(())
 }

@@ -29,11 +29,17 @@ pub(crate) const SET: usize = 6;
 /// The row of `--table`.
 pub(crate) const TABLE: usize = 7;
 
+/// The row of `--line-prefix`.
+pub(crate) const BEFORE: usize = 8;
+
+/// The row of `--line-suffix`.
+pub(crate) const AFTER: usize = 9;
+
 /// The row of `--prefix`.
-pub(crate) const PREFIX: usize = 8;
+pub(crate) const PREFIX: usize = 10;
 
 // The options.
-const ROWS: [Row; 12] = [
+const ROWS: [Row; 14] = [
     long!("--ranges", Flag, false, ""),
     long!("--count", Flag, false, ""),
     long!(
@@ -48,6 +54,8 @@ const ROWS: [Row; 12] = [
     long!("--strict", Flag, false, ""),
     long!("--set", Text, true, NO_NAME),
     long!("--table", Text, true, NO_NAME),
+    long!("--line-prefix", Text, true, ""),
+    long!("--line-suffix", Text, true, ""),
     long!("--prefix", Text, true, "not a prefix length, 0 to 128"),
     long!("--help", Alone, false, "taken only alone"),
     long!("--version", Alone, false, "taken only alone"),
@@ -66,7 +74,7 @@ const NO_NAME: &str = "not a name of 1 to 22 letters, digits, _, - and ., the fi
 const ANOTHER_FORM: &str = "--format: given twice, or together with --ranges or --count";
 
 // Which do not go together.
-const PAIRS: [Pair; 7] = [
+const PAIRS: [Pair; 9] = [
     pair!(RANGES, COUNT, "--ranges: not together with --count"),
     pair!(FORMAT, FORMAT, ANOTHER_FORM),
     pair!(FORMAT, RANGES, ANOTHER_FORM),
@@ -74,6 +82,8 @@ const PAIRS: [Pair; 7] = [
     pair!(PREFIX, PREFIX, "--prefix: given twice"),
     pair!(SET, SET, "--set: given twice"),
     pair!(TABLE, TABLE, "--table: given twice"),
+    pair!(BEFORE, BEFORE, "--line-prefix: given twice"),
+    pair!(AFTER, AFTER, "--line-suffix: given twice"),
 ];
 
 /// The options.
@@ -89,9 +99,11 @@ pub(crate) fn table() -> Table<'static>
 }
 
 // Those of an operation that merges, of a `split` and of a `check`, by the indices of their rows.
-const OF_MERGES: [usize; 8] = [RANGES, COUNT, FORMAT, SET, TABLE, SKIP_BAD, JSON, STRICT];
+const OF_MERGES: [usize; 10] = [
+    RANGES, COUNT, FORMAT, SET, TABLE, BEFORE, AFTER, SKIP_BAD, JSON, STRICT,
+];
 
-const OF_SPLIT: [usize; 4] = [PREFIX, SKIP_BAD, JSON, STRICT];
+const OF_SPLIT: [usize; 6] = [PREFIX, BEFORE, AFTER, SKIP_BAD, JSON, STRICT];
 
 const OF_CHECK: [usize; 1] = [STRICT];
 

@@ -1,13 +1,18 @@
-//! What other programs call the sets that an export fills.
-ghost use Rattle.std.specs.Prelude.{◌≡◌};
+//! What other programs call the sets that an export fills, and what stands around each line.
+ghost use Rattle.std.specs.Prelude.{◌≡◌, ◌∷◌, []};
 ghost use Rattle.std.specs.List.{list_all};
 ghost use Rattle.cidr_merge.specs.SetNames.{is_letter, is_name_byte, is_set_name, name_by};
-ghost use Rattle.cidr_merge.specs.SetNames.{name_in, names_of};
+ghost use Rattle.cidr_merge.specs.SetNames.{line_of, name_in, names_of};
+ghost use Rattle.program.specs.Putting.{PutsOrFails};
 
-use crate::rows::{SET, TABLE};
+use crate::rows::{AFTER, BEFORE, SET, TABLE};
 use arrayvec::ArrayString;
+use lines::fault::RunFault;
+use lines::output::Output;
 use options::given::{is_given, value_of};
 use options::items::Item;
+use program::putting::put_all;
+use std::io::Write;
 use std::marker::Model;
 
 /// The most bytes of a name: ipset takes 31, of which `_ipv4_new` needs nine.
@@ -16,32 +21,54 @@ const NAME_MAX: usize = 22;
 /// A name.
 pub(crate) type Name = ArrayString<NAME_MAX>;
 
-/// The table of nftables, and what the names of both sets begin with.
+/// The table of nftables, what the names of both sets begin with, and what stands before and after each line.
 #[derive(Debug, Drop)]
-pub struct SetNames {
+pub struct SetNames<'a> {
     /// The table.
     pub table: Name,
     /// The beginning of `NAME_ipv4` and `NAME_ipv6`.
     pub set: Name,
+    /// What stands before each line.
+    pub before: &'a str,
+    /// What stands after each line.
+    pub after: &'a str,
 }
 
 // A contract sees their bytes.
-impl Model for SetNames {
+impl<'a> Model for SetNames<'a> {
     ghost use Rattle.cidr_merge.specs.SetNames.{Names};
 
     ghost Value = { Names };
 
-    ghost view = { λ names. record { table = names.table.bytes; set = names.set.bytes } };
+    ghost view = { λ names. record {
+      table = names.table.bytes;
+      set = names.set.bytes;
+      before = names.before.now;
+      after = names.after.now;
+    } };
 }
 
 /// Those that options name.
-pub(crate) fn names_of(items: &[Item<'_>]) -> SetNames
+pub(crate) fn names_of<'a>(items: &[Item<'a>]) -> SetNames<'a>
     ensures { result ≡ names_of items.now }
 {
     SetNames {
         table: name_by(items, TABLE),
         set: name_by(items, SET),
+        before: value_of(items, BEFORE),
+        after: value_of(items, AFTER),
     }
+}
+
+/// Prints a text between what stands before and after each line.
+pub(crate) fn put_line<W: Write>(
+    names: &SetNames<'_>,
+    text: &str,
+    output: &mut Output<'_, W>,
+) -> Result<(), RunFault>
+    ensures { PutsOrFails result output.old output.new (line_of names.now (text.now ∷ [])) }
+{
+    put_all(&[names.before, text, names.after, "\n"], output)
 }
 
 // The name that the option of a row says, or else the usual one.

@@ -1,14 +1,18 @@
 //! The parts that an operation leaves of one side: blocks, or ranges of addresses.
 ghost use Rattle.std.specs.Prelude.{◌≡◌, ◌∷◌, ◌↔◌, ◌<◌, ◌||◌, ℕ, List, [], IsTrue, MatchOption};
-ghost use Rattle.std.specs.Prelude.{OnOk, is_err};
+ghost use Rattle.std.specs.Prelude.{OnOk, codes, is_err};
 ghost use Rattle.ipnetwork_family.specs.Network.{Network};
 ghost use Rattle.lines.specs.Outputs.{Prints};
 ghost use Rattle.cidr_merge.specs.Answers.{Sided, sign_of, block_line, range_line};
 ghost use Rattle.cidr_merge.specs.Private.Sweeps.{blocks_left, numbers};
+ghost use Rattle.cidr_merge.specs.SetNames.{Names, line_of};
+ghost use Rattle.program.specs.Putting.{PutsOrFails};
 ghost use Rattle.cidr_merge.specs.declared.command_line.Operation.{Operation};
 
 use crate::command_line::Operation;
+use crate::cutting::put_network;
 use crate::merge_join::Side;
+use crate::set_names::SetNames;
 use crate::sweep::Sweep;
 use ipnetwork::{Address, CidrNetwork, Network};
 use ipnetwork_sets::{Ranges, SetBlocks};
@@ -33,7 +37,7 @@ pub(crate) trait Parts: Drop {
     ghost left: { Self → List Seen };
 
     // The line that a part is printed as.
-    ghost line: { Operation → Sided Seen → List ℕ };
+    ghost line: { Names → Operation → Sided Seen → List ℕ };
 
     /// The next part.
     fn next_part(&mut self) -> Option<Self::Part>
@@ -46,13 +50,14 @@ pub(crate) trait Parts: Drop {
 
     /// Prints a part of a side.
     fn put<W: Write>(
+        names: &SetNames<'_>,
         operation: Operation,
         side: Side,
         part: Self::Part,
         output: &mut Output<'_, W>,
     ) -> Result<(), RunFault>
         ensures text { OnOk result (Prints output.old output.new
-            (line operation (record { side = side; part = seen part }))) }
+            (line names.now operation (record { side = side; part = seen part }))) }
         ensures failed { output.new.failed ≡ (output.old.failed || is_err result) };
 }
 
@@ -68,7 +73,7 @@ impl<'a, A: Address> Parts for Sweep<'a, Network<A>> {
 
     ghost left = { blocks_left };
 
-    ghost line = { λ operation. block_line operation A.family };
+    ghost line = { λ names operation. block_line names operation A.family };
 
     fn next_part(&mut self) -> Option<Network<A>> {
         self.next_block()
@@ -79,13 +84,14 @@ impl<'a, A: Address> Parts for Sweep<'a, Network<A>> {
     }
 
     fn put<W: Write>(
+        names: &SetNames<'_>,
         operation: Operation,
         side: Side,
         block: Network<A>,
         output: &mut Output<'_, W>,
     ) -> Result<(), RunFault> {
-        let sign = sign_of(operation, side);
-        put_all(&[sign, block.canonical().as_str(), "\n"], output)
+        output.put(sign_of(operation, side).as_bytes())?;
+        put_network(names, block, output)
     }
 }
 
@@ -101,7 +107,7 @@ impl<'a, A: Address> Parts for Ranges<Network<A>, Sweep<'a, Network<A>>> {
 
     ghost left = { λ left. left };
 
-    ghost line = { λ operation. range_line operation A.family };
+    ghost line = { λ names operation. range_line names operation A.family };
 
     fn next_part(&mut self) -> Option<(A, A)> {
         self.next()
@@ -112,15 +118,39 @@ impl<'a, A: Address> Parts for Ranges<Network<A>, Sweep<'a, Network<A>>> {
     }
 
     fn put<W: Write>(
+        names: &SetNames<'_>,
         operation: Operation,
         side: Side,
         range: (A, A),
         output: &mut Output<'_, W>,
     ) -> Result<(), RunFault> {
-        let sign = sign_of(operation, side);
-        let (first, last) = (range.0.canonical(), range.1.canonical());
-        put_all(&[sign, first.as_str(), " - ", last.as_str(), "\n"], output)
+        output.put(sign_of(operation, side).as_bytes())?;
+        put_range(names, range, output)
     }
+}
+
+// Prints a range on a line.
+fn put_range<A: Address, W: Write>(
+    names: &SetNames<'_>,
+    range: (A, A),
+    output: &mut Output<'_, W>,
+) -> Result<(), RunFault>
+    ensures { PutsOrFails result output.old output.new (line_of names.now
+        (A.family.canonical (A.number range.0) ∷ codes " - "
+        ∷ A.family.canonical (A.number range.1) ∷ [])) }
+{
+    let (first, last) = (range.0.canonical(), range.1.canonical());
+    put_all(
+        &[
+            names.before,
+            first.as_str(),
+            " - ",
+            last.as_str(),
+            names.after,
+            "\n",
+        ],
+        output,
+    )
 }
 
 /// What stands before a part of a side.

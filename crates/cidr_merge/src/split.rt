@@ -9,6 +9,7 @@ use crate::command_line::SplitRequest;
 use crate::context::Context;
 use crate::cutting::print_pieces;
 use crate::reading::{Sets, read_side, refuse_lists};
+use crate::set_names::SetNames;
 use lines::fault::RunFault;
 use lines::output::Output;
 use lists::{OpenLists, Refusals};
@@ -23,7 +24,8 @@ pub(crate) fn split<L: OpenLists, W: Write, E: Write>(
     output: &mut Output<'_, W>,
     errors: &mut Output<'_, E>,
 ) -> u8
-    ensures { EndsSplitting (L.known context.now.lists.now) context.now.names.now request
+    ensures { EndsSplitting (L.known context.now.lists.now) context.now.names.now
+        context.now.sets.now request
         (ending output.old output.new errors.old errors.new result) }
 {
     let names = context.names;
@@ -31,39 +33,48 @@ pub(crate) fn split<L: OpenLists, W: Write, E: Write>(
     let (sets, refusals, read) = read_side(context, request.shape, names, 0, none);
     tell_refusals(names, &InLists, &refusals, errors);
     match read {
-        Ok(()) => print_split(request, !refusals.is_empty(), &sets, output, errors),
+        Ok(()) => print_split(
+            context.sets,
+            request,
+            !refusals.is_empty(),
+            &sets,
+            output,
+            errors,
+        ),
         Err(fault) => refuse_lists(names, fault, errors),
     }
 }
 
 // Prints the pieces of the networks, unless lines were refused that are not to be skipped.
 fn print_split<W: Write, E: Write>(
+    names: &SetNames<'_>,
     request: SplitRequest,
     skips: bool,
     sets: &Sets,
     output: &mut Output<'_, W>,
     errors: &mut Output<'_, E>,
 ) -> u8
-    ensures { EndsCutting request skips sets.now
+    ensures { EndsCutting names.now request skips sets.now
         (ending output.old output.new errors.old errors.new result) }
 {
     if skips && !request.skips_bad {
         return FAILED;
     }
-    let written = write_split(request.length, sets, output);
+    let written = write_split(names, request.length, sets, output);
     end(written, if skips { 3 } else { 0 }, errors)
 }
 
 // Writes the pieces of the networks of both families.
 fn write_split<W: Write>(
+    names: &SetNames<'_>,
     length: u8,
     sets: &Sets,
     output: &mut Output<'_, W>,
 ) -> Result<(), RunFault>
-    ensures written { OnOk result (Writes output.old output.new (split_text length sets.now)) }
+    ensures written { OnOk result (Writes output.old output.new (split_text names.now length sets.now)) }
     ensures failed { output.new.failed ≡ is_err result }
 {
-    print_pieces(length, &sets.v4, output)?;
-    print_pieces(length, &sets.v6, output)?;
+    print_pieces(names, length, &sets.v4, output)?;
+    print_pieces(names, length, &sets.v6, output)?;
     output.finish()
 }

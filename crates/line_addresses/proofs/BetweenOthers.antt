@@ -9,7 +9,7 @@ use Rattle.ipnetwork_addr.specs.Texts.{IsAddressByte, Digit, UpperHex, LowerHex,
 use Rattle.ipnetwork_addr.specs.declared.ip.IpAddr.{IpAddr}
 use Rattle.line_addresses.specs.Addresses.{Spelled, address_of, with_text, before_mark, before_port, or_else, address_in, addresses_of}
 use Rattle.line_addresses.specs.LineRuns.{is_run_byte}
-use Rattle.line_addresses.proofs.LineParts.{behind_cut, part_first}
+use Rattle.line_addresses.proofs.LineParts.{filters, behind_cut, part_first}
 use Rattle.line_addresses.proofs.Shown.{nothing_shown}
 
 -- the bytes of addresses are bytes of runs
@@ -65,8 +65,8 @@ found_between named bytes front text behind before after address names one two =
     let inside : All (λ byte. cuts byte ≡ false) text = All-from_recursion (λ byte. cuts byte ≡ false) text (all_in_run text (bytes text address names)) in
     ap (filter_map address_in) (split_at cuts front (text ++ after ∷ behind) before (ap not one))
     ∙ filter_map-append address_in (slice_split cuts front) (slice_split cuts (text ++ after ∷ behind))
-    ∙ ap (λ l. kept front ++ l) (part_first cuts address_in nothing_shown text (after ∷ behind) inside (ap not two)
-    ∙ ap (cons_option (address_in text)) (behind_cut cuts address_in nothing_shown after behind (ap not two))
+    ∙ ap (λ l. kept front ++ l) (part_first (filters address_in nothing_shown) cuts text (after ∷ behind) inside (ap not two)
+    ∙ ap (cons_option (address_in text)) (behind_cut (filters address_in nothing_shown) cuts after behind (ap not two))
     ∙ ap (λ o. cons_option o (kept behind)) (found_alone text address ((named text address).0 names)))
 
 -- a line that is cut between runs

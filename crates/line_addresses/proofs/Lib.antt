@@ -8,6 +8,8 @@ pub mod FirstPositions
 pub mod LawExamples
 pub mod LineParts
 pub mod NamedTexts
+pub mod NetworkExamples
+pub mod NextNetworks
 pub mod NextRuns
 pub mod NextWords
 pub mod Parts
@@ -15,3 +17,4 @@ pub mod PortTexts
 pub mod Picks
 pub mod Ports
 pub mod Shown
+pub mod StretchNetworks

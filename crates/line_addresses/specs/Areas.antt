@@ -1,10 +1,12 @@
 -- Where the addresses of a line are looked for.
-use Rattle.std.specs.Prelude.{◌≡◌, ℕ, ◌-◌, ◌≤◌, List, [], ◌∷◌, Option, None, Some, length, slice_get}
+use Rattle.std.specs.Prelude.{◌≡◌, ℕ, ◌-◌, ◌≤◌, Bool, List, [], ◌∷◌, Option, None, Some, length, slice_get}
+use Rattle.std.specs.Prelude.{if◌then◌else◌}
 use Rattle.std.specs.Option.{option_to_list}
-use Rattle.line_addresses.specs.Addresses.{Spelled, spelled, addresses_of}
+use Rattle.line_addresses.specs.Addresses.{Spelled, spelled}
 use Rattle.line_addresses.specs.Fields.{field_of}
 use Rattle.line_addresses.specs.Following.{following}
 use Rattle.line_addresses.specs.Found.{spelled_at}
+use Rattle.line_addresses.specs.Networks.{found_of, spelled_network}
 use Rattle.line_addresses.specs.Words.{words_of}
 use Rattle.line_addresses.specs.declared.area.Area.{Area}
 use Rattle.line_addresses.specs.declared.area.Part.{Part}
@@ -25,30 +27,34 @@ abbrev pub last_of : Option Spelled → List Spelled → Option Spelled
 last_of before [] = before
 last_of before (found ∷ others) = last_of (Some found) others
 
--- the address of a part that is looked at, or the first of them: that which the part is; the first that stands in it;
--- the one of a number, from 1 on; or the last
-abbrev pub picked : Pick → List ℕ → Option Spelled
-picked picks.Whole text = spelled text
-picked picks.Each text = slice_get (addresses_of text) 0
-picked (picks.Number number) text = slice_get (addresses_of text) (number - 1)
-picked picks.Last text = last_of None (addresses_of text)
+-- the address that a text is, or, where networks are looked for too, the network
+abbrev pub spelled_by : Bool → List ℕ → Option Spelled
+spelled_by networks text = if networks then spelled_network text else spelled text
 
-abbrev pub picked_in : Pick → Option (List ℕ) → Option Spelled
-picked_in pick None = None
-picked_in pick (Some text) = picked pick text
+-- the address of a part that is looked at, or the first of them: that which the part is; the first that stands in it;
+-- the one of a number, from 1 on; or the last. Networks are among them, if they are looked for
+abbrev pub picked : Bool → Pick → List ℕ → Option Spelled
+picked networks picks.Whole text = spelled_by networks text
+picked networks picks.Each text = slice_get (found_of networks text) 0
+picked networks (picks.Number number) text = slice_get (found_of networks text) (number - 1)
+picked networks picks.Last text = last_of None (found_of networks text)
+
+abbrev pub picked_in : Bool → Pick → Option (List ℕ) → Option Spelled
+picked_in networks pick None = None
+picked_in networks pick (Some text) = picked networks pick text
 
 -- all that are looked at
-abbrev pub each_of : Pick → List ℕ → List Spelled
-each_of picks.Each text = addresses_of text
-each_of pick text = option_to_list (picked pick text)
+abbrev pub each_of : Bool → Pick → List ℕ → List Spelled
+each_of networks picks.Each text = found_of networks text
+each_of networks pick text = option_to_list (picked networks pick text)
 
-abbrev pub each_in : Pick → Option (List ℕ) → List Spelled
-each_in pick None = []
-each_in pick (Some text) = each_of pick text
+abbrev pub each_in : Bool → Pick → Option (List ℕ) → List Spelled
+each_in networks pick None = []
+each_in networks pick (Some text) = each_of networks pick text
 
--- the addresses of a line, in order
-abbrev pub spelled_in : Area → List ℕ → List Spelled
-spelled_in area line = each_in area.pick (part_of area.part line)
+-- the addresses of a line, in order, or its networks and addresses
+abbrev pub spelled_in : Bool → Area → List ℕ → List Spelled
+spelled_in networks area line = each_in networks area.pick (part_of area.part line)
 
 -- what was found in a text is this address, whose text stands in it
 pub record IsPicked (one : Option Spelled) (text : List ℕ) (found : Found) : Type 0 where

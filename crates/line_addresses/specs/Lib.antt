@@ -7,4 +7,5 @@ pub mod Found
 pub mod Laws
 pub mod Private
 pub mod LineRuns
+pub mod Networks
 pub mod Words

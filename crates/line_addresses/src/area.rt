@@ -43,7 +43,7 @@ pub enum Part<'a> {
 /// Which addresses of a part of a line are looked at.
 ///
 /// ```
-/// let found = picked(b"10.1.1.1, 10.1.1.2", Pick::Last);
+/// let found = picked(b"10.1.1.1, 10.1.1.2", Pick::Last, false);
 /// assert_eq!(rt; found.map(|found| found.address), Some("10.1.1.2".parse()?));
 /// ```
 #[derive(Clone, Copy, Debug, PartialEq, Eq)]

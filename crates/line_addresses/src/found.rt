@@ -1,7 +1,7 @@
 //! The next address of a line.
-ghost use Rattle.std.specs.Prelude.{◌≡◌, ◌≤◌, [], MatchOption, length, drop};
+ghost use Rattle.std.specs.Prelude.{◌≡◌, ◌≤◌, [], IfSome, MatchOption, length, drop};
 ghost use Rattle.line_addresses.specs.Addresses.{addresses_of};
-ghost use Rattle.line_addresses.specs.Found.{IsNextAddress};
+ghost use Rattle.line_addresses.specs.Found.{IsNextOf, StopsARun};
 
 use crate::run::{address_in, run_end};
 use ipnetwork_addr::IpAddr;
@@ -32,8 +32,9 @@ pub struct Found {
 /// ```
 pub fn next_address(line: &[u8], from: usize) -> Option<Found>
     requires { from ≤ length line.now }
-    ensures { MatchOption result (addresses_of (drop from line.now) ≡ [])
-        (IsNextAddress line.now from) }
+    ensures first { MatchOption result (addresses_of (drop from line.now) ≡ [])
+        (IsNextOf addresses_of line.now from) }
+    ensures stops { IfSome result (StopsARun line.now) }
 {
     let mut at = from;
     'runs: while at < line.len() {

@@ -1,40 +1,45 @@
 //! Which address of a part of a line is looked at.
 ghost use Rattle.std.specs.Prelude.{◌≡◌, ◌-◌, None, MatchOption, slice_get};
-ghost use Rattle.line_addresses.specs.Addresses.{addresses_of, spelled};
-ghost use Rattle.line_addresses.specs.Areas.{IsPicked, last_of, picked};
+ghost use Rattle.line_addresses.specs.Addresses.{with_text};
+ghost use Rattle.line_addresses.specs.Areas.{IsPicked, last_of, picked, spelled_by};
+ghost use Rattle.line_addresses.specs.Networks.{found_of};
 
 use crate::area::Pick;
-use crate::found::{Found, next_address};
+use crate::found::Found;
+use crate::network::named_network;
 use crate::run::address_of;
+use crate::stretches::next_found;
+use ipnetwork_addr::IpAddr;
 
-/// The address of a part of a line that is looked at, or the first of them. Goes over the part once at the most.
+/// The address of a part of a line that is looked at, or the first of them; or, if `networks`, the network or address.
+/// Goes over the part once at the most.
 ///
 /// ```
 /// let forwarded = b"10.1.1.1, 192.0.2.7, 198.51.100.9";
-/// let second = picked(forwarded, Pick::Number(2));
+/// let second = picked(forwarded, Pick::Number(2), false);
 /// assert_eq!(rt; second.map(|found| found.address), Some("192.0.2.7".parse()?));
-/// assert_eq!(rt; picked(forwarded, Pick::Whole), None);
+/// assert_eq!(rt; picked(forwarded, Pick::Whole, false), None);
 /// ```
 #[inline(always)]
-pub fn picked(text: &[u8], pick: Pick) -> Option<Found>
-    ensures { MatchOption result (picked pick text.now ≡ None)
-        (IsPicked (picked pick text.now) text.now) }
+pub fn picked(text: &[u8], pick: Pick, networks: bool) -> Option<Found>
+    ensures { MatchOption result (picked networks pick text.now ≡ None)
+        (IsPicked (picked networks pick text.now) text.now) }
 {
     match pick {
-        Pick::Whole => whole(text),
-        Pick::Each => next_address(text, 0),
-        Pick::Number(number) => numbered(text, number),
-        Pick::Last => last(text),
+        Pick::Whole => whole(text, networks),
+        Pick::Each => next_found(text, 0, networks),
+        Pick::Number(number) => numbered(text, number, networks),
+        Pick::Last => last(text, networks),
     }
 }
 
-// The address that a text is.
+// The address, or the network, that a text is.
 #[inline(always)]
-fn whole(text: &[u8]) -> Option<Found>
-    ensures { MatchOption result (spelled text.now ≡ None)
-        (IsPicked (spelled text.now) text.now) }
+fn whole(text: &[u8], networks: bool) -> Option<Found>
+    ensures { MatchOption result (spelled_by networks text.now ≡ None)
+        (IsPicked (spelled_by networks text.now) text.now) }
 {
-    match address_of(text) {
+    match named(text, networks) {
         Some(address) => Some(Found {
             address,
             start: 0,
@@ -45,14 +50,26 @@ fn whole(text: &[u8]) -> Option<Found>
     }
 }
 
+// The address that a text names, or that of the network that it names.
+#[inline(always)]
+fn named(text: &[u8], networks: bool) -> Option<IpAddr>
+    ensures { with_text text.now result ≡ spelled_by networks text.now }
+{
+    if networks {
+        named_network(text)
+    } else {
+        address_of(text)
+    }
+}
+
 // The address of this number, from 1 on, of those of a text.
-fn numbered(text: &[u8], number: u32) -> Option<Found>
-    ensures { MatchOption result (slice_get (addresses_of text.now) (number - 1) ≡ None)
-        (IsPicked (slice_get (addresses_of text.now) (number - 1)) text.now) }
+fn numbered(text: &[u8], number: u32, networks: bool) -> Option<Found>
+    ensures { MatchOption result (slice_get (found_of networks text.now) (number - 1) ≡ None)
+        (IsPicked (slice_get (found_of networks text.now) (number - 1)) text.now) }
 {
     let mut at = 0;
     let mut more = number.saturating_sub(1);
-    'addresses: while let Some(found) = next_address(text, at) {
+    'addresses: while let Some(found) = next_found(text, at, networks) {
         if more == 0 {
             return Some(found);
         }
@@ -63,13 +80,13 @@ fn numbered(text: &[u8], number: u32) -> Option<Found>
 }
 
 // The last of the addresses of a text.
-fn last(text: &[u8]) -> Option<Found>
-    ensures { MatchOption result (last_of None (addresses_of text.now) ≡ None)
-        (IsPicked (last_of None (addresses_of text.now)) text.now) }
+fn last(text: &[u8], networks: bool) -> Option<Found>
+    ensures { MatchOption result (last_of None (found_of networks text.now) ≡ None)
+        (IsPicked (last_of None (found_of networks text.now)) text.now) }
 {
     let mut at = 0;
     let mut last = None;
-    'addresses: while let Some(found) = next_address(text, at) {
+    'addresses: while let Some(found) = next_found(text, at, networks) {
         at = found.next;
         last = Some(found);
     }

@@ -64,8 +64,8 @@ pub fn address_of(text: &[u8]) -> Option<IpAddr>
     }
 }
 
-// Whether a text ends with a `.` or a `:`.
-fn ends_with_mark(text: &[u8]) -> bool
+/// Whether a text ends with a `.` or a `:`.
+pub(crate) fn ends_with_mark(text: &[u8]) -> bool
     ensures { result ≡ ends_with_mark text.now }
 {
     if text.is_empty() {

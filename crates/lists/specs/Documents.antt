@@ -1,4 +1,4 @@
--- Documents of JSON that are lists: their strings, and what is taken of them.
+-- JSON documents that are read as lists: their strings, and what is taken of them.
 use Rattle.std.specs.Prelude.{◌≡◌, ◌⊎◌, ◌<◌, ◌≤◌, ℕ, Bool, true, false, IsUtf8, List, [], ◌∷◌, ◌++◌, length, None, Some}
 use Rattle.std.specs.Prelude.{Result, Ok, Err}
 use Rattle.serde_json.specs.Data.{Data, null, boolean, number, string, array, object, Items, no_items, item, Members}
@@ -13,8 +13,8 @@ use Rattle.lists.specs.declared.fault.LineFault.TheVariants as faults
 use Rattle.lists.specs.declared.named.ReadFault.{ReadFault}
 use Rattle.lists.specs.declared.named.ReadFault.TheVariants.{Open, Read, Length, NotJson, OutOfMemory}
 
--- the strings of a value, at any depth: those of the elements of an array and of the values of an object, in their
--- order. A key is none of them
+-- the strings of a JSON value, at any depth and in their order: a string itself, those of the elements of an array, and
+-- those of the values of an object, but not its keys
 abbrev mutual
   pub strings_of : Data → List (List ℕ)
   strings_of null = []
@@ -32,67 +32,69 @@ abbrev mutual
   strings_of_members no_members = []
   strings_of_members (member key value members) = strings_of value ++ strings_of_members members
 
--- a string names an entry, which is taken; any other is refused if the reading is strict, and else passed over
+-- what a string says is taken: its entry, or, if it names none, a refusal if the reading is strict and nothing if it is
+-- not
 abbrev pub TakesText : Bool → ReadLists → Result Entry EntryFault → ReadLists → Type 0
 TakesText strict before (Ok entry) after = TakesEntry before entry after
 TakesText true before (Err fault) after = after ≡ refusing before (faults.Entry fault)
 TakesText false before (Err fault) after = after ≡ before
 
--- once memory has run out, no string is taken. Strings are counted as lines are
+-- a string is taken and counted as a line is, unless memory has run out, after which nothing changes
 abbrev pub TakesString : Bool → ReadLists → List ℕ → ReadLists → Type 0
 TakesString strict before text after = ((before.is_out_of_memory ≡ true) × (after ≡ before))
     ⊎ ((before.is_out_of_memory ≡ false) × ((reading : Result Entry EntryFault) × ReadsText text reading
     × TakesText strict (at_next_line before) reading after))
 
--- these strings are taken in turn
+-- these strings are taken, one after another
 abbrev pub TakesStrings : Bool → ReadLists → List (List ℕ) → ReadLists → Type 0
 TakesStrings strict before [] after = after ≡ before
 TakesStrings strict before (text ∷ texts) after = (between : ReadLists) × TakesString strict before text between
     × TakesStrings strict between texts after
 
--- the bytes are this document: at most 1,073,741,824, in UTF-8, and JSON
+-- the bytes are this document: there are at most 1,073,741,824, in UTF-8, and they are JSON of at most 127 levels
 abbrev pub IsDocument : List ℕ → Data → Type 0
 IsDocument bytes document = (length bytes ≤ 1073741824) × IsUtf8 bytes × (read bytes ≡ Some document)
 
--- they are no more than that, and no JSON in UTF-8
+-- there are at most 1,073,741,824 bytes, and they are not UTF-8, or not JSON of at most 127 levels
 abbrev pub IsNoDocument : List ℕ → Type 0
 IsNoDocument bytes = (length bytes ≤ 1073741824) × (IsUtf8 bytes → read bytes ≡ None)
 
--- the bytes are a document, of which the strings are taken
+-- the bytes are a document, and its strings are taken, one after another
 abbrev pub TakesDocument : Bool → ReadLists → List ℕ → ReadLists → Type 0
 TakesDocument strict before bytes after = (document : Data) × IsDocument bytes document
     × TakesStrings strict before (strings_of document) after
 
--- the document of this name was opened, and, if its bytes are known, its strings are taken. Refused strings name it by
--- the number
+-- the document of this name was opened, and, if its bytes are known, its strings are taken; refused strings name it by
+-- the number `list`
 abbrev pub ReadsDocument : KnownLists → Bool → ℕ → List ℕ → ReadLists → ReadLists → Type 0
 ReadsDocument known strict list name before after =
     known.may_open name true × ((input : List ℕ) → known.bytes_of name ≡ Some input
     → TakesDocument strict (at_list before list) input after)
 
--- it was opened, and there was no memory for it: it has at least one byte
+-- the document of this name was opened, and, if its bytes are known, there is at least one, for which there was no
+-- memory
 abbrev pub LacksMemory : KnownLists → List ℕ → Type 0
 LacksMemory known name = known.may_open name true
     × ((input : List ℕ) → known.bytes_of name ≡ Some input → 0 < length input)
 
--- the reading stops at the document of this name and number, and leaves the reader so: unchanged, unless memory ran out
--- for an entry
+-- the reading stops at the document of this name and number for this reason, and leaves the reader as `after`, which is
+-- unchanged unless memory ran out for an entry
 abbrev pub StopsAtDocument : KnownLists → Bool → ℕ → List ℕ → ReadLists → ReadFault → ReadLists → Type 0
--- it is not opened, for this cause
+-- the document was not opened, for this cause
 StopsAtDocument known strict list name before (Open place cause) after = (place ≡ list) × known.may_open name false
     × known.may_miss name cause × (after ≡ before)
--- a read of it fails
+-- a read of the document failed
 StopsAtDocument known strict list name before (Read place) after = (place ≡ list) × known.may_open name true
     × known.may_fail name × (after ≡ before)
--- it has more than 1,073,741,824 bytes
+-- the document has more than 1,073,741,824 bytes
 StopsAtDocument known strict list name before (Length place) after =
     (place ≡ list) × known.may_open name true
     × ((input : List ℕ) → known.bytes_of name ≡ Some input → 1073741824 < length input) × (after ≡ before)
--- it has no more, and they are no document
+-- the document has at most 1,073,741,824 bytes, and they are not UTF-8, or not JSON of at most 127 levels
 StopsAtDocument known strict list name before (NotJson place line) after =
     (place ≡ list) × known.may_open name true
     × ((input : List ℕ) → known.bytes_of name ≡ Some input → IsNoDocument input) × (after ≡ before)
--- there is no memory for it, or memory runs out for an entry of it
+-- there was no memory for the document, or memory ran out for an entry of it
 StopsAtDocument known strict list name before OutOfMemory after =
     (LacksMemory known name × (after ≡ before))
     ⊎ (ReadsDocument known strict list name before after × (after.is_out_of_memory ≡ true))

@@ -15,7 +15,7 @@ use Rattle.lists.specs.declared.entry.Entry.TheVariants as entries
 use Rattle.lists.specs.declared.entry.EntryFault.{EntryFault}
 use Rattle.lists.specs.declared.entry.EntryFault.TheVariants as faults
 
--- `-`
+-- the byte is `-` (45)
 abbrev pub is_dash : ℕ → Bool
 is_dash byte = byte == 45
 
@@ -23,11 +23,12 @@ is_dash byte = byte == 45
 abbrev pub HasDash : List ℕ → Type 0
 HasDash text = position_or_len is_dash text < length text
 
--- the texts, without the blanks around them, name these addresses
+-- the two texts, without the blanks around each, name these addresses
 abbrev pub NamesEnds : List ℕ → List ℕ → IpAddr → IpAddr → Type 0
 NamesEnds before after first last = NamesIp (trimmed before) first × NamesIp (trimmed after) last
 
--- what stands before the first `-` of the text and what stands after it name these addresses
+-- what stands before the first `-` of the text and what stands after it, without the blanks around each, name these
+-- addresses
 abbrev pub NamesBoth : List ℕ → IpAddr → IpAddr → Type 0
 NamesBoth text first last = NamesEnds (before_first is_dash text) (after_first is_dash text) first last
 
@@ -38,38 +39,40 @@ IsRange (V4 first) (V6 last) = ⊥
 IsRange (V6 first) (V4 last) = ⊥
 IsRange (V6 first) (V6 last) = first ≤ last
 
--- the text names the entry
+-- the text names this entry
 abbrev pub NamesEntry : List ℕ → Entry → Type 0
--- a network, without a `-`
+-- a text without a `-` names a network
 NamesEntry text (entries.Network n) = ¬ (HasDash text) × NamesIpNetwork text n
--- a range, with one
+-- a text with a `-` names the range between its two ends
 NamesEntry text (entries.Range first last) = HasDash text × NamesBoth text first last × IsRange first last
 
--- why a text names no entry, as a plain text
+-- this is why the text, as plain text, names no entry
 abbrev pub IsPlainCause : List ℕ → EntryFault → Type 0
--- it contains two or more `/`
+-- a text without a `-` has two or more slashes
 IsPlainCause text faults.Format = ¬ (HasDash text) × IsIpCause text causes.Format
--- else what stands before the `/` is an address of neither family; or an end of a range is not an address
+-- a text without a `-` has at most one slash, and what stands before it is no address; or the two ends of a text with a
+-- `-` are not both addresses
 IsPlainCause text faults.Address = (¬ (HasDash text) × IsIpCause text causes.Addr)
     ⊎ (HasDash text × ((first last : IpAddr) → ¬ (NamesBoth text first last)))
--- else what stands after the `/` is not a suffix of that address's family
+-- a text without a `-` has an address before its slash, and after it no suffix of that address's family
 IsPlainCause text faults.Prefix = ¬ (HasDash text) × IsIpCause text causes.Prefix
--- both ends are addresses, of two families, or the last before the first
+-- both ends of a text with a `-` are addresses, but of two families, or the last is before the first
 IsPlainCause text faults.Range = HasDash text
     × ((first : IpAddr) × (last : IpAddr) × NamesBoth text first last × ¬ (IsRange first last))
+-- plain text has no other encoding
 IsPlainCause text (faults.Encoding encoding) = ⊥
 
--- the encoding is told in place of the cause, if the text has one
+-- the fault that is reported about a text: its encoding, if it has one, and else the cause
 abbrev pub told_cause : Option Encoding → EntryFault → EntryFault
 told_cause None cause = cause
 told_cause (Some encoding) cause = faults.Encoding encoding
 
--- why a text names no entry
+-- this is why the text names no entry: its encoding, if it has one, and else the cause as plain text
 abbrev pub IsEntryCause : List ℕ → EntryFault → Type 0
 IsEntryCause text fault = (cause : EntryFault) × IsPlainCause text cause
     × (fault ≡ told_cause (encoding_of text) cause)
 
--- the entry that a text names, or the cause if it names none
+-- reading the text gives the entry that it names, or, if it names none, the reason
 abbrev pub ReadsText : List ℕ → Result Entry EntryFault → Type 0
 ReadsText text result =
     MatchResult result (NamesEntry text) (λ fault. IsEntryCause text fault
@@ -79,11 +82,12 @@ ReadsText text result =
 abbrev pub entry_text : List ℕ → List ℕ
 entry_text line = trimmed (before_comment line)
 
--- what reading a line returns
+-- reading the line gives this result
 abbrev pub ReadsEntry : List ℕ → Result (Option Entry) EntryFault → Type 0
--- nothing, if nothing is left of it
+-- there is no entry if its text is empty
 ReadsEntry line (Ok None) = entry_text line ≡ []
--- and else its entry, or why it has none
+-- the entry is the one that its text names
 ReadsEntry line (Ok (Some entry)) = (entry_text line ≢ []) × NamesEntry (entry_text line) entry
+-- the fault is the reason why a text that is not empty names no entry
 ReadsEntry line (Err fault) = (entry_text line ≢ []) × IsEntryCause (entry_text line) fault
     × ((entry : Entry) → ¬ (NamesEntry (entry_text line) entry))

@@ -1,28 +1,28 @@
--- What is left of a line without its comment and the blanks around it.
+-- A line without its comment and the blanks around it.
 use Rattle.std.specs.Prelude.{ℕ, ◌-◌, ◌==◌, ◌||◌, Bool, List, length, take, drop}
 use Rattle.std.specs.List.{before_first, prefix_len, suffix_len}
 
--- a space or a tab
+-- the byte is a space (32) or a tab (9)
 abbrev pub is_blank : ℕ → Bool
 is_blank byte = byte == 32 || byte == 9
 
--- `#` or `;`
+-- the byte is `#` (35) or `;` (59), which begins a comment
 abbrev pub begins_comment : ℕ → Bool
 begins_comment byte = byte == 35 || byte == 59
 
--- what stands before the first `#` or `;`, or the whole line
+-- what stands before the first `#` or `;` of a line, or the whole line if it has neither
 abbrev pub before_comment : List ℕ → List ℕ
 before_comment line = before_first begins_comment line
 
--- the text without such bytes that it begins with
+-- the text without the bytes of this kind that it begins with
 abbrev pub without_front : (ℕ → Bool) → List ℕ → List ℕ
 without_front is_one text = drop (prefix_len is_one text) text
 
--- the text without such bytes that it ends with
+-- the text without the bytes of this kind that it ends with
 abbrev pub without_end : (ℕ → Bool) → List ℕ → List ℕ
 without_end is_one text = take (length text - suffix_len is_one text) text
 
--- the text without such bytes around it
+-- the text without the bytes of this kind around it
 abbrev pub trimmed_by : (ℕ → Bool) → List ℕ → List ℕ
 trimmed_by is_one text = without_end is_one (without_front is_one text)
 

@@ -1,4 +1,4 @@
--- What the lines of lists name.
+-- What the lines of lists name, and what is taken of them.
 use Rattle.std.specs.Prelude.{◌≡◌, ℕ, ◌+◌, ◌-◌, ◌^◌, ◌↔◌, ◌⊎◌, ◌≤◌, Bool, true, false, List, [], ◌∷◌, Option, None}
 use Rattle.std.specs.Prelude.{Some, Result, Ok, Err, min, length}
 use Rattle.std.specs.List.{Contains}
@@ -27,19 +27,19 @@ pub record ReadLists : Type 0 where
   pub line : ℕ
   pub is_out_of_memory : Bool
 
--- nothing yet, except lines that were refused before
+-- nothing was read yet, but these lines were refused before
 abbrev pub nothing_read : Refused → ReadLists
 nothing_read refused = record { v4 = []; v6 = []; refused = refused; list = 0; line = 0; is_out_of_memory = false }
 
--- the same, at the beginning of a list
+-- the same reading at the beginning of the list of this number
 abbrev pub at_list : ReadLists → ℕ → ReadLists
 at_list lists number = record lists { list = number; line = 0 }
 
--- the same, at the next line; the number of a line has 64 bits
+-- the same reading at the next line, whose number is at most the greatest of 64 bits
 abbrev pub at_next_line : ReadLists → ReadLists
 at_next_line lists = record lists { line = min (lists.line + 1) (2 ^ 64 - 1) }
 
--- an address of the networks that were read
+-- the address is a member of a network that was read
 abbrev pub HasAddress : ReadLists → IpAddr → Type 0
 HasAddress lists (V4 a) = InUnion 32 lists.v4 a
 HasAddress lists (V6 a) = InUnion 128 lists.v6 a
@@ -48,11 +48,11 @@ HasAddress lists (V6 a) = InUnion 128 lists.v6 a
 abbrev pub Names : Entry → IpAddr → Type 0
 -- a network names its members
 Names (entries.Network n) a = IpMember n a
--- a range names the addresses from the first to the last
+-- a range names the addresses from its first to its last
 Names (entries.Range first last) a = IsRange first a × IsRange a last
 
--- the second has the networks of the first and, after them, those of the entry, and so the addresses of both; nothing
--- else has changed
+-- the networks of the entry were appended, so that its addresses were added and no others, and nothing else has
+-- changed; memory has not run out
 pub record Gains (before : ReadLists) (entry : Entry) (after : ReadLists) : Type 0 where
   pub networks : AddsEntry before.v4 before.v6 entry after.v4 after.v6
   pub addresses : (a : IpAddr) → HasAddress after a ↔ (HasAddress before a ⊎ Names entry a)
@@ -61,46 +61,46 @@ pub record Gains (before : ReadLists) (entry : Entry) (after : ReadLists) : Type
   pub line : after.line ≡ before.line
   pub memory : after.is_out_of_memory ≡ false
 
--- memory ran out for what the entry names
+-- memory ran out for what an entry names, and the refused lines are unchanged
 pub record RunsOut (before after : ReadLists) : Type 0 where
   pub refused : after.refused ≡ before.refused
   pub memory : after.is_out_of_memory ≡ true
 
--- the entry was taken, or memory ran out for it
+-- the networks of the entry were added, or memory ran out for them
 abbrev pub TakesEntry : ReadLists → Entry → ReadLists → Type 0
 TakesEntry before entry after = Gains before entry after ⊎ RunsOut before after
 
--- the line is refused for this reason
+-- the same reading with its current line refused, for this reason
 abbrev pub refusing : ReadLists → LineFault → ReadLists
 refusing lists fault = record lists {
   refused = with_refusal lists.refused
       (record { list = lists.list; line = lists.line; fault = fault });
 }
 
--- what a line says is taken: nothing, an entry, or that it is refused
+-- what a line says is taken: nothing changes if it says nothing, its entry is taken, or it is refused
 abbrev pub TakesReading : ReadLists → Result (Option Entry) EntryFault → ReadLists → Type 0
 TakesReading before (Ok None) after = after ≡ before
 TakesReading before (Ok (Some entry)) after = TakesEntry before entry after
 TakesReading before (Err fault) after = after ≡ refusing before (faults.Entry fault)
 
--- a line is taken, or it is too long
+-- the next line is taken, or, if it is given as too long, refused
 abbrev pub TakesLine : ReadLists → Option (List ℕ) → ReadLists → Type 0
 TakesLine before None after = after ≡ refusing (at_next_line before) faults.Length
 TakesLine before (Some line) after = (reading : Result (Option Entry) EntryFault) × ReadsEntry line reading
     × TakesReading (at_next_line before) reading after
 
--- once memory has run out, nothing more is read
+-- the next line is taken, unless memory has run out, after which nothing changes
 abbrev pub Takes : ReadLists → Option (List ℕ) → ReadLists → Type 0
 Takes before line after = ((before.is_out_of_memory ≡ true) × (after ≡ before))
     ⊎ ((before.is_out_of_memory ≡ false) × TakesLine before line after)
 
--- these lines are taken in turn; one of more than 1,024 bytes is too long
+-- these lines are taken, one after another; one of more than 1,024 bytes is too long
 abbrev pub TakesLines : ReadLists → List (List ℕ) → ReadLists → Type 0
 TakesLines before [] after = after ≡ before
 TakesLines before (line ∷ lines) after = (between : ReadLists) × Takes before (asked 1024 line) between
     × TakesLines between lines after
 
--- the line names the address: it has at most 1,024 bytes, and an entry that does
+-- the line has at most 1,024 bytes, and its entry names the address
 abbrev pub LineNames : List ℕ → IpAddr → Type 0
 LineNames line a = (entry : Entry) × (length line ≤ 1024) × ReadsEntry line (Ok (Some entry)) × Names entry a
 

@@ -5,7 +5,8 @@ use Rattle.std.specs.declared.io.ErrorKind.TheVariants.{NotFound, PermissionDeni
 use Rattle.lists.specs.declared.opening.OpenFault.{OpenFault}
 use Rattle.lists.specs.declared.opening.OpenFault.TheVariants.{Missing, Denied, Directory, Output, Other}
 
--- the cause that the kind of the system's error names. A file that is also the output would be read without end
+-- the cause that the kind of the system's error stands for, where `Deadlock` says that the file is also the output, so
+-- that reading it would never end
 abbrev pub cause_of : ErrorKind → OpenFault
 cause_of NotFound = Missing
 cause_of PermissionDenied = Denied
@@ -13,7 +14,7 @@ cause_of IsADirectory = Directory
 cause_of Deadlock = Output
 cause_of kind = Other
 
--- what is reported of a file that cannot be opened, after its name
+-- what is reported about a file that cannot be opened, after its name
 abbrev pub open_fault_text : OpenFault → List ℕ
 open_fault_text Missing = codes ": cannot open: no such file\n"
 open_fault_text Denied = codes ": cannot open: permission denied\n"

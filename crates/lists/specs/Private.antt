@@ -1,4 +1,4 @@
--- What the private functions promise each other.
+-- What the private functions promise one another.
 pub mod Bytes
 pub mod Documents
 pub mod Parts

@@ -11,14 +11,14 @@ use Rattle.lists.specs.Lists.{ReadLists, TakesLines}
 abbrev pub TakesComplete : List ℕ → ReadLists → ReadLists → Type 0
 TakesComplete bytes before after = TakesLines before (lines (complete_part bytes)) after
 
--- what is taken before the reading stops, by what stops it. The reader had the first bytes, and has the second left
+-- what is taken before this fault stops the reading, which had the bytes `remained` and has `remains` left
 abbrev pub TakesBefore : Option (List ℕ) → Option (List ℕ) → RunFault → ReadLists → ReadLists → Type 0
--- a read failed: the lines that the bytes complete that were read
+-- a read failed, and the lines that the bytes read before it complete are taken
 TakesBefore remained remains Read before after = (read : List ℕ) × Consumes remained remains read
     × TakesComplete read before after
--- more bytes were read than 64 bits count: the lines that some first ones of them complete
+-- more bytes were read than 64 bits count, and the lines that some first ones of them complete are taken
 TakesBefore remained remains InputTooLong before after =
     (read : List ℕ) × (first : List ℕ) × Consumes remained remains read × (2 ^ 64 - 1 < length read)
     × IsBeginning first read × TakesComplete first before after
--- no write fails: the lines get no replies, so that none is written
+-- this fault does not occur: the lines get no replies, so that nothing is written
 TakesBefore remained remains Write before after = ⊥

@@ -1,26 +1,27 @@
-//! Texts that are no plain text.
+//! Recognizes texts that are not plain text.
 ghost use Rattle.std.specs.Prelude.{◌≡◌};
 ghost use Rattle.lists.specs.Encodings.{begins, is_utf16, has_nul, encoding_of, encoding_text};
 
-/// What a text is, by its bytes, that is no plain text.
+/// What a text is that is not plain text, by its bytes.
 ///
 /// ```
 /// assert_eq!(rt; encoding_of(b"\x1f\x8b\x08"), Some(Encoding::Gzip));
 /// ```
 #[derive(Clone, Copy, Debug, PartialEq, Eq)]
 pub enum Encoding {
-    /// UTF-8 behind a byte order mark.
+    /// UTF-8 after a byte order mark.
     ByteOrderMark,
-    /// UTF-16 behind a byte order mark.
+    /// UTF-16 after a byte order mark.
     Utf16,
-    /// Data of gzip (RFC 1952).
+    /// Data compressed by gzip (RFC 1952).
     Gzip,
-    /// Data with a NUL byte.
+    /// A text that has a NUL byte.
     Nul,
 }
 
 impl Encoding {
-    /// How it is named: `byte order mark`, `UTF-16 text`, `gzip data` or `NUL byte`.
+    /// Returns the name of the encoding: `byte order mark`, `UTF-16 text`, `gzip data` or
+    /// `NUL byte`.
     ///
     /// ```
     /// assert_eq!(rt; Encoding::Utf16.text(), "UTF-16 text");
@@ -37,7 +38,7 @@ impl Encoding {
     }
 }
 
-/// What a text is, if it is no plain text.
+/// Returns what a text is if it is not plain text, and `None` if it is.
 ///
 /// ```
 /// assert_eq!(rt; encoding_of(b"\xef\xbb\xbf10.0.0.0/8"), Some(Encoding::ByteOrderMark));
@@ -60,21 +61,21 @@ pub fn encoding_of(text: &[u8]) -> Option<Encoding>
     }
 }
 
-// Whether a text begins as one of UTF-16 does, of either byte order.
+// Whether the text begins with a byte order mark of UTF-16, of either byte order.
 fn is_utf16(text: &[u8]) -> bool
     ensures { result ≡ is_utf16 text.now }
 {
     begins(text, &[0xFF, 0xFE]) || begins(text, &[0xFE, 0xFF])
 }
 
-// Whether a text has a NUL byte.
+// Whether the text has a NUL byte.
 fn has_nul(text: &[u8]) -> bool
     ensures { result ≡ has_nul text.now }
 {
     text.iter().any(|byte| *byte == 0)
 }
 
-// Whether a text begins with these bytes.
+// Whether the text begins with these bytes.
 fn begins(text: &[u8], first: &[u8]) -> bool
     ensures { result ≡ begins first.now text.now }
 {

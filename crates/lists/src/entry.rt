@@ -1,4 +1,4 @@
-//! What a line of a list says.
+//! Reads the entry of a line.
 ghost use Rattle.std.specs.Prelude.{◌≡◌};
 ghost use Rattle.lists.specs.Entries.{ReadsEntry, ReadsText, told_cause};
 ghost use Rattle.lists.specs.Faults.{entry_fault_text};
@@ -13,7 +13,7 @@ use byte_search::find_from;
 use ipnetwork::{CidrFault, IpAddr, IpNetwork, cause};
 use ipnetwork_addr::laws;
 
-/// What a list names: addresses of one family.
+/// What a line of a list names: addresses of one family.
 ///
 /// ```
 /// let entry = read_entry(b"10.0.0.0/8 # private")?;
@@ -21,9 +21,10 @@ use ipnetwork_addr::laws;
 /// ```
 #[derive(Clone, Copy, Debug, PartialEq, Eq)]
 pub enum Entry {
-    /// A network, host bits kept. Its addresses are those of its set.
+    /// A network, which keeps its host bits. It names the addresses of its block.
     Network(IpNetwork),
-    /// The addresses from `first` to `last`, both included, of one family. `first` is not after `last`.
+    /// The addresses from `first` to `last`, both included. They are of one family, and `first` is
+    /// not after `last`.
     Range {
         /// The first address.
         first: IpAddr,
@@ -40,21 +41,23 @@ pub enum Entry {
 /// ```
 #[derive(Clone, Copy, Debug, PartialEq, Eq)]
 pub enum EntryFault {
-    /// A network text with two or more `/`.
+    /// The entry is no range and has two or more slashes.
     Format,
-    /// What stands before a `/`, or the whole entry if it has none, is not an address, or an end of a range is not an
-    /// address.
+    /// What stands before the slash, or the whole entry if it has none, is not an address; or an
+    /// end of a range is not an address.
     Address,
-    /// What stands after a `/` is not a suffix of that address's family.
+    /// What stands after the slash is not a suffix of the address's family: a prefix length, or for
+    /// IPv4 a mask.
     Prefix,
-    /// The ends of a range are of two families, or its last address is before its first.
+    /// The ends of a range are of two families, or the last is before the first.
     Range,
-    /// The entry is no plain text.
+    /// The entry is not plain text.
     Encoding(Encoding),
 }
 
 impl EntryFault {
-    /// The fault in a word, `format`, `address`, `prefix` or `range`, or as the encoding is named.
+    /// Returns the fault in a word, `format`, `address`, `prefix` or `range`, or the name of the
+    /// encoding.
     ///
     /// ```
     /// assert_eq!(rt; EntryFault::Prefix.text(), "prefix");
@@ -72,12 +75,16 @@ impl EntryFault {
     }
 }
 
-/// What a line says. The line is given without its line end. `None` if there is nothing but blanks and a comment.
+/// Reads a line, which is given without its line end. Returns `None` if it has nothing but blanks
+/// and a comment.
 ///
-/// An entry is what stands before the first `#` or `;`, without the blanks (spaces and tabs) around it. If it contains
-/// a `-`, it is a range: what stands before the first `-` and what stands after it, without the blanks around each, are
-/// its first and its last address. Any other entry is a network text, as `IpNetwork::read_bytes` reads it. Every other
-/// byte belongs to the entry.
+/// The entry is what stands before the first `#` or `;`, without the blanks (spaces and tabs)
+/// around it. An entry that contains a `-` is a range: what stands before the first `-` and what
+/// stands after it, without the blanks around each, are its first and its last address. Any other
+/// entry is the text of a network, as `IpNetwork::read_bytes` reads it. All other bytes belong to
+/// the entry.
+///
+/// An error is returned if the entry names no addresses.
 ///
 /// ```
 /// let (first, last) = ("10.0.0.1".parse()?, "10.0.0.9".parse()?);
@@ -87,7 +94,8 @@ impl EntryFault {
 pub fn read_entry(line: &[u8]) -> Result<Option<Entry>, EntryFault>
     ensures { ReadsEntry line.now result }
 {
-    // Does nothing. The proof needs the law: a network text contains no mark of a comment, no blank and no `-`.
+    // This call does nothing: the proof of this body needs its law, that the text of a network
+    // contains no mark of a comment, no blank and no `-`.
     list_laws::network_texts_are_entries();
     if let Ok(network) = IpNetwork::read_bytes(line) {
         return Ok(Some(Entry::Network(network)));
@@ -95,7 +103,7 @@ pub fn read_entry(line: &[u8]) -> Result<Option<Entry>, EntryFault>
     read_line(line)
 }
 
-/// What a line says.
+/// Reads a line, without trying first whether all of it is the text of a network.
 fn read_line(line: &[u8]) -> Result<Option<Entry>, EntryFault>
     ensures { ReadsEntry line.now result }
 {
@@ -109,7 +117,7 @@ fn read_line(line: &[u8]) -> Result<Option<Entry>, EntryFault>
     }
 }
 
-/// The entry that a text names.
+/// Returns the entry that a text names, or why it names none.
 pub(crate) fn read_text(text: &[u8]) -> Result<Entry, EntryFault>
     ensures { ReadsText text.now result }
 {
@@ -119,7 +127,8 @@ pub(crate) fn read_text(text: &[u8]) -> Result<Entry, EntryFault>
     }
 }
 
-/// The cause that is told of a text of this encoding, or of a plain one.
+/// Returns the fault that is reported about a text: its encoding, if it has one, and else the
+/// cause.
 fn told_cause(encoding: Option<Encoding>, cause: EntryFault) -> EntryFault
     ensures { result ≡ told_cause encoding cause }
 {
@@ -129,11 +138,12 @@ fn told_cause(encoding: Option<Encoding>, cause: EntryFault) -> EntryFault
     }
 }
 
-/// The entry that a text names, or why it names none as a plain text.
+/// Returns the entry that a text names, or why it names none as plain text.
 fn read_plain(text: &[u8]) -> Result<Entry, EntryFault>
     ensures { ReadsPlain text.now result }
 {
-    // Does nothing. The proof needs the law: other addresses of the same ends would be other ranges.
+    // This call does nothing: the proof of this body needs its law, since other addresses of the
+    // same ends would be another range.
     laws::ip_text_names_one();
     match find_from(text, 0, b'-') {
         Some(at) => read_range(&text[..at], &text[at + 1..]),
@@ -141,7 +151,7 @@ fn read_plain(text: &[u8]) -> Result<Entry, EntryFault>
     }
 }
 
-/// The network that a text names.
+/// Returns the network that a text names, or why it names none.
 fn read_network(text: &[u8]) -> Result<Entry, EntryFault>
     ensures { ReadsNetworkText text.now result }
 {

@@ -1,4 +1,4 @@
-//! Why a line is refused.
+//! Why a line of a list is refused.
 ghost use Rattle.std.specs.Prelude.{◌≡◌};
 ghost use Rattle.lists.specs.Faults.{line_fault_text};
 
@@ -21,7 +21,8 @@ pub enum LineFault {
 }
 
 impl LineFault {
-    /// The fault in a word, `length` or that of the entry, or as its encoding is named.
+    /// Returns the fault in a word, `length` or that of the entry, or the name of the entry's
+    /// encoding.
     ///
     /// ```
     /// assert_eq!(rt; LineFault::Entry(EntryFault::Prefix).text(), "prefix");

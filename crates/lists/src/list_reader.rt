@@ -1,4 +1,4 @@
-//! What was read of lists.
+//! Collects what is read of lists.
 ghost use Rattle.std.specs.Prelude.{◌≡◌, None, OnOk, Some};
 ghost use Rattle.ipnetwork_blocks.specs.Aggregate.{IsAggregate};
 ghost use Rattle.lists.specs.Entries.{IsRange};
@@ -16,11 +16,11 @@ use ipnetwork_sets::AddressSet;
 use std::alloc::{AllocError, Global};
 use std::marker::Model;
 
-/// The networks that the lines of lists name, by family, and the lines that are refused.
+/// Collects the networks that the lines of lists name, by family, and the lines that are refused.
 ///
-/// It reads any number of lists, one after the other (`read_list`). Networks are kept in the
-/// order in which they are read, and a range as its blocks. Once memory has run out for a network, nothing more is
-/// read.
+/// It reads any number of lists, one after another (`read_list`). It keeps the networks in the
+/// order in which they are read, and a range as its blocks. Once memory has run out for a network,
+/// nothing more is read.
 ///
 /// ```
 /// let mut lists = ListReader::new(rt.alloc(), Refusals::new());
@@ -40,7 +40,7 @@ pub struct ListReader {
     is_out_of_memory: bool,
 }
 
-// A contract sees what was read.
+// Contracts see what was read.
 impl Model for ListReader {
     ghost use Rattle.lists.specs.Lists.{ReadLists};
 
@@ -57,7 +57,8 @@ impl Model for ListReader {
 }
 
 impl ListReader {
-    /// A reader that has read no list yet. `refusals` has the lines that were refused before.
+    /// Creates a reader that has read no list yet. `refusals` holds the lines that were refused
+    /// before.
     ///
     /// ```
     /// let lists = ListReader::new(rt.alloc(), Refusals::new());
@@ -98,7 +99,7 @@ impl ListReader {
         self.is_out_of_memory
     }
 
-    /// The addresses of the networks of each family, and the refused lines.
+    /// Returns the set of the addresses of each family, and the refused lines.
     ///
     /// ```
     /// let mut lists = ListReader::new(rt.alloc(), Refusals::new());
@@ -115,9 +116,10 @@ impl ListReader {
         (self.v4.into_set(), self.v6.into_set(), self.refusals)
     }
 
-    /// The networks of each family in the order in which they were read, and the refused lines.
+    /// Returns the networks of each family, in the order in which they were read, and the refused
+    /// lines.
     ///
-    /// A range is given as the fewest blocks that have its addresses.
+    /// A range is returned as the fewest blocks that have its addresses.
     ///
     /// ```
     /// let mut lists = ListReader::new(rt.alloc(), Refusals::new());
@@ -150,7 +152,7 @@ impl ListReader {
         }
     }
 
-    /// Refuses a longer line, unless memory has run out.
+    /// Refuses a line that is too long, unless memory has run out.
     pub(crate) fn refuse_long_line(&mut self)
         ensures { Takes self.old None self.new }
     {
@@ -161,8 +163,8 @@ impl ListReader {
         self.refuse(LineFault::Length);
     }
 
-    /// Takes a string of a document, unless memory has run out. One that names no entry is refused if the reading is
-    /// strict.
+    /// Takes a string of a document, unless memory has run out. A string that names no entry is
+    /// refused if the reading is strict.
     pub(crate) fn take_string(&mut self, text: &[u8], is_strict: bool)
         ensures { TakesString is_strict self.old text.now self.new }
     {
@@ -177,14 +179,14 @@ impl ListReader {
         }
     }
 
-    // Goes on to the next line of the list.
+    // Moves on to the next line of the list.
     fn next_line(&mut self)
         ensures { self.new ≡ at_next_line self.old }
     {
         self.line = self.line.saturating_add(1);
     }
 
-    // Notes that the line is refused.
+    // Notes that the current line is refused.
     fn refuse(&mut self, fault: LineFault)
         ensures { self.new ≡ refusing self.old fault }
     {
@@ -195,7 +197,7 @@ impl ListReader {
         });
     }
 
-    // Takes what an entry names.
+    // Takes an entry, or notes that memory ran out for it.
     fn take(&mut self, entry: Entry)
         requires { IsGoodEntry entry }
         ensures { TakesEntry self.old entry self.new }
@@ -205,7 +207,7 @@ impl ListReader {
     }
 }
 
-// Adds the network, or the blocks of the range, to those of its family.
+// Appends the network, or the blocks of the range, to the networks of its family.
 fn push_entry(
     v4: &mut Networks<Ipv4Network>,
     v6: &mut Networks<Ipv6Network>,
@@ -220,7 +222,7 @@ fn push_entry(
     }
 }
 
-// Adds the network to those of its family.
+// Appends a network to those of its family.
 fn push_network(
     v4: &mut Networks<Ipv4Network>,
     v6: &mut Networks<Ipv6Network>,
@@ -234,7 +236,7 @@ fn push_network(
     }
 }
 
-// Adds the blocks of the range to those of its family.
+// Appends the blocks of a range to the networks of its family.
 fn push_range(
     v4: &mut Networks<Ipv4Network>,
     v6: &mut Networks<Ipv6Network>,

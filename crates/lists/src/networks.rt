@@ -8,13 +8,13 @@ use ipnetwork_sets::AddressSet;
 use std::alloc::{AllocError, Global};
 use std::marker::Model;
 
-/// Networks of one family.
+/// Networks of one family, in the order in which they were read.
 #[derive(Debug, Drop)]
 pub(crate) struct Networks<N: AddressSpace> {
     networks: Vec<N>,
 }
 
-// A contract sees the list of the networks.
+// Contracts see the list of the networks.
 impl<N: AddressSpace> Model for Networks<N> {
     ghost use Rattle.std.specs.Prelude.{List, map};
     ghost use Rattle.ipnetwork_family.specs.Network.{Network};
@@ -25,7 +25,7 @@ impl<N: AddressSpace> Model for Networks<N> {
 }
 
 impl<N: AddressSpace> Networks<N> {
-    /// None.
+    /// Creates an empty list of networks.
     pub(crate) fn new(alloc: Global) -> Networks<N>
         ensures { result ≡ [] }
     {
@@ -34,7 +34,7 @@ impl<N: AddressSpace> Networks<N> {
         }
     }
 
-    /// Adds a network.
+    /// Appends a network.
     pub(crate) fn push(&mut self, network: N) -> Result<(), AllocError>
         ensures { OnOk result (self.new ≡ self.old ++ N.pair network ∷ []) }
     {
@@ -42,7 +42,7 @@ impl<N: AddressSpace> Networks<N> {
         Ok(())
     }
 
-    /// Adds the blocks of the addresses from `first` to `last`.
+    /// Appends the fewest blocks that have the addresses from `first` to `last`.
     pub(crate) fn push_range(&mut self, first: N::Addr, last: N::Addr) -> Result<(), AllocError>
         requires { N.number first ≤ N.number last }
         ensures pushed { OnOk result
@@ -60,14 +60,14 @@ impl<N: AddressSpace> Networks<N> {
         Ok(())
     }
 
-    /// The networks, in their order.
+    /// Returns the networks, in their order.
     pub(crate) fn into_vec(self) -> Vec<N>
         ensures { map N.pair result.items ≡ self }
     {
         self.networks
     }
 
-    /// The set of their addresses. Keeps their memory.
+    /// Returns the set of their addresses, in the memory of the networks.
     pub(crate) fn into_set(self) -> AddressSet<N>
         ensures { IsAggregate N.WIDTH self result }
     {

@@ -20,10 +20,10 @@ use std::io::Read;
 /// assert!(rt; is_there(&program::system::System::new(&rt), "-"));
 /// ```
 pub trait OpenLists {
-    /// A list that was opened.
+    /// A list that is open.
     type List: Read + Drop;
 
-    // What is known of its lists.
+    // What is known about its lists.
     ghost known: { Self → KnownLists } = { λ _. nothing_known };
 
     /// Opens the list of this name. The error is the system's.
@@ -43,8 +43,11 @@ pub trait OpenLists {
         ensures missed { IfErr result
             (λ error. (known self.now).may_miss name.now (cause_of (error_kind error))) };
 
-    /// Opens the file of this name to be read while its lines are written. It may be refused if it is the one that is
-    /// written, which would then never end. An implementation that does not say so opens it as a list.
+    /// Opens the file of this name, to be read while its lines are written. The error is the
+    /// system's.
+    ///
+    /// An implementation may refuse the file that is also being written, since reading it would
+    /// never end. By default the file is opened as a list.
     ///
     /// ```
     /// use lists::OpenLists;

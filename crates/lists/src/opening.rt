@@ -1,4 +1,4 @@
-//! Why a file cannot be opened.
+//! Opens files, and says why one cannot be opened.
 ghost use Rattle.std.specs.Prelude.{◌≡◌, ℕ, List, Some, IfOk, IfErr, false, is_ok};
 ghost use Rattle.lines.specs.Watched.{device_of, has_failed};
 ghost use Rattle.lists.specs.Opening.{cause_of, open_fault_text};
@@ -19,18 +19,18 @@ use std::io::ErrorKind;
 pub enum OpenFault {
     /// There is no file of this name.
     Missing,
-    /// It may not be read.
+    /// The program may not read it.
     Denied,
     /// It is a directory.
     Directory,
     /// It is also the output.
     Output,
-    /// Another cause.
+    /// There is another cause.
     Other,
 }
 
 impl OpenFault {
-    /// The cause that an error of the system names.
+    /// Returns the cause that the kind of the system's error stands for.
     ///
     /// ```
     /// use std::io::ErrorKind;
@@ -50,7 +50,7 @@ impl OpenFault {
         }
     }
 
-    /// What is reported of it, after the name of the file.
+    /// Returns what is reported about the cause, after the name of the file.
     ///
     /// ```
     /// assert_eq!(rt; OpenFault::Missing.text(), ": cannot open: no such file\n");
@@ -71,6 +71,8 @@ impl OpenFault {
 
 /// Opens the list of this name. Once a read of it has failed, it is not read again.
 ///
+/// An error that says why is returned if it cannot be opened.
+///
 /// ```
 /// let system = program::system::System::new(&rt);
 /// assert!(rt; lists::open_list(&system, "-").is_ok());
@@ -90,8 +92,10 @@ pub fn open_list<L: OpenLists>(lists: &L, name: &str) -> Result<Watched<L::List>
     }
 }
 
-/// Opens the file of this name to be read while its lines are written, as `open_list` opens a list. A file that is also
-/// the output may be refused.
+/// Opens the file of this name, to be read while its lines are written, as `open_list` opens a
+/// list. A file that is also the output may be refused.
+///
+/// An error that says why is returned if it cannot be opened.
 ///
 /// ```
 /// let system = program::system::System::new(&rt);

@@ -1,4 +1,4 @@
-//! The range of addresses between two ends.
+//! Reads a range of addresses.
 ghost use Rattle.lists.specs.Entries.{IsRange};
 ghost use Rattle.lists.specs.Private.Parts.{ReadsRange};
 ghost use Rattle.std.specs.Prelude.{◌↔◌, ◌≡◌, IsTrue, MatchResult};
@@ -7,7 +7,7 @@ use crate::entry::{Entry, EntryFault};
 use crate::trimming::{Blank, trim};
 use ipnetwork::IpAddr;
 
-/// The range of which these texts name the ends.
+/// Returns the range between the ends that these texts name, or why there is none.
 pub(crate) fn read_range(before: &[u8], after: &[u8]) -> Result<Entry, EntryFault>
     ensures { ReadsRange before.now after.now result }
 {
@@ -20,7 +20,7 @@ pub(crate) fn read_range(before: &[u8], after: &[u8]) -> Result<Entry, EntryFaul
     between(first, last)
 }
 
-/// The range from one address to another.
+/// Returns the range from one address to another, or the fault that they are the ends of none.
 fn between(first: IpAddr, last: IpAddr) -> Result<Entry, EntryFault>
     ensures { MatchResult result (λ entry. (entry ≡ Entry.Range first last) × IsRange first last)
         (λ fault. (fault ≡ EntryFault.Range) × ¬ (IsRange first last)) }

@@ -1,4 +1,4 @@
-//! Reads lists.
+//! Reads a list from a device or from a text.
 ghost use Rattle.std.specs.Prelude.{◌≡◌, ◌||◌, ℕ, List, Some, OnOk, IfErr};
 ghost use Rattle.std.specs.Str.Lines.{lines};
 ghost use Rattle.lines.specs.Parts.{asked};
@@ -28,11 +28,12 @@ pub const LINE_MAX: usize = 1024;
 /// The most bytes that are read and not yet taken.
 const BUFFER_MAX: usize = 65536;
 
-/// Reads a list to its end, or until memory runs out. `list` is a number that the caller chooses, by which refused lines name the list.
+/// Reads a list to its end, or until memory runs out. `list` is a number that the caller chooses,
+/// by which refused lines name the list.
 ///
-/// `RunFault::Read` if a read failed: exactly the lines that were complete before were read. `RunFault::InputTooLong`
-/// if there are more than 18,446,744,073,709,551,615 bytes. Allocates only for what the list names, unless the device
-/// allocates.
+/// The error is `RunFault::Read` if a read failed: exactly the lines that were complete before it
+/// were taken. It is `RunFault::InputTooLong` if there are more than 18,446,744,073,709,551,615
+/// bytes. Memory is allocated only for what the list names, unless the device allocates.
 ///
 /// ```
 /// let mut lists = ListReader::new(rt.alloc(), Refusals::new());
@@ -76,7 +77,7 @@ pub fn read_list<R: Read>(
     }
 }
 
-// Takes the lines that are whole.
+// Takes the whole lines that are pending in the buffer.
 fn take_whole_lines(lists: &mut ListReader, lines: &mut LineBuffer<'_>)
     requires { lines.old.limit ≡ 1024 }
     ensures taken { (pending : List ℕ) → IsPending lines.old pending
@@ -94,7 +95,8 @@ fn take_whole_lines(lists: &mut ListReader, lines: &mut LineBuffer<'_>)
     }
 }
 
-// Reads a text as a list to its end, as `read_list` reads its bytes. Refused lines name the text by the number `list`.
+// Reads a text to its end as a list, as `read_list` reads the bytes of a device. Refused lines name
+// the text by the number `list`.
 pub(crate) fn take_text(lists: &mut ListReader, list: usize, text: &str)
     ensures { TakesLines (at_list lists.old list) (lines text.now) lists.new }
 {
@@ -104,7 +106,7 @@ pub(crate) fn take_text(lists: &mut ListReader, list: usize, text: &str)
     }
 }
 
-// Takes a line, unless it is too long.
+// Takes a line, or refuses it if it is too long.
 fn read_line(lists: &mut ListReader, line: &[u8])
     ensures { Takes lists.old (asked 1024 line.now) lists.new }
 {

@@ -5,7 +5,7 @@ ghost use Rattle.lists.specs.Refusals.{no_refusals, with_refusal};
 use crate::fault::LineFault;
 use std::marker::Model;
 
-/// How many refused lines are kept.
+/// The most refused lines that are kept.
 ///
 /// ```
 /// let list = b"x\n".repeat(rt.alloc(), 103)?;
@@ -29,13 +29,14 @@ pub const REFUSALS_MAX: usize = 100;
 pub struct Refusal {
     /// The number that the caller gave the list.
     pub list: usize,
-    /// The number of the line in its list, from 1 on.
+    /// The number of the line in its list, counted from 1.
     pub line: u64,
-    /// Why it is refused.
+    /// Why the line is refused.
     pub fault: LineFault,
 }
 
-/// The first hundred refused lines, in the order in which they were read, and how many more there were.
+/// The first hundred refused lines, in the order in which they were read, and how many more there
+/// were.
 ///
 /// ```
 /// let list = b"x\n".repeat(rt.alloc(), 103)?;
@@ -51,14 +52,14 @@ pub struct Refusals {
     more: u64,
 }
 
-// What stands in a slot that is not used.
+// The content of a slot that is not used.
 const UNUSED: Refusal = Refusal {
     list: 0,
     line: 0,
     fault: LineFault::Length,
 };
 
-// A contract sees the refused lines that are kept, and how many more there were.
+// Contracts see the refused lines that are kept, and how many more there were.
 impl Model for Refusals {
     ghost use Rattle.std.specs.Prelude.{◌≤◌, take};
     ghost use Rattle.lists.specs.Refusals.{Refused};
@@ -71,7 +72,7 @@ impl Model for Refusals {
 }
 
 impl Refusals {
-    /// No refused lines.
+    /// Creates an empty list of refused lines.
     ///
     /// ```
     /// let refusals = Refusals::new();
@@ -99,7 +100,7 @@ impl Refusals {
         }
     }
 
-    /// The refused lines that are kept: the first hundred.
+    /// Returns the refused lines that are kept: the first hundred.
     ///
     /// ```
     /// let mut lists = ListReader::new(rt.alloc(), Refusals::new());
@@ -114,7 +115,7 @@ impl Refusals {
         &self.slots[..self.count]
     }
 
-    /// How many more refused lines there were, up to 18,446,744,073,709,551,615.
+    /// Returns how many more refused lines there were, up to 18,446,744,073,709,551,615.
     ///
     /// ```
     /// let list = b"x\n".repeat(rt.alloc(), 103)?;

@@ -1,4 +1,4 @@
-//! Takes the strings of a value of JSON.
+//! Takes the strings of a JSON value.
 ghost use Rattle.serde_json.specs.View.{view, items_view, members_view};
 ghost use Rattle.lists.specs.Documents.{strings_of, strings_of_items, strings_of_members};
 ghost use Rattle.lists.specs.Documents.{TakesStrings};

@@ -1,9 +1,9 @@
-//! A text without what stands around it.
+//! Trims texts.
 ghost use Rattle.std.specs.Prelude.{◌≡◌, ◌≤◌, ℕ, Bool, length};
 ghost use Rattle.std.specs.List.{prefix_len, suffix_len};
 ghost use Rattle.lists.specs.Lines.{trimmed_by};
 
-/// Some of the 256 bytes.
+/// A kind of bytes: some of the 256.
 ///
 /// ```
 /// // The text behind the bytes of a kind.
@@ -14,10 +14,10 @@ ghost use Rattle.lists.specs.Lines.{trimmed_by};
 /// assert_eq!(rt; behind::<lists::Blank>(b" # private"), b"# private".as_slice());
 /// ```
 pub trait ByteKind {
-    // Whether a byte is one of them, as contracts see it.
+    // Whether a byte is of this kind, as contracts see it.
     ghost is_one: { ℕ → Bool };
 
-    /// Whether a byte is one of them.
+    /// Whether a byte is of this kind.
     ///
     /// ```
     /// use lists::ByteKind;
@@ -45,7 +45,7 @@ impl ByteKind for Blank {
     }
 }
 
-/// The text without the bytes of a kind around it.
+/// Returns the text without the bytes of a kind around it.
 ///
 /// ```
 /// assert_eq!(rt; lists::trim::<lists::Blank>(b" 10.0.0.1 "), b"10.0.0.1".as_slice());
@@ -57,7 +57,7 @@ pub fn trim<K: ByteKind>(text: &[u8]) -> &[u8]
     &rest[..rest.len() - end_len::<K>(rest)]
 }
 
-/// How many bytes of a kind the text begins with.
+/// Returns how many bytes of a kind the text begins with.
 ///
 /// ```
 /// assert_eq!(rt; lists::front_len::<lists::Blank>(b"  10.0.0.0/8"), 2);
@@ -73,7 +73,7 @@ pub fn front_len<K: ByteKind>(text: &[u8]) -> usize
     count
 }
 
-// How many bytes of a kind it ends with.
+// Returns how many bytes of a kind the text ends with.
 fn end_len<K: ByteKind>(text: &[u8]) -> usize
     ensures len { result ≡ suffix_len K.is_one text.now }
     ensures within { result ≤ length text.now }

@@ -1,9 +1,7 @@
 -- What is reported of logs whose lines are counted up to the greatest number of 64 bits.
-use Rattle.std.proofs.Common.{◌≡◌, ℕ, zero, suc, ◌-◌, ◌^◌, ◌<◌, ◌&&◌, Bool, true, not, List, [], min, sym, refl, ap, ◌∙◌, arith}
-use Rattle.std.specs.Prelude.{nat_lt, if◌then◌else◌}
+use Rattle.std.proofs.Common.{◌≡◌, ℕ, zero, suc, ◌-◌, ◌^◌, ◌<◌, true, min, sym, refl, ◌∙◌, arith}
+use Rattle.std.specs.Prelude.{nat_lt}
 use Rattle.std.proofs.lemmas.Bool.Decides.{nat_tests}
-use Rattle.line_addresses.specs.declared.area.Area.{Area}
-use Rattle.log_programs.specs.Lacking.{no_address_text, lacking_told}
 
 pub positive : (number : ℕ) → 0 < number → nat_lt 0 number ≡ true
 positive number some = grind (arith, nat_tests)

@@ -1,5 +1,5 @@
 -- The address of a line.
-use Rattle.std.specs.Prelude.{ℕ, List, Option, option_map}
+use Rattle.std.specs.Prelude.{ℕ, List, Option, false, option_map}
 use Rattle.ipnetwork_addr.specs.declared.ip.IpAddr.{IpAddr}
 use Rattle.line_addresses.specs.Addresses.{Spelled}
 use Rattle.line_addresses.specs.Areas.{part_of, picked_in}
@@ -7,4 +7,4 @@ use Rattle.line_addresses.specs.declared.area.Area.{Area}
 
 -- the address of a line that is looked at, or the first of them
 abbrev pub found_in : Area → List ℕ → Option IpAddr
-found_in area line = option_map (λ (one : Spelled). one.address) (picked_in area.pick (part_of area.part line))
+found_in area line = option_map (λ (one : Spelled). one.address) (picked_in false area.pick (part_of area.part line))

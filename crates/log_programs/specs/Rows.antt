@@ -31,13 +31,13 @@ nth = 9
 -- these, and before the last `--help` and `--version`, which stand alone
 abbrev pub shared : List Entry
 shared =
-    flag (codes "a") ∷ flag (codes "w") ∷ valued (codes "k") kinds.Field (codes "is no field number")
-    ∷ valued (codes "d") kinds.Separator (codes "is not one ASCII byte other than LF, CR and NUL")
+    flag (codes "a") ∷ flag (codes "w") ∷ valued (codes "k") kinds.Field (codes "not a field number")
+    ∷ valued (codes "d") kinds.Separator (codes "not one ASCII byte other than LF, CR and NUL")
     ∷ long (codes "--after") kinds.Text false (codes "is no text") ∷ long_flag (codes "--mapped")
-    ∷ valued (codes "f") kinds.File (codes "is no file name")
-    ∷ alone (codes "--help") (codes "is not the only argument")
-    ∷ alone (codes "--version") (codes "is not the only argument")
-    ∷ long (codes "--nth") kinds.Nth true (codes "is not first, last or a number from 1 on") ∷ []
+    ∷ valued (codes "f") kinds.File (codes "not a file name")
+    ∷ alone (codes "--help") (codes "not the only argument")
+    ∷ alone (codes "--version") (codes "not the only argument")
+    ∷ long (codes "--nth") kinds.Nth true (codes "not first, last or a number from 1 up") ∷ []
 
 -- which of them do not go together: `--after` with `-a`, `-w`, `-k` or `-d`, and `-w` with `-d`
 abbrev pub together : List (ℕ × ℕ × List ℕ)

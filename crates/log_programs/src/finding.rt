@@ -25,7 +25,7 @@ pub fn found_in(area: &Area<'_>, line: &[u8]) -> Option<IpAddr>
     let Some(part) = part_of(&area.part, line) else {
         return None;
     };
-    match picked(part, area.pick) {
+    match picked(part, area.pick, false) {
         Some(found) => Some(found.address),
         None => None,
     }

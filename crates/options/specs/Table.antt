@@ -1,4 +1,4 @@
--- A table of options.
+-- Tables of options.
 use Rattle.std.specs.Prelude.{◌≡◌, ℕ, ◌==◌, ◌&&◌, Bool, true, false, List, [], ◌∷◌, Option, None, Some, map, slice_get}
 use Rattle.std.specs.Prelude.{bytes_eq}
 use Rattle.std.specs.List.{position}
@@ -8,45 +8,50 @@ use Rattle.options.specs.declared.table.Pair.{Pair}
 use Rattle.options.specs.declared.table.Row.{Row}
 use Rattle.options.specs.declared.table.Table.{Table}
 
--- an option of this kind has a value
+-- an option of this kind takes a value
 abbrev pub takes_value : Kind → Bool
 takes_value kinds.Flag = false
 takes_value kinds.Alone = false
 takes_value kind = true
 
--- which values an option has, and that of a row
+-- the kind of a row, or that of an option without a value if there is no row
 abbrev pub kind_of : Option Row → Kind
 kind_of None = kinds.Flag
 kind_of (Some row) = row.kind
 
+-- the kind of the row at this index, or that of an option without a value if there is no such row
 abbrev pub kind_at : List Row → ℕ → Kind
 kind_at rows row = kind_of (slice_get rows row)
 
--- this is the letter of an option, or its long name
+-- the option has a letter, and it is this one
 abbrev pub is_letter : ℕ → Option ℕ → Bool
 is_letter letter None = false
 is_letter letter (Some one) = one == letter
 
+-- this is the letter of the row's option
 abbrev pub has_letter : ℕ → Row → Bool
 has_letter letter row = is_letter letter row.letter
 
+-- this is the long name of the row's option
 abbrev pub has_name : List ℕ → Row → Bool
 has_name name row = bytes_eq row.name.now name
 
--- the first row of this letter, of this long name, and of this long name that a value may follow behind a `=`
+-- the index of the first row with this letter
 abbrev pub lettered : ℕ → List Row → Option ℕ
 lettered letter rows = position (has_letter letter) rows
 
+-- the index of the first row with this long name
 abbrev pub named : List ℕ → List Row → Option ℕ
 named name rows = position (has_name name) rows
 
+-- the index of the first row with this long name whose value may follow the name after `=`
 abbrev pub joined : List ℕ → List Row → Option ℕ
 joined name rows = position (λ row. row.joins && has_name name row) rows
 
 -- ---- a table, as it is said in definitions
 
--- an option: its letter and its long name, of which one may be missing, its values, whether one may follow its long
--- name behind a `=`, and what is told of a wrong one
+-- an option as definitions state it: its letter, its long name (either may be missing), the kind of its value, whether
+-- the value may follow the long name after `=`, and the problem that is reported about a wrong value
 pub record Entry : Type 0 where
   pub letter : List ℕ
   pub name : List ℕ
@@ -54,27 +59,33 @@ pub record Entry : Type 0 where
   pub joins : Bool
   pub problem : List ℕ
 
--- an option without a value by its letter or by its long name, one that stands alone, one with a value by its letter,
--- and by its long name
+-- an option without a value, by its letter
 abbrev pub flag : List ℕ → Entry
 flag letter = record { letter = letter; name = []; kind = kinds.Flag; joins = false; problem = [] }
 
+-- an option without a value, by its long name
 abbrev pub long_flag : List ℕ → Entry
 long_flag name = record { letter = []; name = name; kind = kinds.Flag; joins = false; problem = [] }
 
+-- an option that must be the only argument, by its long name, and the problem if it is not
 abbrev pub alone : List ℕ → List ℕ → Entry
 alone name problem = record { letter = []; name = name; kind = kinds.Alone; joins = false; problem = problem }
 
+-- an option with a value of this kind, by its letter, and the problem of a wrong value
 abbrev pub valued : List ℕ → Kind → List ℕ → Entry
 valued letter kind problem = record { letter = letter; name = []; kind = kind; joins = false; problem = problem }
 
+-- an option with a value of this kind, by its long name, whether the value may follow the name after `=`, and the
+-- problem of a wrong value
 abbrev pub long : List ℕ → Kind → Bool → List ℕ → Entry
 long name kind joins problem = record { letter = []; name = name; kind = kind; joins = joins; problem = problem }
 
+-- a letter as a text, which is empty if there is no letter
 abbrev pub letter_text : Option ℕ → List ℕ
 letter_text None = []
 letter_text (Some letter) = letter ∷ []
 
+-- the option of a row of the table, as definitions state it
 abbrev pub entry_of : Row → Entry
 entry_of row = record {
   letter = letter_text row.letter;
@@ -84,11 +95,12 @@ entry_of row = record {
   problem = row.problem.now;
 }
 
+-- a pair of the table, as definitions state it: the indices of the two rows, and the problem
 abbrev pub told_pair : Pair → ℕ × ℕ × List ℕ
 told_pair pair = (pair.first, pair.second, pair.problem.now)
 
--- the table has these options, these pairs of which do not go together, these of which one has to be given, and this is
--- told if none is
+-- the table has exactly these options, these pairs of options that do not go together, these options of which one is
+-- needed, and this message for when what is needed is missing
 pub record IsTable (table : Table) (entries : List Entry) (pairs : List (ℕ × ℕ × List ℕ))
     (needs lacking : List ℕ) : Type 0 where
   pub has_options : map entry_of table.rows.now ≡ entries

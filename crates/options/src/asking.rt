@@ -1,4 +1,4 @@
-//! What the words of a program ask for.
+//! Reads what the words of a command line ask a program for.
 ghost use Rattle.std.specs.Prelude.{◌≡◌, IfOk, IfErr};
 ghost use Rattle.program.specs.Endings.{ending};
 ghost use Rattle.options.specs.Runs.{AsksFor, EndsAtOnce};
@@ -15,7 +15,7 @@ use program::start::text_asked;
 use std::alloc::Global;
 use std::io::Write;
 
-/// What a program tells of itself.
+/// The texts that a program prints about itself.
 ///
 /// ```
 /// use options::asking::About;
@@ -30,19 +30,22 @@ use std::io::Write;
 /// ```
 #[derive(Debug, Drop)]
 pub struct About<'a> {
-    /// Its name.
+    /// The program's name.
     pub program: &'a str,
-    /// What `--help` prints.
+    /// The text that `--help` prints.
     pub help: &'a str,
-    /// What `--version` prints.
+    /// The text that `--version` prints.
     pub version: &'a str,
-    /// How it is used.
+    /// The usage, which is reported after what is wrong with a command line.
     pub usage: &'a str,
 }
 
-/// What the words after the program's name say, by a table of options, if they are right. If they ask for the help or the
-/// version, that is printed, and if something is wrong with them, that and the usage are reported, or that memory ran out:
-/// the error is the exit status.
+/// Returns what the words after the program's name say, by a table of options.
+///
+/// If the only word asks for the help or the version, that is printed and the exit status is
+/// returned as the error. If something is wrong with the words, that and the usage are reported; if
+/// memory runs out, that is reported; in both cases the error is the exit status 2. On success
+/// nothing is printed or reported.
 ///
 /// ```
 /// use lines::output::Output;

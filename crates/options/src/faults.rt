@@ -1,4 +1,4 @@
-//! What is wrong with a command line.
+//! Finds what is wrong with a command line.
 ghost use Rattle.std.specs.Prelude.{◌≡◌, None, Some, IfOk, codes};
 ghost use Rattle.std.specs.List.{find};
 ghost use Rattle.std.specs.Option.{option_copied};
@@ -9,7 +9,7 @@ use crate::items::{Item, Text};
 use crate::table::{Kind, Pair, Row, Table, kind_at};
 use crate::values::is_right;
 
-/// What a fault is about.
+/// What a fault is about: the command line, one of its words, an option or a value.
 ///
 /// ```
 /// use options::faults::Subject;
@@ -19,17 +19,17 @@ use crate::values::is_right;
 /// ```
 #[derive(Debug, Drop)]
 pub enum Subject<'a> {
-    /// The command line.
+    /// The command line as a whole.
     CommandLine,
-    /// A word.
+    /// A word of the command line.
     Word(Text<'a>),
-    /// The option of a row.
+    /// The option of the row at this index.
     Option(usize),
-    /// The value of the option of a row.
+    /// The value of the option of the row at this index.
     Value(usize, Text<'a>),
 }
 
-/// What is wrong with a command line.
+/// A fault of a command line.
 ///
 /// ```
 /// use options::faults::{Fault, Subject};
@@ -37,19 +37,19 @@ pub enum Subject<'a> {
 ///
 /// let fault = Fault {
 ///     subject: Subject::Word(Text::new("-x")),
-///     problem: Text::new("is no option"),
+///     problem: Text::new("unknown option"),
 /// };
-/// assert_eq!(rt; fault.problem.as_str(), "is no option");
+/// assert_eq!(rt; fault.problem.as_str(), "unknown option");
 /// ```
 #[derive(Debug, Drop)]
 pub struct Fault<'a> {
-    /// What it is about.
+    /// What the fault is about.
     pub subject: Subject<'a>,
-    /// What is wrong.
+    /// What is wrong with it.
     pub problem: Text<'a>,
 }
 
-/// This fault.
+/// Creates a fault of this subject, with this problem.
 ///
 /// ```
 /// use options::faults::{Subject, about};
@@ -63,13 +63,14 @@ pub fn about<'a>(subject: Subject<'a>, problem: &'a str) -> Fault<'a>
     Fault { subject, problem }
 }
 
-/// What is told of a wrong value of the option of a row.
+/// Returns what is reported about a wrong value of the option of the row at this index, or an empty
+/// text if there is no such row.
 ///
 /// ```
 /// use options::faults::problem_at;
 /// use options::table::{Kind, Row, letter};
 ///
-/// assert_eq!(rt; problem_at(&[letter!(b'k', Field, "is no field number")], 0), "is no field number");
+/// assert_eq!(rt; problem_at(&[letter!(b'k', Field, "not a field number")], 0), "not a field number");
 /// ```
 pub fn problem_at(rows: &[Row], row: usize) -> &'static str
     ensures { result.now ≡ problem_at rows.now row }
@@ -80,7 +81,7 @@ pub fn problem_at(rows: &[Row], row: usize) -> &'static str
     }
 }
 
-// What is wrong with an option of this row and value, if that is wrong.
+// Returns the fault of an option of this row whose value is not one of the row's kind.
 fn value_fault<'a>(rows: &[Row], row: usize, value: &str, subject: Subject<'a>) -> Option<Fault<'a>>
     ensures { result ≡ value_fault rows.now row value.now subject.entry }
 {
@@ -91,7 +92,7 @@ fn value_fault<'a>(rows: &[Row], row: usize, value: &str, subject: Subject<'a>) 
     }
 }
 
-// What is wrong with an option.
+// Returns what is wrong with an option.
 fn option_fault<'a>(rows: &[Row], item: &Item<'a>) -> Option<Fault<'a>>
     ensures { result ≡ option_fault rows.now item.now }
 {
@@ -108,13 +109,13 @@ fn option_fault<'a>(rows: &[Row], item: &Item<'a>) -> Option<Fault<'a>>
         Item::File(_) => None,
         Item::Unknown(word) => {
             let subject = Subject::Word(Text::new(word.as_str()));
-            Some(about(subject, "is no option"))
+            Some(about(subject, "unknown option"))
         }
         Item::Lacks(row) => Some(about(Subject::Option(*row), "has no value")),
     }
 }
 
-// What is wrong with a FILE.
+// Returns what is wrong with a FILE.
 fn name_fault<'a>(item: &Item<'a>) -> Option<Fault<'a>>
     ensures { result ≡ name_fault item.now }
 {
@@ -124,13 +125,13 @@ fn name_fault<'a>(item: &Item<'a>) -> Option<Fault<'a>>
                 return None;
             }
             let subject = Subject::Word(Text::new(name.as_str()));
-            Some(about(subject, "is no file name"))
+            Some(about(subject, "not a file name"))
         }
         _ => None,
     }
 }
 
-// What is wrong with a FILE, or with an option.
+// Returns what is wrong with an item: as a FILE if `of_files`, and else as an option.
 fn item_fault<'a>(rows: &[Row], of_files: bool, item: &Item<'a>) -> Option<Fault<'a>>
     ensures { result ≡ item_fault rows.now of_files item.now }
 {
@@ -141,7 +142,7 @@ fn item_fault<'a>(rows: &[Row], of_files: bool, item: &Item<'a>) -> Option<Fault
     }
 }
 
-// What is wrong with the first FILE, or with the first option, with which something is wrong.
+// Returns the first fault of the FILEs if `of_files`, and else of the options.
 pub(crate) fn first_fault<'a>(rows: &[Row], of_files: bool, items: &[Item<'a>]) -> Option<Fault<'a>>
     ensures { result ≡ first_fault rows.now of_files items.now }
 {
@@ -155,7 +156,7 @@ pub(crate) fn first_fault<'a>(rows: &[Row], of_files: bool, items: &[Item<'a>]) 
     None
 }
 
-// Whether the options of a pair are both given, or one more than once.
+// Whether the options of a pair are both given, or its one option more than once.
 fn are_both(items: &[Item<'_>], pair: &Pair) -> bool
     ensures { result ≡ are_both items.now pair.now }
 {
@@ -166,14 +167,15 @@ fn are_both(items: &[Item<'_>], pair: &Pair) -> bool
     }
 }
 
-// The first pair that is given.
+// Returns the first pair whose options are both given.
 fn given_pair<'a>(items: &[Item<'_>], pairs: &'a [Pair]) -> Option<&'a Pair>
     ensures { option_copied result ≡ find (are_both items.now) pairs.now }
 {
     pairs.iter().find(|pair| are_both(items, pair))
 }
 
-/// What is wrong with the first pair that is given.
+/// Returns the fault of the first pair whose options are both given, or whose one option is given
+/// more than once.
 ///
 /// ```
 /// use options::faults::pair_fault;
@@ -199,7 +201,7 @@ fn is_one_given(items: &[Item<'_>], needs: &[usize]) -> bool
     needs.iter().any(|row| is_given(items, *row))
 }
 
-// Whether this names standard input.
+// Whether the item names standard input.
 fn is_input(rows: &[Row], item: &Item<'_>) -> bool
     ensures { result ≡ is_input rows.now item.now }
 {
@@ -218,7 +220,7 @@ pub(crate) fn has_file(items: &[Item<'_>]) -> bool
     items.iter().any(|item| matches!(item, Item::File(_)))
 }
 
-// Whether standard input is read at most once. It is read if there is no FILE.
+// Whether standard input is read at most once. It is also read if there is no FILE.
 pub(crate) fn is_read_once(rows: &[Row], items: &[Item<'_>]) -> bool
     ensures { result ≡ is_read_once rows.now items.now }
 {
@@ -230,19 +232,25 @@ pub(crate) fn is_read_once(rows: &[Row], items: &[Item<'_>]) -> bool
     }
 }
 
-/// What is wrong with a command line that says this: the first option that is none or has a wrong value or none, then the first
-/// FILE that is empty, then the first pair of options that do not go together, then that none is given of those of which one
-/// has to be, and then that standard input is read twice.
+/// Returns the first fault of a command line that says these items, or `None` if it has none.
+///
+/// Faults are looked for in this order:
+///
+/// 1. an option that does not exist, has a wrong value or lacks its value;
+/// 2. a FILE with an empty name;
+/// 3. a pair of options that do not go together;
+/// 4. that no option is given of those of which one is needed;
+/// 5. that standard input is read twice.
 ///
 /// ```
 /// use options::faults::fault_of;
 /// use options::items::{Item, Text};
 /// use options::table::{Kind, Row, Table, letter};
 ///
-/// let rows = [letter!(b'k', Field, "is no field number")];
+/// let rows = [letter!(b'k', Field, "not a field number")];
 /// let table = Table { rows: &rows, pairs: &[], needs: &[0], lacking: "-k is not given" };
 /// let zero = fault_of(&table, &[Item::Value(0, Text::new("0"))]);
-/// assert!(rt; zero.is_some_and(|fault| fault.problem.as_str() == "is no field number"));
+/// assert!(rt; zero.is_some_and(|fault| fault.problem.as_str() == "not a field number"));
 /// let nothing = fault_of(&table, &[]);
 /// assert!(rt; nothing.is_some_and(|fault| fault.problem.as_str() == "-k is not given"));
 /// ```

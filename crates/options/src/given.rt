@@ -7,7 +7,7 @@ ghost use Rattle.options.specs.Given.{names, is_given, times, value_in, value_of
 use crate::items::Item;
 use std::alloc::{AllocError, Global};
 
-/// Whether the option of a row is given.
+/// Whether the option of this row is given.
 ///
 /// ```
 /// use options::given::is_given;
@@ -23,7 +23,7 @@ pub fn is_given(items: &[Item<'_>], row: usize) -> bool
     items.iter().any(|item| names(item, row))
 }
 
-/// Whether the option of a row is this one, also without the value that it takes.
+/// Whether the item is the option of this row, even if it lacks its value.
 ///
 /// ```
 /// use options::given::names;
@@ -42,14 +42,14 @@ pub fn names(item: &Item<'_>, row: usize) -> bool
     }
 }
 
-/// How often the option of a row is given.
+/// Returns how often the option of this row is given.
 pub(crate) fn times(items: &[Item<'_>], row: usize) -> usize
     ensures { result ≡ times items.now row }
 {
     items.iter().filter(|item| names(item, row)).count()
 }
 
-/// The last value of the option of a row, or an empty text.
+/// Returns the last value that the option of this row is given, or an empty text if there is none.
 ///
 /// ```
 /// use options::given::value_of;
@@ -71,7 +71,7 @@ pub fn value_of<'a>(items: &[Item<'a>], row: usize) -> &'a str
     value
 }
 
-/// The value of the option of a row, or else this.
+/// Returns the value that the item has if it is the option of this row with one, and else `value`.
 ///
 /// ```
 /// use options::given::value_in;
@@ -90,7 +90,9 @@ pub fn value_in<'a>(item: &Item<'a>, row: usize, value: &'a str) -> &'a str
     }
 }
 
-/// The FILEs.
+/// Returns the names of the FILEs, in their order.
+///
+/// An error is returned if memory runs out.
 ///
 /// ```
 /// use options::given::files_of;
@@ -115,7 +117,10 @@ pub fn files_of(alloc: Global, items: &[Item<'_>]) -> Result<Vec<String>, AllocE
     Ok(files)
 }
 
-/// The FILEs, or `-`, which is standard input, if there is none.
+/// Returns the names of the files to read: the FILEs, or `-`, which stands for standard input, if
+/// there are none.
+///
+/// An error is returned if memory runs out.
 ///
 /// ```
 /// use options::given::inputs_of;

@@ -1,9 +1,9 @@
-//! What the words of a command line say, one thing after another.
+//! What the words of a command line say, as a list of items.
 ghost use Rattle.std.specs.Prelude.{◌≡◌};
 
 use std::marker::Model;
 
-/// A text of a command line.
+/// A text from a command line.
 ///
 /// ```
 /// let text = options::items::Text::new("10.0.0.0/8");
@@ -14,7 +14,7 @@ pub struct Text<'a> {
     text: &'a str,
 }
 
-// A contract sees its bytes.
+// Contracts see the text as its bytes.
 impl<'a> Model for Text<'a> {
     ghost use Rattle.std.specs.Prelude.{ℕ, List};
 
@@ -24,7 +24,7 @@ impl<'a> Model for Text<'a> {
 }
 
 impl<'a> Text<'a> {
-    /// This text.
+    /// Creates a text from a string slice.
     ///
     /// ```
     /// assert!(rt; options::items::Text::new("").as_str().is_empty());
@@ -35,7 +35,7 @@ impl<'a> Text<'a> {
         Text { text }
     }
 
-    /// It.
+    /// Returns the text as a string slice.
     ///
     /// ```
     /// assert_eq!(rt; options::items::Text::new("-").as_str(), "-");
@@ -47,7 +47,8 @@ impl<'a> Text<'a> {
     }
 }
 
-/// An option, by the index of its row, or a FILE.
+/// An item of a command line: an option, by the index of its row in the table, a FILE, or a word
+/// that is no option.
 ///
 /// ```
 /// use options::items::{Item, Text};
@@ -59,15 +60,15 @@ impl<'a> Text<'a> {
 pub enum Item<'a> {
     /// An option without a value.
     Flag(usize),
-    /// An option and its value, which is the next word, or follows several letters.
+    /// An option and its value, which is the next word, or follows the last of several letters.
     Value(usize, Text<'a>),
-    /// An option and its value, in one word, which is this.
+    /// An option and its value in one word: the row, the value and the whole word.
     Joined(usize, Text<'a>, Text<'a>),
-    /// A FILE.
+    /// A FILE, by its name.
     File(Text<'a>),
-    /// A word that is no option, though it begins with a `-`.
+    /// A word that begins with `-` but is no option.
     Unknown(Text<'a>),
-    /// An option without the value that it takes.
+    /// An option that lacks the value it takes.
     Lacks(usize),
 }
 
@@ -80,10 +81,10 @@ pub enum Item<'a> {
 /// ```
 #[derive(Clone, Copy, Debug, PartialEq, Eq)]
 pub enum Mode {
-    /// An option, a FILE or a `--` may stand here.
+    /// Where an option, a FILE or `--` may stand.
     Free,
-    /// The value of the option of this row stands here.
+    /// Where the value of the option of this row stands.
     Value(usize),
-    /// A FILE stands here, behind a `--`.
+    /// After `--`, where only a FILE may stand.
     Files,
 }

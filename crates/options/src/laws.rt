@@ -1,5 +1,5 @@
-//! What holds of command lines, whatever options a program has. Each function's contract is a law: it does nothing, and a
-//! proof that calls it may use the law.
+//! What holds for command lines, whatever the options of a program are. Each function's contract is
+//! a law: the function does nothing, and a proof that calls it may use the law.
 ghost use Rattle.std.specs.Prelude.{map};
 ghost use Rattle.options.specs.Grammar.{SayWhatIsRead};
 ghost use Rattle.options.specs.Table.{entry_of};
@@ -7,7 +7,7 @@ ghost use Rattle.options.specs.WordRules.{OthersAreNoOptions, OthersAskForNothin
 
 use crate::table::{Row, Table};
 
-/// Of the words of a command line at most one fault is told.
+/// At most one fault of a command line is reported.
 pub fn words_have_one_fault(table: &Table<'_>, words: &[String])
     ensures { WordsHaveOneFault table.now words.now }
 {
@@ -15,8 +15,9 @@ pub fn words_have_one_fault(table: &Table<'_>, words: &[String])
     let _words = words;
 }
 
-/// A word other than those of the options is none of them. If it begins with a `-`, and is neither `-` nor `--`, then the
-/// words ask for nothing where it stands where an option may.
+/// A word that begins with `-`, is neither `-` nor `--` and is none of the options in the table
+/// contains something that is no option. If it stands where an option may, the words ask for
+/// nothing.
 pub fn other_words_are_no_options(table: &Table<'_>, word: &str, words: &[String])
     ensures option { OthersAreNoOptions table.now.rows.now
         (is_option_word (map entry_of table.now.rows.now)) word.now }
@@ -28,7 +29,7 @@ pub fn other_words_are_no_options(table: &Table<'_>, word: &str, words: &[String
     let _words = words;
 }
 
-/// What words say is one thing, by the grammar of command lines, and it is what `items_of` gives.
+/// By the grammar of command lines, words say exactly the items that `items_of` computes.
 pub fn words_say_what_is_read(rows: &[Row], words: &[String])
     ensures { SayWhatIsRead rows.now words.now }
 {

@@ -1,4 +1,5 @@
-//! Command lines by a table of options: what their words say, one after another, and what is wrong with them.
+//! Command lines by a table of options: the items that their words say, and what is wrong with
+//! them.
 #![tactic(auto)]
 
 pub mod asking;

@@ -1,4 +1,4 @@
-//! What is wrong with a command line, if a FILE has to be given and no option.
+//! Finds what is wrong with a command line that needs a FILE and no option.
 ghost use Rattle.std.specs.Prelude.{◌≡◌};
 ghost use Rattle.options.specs.Operands.{operands_fault};
 
@@ -6,9 +6,15 @@ use crate::faults::{Fault, Subject, about, first_fault, has_file, is_read_once, 
 use crate::items::Item;
 use crate::table::Table;
 
-/// What is wrong with a command line that says this, if a FILE has to be given and no option: the first option that is
-/// none or has a wrong value or none, then the first pair of options that do not go together, then that there is no
-/// FILE, and then that standard input is read twice. A FILE may be empty.
+/// Returns the first fault of a command line that needs a FILE and no option, or `None` if it has
+/// none. A FILE may be empty.
+///
+/// Faults are looked for in this order:
+///
+/// 1. an option that does not exist, has a wrong value or lacks its value;
+/// 2. a pair of options that do not go together;
+/// 3. that there is no FILE;
+/// 4. that standard input is read twice.
 ///
 /// ```
 /// use options::items::{Item, Text};

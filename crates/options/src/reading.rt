@@ -1,4 +1,4 @@
-//! Reads the words of a command line by the rows of a table.
+//! Reads the words of a command line, by the rows of a table of options.
 ghost use Rattle.std.specs.Prelude.{◌≡◌, ◌≢◌, ℕ, ◌++◌, ◌∷◌, ◌<◌, List, [], true, None, drop, codes, OnOk, IfOk, IfSome, MatchOption};
 ghost use Rattle.std.specs.String.{string_bytes};
 ghost use Rattle.options.specs.Items.{begins, is_plain, value_items, opened, letters, letters_mode, name_items, joined_name, name_mode, free_items, free_mode, word_items, next_mode, end_items, items_of};
@@ -8,14 +8,16 @@ use crate::items::{Item, Mode, Text};
 use crate::table::{Row, joined, kind_at, lettered, named};
 use std::alloc::{AllocError, Global};
 
-/// What the words say, one thing after another.
+/// Returns the items that the words say, in their order, by the rows of a table of options.
+///
+/// An error is returned if memory runs out.
 ///
 /// ```
 /// use options::items::Item;
 /// use options::reading::items_of;
 /// use options::table::{Kind, Row, letter};
 ///
-/// let rows = [letter!(b'v', Flag, ""), letter!(b'k', Field, "is no field number")];
+/// let rows = [letter!(b'v', Flag, ""), letter!(b'k', Field, "not a field number")];
 /// let mut words = Vec::new(rt.alloc());
 /// words.push(String::from_str(rt.alloc(), "-vk7")?)?;
 /// words.push(String::from_str(rt.alloc(), "log")?)?;
@@ -42,7 +44,7 @@ pub fn items_of<'a>(
     Ok(all)
 }
 
-// Adds what a word says, and returns where the word behind it stands.
+// Appends the items of a word, and returns where the next word stands.
 fn put_word<'a>(
     rows: &[Row],
     mode: Mode,
@@ -66,7 +68,8 @@ fn put_word<'a>(
     }
 }
 
-// Adds what a word says where an option may stand.
+// Appends the items of a word that stands where an option may, and returns where the next word
+// stands.
 fn put_free<'a>(rows: &[Row], word: &'a str, all: &mut Vec<Item<'a>>) -> Result<Mode, AllocError>
     ensures items { OnOk result
         (all.new.items ≡ all.old.items ++ free_items rows.now word.now) }
@@ -84,7 +87,7 @@ fn put_free<'a>(rows: &[Row], word: &'a str, all: &mut Vec<Item<'a>>) -> Result<
     }
 }
 
-/// Whether a word is a FILE where an option may stand: it is `-`, or does not begin with a `-`.
+/// Whether a word, where an option may stand, is a FILE: it is `-`, or does not begin with `-`.
 ///
 /// ```
 /// assert!(rt; options::reading::is_plain("-") && !options::reading::is_plain("-v"));
@@ -95,14 +98,14 @@ pub fn is_plain(word: &str) -> bool
     word == "-" || !word.as_bytes().starts_with(b"-".as_slice())
 }
 
-// Whether a word begins with `--`.
+// Whether the word begins with `--`.
 fn begins_long(word: &str) -> bool
     ensures { result ≡ begins (codes "--") word.now }
 {
     word.as_bytes().starts_with(b"--".as_slice())
 }
 
-// Adds what a word says that begins with `--`.
+// Appends the items of a word that begins with `--`, and returns the mode of the next word.
 fn put_name<'a>(rows: &[Row], word: &'a str, all: &mut Vec<Item<'a>>) -> Result<Mode, AllocError>
     ensures items { OnOk result (all.new.items ≡ all.old.items
         ++ name_items rows.now word.now (named word.now rows.now) (joined_name rows.now word.now)) }
@@ -119,7 +122,7 @@ fn put_name<'a>(rows: &[Row], word: &'a str, all: &mut Vec<Item<'a>>) -> Result<
     Ok(Mode::Free)
 }
 
-// A long name and its value behind a `=`, or an unknown word.
+// Returns the item of a long name with a value after `=`, or of an unknown word.
 fn joined_item<'a>(rows: &[Row], word: &'a str) -> Item<'a>
     ensures { result ∷ [] ≡ name_items rows.now word.now None (joined_name rows.now word.now) }
 {
@@ -132,7 +135,7 @@ fn joined_item<'a>(rows: &[Row], word: &'a str) -> Item<'a>
     }
 }
 
-// Adds what the letters of a word say.
+// Appends the items of the letters of a word, and returns the mode of the next word.
 fn put_letters<'a>(rows: &[Row], word: &'a str, all: &mut Vec<Item<'a>>) -> Result<Mode, AllocError>
     requires { begins (codes "-") word.now ≡ true }
     ensures items { OnOk result (all.new.items
@@ -159,7 +162,8 @@ fn put_letters<'a>(rows: &[Row], word: &'a str, all: &mut Vec<Item<'a>>) -> Resu
     Ok(Mode::Free)
 }
 
-// Adds an option with its value, if that follows its letter.
+// Appends an option with its value, if that follows its letter, and returns the mode of the next
+// word.
 fn put_value<'a>(
     row: usize,
     first: bool,
@@ -182,7 +186,7 @@ fn put_value<'a>(
     Ok(Mode::Free)
 }
 
-// What follows the `-` at the head of a word.
+// Returns what follows the `-` at the start of a word.
 fn behind_dash(word: &str) -> &str
     requires { begins (codes "-") word.now ≡ true }
     ensures { result.now ≡ drop 1 word.now }
@@ -193,7 +197,7 @@ fn behind_dash(word: &str) -> &str
     }
 }
 
-// The first character of a text, if it is one of ASCII, and what follows it.
+// Splits a text into its first character, if that is ASCII, and what follows it.
 fn split_letter(text: &str) -> Option<(u8, &str)>
     ensures text { MatchOption result
         ((letter : ℕ) (rest : List ℕ) → letter < 128 → text.now ≢ letter ∷ rest)

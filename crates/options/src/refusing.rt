@@ -1,4 +1,4 @@
-//! What is reported of a command line with which something is wrong.
+//! Reports a command line that has a fault.
 ghost use Rattle.std.specs.Prelude.{◌≡◌};
 ghost use Rattle.program.specs.Messages.{Reports};
 ghost use Rattle.program.specs.Usage.{shown};
@@ -13,10 +13,11 @@ use program::messages::tell;
 use program::usage::tell_shown;
 use std::io::Write;
 
-/// Reports what is wrong with a command line, and how the program is used, and returns the exit status 2.
+/// Reports the fault of a command line and the usage, and returns the exit status 2.
 ///
-/// The first line is `PROGRAM: PROBLEM`, `PROGRAM: WORD: PROBLEM` or `PROGRAM: OPTION: VALUE PROBLEM`, by what the fault is
-/// about, where an empty word is shown as `''` and control characters are escaped; the second is the usage.
+/// The first line is `PROGRAM: PROBLEM`, `PROGRAM: WORD: PROBLEM`, `PROGRAM: OPTION: PROBLEM` or
+/// `PROGRAM: OPTION: VALUE PROBLEM`, by the subject of the fault. An empty word is shown as `''`,
+/// and control characters are escaped. The usage follows.
 ///
 /// ```
 /// use options::faults::{Subject, about};
@@ -47,7 +48,7 @@ pub fn refuse<E: Write>(
     FAILED
 }
 
-// Writes what a fault is about, before what is wrong with it.
+// Writes the subject of a fault, as it stands before the problem.
 fn tell_subject<E: Write>(rows: &[Row], subject: &Subject<'_>, errors: &mut Output<'_, E>)
     ensures { Reports errors.old errors.new (subject_text rows.now subject.now) }
 {
@@ -70,7 +71,7 @@ fn tell_subject<E: Write>(rows: &[Row], subject: &Subject<'_>, errors: &mut Outp
     }
 }
 
-// Writes the option of a row: its letter behind a `-`, or else its long name.
+// Writes the option of a row: its letter after `-`, or its long name if it has no letter.
 fn tell_option<E: Write>(rows: &[Row], row: usize, errors: &mut Output<'_, E>)
     ensures { Reports errors.old errors.new (option_text rows.now row) }
 {
@@ -97,7 +98,7 @@ fn tell_text<E: Write>(text: &Text<'_>, errors: &mut Output<'_, E>)
     tell(text.as_str(), errors);
 }
 
-// Writes a word as it is shown.
+// Writes a word as messages show it.
 fn tell_word<E: Write>(word: &Text<'_>, errors: &mut Output<'_, E>)
     ensures { Reports errors.old errors.new (shown word.now) }
 {

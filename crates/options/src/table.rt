@@ -1,8 +1,8 @@
-//! A table of options.
+//! Tables of options.
 ghost use Rattle.std.specs.Prelude.{◌≡◌, ◌<◌, IfSome, length};
 ghost use Rattle.options.specs.Table.{takes_value, kind_at, has_letter, lettered, named, joined};
 
-/// Which values an option has.
+/// The kind of an option: which values it takes.
 ///
 /// ```
 /// use options::table::Kind;
@@ -11,30 +11,31 @@ ghost use Rattle.options.specs.Table.{takes_value, kind_at, has_letter, lettered
 /// ```
 #[derive(Clone, Copy, Debug, PartialEq, Eq)]
 pub enum Kind {
-    /// None.
+    /// No value.
     Flag,
-    /// None, and it stands alone: beside other words it is wrong.
+    /// No value, and the option must be the only argument.
     Alone,
-    /// The name of a file, or `-`, which is standard input.
+    /// The name of a file, which is not empty, or `-`, which stands for standard input.
     File,
     /// A text that is not empty.
     Text,
-    /// Digits, one or more.
+    /// Decimal digits, one or more.
     Number,
-    /// The number of a field, from 1 to the greatest of 32 bits.
+    /// The number of a field, from 1 to 4,294,967,295.
     Field,
-    /// Such a number, `first` or `last`.
+    /// The number of a field, `first` or `last`.
     Nth,
-    /// A byte of ASCII other than LF, CR and NUL.
+    /// One byte of ASCII other than LF, CR and NUL.
     Separator,
     /// `drop`, `keep`, `stop` or `report`.
     Rule,
-    /// Two lengths, of at most 32 and of at most 128, with a comma between them.
+    /// Two prefix lengths with a comma between them: the first is at most 32, the second at most
+    /// 128.
     Lengths,
 }
 
 impl Kind {
-    /// Whether an option of this kind has a value.
+    /// Whether an option of this kind takes a value.
     ///
     /// ```
     /// use options::table::Kind;
@@ -68,19 +69,20 @@ impl Kind {
 /// ```
 #[derive(Clone, Copy, Debug)]
 pub struct Row {
-    /// Its letter, if it has one.
+    /// The letter of the option, if it has one.
     pub letter: Option<u8>,
-    /// Its long name with two dashes, or an empty text.
+    /// The long name, with its two dashes, or an empty text if it has none.
     pub name: &'static str,
-    /// Which values it has.
+    /// Which values it takes.
     pub kind: Kind,
-    /// Whether a value may follow its long name behind a `=`.
+    /// Whether a value may follow the long name after `=`.
     pub joins: bool,
-    /// What is told of a wrong value.
+    /// What is reported about a wrong value.
     pub problem: &'static str,
 }
 
-/// Two options that do not go together, by the indices of their rows; an option with itself: it is given once at the most.
+/// Two options that do not go together, by the indices of their rows. A pair of an option with
+/// itself says that it may be given only once.
 ///
 /// ```
 /// use options::table::{Pair, pair};
@@ -90,36 +92,38 @@ pub struct Row {
 /// ```
 #[derive(Clone, Copy, Debug)]
 pub struct Pair {
-    /// The first.
+    /// The row of the first option.
     pub first: usize,
-    /// The second.
+    /// The row of the second option.
     pub second: usize,
-    /// What is told of them.
+    /// What is reported if both are given.
     pub problem: &'static str,
 }
 
-/// The options of a program.
+/// The options of a program, and the rules for using them.
 ///
 /// ```
 /// use options::table::{Kind, Row, Table, letter};
 ///
-/// let rows = [letter!(b'f', File, "is no file name")];
+/// let rows = [letter!(b'f', File, "not a file name")];
 /// let table = Table { rows: &rows, pairs: &[], needs: &[0], lacking: "-f is not given" };
 /// assert_eq!(rt; table.rows[table.needs[0]].letter, Some(b'f'));
 /// ```
 #[derive(Clone, Copy, Debug)]
 pub struct Table<'a> {
-    /// Each of them.
+    /// The options, one in each row.
     pub rows: &'a [Row],
-    /// Which do not go together; of several such pairs the first is told.
+    /// The pairs of options that do not go together. If several pairs are given, the first is
+    /// reported.
     pub pairs: &'a [Pair],
-    /// Of these, by the indices of their rows, one at least is given.
+    /// The rows of the options of which at least one is needed. `operands_fault` needs a FILE
+    /// instead.
     pub needs: &'a [usize],
-    /// What is told if none of them is.
+    /// What is reported if none of them is given, or, by `operands_fault`, no FILE.
     pub lacking: &'static str,
 }
 
-/// Which values the option of a row has.
+/// Returns the kind of the row at this index, or `Kind::Flag` if there is no such row.
 ///
 /// ```
 /// use options::table::{Kind, Row, kind_at, letter};
@@ -135,7 +139,7 @@ pub fn kind_at(rows: &[Row], row: usize) -> Kind
     }
 }
 
-// Whether this is the letter of an option.
+// Whether this is the letter of the row's option.
 fn has_letter(row: &Row, letter: u8) -> bool
     ensures { result ≡ has_letter letter row.now }
 {
@@ -145,14 +149,14 @@ fn has_letter(row: &Row, letter: u8) -> bool
     }
 }
 
-/// The row of the option of a letter.
+/// Returns the index of the first row with this letter.
 pub(crate) fn lettered(rows: &[Row], letter: u8) -> Option<usize>
     ensures { result ≡ lettered letter rows.now }
 {
     rows.iter().position(|row| has_letter(row, letter))
 }
 
-/// The row of the option of a long name.
+/// Returns the index of the first row with this long name.
 ///
 /// ```
 /// use options::table::{Kind, Row, long, named};
@@ -165,19 +169,21 @@ pub fn named(rows: &[Row], name: &str) -> Option<usize>
     rows.iter().position(|row| row.name == name)
 }
 
-/// The row of the option of a long name that a value may follow behind a `=`.
+/// Returns the index of the first row with this long name whose value may follow the name after
+/// `=`.
 pub(crate) fn joined(rows: &[Row], name: &str) -> Option<usize>
     ensures { result ≡ joined name.now rows.now }
 {
     rows.iter().position(|row| row.joins && row.name == name)
 }
 
-/// An option by its letter: that, its kind, and what is told of a wrong value.
+/// Creates the row of an option that has a letter, from the letter, the kind, and what is reported
+/// about a wrong value.
 ///
 /// ```
 /// use options::table::{Kind, Row, letter};
 ///
-/// const FIELD: Row = letter!(b'k', Field, "is no field number");
+/// const FIELD: Row = letter!(b'k', Field, "not a field number");
 /// assert_eq!(rt; FIELD.letter, Some(b'k'));
 /// ```
 #[macro_export]
@@ -193,13 +199,13 @@ macro_rules! letter {
     };
 }
 
-/// An option by its long name: that, its kind, whether a value may follow the name behind a `=`, and what is told of a wrong
-/// value.
+/// Creates the row of an option that has a long name, from the name, the kind, whether a value may
+/// follow the name after `=`, and what is reported about a wrong value.
 ///
 /// ```
 /// use options::table::{Kind, Row, long};
 ///
-/// const RULE: Row = long!("--bad", Rule, true, "is not drop, keep, stop or report");
+/// const RULE: Row = long!("--bad", Rule, true, "not drop, keep, stop or report");
 /// assert!(rt; RULE.joins);
 /// ```
 #[macro_export]
@@ -215,7 +221,8 @@ macro_rules! long {
     };
 }
 
-/// Two options that do not go together, by the indices of their rows, and what is told of them.
+/// Creates a pair of options that do not go together, from the indices of their rows and what is
+/// reported if both are given.
 ///
 /// ```
 /// use options::table::{Pair, pair};

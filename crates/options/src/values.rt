@@ -1,11 +1,11 @@
-//! What values of options say.
+//! Reads the values of options.
 ghost use Rattle.std.specs.Prelude.{◌≡◌};
 ghost use Rattle.options.specs.Values.{is_right, is_field, is_separator, number_in, field_in, byte_in, length_in, lengths_in};
 
 use crate::numbers::{is_number, number_of};
 use crate::table::Kind;
 
-/// Whether this is a value of this kind.
+/// Whether the text is a value of this kind.
 pub(crate) fn is_right(kind: Kind, value: &str) -> bool
     ensures { result ≡ is_right kind value.now }
 {
@@ -22,7 +22,7 @@ pub(crate) fn is_right(kind: Kind, value: &str) -> bool
     }
 }
 
-// Whether a text is digits of a number from 1 to the greatest of 32 bits.
+// Whether the text is a number from 1 to 4,294,967,295.
 fn is_field(text: &[u8]) -> bool
     ensures { result ≡ is_field text.now }
 {
@@ -33,7 +33,7 @@ fn is_field(text: &[u8]) -> bool
     number > 0 && number <= 4_294_967_295
 }
 
-// Whether a text is a byte of ASCII other than LF, CR and NUL.
+// Whether the text is one byte of ASCII other than LF, CR and NUL.
 fn is_separator(text: &[u8]) -> bool
     ensures { result ≡ is_separator text.now }
 {
@@ -43,7 +43,8 @@ fn is_separator(text: &[u8]) -> bool
     }
 }
 
-/// The number that a value says, if it is one; one above the greatest of 64 bits counts as that.
+/// Returns the number that a value is, or `u64::MAX` if the number is greater. Returns `None` if it
+/// is not a number.
 ///
 /// ```
 /// assert_eq!(rt; options::values::number_in("07"), Some(7));
@@ -57,7 +58,8 @@ pub fn number_in(value: &str) -> Option<u64>
     Some(number_of(value.as_bytes()))
 }
 
-/// The number of a field that a value says, if it is one.
+/// Returns the number of a field that a value is, or `None` if it is not a number from 1 to
+/// 4,294,967,295.
 ///
 /// ```
 /// assert_eq!(rt; options::values::field_in("0"), None);
@@ -74,7 +76,7 @@ pub fn field_in(value: &str) -> Option<u32>
     }
 }
 
-/// The byte that a value is, if it is one.
+/// Returns the byte of a value of exactly one byte, or `None` for any other value.
 ///
 /// ```
 /// assert_eq!(rt; options::values::byte_in(","), Some(b','));
@@ -88,7 +90,8 @@ pub fn byte_in(value: &str) -> Option<u8>
     }
 }
 
-/// The two lengths that a value says, of which the first is at most 32 and the second at most 128.
+/// Returns the two prefix lengths of a value, or `None` if it is not two numbers with a comma
+/// between them, or the first is greater than 32 or the second greater than 128.
 ///
 /// ```
 /// assert_eq!(rt; options::values::lengths_in("24,064"), Some((24, 64)));
@@ -108,7 +111,8 @@ pub fn lengths_in(value: &str) -> Option<(u8, u8)>
     }
 }
 
-/// The number that a text names, up to the greatest.
+/// Returns the number that a text is, or `None` if it is not a number or is greater than
+/// `greatest`.
 ///
 /// ```
 /// assert_eq!(rt; options::values::length_in(b"064", 128), Some(64));

@@ -1,6 +1,7 @@
--- Counts of 64 bits.
+-- Counters of 64 bits.
 use Rattle.std.specs.Prelude.{◌≡◌, ℕ, ◌+◌, ◌-◌, ◌^◌, ◌≤◌, min}
 
--- 64 bits count this many more
+-- a counter of 64 bits that was at `old` is at `new` after it counted `more`, and stays at its greatest number once it
+-- gets there
 abbrev pub Counts : ℕ → ℕ → ℕ → Type 0
 Counts old new more = old ≤ 2 ^ 64 - 1 → new ≡ min (old + more) (2 ^ 64 - 1)

@@ -3,19 +3,19 @@ use Rattle.std.specs.Prelude.{◌≡◌, ℕ, List, [], codes, Bool, if◌then�
 use Rattle.lines.specs.Outputs.{Written, Writes}
 use Rattle.program.specs.Messages.{Reports}
 
--- the exit status of a program: this one if its output was written, and 2 if not
+-- the exit status of a program: `status` if its output was written, and 2 if not
 abbrev pub status_of : {T E : Type 0} → Result T E → ℕ → ℕ
 status_of written status = if is_err written then 2 else status
 
--- what is reported if a write failed, and else nothing
+-- what is reported if a write failed, and nothing if none did
 abbrev pub failure_text : Bool → List ℕ
 failure_text failed = if failed then codes "write error\n" else []
 
--- what is reported about that output
+-- what is reported about the writing of the output: a write error if it failed, and else nothing
 abbrev pub end_text : {T E : Type 0} → Result T E → List ℕ
 end_text written = failure_text (is_err written)
 
--- the output and the error output of a run, before it and after it, and the exit status
+-- how a run ended: its output and its error output, before and after the run, and its exit status
 pub record Ending (W E : Type 0) : Type 0 where
   pub output : Written W
   pub output_after : Written W
@@ -23,6 +23,7 @@ pub record Ending (W E : Type 0) : Type 0 where
   pub errors_after : Written E
   pub status : ℕ
 
+-- the ending of a run with these outputs and this exit status
 abbrev pub ending : {W E : Type 0} → Written W → Written W → Written E → Written E → ℕ → Ending W E
 ending output output_after errors errors_after status =
     record {
@@ -33,23 +34,24 @@ ending output output_after errors errors_after status =
       status = status;
     }
 
--- nothing was written, and the status is 2
+-- the run wrote nothing to its output, and its exit status is 2
 abbrev pub IsSilent : {W E : Type 0} → Ending W E → Type 0
 IsSilent end = (end.output_after ≡ end.output) × (end.status ≡ 2)
 
--- the text was reported on the error writer
+-- the run reported the text on its error writer
 abbrev pub HasTold : {W E : Type 0} → Ending W E → List ℕ → Type 0
 HasTold end text = Reports end.errors end.errors_after text
 
--- the text was written after what waited
+-- the run wrote the text to its output, after what waited there
 abbrev pub HasWritten : {W E : Type 0} → Ending W E → List ℕ → Type 0
 HasWritten end text = Writes end.output end.output_after text
 
--- nothing was written, and this was reported
+-- the run wrote nothing to its output, its exit status is 2, and it reported the text
 abbrev pub Refuses : {W E : Type 0} → List ℕ → Ending W E → Type 0
 Refuses text end = IsSilent end × HasTold end text
 
--- the text was written and nothing reported, or the writer failed, and that was reported
+-- the run wrote the text, reported nothing and has the exit status 0; or the writer has failed, the run reported a
+-- write error, and its exit status is 2
 abbrev pub EndsPrinting : {W E : Type 0} → List ℕ → Ending W E → Type 0
 EndsPrinting text end = (end.status ≡ (if end.output_after.failed then 2 else 0))
     × (end.status ≡ 0 → HasWritten end text)

@@ -1,4 +1,4 @@
--- Why a log is not read to its end, and what is reported then.
+-- Why a log was not read to its end, and what is reported then.
 use Rattle.std.specs.Prelude.{◌≡◌, ℕ, ◌+◌, ◌-◌, ◌^◌, ◌⊎◌, min, Bool, true, false, List, [], ◌++◌, codes, decimal}
 use Rattle.std.specs.Prelude.{Result, Err}
 use Rattle.lines.specs.Outputs.{FailsIn}
@@ -7,22 +7,23 @@ use Rattle.program.specs.Endings.{Ending, HasTold, HasWritten}
 use Rattle.program.specs.declared.log_fault.LogFault.{LogFault}
 use Rattle.program.specs.declared.log_fault.LogFault.TheVariants as faults
 
--- whether a read ended it
+-- the result is the fault of a failed read
 abbrev pub ended_by_read : {T : Type 0} → Result T LogFault → Bool
 ended_by_read (Err faults.Read) = true
 ended_by_read _ = false
 
--- whether a write did
+-- the result is the fault of a failed write
 abbrev pub ended_by_write : {T : Type 0} → Result T LogFault → Bool
 ended_by_write (Err faults.Write) = true
 ended_by_write _ = false
 
--- what is reported about a refused line: the file, the number of the line, which comes after this many lines, and why
+-- what is reported about a refused line that comes after `before` others: the name of the file, the number of the line,
+-- of at most 64 bits, and the cause
 abbrev pub line_text : List ℕ → ℕ → List ℕ → List ℕ
 line_text name before cause = name ++ codes ":" ++ decimal (min (before + 1) (2 ^ 64 - 1)) ++ codes ": refused "
     ++ cause ++ codes "\n"
 
--- what is reported if a log was not read to its end, after this many of its lines
+-- what is reported about a log that was not read to its end, after `before` of its lines
 abbrev pub log_fault_text : List ℕ → ℕ → LogFault → List ℕ
 log_fault_text name before (faults.Open cause) = name ++ open_fault_text cause
 log_fault_text name before faults.Read = name ++ codes ": cannot read\n"
@@ -31,26 +32,28 @@ log_fault_text name before faults.Address = line_text name before (codes "addres
 log_fault_text name before faults.Length = line_text name before (codes "length")
 log_fault_text name before faults.Endless = name ++ codes ": too long\n"
 
--- the writer failed, and took a beginning of what waited and the text
+-- the writer has failed, and took a beginning of what waited and of the text
 abbrev pub FailsWriting : {W E : Type 0} → Ending W E → List ℕ → Type 0
 FailsWriting end text = (end.output_after.failed ≡ true)
     × FailsIn end.output end.output_after text
 
--- the first is true if a write ended the run, and else the second
+-- `First` holds if the fault is a failed write, and `Second` if it is any other
 abbrev pub IfWrite : LogFault → Type 0 → Type 0 → Type 0
 IfWrite faults.Write First Second = First
 IfWrite _ First Second = Second
 
--- the text was written, unless it was a write that ended the run
+-- the text was written; or, if the fault is a failed write, the writer has failed and took a beginning of what waited
+-- and of the text
 abbrev pub Wrote : {W E : Type 0} → LogFault → Ending W E → List ℕ → Type 0
 Wrote fault end text = IfWrite fault (FailsWriting end text) (HasWritten end text)
 
--- what waited was written, and the fault reported; or the writer failed, and that was reported
+-- what waited was written and the fault reported; or the writer failed, and a write error was reported
 abbrev pub HandsOn : {W E : Type 0} → List ℕ → ℕ → LogFault → Ending W E → Type 0
 HandsOn name lines fault end = (HasWritten end [] × HasTold end (log_fault_text name lines fault))
     ⊎ (FailsWriting end [] × HasTold end (log_fault_text name lines faults.Write))
 
--- so it was, unless the writer had failed
+-- if the fault is a failed write, nothing more was written and a write error was reported; otherwise what waited was
+-- written and the fault reported, or the writer failed and a write error was reported
 abbrev pub StopsBy : {W E : Type 0} → List ℕ → ℕ → LogFault → Ending W E → Type 0
 StopsBy name lines fault end =
     IfWrite fault ((end.output_after ≡ end.output) × HasTold end (log_fault_text name lines faults.Write))

@@ -13,27 +13,30 @@ use Rattle.program.specs.declared.log_reader.LogReader.{LogReader}
 use Rattle.program.specs.declared.log_reader.NextLogLine.{NextLogLine}
 use Rattle.program.specs.declared.log_reader.NextLogLine.TheVariants.{Line, TooLong, End}
 
--- the bytes that it read
+-- the buffer of the reader, which holds bytes that were read
 abbrev pub buffered : LogReader → Buffered
 buffered reader = reader.lines
 
--- the line that was handed out last, without the bytes that end it, and with them
+-- the line that was handed out last, without the bytes that end it
 abbrev pub line_of : LogReader → List ℕ
 line_of reader = (buffered reader).line
 
+-- the line that was handed out last, with the bytes that end it
 abbrev pub whole_of : LogReader → List ℕ
 whole_of reader = (buffered reader).whole
 
--- whether a line that is too long is told before its end was read
+-- the reader reports a line that is too long before it has read the end of that line
 abbrev pub hurries_of : LogReader → Bool
 hurries_of reader = reader.hurries
 
--- these lines, and then those of what is pending, are the lines of what was read, whatever is read after it
+-- whatever is read after `read` (nothing, if the log has ended), its lines are `first` and then the lines of `pending`
+-- and what comes after it
 abbrev pub AreFirst : Bool → List ℕ → List LogLine → List ℕ → Type 0
 AreFirst ended read first pending = (more : List ℕ) → (ended ≡ true → more ≡ [])
     → log_lines (read ++ more) ≡ first ++ log_lines (pending ++ more)
 
--- what was read: these are its first lines, and what follows them is pending
+-- the reader has handed out the lines `first`: they are the first lines of what was read, and what follows them is
+-- pending in its buffer
 pub record HandsFirst (reader : LogReader) (remained remains : Option (List ℕ)) (first : List LogLine) : Type 0 where
   pub read : List ℕ
   pub reads : Consumes remained remains read
@@ -45,7 +48,7 @@ pub record HandsFirst (reader : LogReader) (remained remains : Option (List ℕ)
   pub lines : AreFirst (buffered reader).ended read first pending
   pub ended : (buffered reader).ended ≡ false → list_all (λ line. line.is_ended) first ≡ true
 
--- of what was read the first lines are these, and then this one, which is a line whatever is read after it
+-- the first lines of what was read are `first` and then `line`, which counts as a line whatever is read after it
 pub record ComesNext (remained remains : Option (List ℕ)) (first : List LogLine) (line : LogLine) : Type 0 where
   pub read : List ℕ
   pub others : List LogLine
@@ -53,7 +56,7 @@ pub record ComesNext (remained remains : Option (List ℕ)) (first : List LogLin
   pub lines : log_lines read ≡ first ++ line ∷ others
   pub is_line : IsWhole (IsAtEnd remains) line
 
--- after these first lines one within the limit was handed out, which the buffer lends as it was read
+-- after the lines `first`, the reader handed out one within the limit, which its buffer lends as it was read
 pub record GivesLine (new : LogReader) (remained remains : Option (List ℕ)) (first : List LogLine)
     (end : LineEnd) : Type 0 where
   pub next : ComesNext remained remains first (log_line (line_of new) end)
@@ -62,45 +65,52 @@ pub record GivesLine (new : LogReader) (remained remains : Option (List ℕ)) (f
   pub within : length (line_of new) ≤ 1048576
   pub is_printed : printed (log_line (line_of new) end) ≡ whole_of new ++ feed_behind end
 
--- after these first lines comes one that is too long, of which all was read unless the reader hurries
+-- after the lines `first` comes one that is too long, all of which was read unless the reader hurries
 pub record GivesLong (new : LogReader) (remained remains : Option (List ℕ)) (first : List LogLine) : Type 0 where
   pub line : LogLine
   pub next : ComesNext remained remains first line
   pub long : 1048576 < length (content line)
   pub hands : hurries_of new ≡ false → HandsFirst new remained remains (first ++ line ∷ [])
 
--- what `next` hands out after these first lines
+-- what `next` hands out after the lines `first`
 abbrev pub GivesNext : LogReader → Option (List ℕ) → Option (List ℕ) → List LogLine → NextLogLine → Type 0
+-- it is a line within the limit
 GivesNext new remained remains first (Line end) = GivesLine new remained remains first end
+-- it is a line that is too long
 GivesNext new remained remains first TooLong = GivesLong new remained remains first
--- nothing: these were all lines
+-- it is no line: the log has ended, and `first` are all of its lines
 GivesNext new remained remains first End = (read : List ℕ) × Consumes remained remains read × IsAtEnd remains
     × (log_lines read ≡ first)
 
--- what was read and written if these first lines were handed out, and the log is not read to its end, by the fault
+-- what was read, and what was put into the output, if this fault stops the reading of a log after the lines `first`
+-- were handed out
 abbrev pub Breaks : {W : Type 0} → Option (List ℕ) → Option (List ℕ) → Bool → Written W → Written W → List LogLine
     → LogFault → Type 0
+-- this fault does not occur: the log is open
 Breaks remained remains read_failed old new first (faults.Open cause) = ⊥
--- a read failed: they are the lines that are ended
+-- a read failed, nothing was put into the output, and `first` are the lines of what was read that have their line feed
 Breaks remained remains read_failed old new first faults.Read = IsTrue read_failed × Prints old new []
     × (read : List ℕ) × Consumes remained remains read × (ended_lines read ≡ first)
--- a write failed
+-- a write failed, and `first` are the first lines of what was read
 Breaks remained remains read_failed old new first faults.Write = IsTrue new.failed × FailsIn old new []
     × (read : List ℕ) × (others : List LogLine) × Consumes remained remains read × (log_lines read ≡ first ++ others)
+-- this fault does not occur: the reader does not look for addresses
 Breaks remained remains read_failed old new first faults.Address = ⊥
+-- this fault does not occur: the reader hands out a line that is too long as such
 Breaks remained remains read_failed old new first faults.Length = ⊥
--- more bytes were read than 64 bits count: they are the lines that all but the last of them complete
+-- more bytes were read than 64 bits count, and `first` are the lines whose line feed is among the bytes before the last
+-- ones (`last`)
 Breaks remained remains read_failed old new first faults.Endless = Prints old new []
     × (read : List ℕ) × (last : List ℕ) × Consumes remained remains (read ++ last)
     × (2 ^ 64 - 1 < length (read ++ last)) × (ended_lines read ≡ first)
 
--- a measure of what there is to read and to hand out: the bytes that may still be read, and the end of the log, each
--- before all lines that the buffer may have
+-- a measure of what is left to read and to hand out: the bytes that may still be read, and the end of the log, each
+-- count for more than all lines that the buffer can hold
 abbrev pub left : LogReader → ℕ
 left reader = (reader.room + (if (buffered reader).ended then 0 else 1)) * (length (buffered reader).bytes + 2) + work
     (buffered reader)
 
--- there is less of it after a line, unless the reader hurries and it is too long
+-- less is left after a line than before, unless the line is too long and the reader hurries
 abbrev pub IsLess : LogReader → LogReader → NextLogLine → Type 0
 IsLess old new (Line end) = left new < left old
 IsLess old new TooLong = hurries_of old ≡ false → left new < left old

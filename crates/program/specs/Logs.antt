@@ -1,4 +1,4 @@
--- Logs that are read in turn.
+-- Logs that are read one after another.
 use Rattle.std.specs.Prelude.{◌≡◌, ℕ, ◌-◌, ◌^◌, ◌<◌, true, false, List, [], ◌∷◌, ◌++◌, length, Some}
 use Rattle.lines.specs.Parts.{IsBeginning}
 use Rattle.lists.specs.KnownLists.{KnownLists}
@@ -6,17 +6,17 @@ use Rattle.program.specs.LogLines.{LogLine, log_lines, ended_lines, content, IsW
 use Rattle.program.specs.declared.log_fault.LogFault.{LogFault}
 use Rattle.program.specs.declared.log_fault.LogFault.TheVariants as faults
 
--- the file of this name was opened, and these bytes are all of it, if its bytes are known
+-- the file of this name was opened, and, if its bytes are known, these are all of them
 abbrev pub IsAllOf : KnownLists → List ℕ → List ℕ → Type 0
 IsAllOf known name read = known.may_open name true
     × ((input : List ℕ) → known.bytes_of name ≡ Some input → read ≡ input)
 
--- these bytes are the first of it
+-- if the bytes of the file of this name are known, these are the first of them
 abbrev pub IsFirstOf : KnownLists → List ℕ → List ℕ → Type 0
 IsFirstOf known name read = (input : List ℕ) → known.bytes_of name ≡ Some input → IsBeginning read input
 
--- of the log of this name some bytes were read; after these first lines of them comes one of which, without its end,
--- this is true, and which is a line whatever comes after it
+-- of the bytes that were read of the log of this name, the first lines are `lines`, and then comes one that counts as a
+-- line whatever is read after it, and of which, without its end, `IsSo` holds
 pub record StopsAfter (known : KnownLists) (name : List ℕ) (lines : List LogLine)
     (IsSo : List ℕ → Type 0) : Type 0 where
   pub read : List ℕ
@@ -27,27 +27,27 @@ pub record StopsAfter (known : KnownLists) (name : List ℕ) (lines : List LogLi
   pub is_line : IsWhole (IsAllOf known name read) line
   pub is_so : IsSo (content line)
 
--- the log of this name is not read to its end, by the fault, but these first lines are. `Ends` is true of what ends a
--- run: of a line without its end, if an address or its length does, and of no bytes, if a log that cannot be opened
--- does
+-- what holds if this fault stops the reading of the log of this name after its first lines, `lines`; `Ends` holds of
+-- what ends a run by the fault: a line without its end, or no bytes for a log that is not opened
 abbrev pub HaltsBy : (LogFault → List ℕ → Type 0) → KnownLists → List ℕ → List LogLine → LogFault → Type 0
--- it was not opened
+-- the log was not opened, for this cause, and none of its lines was read
 HaltsBy Ends known name lines (faults.Open cause) = Ends (faults.Open cause) [] × (lines ≡ [])
     × known.may_open name false × known.may_miss name cause
--- a read failed: the lines of which the line feed was read
+-- a read failed, and `lines` are the lines of what was read that have their line feed
 HaltsBy Ends known name lines faults.Read =
     (read : List ℕ) × IsFirstOf known name read × (lines ≡ ended_lines read) × known.may_open name true
     × known.may_fail name
--- a write failed
+-- a write failed, and `lines` are the first lines of what was read
 HaltsBy Ends known name lines faults.Write = (read : List ℕ) × (others : List LogLine) × IsFirstOf known name read
     × (log_lines read ≡ lines ++ others)
--- the first line without an address ends the run
+-- a line without an address ended the run
 HaltsBy Ends known name lines faults.Address = StopsAfter known name lines (Ends faults.Address)
     × known.may_open name true
--- the first line that is too long does
+-- a line that is too long ended the run
 HaltsBy Ends known name lines faults.Length = StopsAfter known name lines (Ends faults.Length)
     × known.may_open name true
--- more bytes were read than 64 bits count: the lines that all but the last of them complete
+-- more bytes were read than 64 bits count, and `lines` are those whose line feed is among the bytes before the last
+-- ones (`last`)
 HaltsBy Ends known name lines faults.Endless =
     (read : List ℕ) × (last : List ℕ) × IsFirstOf known name (read ++ last) × (2 ^ 64 - 1 < length (read ++ last))
     × (lines ≡ ended_lines read) × known.may_open name true

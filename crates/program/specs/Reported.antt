@@ -1,4 +1,4 @@
--- Messages on standard error about lists.
+-- What is reported about lists on standard error.
 use Rattle.std.specs.Prelude.{ℕ, zero, suc, Bool, not, ◌==◌, List, [], ◌∷◌, ◌++◌, length, nat_lt, if◌then◌else◌, codes}
 use Rattle.std.specs.Prelude.{decimal, String}
 use Rattle.std.specs.List.{flat_map}
@@ -10,36 +10,36 @@ use Rattle.lists.specs.declared.refusals.Refusal.{Refusal}
 use Rattle.lists.specs.declared.named.ReadFault.{ReadFault}
 use Rattle.lists.specs.declared.named.ReadFault.TheVariants.{Open, Read, Length, NotJson, OutOfMemory}
 
--- the word at an index; past the last word, nothing
+-- the word at this index, or an empty text past the last word
 abbrev pub name_at : {Z : Type 0} → List (String Z) → ℕ → List ℕ
 name_at [] place = []
 name_at (word ∷ words) zero = string_bytes word
 name_at (word ∷ words) (suc place) = name_at words place
 
--- whether a line was refused
+-- at least one refused line was kept
 abbrev pub was_refused : Refused → Bool
 was_refused refused = not (length refused.kept == 0)
 
--- what is reported about refused lines that are not kept: how many there are
+-- what is reported about refused lines that were not kept: how many there are, or nothing if there is none
 abbrev pub more_text : ℕ → List ℕ
 more_text more = if nat_lt 0 more then decimal more ++ codes " more refused lines\n" else []
 
--- a refused line stands in a list, which a word names, and has a number there
+-- where a refused line stands: the index of the word that names its list, and its number in that list
 abbrev pub in_list : Refusal → ℕ × ℕ
 in_list refusal = (refusal.list, refusal.line)
 
--- what is reported about a refused line: the word and the number of its place, and why it is refused
+-- what is reported about a refused line: the word and the number that `place` gives it, and why it is refused
 abbrev pub refusal_line : {Z : Type 0} → List (String Z) → (Refusal → ℕ × ℕ) → Refusal → List ℕ
 refusal_line words place refusal =
     name_at words (place refusal).0 ++ codes ":" ++ decimal (place refusal).1
     ++ codes ": refused " ++ line_fault_text refusal.fault ++ codes "\n"
 
--- what is reported about refused lines
+-- what is reported about refused lines: each that was kept, and how many more there were
 abbrev pub refusals_text : {Z : Type 0} → List (String Z) → (Refusal → ℕ × ℕ) → Refused → List ℕ
 refusals_text words place refused =
     flat_map (refusal_line words place) refused.kept ++ more_text refused.more
 
--- what is reported if lists were not read to the end
+-- what is reported about lists that were not read to the end
 abbrev pub fault_text : {Z : Type 0} → List (String Z) → ReadFault → List ℕ
 fault_text words (Open place cause) = name_at words place ++ open_fault_text cause
 fault_text words (Read place) = name_at words place ++ codes ": cannot read\n"

@@ -1,4 +1,4 @@
--- Words of a command line.
+-- The words of a command line.
 use Rattle.std.specs.Prelude.{ℕ, ◌==◌, ◌&&◌, Bool, false, if◌then◌else◌, List, [], ◌∷◌, length, bytes_eq, String}
 use Rattle.std.specs.List.{count_by}
 use Rattle.std.specs.String.{string_bytes}
@@ -11,17 +11,17 @@ is text word = bytes_eq (string_bytes word) text
 abbrev pub count : {Z : Type 0} → List ℕ → List (String Z) → ℕ
 count text words = count_by (is text) words
 
--- the only word is this text
+-- there is exactly one word, and it is this text
 abbrev pub is_only : {Z : Type 0} → List ℕ → List (String Z) → Bool
 is_only text [] = false
 is_only text (word ∷ others) = length others == 0 && is text word
 
--- the first word is this text
+-- there is a first word, and it is this text
 abbrev pub begins_with : {Z : Type 0} → List ℕ → List (String Z) → Bool
 begins_with text [] = false
 begins_with text (word ∷ others) = is text word
 
--- the words, less the first one if it is this text
+-- the words without the first one if that is this text, and else all of them
 abbrev pub without_first : {Z : Type 0} → List ℕ → List (String Z) → List (String Z)
 without_first text [] = []
 without_first text (word ∷ others) = if is text word then others else word ∷ others

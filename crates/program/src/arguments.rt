@@ -1,4 +1,4 @@
-//! The arguments of the program.
+//! Reads the arguments of the program.
 ghost use Rattle.std.specs.Prelude.{◌≡◌};
 ghost use Rattle.program.specs.Usage.{fault_of};
 
@@ -17,12 +17,13 @@ use std::rt::Env;
 pub enum ArgumentsFault {
     /// An argument is not UTF-8.
     NotText,
-    /// Out of memory.
+    /// Memory ran out.
     OutOfMemory,
 }
 
 impl ArgumentsFault {
-    /// Why they cannot be read, by the system's error.
+    /// Returns why the arguments cannot be read, by the kind of the system's error: `OutOfMemory`
+    /// if that says so, and `NotText` for any other kind.
     ///
     /// ```
     /// use program::arguments::ArgumentsFault;
@@ -40,8 +41,10 @@ impl ArgumentsFault {
     }
 }
 
-/// The arguments after the program's name, in order. Each is a `String` of its own, in memory of the program's
-/// allocator.
+/// Returns the arguments after the program's name, in their order. Each is a `String` of its own,
+/// in memory of the program's allocator.
+///
+/// An error is returned if an argument is not UTF-8 or memory runs out.
 ///
 /// ```
 /// assert!(rt; program::arguments::arguments(&rt).is_ok());

@@ -1,4 +1,4 @@
-//! How a program ends: its exit status, and what it reports on the error writer.
+//! How a program ends: its exit status, and what it reports about its output.
 ghost use Rattle.std.specs.Prelude.{◌≡◌, OnOk, is_err};
 ghost use Rattle.lines.specs.Outputs.{Writes};
 ghost use Rattle.program.specs.Endings.{ending, status_of, end_text, EndsPrinting};
@@ -9,7 +9,7 @@ use lines::fault::RunFault;
 use lines::output::Output;
 use std::io::Write;
 
-/// The exit status of a program that could not do what it was asked.
+/// The exit status of a program that could not do what it was asked to do.
 ///
 /// ```
 /// assert_eq!(rt; program::ending::FAILED, 2);
@@ -36,8 +36,8 @@ pub fn end<E: Write>(written: Result<(), RunFault>, status: u8, errors: &mut Out
     status
 }
 
-/// Writes what waits and then a text, and returns the exit status: 0, or 2 if a write failed, which is reported as
-/// `write error`.
+/// Writes what waits in the output and then a text, and returns the exit status: 0, or 2 if a write
+/// failed, which is reported as `write error`.
 ///
 /// ```
 /// let (slice, error_slice) = (&mut [0; 64], &mut [0; 64]);
@@ -57,7 +57,7 @@ pub fn print_text<W: Write, E: Write>(
     end(written, 0, errors)
 }
 
-// Writes what waits and then a text.
+// Writes what waits in the output, and then a text.
 fn write_text<W: Write>(text: &str, output: &mut Output<'_, W>) -> Result<(), RunFault>
     ensures written { OnOk result (Writes output.old output.new text.now) }
     ensures failed { output.new.failed ≡ is_err result }

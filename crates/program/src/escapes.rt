@@ -1,4 +1,4 @@
-//! Text of others, as it is printed: without what a terminal obeys.
+//! Prints the texts of others, with the control characters that a terminal obeys escaped.
 ghost use Rattle.std.specs.Prelude.{◌≡◌, ◌<◌};
 ghost use Rattle.program.specs.Escapes.{is_control, first_of, hex_digit, printed, escaped};
 ghost use Rattle.program.specs.Messages.{Reports};
@@ -7,8 +7,11 @@ use crate::messages::{tell, tell_bytes};
 use lines::output::Output;
 use std::io::Write;
 
-/// Writes bytes, of which control characters are escaped: `\x1b` stands for the byte 27. The tab stays. Of UTF-8 the
-/// characters from U+0080 to U+009F are escaped too, both of their bytes. If a write fails, now or earlier, the rest is lost.
+/// Writes bytes with their control characters escaped: `\x1b` stands for the byte 27.
+///
+/// The tab is not escaped. The characters from U+0080 to U+009F are: as a single byte after one of
+/// ASCII, and in UTF-8 with both of their bytes. If a write fails, now or earlier, the rest is
+/// lost.
 ///
 /// ```
 /// let (mut slice, mut room) = ([0; 16], [0; 9]);
@@ -30,7 +33,7 @@ pub fn tell_escaped<W: Write>(bytes: &[u8], output: &mut Output<'_, W>)
     }
 }
 
-// The first byte, or 0.
+// Returns the first byte, or 0 if there is none.
 fn first_of(bytes: &[u8]) -> u8
     ensures { result ≡ first_of bytes.now }
 {
@@ -40,7 +43,7 @@ fn first_of(bytes: &[u8]) -> u8
     }
 }
 
-// Writes a byte between two others, or 0.
+// Writes a byte between two others (0 stands for none).
 fn tell_byte<W: Write>(before: u8, byte: u8, next: u8, output: &mut Output<'_, W>)
     ensures { Reports output.old output.new (printed before byte next) }
 {
@@ -52,7 +55,8 @@ fn tell_byte<W: Write>(before: u8, byte: u8, next: u8, output: &mut Output<'_, W
     }
 }
 
-// Whether a byte between two others, or 0, is a control character, or one of the two bytes of one in UTF-8.
+// Whether a byte between two others (0 stands for none) is a control character or one of the two
+// bytes of one in UTF-8.
 fn is_control(before: u8, byte: u8, next: u8) -> bool
     ensures { result ≡ is_control before byte next }
 {
@@ -62,7 +66,7 @@ fn is_control(before: u8, byte: u8, next: u8) -> bool
     is_ascii || is_last || is_first
 }
 
-// A digit of base 16.
+// Returns the character of a hexadecimal digit.
 fn hex_digit(digit: u8) -> u8
     requires { digit < 16 }
     ensures { result ≡ hex_digit digit }

@@ -1,5 +1,5 @@
-//! What programs that read lists share: their arguments, the files they open, the lines of logs, and what they report
-//! on standard error.
+//! What the programs that read lists share: their arguments, the files that they open, the lines of
+//! logs, and what they report on standard error.
 #![tactic(auto)]
 
 pub mod arguments;

@@ -1,4 +1,4 @@
-//! What is reported if memory runs out.
+//! Reports that memory ran out.
 ghost use Rattle.std.specs.Prelude.{◌≡◌, codes};
 ghost use Rattle.program.specs.Messages.{Reports};
 

@@ -1,4 +1,4 @@
-//! Messages on the error writer. If a write of one fails, nothing else changes.
+//! Messages on the error writer. If the write of one fails, nothing else changes.
 ghost use Rattle.std.specs.Prelude.{◌≡◌, decimal};
 ghost use Rattle.program.specs.Messages.{Reports};
 
@@ -7,7 +7,8 @@ use ipnetwork_addr::decimal::push_number;
 use lines::output::Output;
 use std::io::Write;
 
-/// Writes a text to the error writer. If that fails, now or earlier, the text is lost, and nothing else happens.
+/// Writes a text to the error writer. If that fails, now or earlier, the text is lost, and nothing
+/// else happens.
 ///
 /// ```
 /// let mut slice = [0; 64];
@@ -21,7 +22,7 @@ pub fn tell<E: Write>(text: &str, errors: &mut Output<'_, E>)
     tell_bytes(text.as_bytes(), errors);
 }
 
-/// Writes bytes to the error writer, as `tell` a text.
+/// Writes bytes to the error writer, as `tell` writes a text.
 ///
 /// ```
 /// let mut slice = [0; 64];
@@ -49,7 +50,7 @@ pub fn tell_number<E: Write>(number: u64, errors: &mut Output<'_, E>)
     tell(number_text(number).as_str(), errors);
 }
 
-/// A number in decimal.
+/// Returns a number in decimal.
 ///
 /// ```
 /// assert_eq!(rt; program::messages::number_text(1024).as_str(), "1024");

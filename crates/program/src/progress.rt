@@ -1,4 +1,4 @@
-//! What is shown of a long reading on a terminal.
+//! Shows on a terminal how much a long reading has read.
 use crate::messages::number_text;
 use arrayvec::ArrayString;
 use std::cell::Cell;
@@ -9,19 +9,21 @@ use std::os::unix::fs::FileTypeExt;
 use std::rt::Env;
 use std::time::Instant;
 
-/// How many milliseconds a reading takes before anything is shown of it.
+/// How long a reading takes before it is shown, in milliseconds.
 const PATIENCE: u128 = 2_000;
 
-/// How many milliseconds later what is shown is shown anew.
+/// How long what is shown stays before it is shown anew, in milliseconds.
 const PAUSE: u128 = 500;
 
-/// The bytes of the longest text that is shown.
+/// The most bytes of a text that is shown.
 const SHOWN_MAX: usize = 80;
 
-/// How many lines and bytes were read, in one line of standard error that is written over and over:
-/// shown if standard error is a terminal and standard output no pipe, from two seconds after the
-/// start on, at most twice a second. So of several programs in a pipeline the last one shows it. If
-/// the environment variable `NO_PROGRESS` is set and not empty, nothing is shown.
+/// Shows how many lines and bytes were read, in one line of standard error that is overwritten.
+///
+/// It is shown only if standard error is a terminal and standard output is not a pipe, so that of
+/// several programs in a pipeline the last one shows it. It is shown from two seconds after the
+/// start on, at most twice a second. Nothing is shown if the environment variable `NO_PROGRESS` is
+/// set and not empty.
 ///
 /// ```
 /// let progress = program::progress::Progress::new(&rt, true);
@@ -31,9 +33,9 @@ const SHOWN_MAX: usize = 80;
 #[derive(Drop)]
 pub struct Progress<'a> {
     rt: &'a HostRuntime,
-    // When the reading began; none if nothing is shown.
+    // When the reading began, or `None` if nothing is shown.
     began: Option<Instant>,
-    // How many milliseconds later it is shown next.
+    // When it is shown next, in milliseconds after the beginning.
     due: Cell<u128>,
     lines: Cell<u64>,
     bytes: Cell<u64>,
@@ -42,7 +44,8 @@ pub struct Progress<'a> {
 }
 
 impl<'a> Progress<'a> {
-    /// Nothing was read yet. If it `is_quiet`, nothing is shown.
+    /// Creates the progress of a reading that has read nothing yet. If it `is_quiet`, nothing is
+    /// shown.
     ///
     /// ```
     /// let _ = program::progress::Progress::new(&rt, false);
@@ -67,7 +70,7 @@ impl<'a> Progress<'a> {
         }
     }
 
-    /// Counts bytes that were read, and shows how many there are if it is time.
+    /// Counts these bytes as read, and shows how much was read if it is time to.
     ///
     /// ```
     /// program::progress::Progress::new(&rt, false).count(b"10.0.0.0/8\n10.1.0.0/16\n");
@@ -90,7 +93,7 @@ impl<'a> Progress<'a> {
         }
     }
 
-    /// Takes away what is shown, so that something else can be written there.
+    /// Removes what is shown, so that something else can be written in its place.
     ///
     /// ```
     /// program::progress::Progress::new(&rt, false).clear();
@@ -128,7 +131,7 @@ fn is_turned_off(rt: &HostRuntime) -> bool {
     )
 }
 
-// Whether standard output is a pipe. Where the system has no name for it, it is taken for none.
+// Whether standard output is a pipe. It counts as none where the system has no name for it.
 fn is_piped(rt: &HostRuntime) -> bool {
     match fs::metadata(rt, "/dev/stdout") {
         Ok(metadata) => metadata.file_type().is_fifo(),
@@ -136,7 +139,7 @@ fn is_piped(rt: &HostRuntime) -> bool {
     }
 }
 
-// How many line feeds are among these bytes.
+// Returns the number of line feeds among these bytes.
 fn feeds_in(bytes: &[u8]) -> u64 {
     bytes.iter().filter(|byte| **byte == b'\n').count() as u64
 }

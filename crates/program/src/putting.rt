@@ -1,4 +1,4 @@
-//! Texts that are written one after the other.
+//! Writes several texts, one after another.
 ghost use Rattle.std.specs.Prelude.{◌++◌};
 ghost use Rattle.std.specs.List.{flat_map};
 ghost use Rattle.program.specs.Putting.{PutsOrFails};
@@ -7,7 +7,7 @@ use lines::fault::RunFault;
 use lines::output::Output;
 use std::io::Write;
 
-/// Writes two texts.
+/// Writes two texts, one after the other. The error is that a write failed.
 ///
 /// ```
 /// let (mut slice, mut room) = ([0; 8], [0; 3]);
@@ -28,7 +28,7 @@ pub fn put_both<W: Write>(
     output.put(second)
 }
 
-/// Writes texts, one after the other.
+/// Writes all of these texts, one after another. The error is that a write failed.
 ///
 /// ```
 /// let (mut slice, mut room) = ([0; 8], [0; 6]);

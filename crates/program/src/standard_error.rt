@@ -1,9 +1,9 @@
-//! Standard error, where a long reading is shown too.
+//! Standard error, which also shows how much a long reading has read.
 use crate::progress::Progress;
 use std::io;
 use std::io::{Stderr, Write};
 
-/// Standard error. What is shown there of a long reading is taken away before a write.
+/// Standard error. Before each write, it removes what is shown there of a long reading.
 ///
 /// ```
 /// use program::progress::Progress;
@@ -20,7 +20,7 @@ pub struct StandardError<'a> {
 }
 
 impl<'a> StandardError<'a> {
-    /// Standard error, with what is shown there.
+    /// Creates a writer from the system's standard error and the progress that is shown there.
     ///
     /// ```
     /// use program::progress::Progress;

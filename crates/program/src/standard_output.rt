@@ -4,8 +4,8 @@ use std::cell::Cell;
 use std::io;
 use std::io::{ErrorKind, Stdout, Write};
 
-/// Standard output, and a note whether a write failed since nobody reads it any more. What is shown
-/// of a long reading is taken away before a write.
+/// Standard output, which notes whether a write failed because nobody reads its pipe any more.
+/// Before each write, it removes what is shown of a long reading.
 ///
 /// ```
 /// use program::progress::Progress;
@@ -25,7 +25,8 @@ pub struct StandardOutput<'a> {
 }
 
 impl<'a> StandardOutput<'a> {
-    /// Standard output, with what is shown on standard error and the place of that note.
+    /// Creates a writer from the system's standard output, the progress that is shown on standard
+    /// error, and the cell that notes whether nobody reads the pipe any more.
     ///
     /// ```
     /// use program::progress::Progress;

@@ -1,4 +1,4 @@
-//! The frame of a program: what it prints of itself, and the devices that its run has.
+//! Starts a program: sets up the devices of its run, and handles its arguments.
 ghost use Rattle.std.specs.Prelude.{◌≡◌, None, Some, MatchOption, codes};
 ghost use Rattle.program.specs.Runs.{text_asked};
 ghost use Rattle.program.specs.Words.{begins_with, without_first};
@@ -23,10 +23,12 @@ const TOLD_MAX: usize = 1024;
 /// The exit status that a shell shows for a program that the signal of a closed pipe ended.
 const CLOSED: u8 = 141;
 
-/// Runs a program on the words after its name, less a `--quiet` that comes first, and returns the
-/// exit status. If the arguments cannot be read, that is reported instead. If standard output is a
-/// pipe that nobody reads any more, what waits to be reported is dropped, and the exit status is
-/// 141, as a shell shows it for a program that ends at such a write.
+/// Runs a program on the words after its name, without a first `--quiet`, and returns its exit
+/// status.
+///
+/// If the arguments cannot be read, that is reported instead. If a write to standard output failed
+/// because nobody reads its pipe any more, reports that still wait are dropped, and the exit status
+/// is 141, which a shell shows for a program that such a write ended.
 ///
 /// ```
 /// let usage = "usage: sum FILE\n";
@@ -66,7 +68,8 @@ where
     ExitCode::from(status)
 }
 
-// Whether nothing is shown of a long reading: the first word is `--quiet`, or there will be none.
+// Whether no progress is shown: the first word is `--quiet`, or there is nothing to run since the
+// arguments cannot be read.
 fn is_quiet(words: &Result<Vec<String>, ArgumentsFault>) -> bool {
     match words {
         Ok(words) => begins_quiet(words.as_slice()),
@@ -84,7 +87,7 @@ fn begins_quiet(words: &[String]) -> bool
     }
 }
 
-// The words, less a `--quiet` that comes first.
+// Returns the words without a first `--quiet`.
 fn without_quiet(words: &[String]) -> &[String]
     ensures { result.now ≡ without_first (codes "--quiet") words.now }
 {
@@ -94,7 +97,8 @@ fn without_quiet(words: &[String]) -> &[String]
     }
 }
 
-/// The text that the only word asks for: the help or the version.
+/// Returns the text that the only word asks for: the help for `--help`, the version for
+/// `--version`, or `None` for any other words.
 ///
 /// ```
 /// assert_eq!(rt; program::start::text_asked("Adds.\n", "sum 1\n", &[]), None);

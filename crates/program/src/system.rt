@@ -10,7 +10,7 @@ use std::io::{ErrorKind, IsTerminal, Read, Stdin};
 use std::os::unix::fs::MetadataExt;
 use std::{fs, io};
 
-/// The files of the system, and its standard input under the name `-`.
+/// The files of the system, where `-` names standard input.
 ///
 /// ```
 /// use lists::OpenLists;
@@ -25,7 +25,7 @@ pub struct System<'a> {
 }
 
 impl<'a> System<'a> {
-    /// The files that the program can open.
+    /// Creates a view of the system's files, without showing how much is read.
     ///
     /// ```
     /// use lists::OpenLists;
@@ -37,7 +37,7 @@ impl<'a> System<'a> {
         System { rt, progress: None }
     }
 
-    /// The same, and what is read of them is counted and shown.
+    /// Creates a view of the system's files that counts and shows what is read of them.
     ///
     /// ```
     /// use lists::OpenLists;
@@ -54,7 +54,7 @@ impl<'a> System<'a> {
         }
     }
 
-    // What is shown of the reading of this file: nothing, if it is typed at a terminal.
+    // Returns the progress that counts the reading of this file: none if it is typed at a terminal.
     fn progress_of(&self, name: &str) -> Option<&'a Progress<'a>> {
         if name == "-" && self.rt.stdin().is_terminal() {
             return None;
@@ -63,7 +63,7 @@ impl<'a> System<'a> {
     }
 }
 
-/// A file, or standard input.
+/// A file or standard input.
 ///
 /// ```
 /// let device = program::system::Device::Input(rt.stdin());
@@ -86,7 +86,7 @@ impl Read for Device {
     }
 }
 
-/// A device, and what is shown of its reading.
+/// A device, and the progress that counts what is read of it.
 ///
 /// ```
 /// use lists::OpenLists;
@@ -121,7 +121,8 @@ fn is_directory(file: &File) -> bool {
     }
 }
 
-// The device and the number of the regular file that this is said of; none of anything else, as a terminal or a pipe.
+// Returns the device and inode numbers of a regular file, and `None` for anything else, such as a
+// terminal or a pipe.
 fn identity(said: io::Result<Metadata>) -> Option<(u64, u64)> {
     match said {
         Ok(metadata) if metadata.is_file() => Some((metadata.dev(), metadata.ino())),
@@ -129,7 +130,8 @@ fn identity(said: io::Result<Metadata>) -> Option<(u64, u64)> {
     }
 }
 
-// Whether what was opened is the regular file that standard output is, by what Linux says of open descriptors.
+// Whether what was opened is the regular file that standard output goes to, by what Linux says
+// about open descriptors.
 fn is_output(rt: &HostRuntime, device: &Device) -> bool {
     let Some(output) = identity(fs::metadata(rt, "/proc/self/fd/1")) else {
         return false;

@@ -1,4 +1,4 @@
-//! Messages about lists on the error writer. If a write of one fails, nothing else changes.
+//! Reports about lists on the error writer. If the write of one fails, nothing else changes.
 ghost use Rattle.std.specs.Prelude.{◌≡◌, ℕ};
 ghost use Rattle.program.specs.Messages.{Reports};
 ghost use Rattle.program.specs.Reported.{name_at, refusal_line, refusals_text, more_text, fault_text};
@@ -9,7 +9,7 @@ use lines::output::Output;
 use lists::{ReadFault, Refusal, Refusals};
 use std::io::Write;
 
-/// Where refused lines stand, in the words of a command line.
+/// Says where refused lines stand, in terms of the words of a command line.
 ///
 /// ```
 /// use lists::{LineFault, Refusal};
@@ -23,12 +23,13 @@ pub trait Places {
 
     ghost told_at: { Self → Refusal → ℕ × ℕ };
 
-    /// The index of the word that names the place of a refused line, and the number that is told with it.
+    /// Returns the index of the word that names the place of a refused line, and the number that is
+    /// reported with it.
     fn place(&self, refusal: Refusal) -> (usize, u64)
         ensures { result ≡ told_at self.now refusal };
 }
 
-/// A line stands in the list that a word names, and has its number there.
+/// Places a refused line in the list that a word names, with its line number there.
 ///
 /// ```
 /// use lists::{LineFault, Refusal};
@@ -50,7 +51,8 @@ impl Places for InLists {
     }
 }
 
-/// Reports the refused lines: the first hundred, and how many more there were.
+/// Reports the refused lines: those that were kept, which are the first hundred, and how many more
+/// there were.
 ///
 /// ```
 /// use lists::Refusals;
@@ -96,7 +98,7 @@ fn tell_refusal<P: Places, E: Write>(
     tell("\n", errors);
 }
 
-/// Writes the word at an index to the error writer, and nothing if there is no such word.
+/// Writes the word at this index to the error writer, or nothing if there is no such word.
 ///
 /// ```
 /// let mut slice = [0; 64];
@@ -110,7 +112,7 @@ pub fn tell_name<E: Write>(words: &[String], place: usize, errors: &mut Output<'
     tell(text_at(words, place), errors);
 }
 
-/// Reports how many more lines were refused, if any were.
+/// Reports how many more lines were refused, if there are any.
 ///
 /// ```
 /// let mut slice = [0; 64];

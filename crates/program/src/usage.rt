@@ -1,4 +1,4 @@
-//! What a program reports about a command line that it does not take, or cannot read.
+//! Reports a command line that the program does not accept or cannot read.
 ghost use Rattle.std.specs.Prelude.{◌≡◌};
 ghost use Rattle.program.specs.Messages.{Reports};
 ghost use Rattle.program.specs.Usage.{shown, arguments_text};
@@ -10,7 +10,8 @@ use crate::messages::tell;
 use lines::output::Output;
 use std::io::Write;
 
-/// Writes a word as it is shown: an empty one as two quotes, another without what a terminal obeys.
+/// Writes a word as messages show it: an empty word as `''`, any other with control characters
+/// escaped.
 ///
 /// ```
 /// let (mut slice, mut room) = ([0; 16], [0; 2]);
@@ -30,7 +31,8 @@ pub fn tell_shown<E: Write>(word: &[u8], errors: &mut Output<'_, E>)
     }
 }
 
-/// Reports why the arguments cannot be read, and returns the exit status 2.
+/// Reports why the arguments cannot be read, with the usage if one of them is not UTF-8, and
+/// returns the exit status 2.
 ///
 /// ```
 /// use program::arguments::ArgumentsFault;

@@ -1,9 +1,9 @@
-//! Words of a command line.
+//! The words of a command line.
 ghost use Rattle.std.specs.Prelude.{◌≡◌};
 ghost use Rattle.program.specs.Reported.{name_at};
 ghost use Rattle.program.specs.Words.{is, is_only, count};
 
-/// Whether a word is this text.
+/// Whether the word is this text.
 ///
 /// ```
 /// let mut word = String::new(rt.alloc());
@@ -16,14 +16,14 @@ pub fn is(word: &String, text: &str) -> bool
     word.as_str() == text
 }
 
-/// Whether there is one word, and it is this text.
+/// Whether there is exactly one word, and it is this text.
 pub(crate) fn is_only(words: &[String], text: &str) -> bool
     ensures { result ≡ is_only text.now words.now }
 {
     words.len() == 1 && is(&words[0], text)
 }
 
-/// How many of the words are this text.
+/// Returns how many of the words are this text.
 ///
 /// ```
 /// assert_eq!(rt; program::words::count_of(&[], "-"), 0);
@@ -40,7 +40,7 @@ pub fn count_of(words: &[String], text: &str) -> usize
     count
 }
 
-/// The word at an index; past the last word, an empty text.
+/// Returns the word at this index, or an empty text if there is no such word.
 ///
 /// ```
 /// assert_eq!(rt; program::words::text_at(&[], 0), "");

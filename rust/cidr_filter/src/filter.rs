@@ -3,8 +3,9 @@
 //! What a line is to the lists, and whether it is selected.
 
 use crate::matcher::Matcher;
+use crate::networks::covers;
 use fosibegan::ipnetwork::{IpAddr, IpNetwork};
-use cidr_programs::line_addresses::{Area, Pick, Text, next_address, part_of, picked};
+use cidr_programs::line_addresses::{Area, Found, Pick, Text, next_found, part_of, picked};
 use cidr_programs::log_programs::finding::found_in;
 use cidr_programs::log_programs::without_address::WithoutAddress;
 use cidr_programs::program::log_reader::LINE_MAX;
@@ -130,8 +131,8 @@ impl Filter<'_> {
     // What a line is to the list of which this address of a part is looked at.
     #[inline(always)]
     fn judge_picked(&self, part: &[u8], pick: Pick) -> Verdict {
-        match picked(part, pick) {
-            Some(found) => match self.told_of(found.address) {
+        match picked(part, pick, self.listed.reads_networks()) {
+            Some(found) => match self.told_of(part, &found) {
                 Some(told) => Verdict::Inside(told),
                 None => Verdict::Outside,
             },
@@ -143,8 +144,9 @@ impl Filter<'_> {
     fn judge_each(&self, line: &[u8]) -> Verdict {
         let mut at = 0;
         let mut is_seen = false;
-        'addresses: while let Some(found) = next_address(line, at) {
-            if let Some(told) = self.told_of(found.address) {
+        let networks = self.listed.reads_networks();
+        'addresses: while let Some(found) = next_found(line, at, networks) {
+            if let Some(told) = self.told_of(line, &found) {
                 return Verdict::Inside(told);
             }
             is_seen = true;
@@ -157,30 +159,37 @@ impl Filter<'_> {
         }
     }
 
-    // If an address is one of the list, what is told of it.
+    // If an address or network of a line is one of the list, what is told of it.
     #[inline(always)]
-    fn told_of(&self, address: IpAddr) -> Option<Option<IpNetwork>> {
-        let address = self.asked(address);
+    fn told_of(&self, line: &[u8], found: &Found) -> Option<Option<IpNetwork>> {
         match &self.listed {
             Matcher::Addresses(sets) => {
-                if sets.contains(address) {
+                if sets.contains(self.asked(found.address)) {
                     Some(None)
                 } else {
                     None
                 }
             }
-            Matcher::Blocks(tables) => match tables.longest(address) {
+            Matcher::Networks(set) => {
+                if covers(set, self.mapped, &line[found.start..found.end]) {
+                    Some(None)
+                } else {
+                    None
+                }
+            }
+            Matcher::Blocks(tables) => match tables.longest(self.asked(found.address)) {
                 Some(block) => Some(Some(block)),
                 None => None,
             },
         }
     }
 
-    /// Whether an address of a line is printed in place of it: whether it is in the list. Of blocks
-    /// none is, since `-o` is not given together with `--longest`.
-    pub(crate) fn prints(&self, address: IpAddr) -> bool {
+    /// Whether an address or network of a line is printed in place of it: whether it is in the list.
+    /// Of blocks none is, since `-o` is not given together with `--longest`.
+    pub(crate) fn prints(&self, line: &[u8], found: &Found) -> bool {
         match &self.listed {
-            Matcher::Addresses(sets) => sets.has(self.asked(address)),
+            Matcher::Addresses(sets) => sets.has(self.asked(found.address)),
+            Matcher::Networks(set) => covers(set, self.mapped, &line[found.start..found.end]),
             Matcher::Blocks(_) => false,
         }
     }

@@ -8,62 +8,66 @@ Prints the lines of logs whose address is in a list of IP networks.
 
     cidr_filter [OPTION..] (-f LIST | -e TEXT).. [FILE..]
 
-    -f LIST         the networks of a file: networks (10.0.0.0/8, 10.0.0.1, 2001:db8::/32) and
-                    ranges (A - B), one a line; # and ; begin a comment; - is standard input
-    -e TEXT         a network or a range
-    --skip-bad      take the networks of the lists without their refused lines, which are reported;
-                    without this option one ends the program before a log is read
-    -k N            the address is the Nth field; without this option the first
-    -d CHAR         fields are cut at each single CHAR; without this option at each space
-    -w              fields are what stands between runs of spaces and tabs. Not with -d
-    -a              addresses are looked for anywhere in a line, or with -k, -d or -w in that field:
-                    10.1.1.1:51234, [10.1.1.1], SRC=10.1.1.1 and [2001:db8::1]:443 have one;
-                    v10.1.2.3, 1.2.3.4.5 and 12:34:56 have none. A line is printed if one of its
-                    addresses is in a network
-    --nth WHICH     only this one counts of the addresses that stand there, found as by -a, which
-                    need not be given: first, last, or a number from 1 on
-    --after TEXT    the address is the first that follows the first TEXT of a line, found as by -a,
-                    or the one that --nth says; a line without TEXT has none: --after SRC=. Not with
+    -f LIST         read networks (10.0.0.0/8, 10.0.0.1, 2001:db8::/32) and ranges (A - B) from a
+                    file, one on each line; # and ; begin a comment; - is standard input
+    -e TEXT         add this network or range
+    --skip-bad      report refused lines of the lists and use the others; without this option, a
+                    refused line ends the program before any log is read
+    -k N            the address is field N; the default is 1
+    -d CHAR         every single CHAR separates fields; the default is every space
+    -w              runs of spaces and tabs separate fields. Not with -d
+    -a              look for addresses anywhere in a line, or anywhere in the field that -k, -d or
+                    -w select: 10.1.1.1:51234, [10.1.1.1], SRC=10.1.1.1 and [2001:db8::1]:443 have
+                    one; v10.1.2.3, 1.2.3.4.5 and 12:34:56 have none. A line is selected if one of
+                    its addresses is in a network
+    --nth WHICH     use only this one of the addresses found: first, last, or a number from 1 up; -a
+                    need not be given
+    --after TEXT    the address is the first one after the first TEXT in a line, found as by -a, or
+                    the one that --nth selects; a line without TEXT has none: --after SRC=. Not with
                     -a, -k, -d or -w
-    -o              print the addresses that are in a network, one a line, in place of lines. Not
-                    with -v or --longest
-    --mapped        an address ::ffff:A.B.C.D of a line counts as A.B.C.D
-    -v              print the lines whose address is in no network; with -a those that have
+    -o              print the addresses that are in a network, and with --networks the networks, one
+                    on each line, instead of lines. Not with -v or --longest
+    --mapped        treat an address ::ffff:A.B.C.D of a line as A.B.C.D
+    --networks      a network in a line (10.1.0.0/16) counts too, and is in the list if all its
+                    addresses are; without this option only its address is tested. Not with
+                    --longest
+    -v              print the lines whose address is in no network; with -a, those that have
                     addresses, none of which is
-    -c              print how many lines are selected, over all FILEs
-    -l              print the name of each FILE that has a selected line, or (standard input), in
-                    place of lines; no more of it is read behind that line
-    -q              print nothing, and end at the first selected line, with status 0 also if a FILE
-                    before it cannot be opened. Of -q, -l, -c and -o the first in this order counts
-    -m N            at most N lines of each FILE are selected: behind the last no more of it is read
-    -H              before a line print the name of its FILE, or (standard input), and a colon. Not
+    -c              print only the number of selected lines, over all FILEs
+    -l              print only the name of each FILE that has a selected line, or (standard input);
+                    reading a FILE stops at its first selected line
+    -q              print nothing, and stop at the first selected line, with status 0 even if an
+                    earlier FILE could not be opened. Of -q, -l, -c and -o the first in this order
+                    applies
+    -m N            stop reading a FILE after N selected lines
+    -H              begin each line with the name of its FILE, or (standard input), and a colon. Not
                     with -c or -h
-    -n              before a line print its number in its FILE and a colon, behind the name of -H;
-                    with -o before each address
-    -h              print no name before a line (this is the default, also with several FILEs)
-    --longest       before a line print the longest network that holds its address (with -a the
+    -n              begin each line with its number in its FILE and a colon, after the name that -H
+                    prints; with -o, each address
+    -h              print no names (the default, even with several FILEs)
+    --longest       begin each line with the longest network that has its address (with -a, the
                     first of its addresses that is in one), and a tab; a range counts as the fewest
                     networks that make it up. Not with -v or -c
-    --bad drop      a line without an address is not printed, also with -v (so it is without this
-                    option), and nothing is told of lines that are too long
+    --bad drop      a line without an address is never printed, not even with -v (the default), and
+                    lines that are too long are not reported
     --bad keep      it is printed, after a minus sign and a tab with --longest
     --bad stop      it ends the program, and so does one that is too long
-    --bad report    it is not printed; told is of each FILE how many there are, and how many are too
-                    long
+    --bad report    it is not printed; for each FILE is reported how many there are, and how many
+                    are too long
     --quiet         as the first word: do not show on a terminal how much was read
     --help          print this text
     --version       print the version
 
-Options may stand behind FILEs; what follows a -- are FILEs. Options of one letter may be one word,
-with the value of the last behind it: -vk1, -e10.0.0.0/8; and so may --bad=keep. A FILE is a name,
-or - for standard input, as is no FILE at all. A line is printed as it was; a last line without a
-line feed gets one. A line has at most 1,048,576 bytes; a longer one has no address and is never
-printed, and the first of a FILE is reported. A FILE that cannot be opened is reported, and the
-others are read. So is a FILE with lines of which none has an address where it is looked for.
+Options may follow FILEs; every word after -- is a FILE. Options of one letter can be joined, the
+last with its value: -vk1, -e10.0.0.0/8; --bad=keep is --bad keep. A FILE is a name, or - for
+standard input, which is read if no FILE is given. Lines are printed unchanged; a last line without
+a line feed gets one. A line has at most 1,048,576 bytes; a longer one has no address and is never
+printed, and the first in each FILE is reported. A FILE that cannot be opened is reported, and the
+others are read. A FILE with lines of which none has an address in that place is reported too.
 
-Status: 0 if a line was selected, 1 if none was, 2 on wrong usage, a refused line, one that is too
-long without --bad drop, a file that cannot be opened or read, a failed write or out of memory, 141
-if standard output is a pipe that nobody reads any more.
+Status: 0 if a line was selected, 1 if none was, 2 after wrong usage, a refused line, one that is
+too long without --bad drop, a file that cannot be opened or read, a failed write, or lack of
+memory, 141 if standard output is a pipe that nobody reads any more.
 
 Examples:
     cidr_filter -f networks.txt access.log
@@ -82,6 +86,6 @@ pub(crate) const PROGRAM: &str = "cidr_filter";
 /// How the program is used: what is reported for arguments that are not a command, after what is
 /// wrong with them.
 pub(crate) const USAGE: &str = "usage: cidr_filter [-v] [-c | -H] [-h] [-n] [-l] [-q] [-o] [-m N] \
-     [--after TEXT | [-a] [-k N] [-d CHAR | -w]] [--nth first|last|N] [--mapped] \
+     [--after TEXT | [-a] [-k N] [-d CHAR | -w]] [--nth first|last|N] [--mapped] [--networks] \
      [--bad drop|keep|stop|report] [--longest] [--skip-bad] (-f LIST | -e TEXT).. [FILE..]; \
      try --help\n";

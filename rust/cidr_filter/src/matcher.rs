@@ -4,15 +4,28 @@
 
 use fosibegan::ipnetwork::{IpAddr, IpNetwork, Ipv4Network, Ipv6Network};
 use fosibegan::ipnetwork_index::{AddressIndex, BlockIndex};
-use fosibegan::ipnetwork_sets::AddressSet;
+use fosibegan::ipnetwork_sets::{AddressSet, IpAddressSet};
 use fosibegan::plain_std::alloc::{AllocError, Global};
 
 /// The networks of lists.
 pub enum Matcher {
     /// Their addresses.
     Addresses(Sets),
+    /// Their addresses, of which networks are asked.
+    Networks(IpAddressSet),
     /// Their blocks.
     Blocks(Tables),
+}
+
+impl Matcher {
+    /// Whether networks of lines are looked for, beside addresses.
+    #[inline(always)]
+    pub(crate) fn reads_networks(&self) -> bool {
+        match self {
+            Matcher::Networks(_) => true,
+            Matcher::Addresses(_) | Matcher::Blocks(_) => false,
+        }
+    }
 }
 
 /// The addresses of networks, by family.

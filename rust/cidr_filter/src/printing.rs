@@ -74,7 +74,7 @@ fn put_mark<W: Write>(
     output: &mut Output<'_, W>,
 ) -> Result<(), RunFault> {
     match listed {
-        Matcher::Addresses(_) => Ok(()),
+        Matcher::Addresses(_) | Matcher::Networks(_) => Ok(()),
         Matcher::Blocks(_) => put_block(block_in(verdict), output),
     }
 }

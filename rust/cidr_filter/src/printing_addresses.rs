@@ -1,11 +1,10 @@
 // Written by scripts/plain out of crates/cidr_filter/src/printing_addresses.rt
 
-//! Prints the addresses of a line that are in the list.
+//! Prints the addresses and networks of a line that are in the list.
 
 use crate::filter::Filter;
 use crate::naming::put_head;
-use fosibegan::ipnetwork::IpAddr;
-use cidr_programs::line_addresses::{Pick, next_address, part_of, picked};
+use cidr_programs::line_addresses::{Found, Pick, next_found, part_of, picked};
 use cidr_programs::lines::fault::RunFault;
 use cidr_programs::lines::output::Output;
 use cidr_programs::program::putting::put_both;
@@ -52,11 +51,8 @@ impl OfLine<'_> {
         pick: Pick,
         output: &mut Output<'_, W>,
     ) -> Result<(), RunFault> {
-        match picked(part, pick) {
-            Some(found) => {
-                let text = &part[found.start..found.end];
-                self.print_found(found.address, text, output)
-            }
+        match picked(part, pick, self.filter.listed.reads_networks()) {
+            Some(found) => self.print_found(part, &found, output),
             None => Ok(()),
         }
     }
@@ -64,25 +60,25 @@ impl OfLine<'_> {
     // Writes the addresses of a part that are in the list.
     fn print_each<W: Write>(&self, line: &[u8], output: &mut Output<'_, W>) -> Result<(), RunFault> {
         let mut at = 0;
-        'addresses: while let Some(found) = next_address(line, at) {
-            let text = &line[found.start..found.end];
-            self.print_found(found.address, text, output)?;
+        let networks = self.filter.listed.reads_networks();
+        'addresses: while let Some(found) = next_found(line, at, networks) {
+            self.print_found(line, &found, output)?;
             at = found.next;
         }
         Ok(())
     }
 
-    // Writes the text of an address and a line feed, if it is in the list.
+    // Writes the text of what was found in a line and a line feed, if it is in the list.
     fn print_found<W: Write>(
         &self,
-        address: IpAddr,
-        text: &[u8],
+        line: &[u8],
+        found: &Found,
         output: &mut Output<'_, W>,
     ) -> Result<(), RunFault> {
-        if !self.filter.prints(address) {
+        if !self.filter.prints(line, found) {
             return Ok(());
         }
-        self.print_text(text, output)
+        self.print_text(&line[found.start..found.end], output)
     }
 
     // Writes what stands first, and then a text and a line feed.

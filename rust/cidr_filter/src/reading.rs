@@ -4,11 +4,12 @@
 
 use fosibegan::plain_std::vec::Vec;
 use crate::matcher::{Matcher, Sets, Tables};
-use crate::rows::TEXT;
+use crate::rows::{LONGEST, NETWORKS, TEXT};
 use fosibegan::ipnetwork::{Ipv4Network, Ipv6Network};
-use fosibegan::ipnetwork_sets::AddressSet;
+use fosibegan::ipnetwork_sets::{AddressSet, IpAddressSet};
 use cidr_programs::lists::{ListReader, OpenLists, ReadFault, Refusals, read_named, read_text};
 use cidr_programs::log_programs::rows::LIST;
+use cidr_programs::options::given::is_given;
 use cidr_programs::options::items::{Item, Text};
 use fosibegan::plain_std::alloc::{AllocError, Global};
 
@@ -23,33 +24,63 @@ pub enum Source<'a> {
     Nothing,
 }
 
-/// Reads the lists that the options name, in their order. Returns the networks (as blocks if `longest`, and else as a
-/// set of addresses), the refused lines, and whether all lists were read to the end.
+/// What the lists are asked.
+#[derive(Clone, Copy, Debug, PartialEq, Eq)]
+pub enum Question {
+    /// Whether an address is in them.
+    Address,
+    /// Whether each address of a network is.
+    Network,
+    /// Which is the longest block that holds an address.
+    Block,
+}
+
+/// What the options say that the lists are asked.
+pub(crate) fn question_of(items: &[Item<'_>]) -> Question {
+    if is_given(items, LONGEST) {
+        Question::Block
+    } else if is_given(items, NETWORKS) {
+        Question::Network
+    } else {
+        Question::Address
+    }
+}
+
+/// Reads the lists that the options name, in their order. Returns the networks, as they are asked, the refused lines,
+/// and whether all lists were read to the end.
 pub(crate) fn read_listed<L: OpenLists>(
     alloc: Global,
     lists: &L,
     items: &[Item<'_>],
-    longest: bool,
+    question: Question,
 ) -> (Result<Matcher, AllocError>, Refusals, Result<(), ReadFault>) {
     let mut reader = ListReader::new(alloc, Refusals::new());
     let end = read_lists(lists, items, &mut reader);
-    let (listed, refusals) = listed_by(alloc, longest, reader);
+    let (listed, refusals) = listed_by(alloc, question, reader);
     (listed, refusals, end)
 }
 
-// The networks that were read, and the refused lines: the blocks of the networks if `longest`, and else their
-// addresses.
+// The networks that were read, as they are asked, and the refused lines.
 fn listed_by(
     alloc: Global,
-    longest: bool,
+    question: Question,
     reader: ListReader,
 ) -> (Result<Matcher, AllocError>, Refusals) {
-    if longest {
-        let (v4, v6, refusals) = reader.into_networks();
-        return (blocks_of(alloc, v4, v6), refusals);
+    match question {
+        Question::Address => {
+            let (v4, v6, refusals) = reader.into_sets();
+            (addresses_of(alloc, &v4, &v6), refusals)
+        }
+        Question::Network => {
+            let (v4, v6, refusals) = reader.into_sets();
+            let set = IpAddressSet::from_parts(v4, v6);
+            (Ok(Matcher::Networks(set)), refusals)
+        }
+        Question::Block => {
+            let (v4, v6, refusals) = reader.into_networks();
+            (blocks_of(alloc, v4, v6), refusals)
+        }
     }
-    let (v4, v6, refusals) = reader.into_sets();
-    (addresses_of(alloc, &v4, &v6), refusals)
 }
 
 // Reads the lists that the options name.

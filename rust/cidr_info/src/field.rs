@@ -1,35 +1,35 @@
 // Written by scripts/plain out of crates/cidr_info/src/field.rt
 
-//! What is told of a network, by names.
+//! The fields that are printed about a network, and their names.
 
-/// What is told of a network.
+/// A field of what is printed about a network.
 #[derive(Clone, Copy, Debug, PartialEq, Eq)]
 pub enum Field {
-    /// The address as it was given.
+    /// The address, with the host bits that were given.
     Address,
-    /// The network without host bits.
+    /// The network, with its host bits set to zero.
     Network,
-    /// Its mask.
+    /// The mask of the network.
     Mask,
-    /// The complement of its mask.
+    /// The complement of the mask.
     Wildcard,
-    /// Its least address.
+    /// The lowest address of the network.
     First,
-    /// Its greatest address.
+    /// The highest address of the network.
     Last,
     /// The first and the last address that a host may have.
     Hosts,
-    /// How many addresses it has.
+    /// The number of addresses in the network.
     Addresses,
-    /// The zone of its reverse names.
+    /// The zone that holds the network's reverse names.
     Reverse,
-    /// The address as a number.
+    /// The address as a decimal number.
     Integer,
-    /// The same in base 16.
+    /// The address as a hexadecimal number.
     Hexadecimal,
 }
 
-/// All of it, in the order in which it is printed.
+/// All fields, in the order in which they are printed.
 pub(crate) const FIELDS: [Field; 11] = [
     Field::Address,
     Field::Network,
@@ -44,7 +44,8 @@ pub(crate) const FIELDS: [Field; 11] = [
     Field::Hexadecimal,
 ];
 
-/// What stands before the value of a field: its name, with blanks up to the column of the values, or as JSON.
+/// Returns what stands before the value of a field: its name, padded with spaces to the column of
+/// the values, or what opens the string of its JSON member.
 pub(crate) fn before_value(json: bool, field: Field) -> &'static str {
     if json {
         before_string(field)
@@ -53,7 +54,7 @@ pub(crate) fn before_value(json: bool, field: Field) -> &'static str {
     }
 }
 
-// The name of a field, with blanks up to the column of the values.
+// Returns the name of a field, padded with spaces to the column of the values.
 fn padded_name(field: Field) -> &'static str {
     match field {
         Field::Address => "address      ",
@@ -70,7 +71,8 @@ fn padded_name(field: Field) -> &'static str {
     }
 }
 
-// The name of a field of an object of JSON, up to the mark that opens its string.
+// Returns what stands before the value of a field in a JSON object, up to the quote that opens its
+// string.
 fn before_string(field: Field) -> &'static str {
     match field {
         Field::Address => "{\"address\":\"",
@@ -87,7 +89,7 @@ fn before_string(field: Field) -> &'static str {
     }
 }
 
-/// What stands behind the value of a field.
+/// Returns what follows the value of a field.
 pub(crate) fn behind_value(json: bool, field: Field) -> &'static str {
     match (json, field) {
         (false, _) => "\n",

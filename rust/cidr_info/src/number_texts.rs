@@ -1,12 +1,12 @@
 // Written by scripts/plain out of crates/cidr_info/src/number_texts.rt
 
-//! Numbers as texts.
+//! Decimal and hexadecimal texts of numbers.
 
 use crate::value::VALUE_MAX;
 use fosibegan::plain_std::arrayvec::ArrayString;
 use fosibegan::ipnetwork_addr::decimal::push_number;
 
-/// Two to the power of a number of bits, in decimal.
+/// Returns two to the power of `bits`, in decimal.
 pub(crate) fn power_text(bits: u8) -> ArrayString<VALUE_MAX> {
     if bits == 128 {
         let mut text = ArrayString::new();
@@ -16,14 +16,14 @@ pub(crate) fn power_text(bits: u8) -> ArrayString<VALUE_MAX> {
     decimal_text(1 << bits)
 }
 
-/// A number in decimal.
+/// Returns a number in decimal.
 pub(crate) fn decimal_text(number: u128) -> ArrayString<VALUE_MAX> {
     let mut text = ArrayString::new();
     push_number(&mut text, number);
     text
 }
 
-/// A number in base 16, behind `0x`, with this many digits.
+/// Returns `0x` and the last `count` hexadecimal digits of a number.
 pub(crate) fn hex_text(number: u128, count: u8) -> ArrayString<VALUE_MAX> {
     let mut text = ArrayString::new();
     text.push_str("0x");
@@ -31,7 +31,7 @@ pub(crate) fn hex_text(number: u128, count: u8) -> ArrayString<VALUE_MAX> {
     text
 }
 
-// Writes the last digits of base 16 of a number, this many.
+// Appends the last `count` hexadecimal digits of a number.
 #[inline]
 fn push_hex(text: &mut ArrayString<VALUE_MAX>, number: u128, count: u8) {
     if count > 0 {
@@ -40,7 +40,7 @@ fn push_hex(text: &mut ArrayString<VALUE_MAX>, number: u128, count: u8) {
     }
 }
 
-/// A digit of base 16.
+/// Returns the character of a hexadecimal digit.
 pub(crate) fn hex_digit(digit: u8) -> char {
     if digit < 10 {
         char::from(b'0' + digit)

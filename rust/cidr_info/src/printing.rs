@@ -1,6 +1,6 @@
 // Written by scripts/plain out of crates/cidr_info/src/printing.rt
 
-//! What is printed of networks.
+//! Prints the fields of networks.
 
 use crate::field::{FIELDS, Field, before_value, behind_value};
 use crate::said::Said;
@@ -11,7 +11,7 @@ use cidr_programs::lines::output::Output;
 use cidr_programs::program::putting::put_all;
 use fosibegan::plain_std::io::Write;
 
-/// Prints what there is to tell of the networks that these texts name: blocks of lines, or as JSON.
+/// Prints the fields of the networks that these texts name: as blocks of lines, or as JSON.
 pub(crate) fn put_infos<W: Write>(
     json: bool,
     all: &[Said<'_>],
@@ -25,12 +25,12 @@ pub(crate) fn put_infos<W: Write>(
     Ok(())
 }
 
-// Whether the network behind this one, if there is one, is the first.
+// Whether the next network will be the first to be printed.
 fn stays_first(is_first: bool, network: Option<IpNetwork>) -> bool {
     is_first && network.is_none()
 }
 
-// Prints what there is to tell of a network, if there is one, which may be the first.
+// Prints the fields of a network, if there is one.
 fn put_if_named<W: Write>(
     is_first: bool,
     json: bool,
@@ -43,12 +43,12 @@ fn put_if_named<W: Write>(
     }
 }
 
-// What stands before a network, which is the first or not.
+// Returns what stands before a network: an empty line, but nothing before the first or before JSON.
 fn separator(is_first: bool, json: bool) -> &'static str {
     if is_first || json { "" } else { "\n" }
 }
 
-// Prints this, and then what there is to tell of a network.
+// Prints `before`, and then the fields of a network.
 fn put_info<W: Write>(
     before: &str,
     json: bool,
@@ -59,7 +59,7 @@ fn put_info<W: Write>(
     put_rows(json, network, output)
 }
 
-// Prints what there is to tell of a network.
+// Prints the fields of a network.
 fn put_rows<W: Write>(
     json: bool,
     network: &IpNetwork,
@@ -71,7 +71,7 @@ fn put_rows<W: Write>(
     Ok(())
 }
 
-// Prints what a field tells of a network.
+// Prints one field of a network.
 fn put_row<W: Write>(
     json: bool,
     field: Field,

@@ -4,30 +4,30 @@
 
 use cidr_programs::options::table::{Kind, Pair, Row, Table, long, pair};
 
-/// The row of `--in`.
+/// The index of the row of `--in`.
 pub(crate) const IN: usize = 0;
 
-/// The row of `--json`.
+/// The index of the row of `--json`.
 pub(crate) const JSON: usize = 1;
 
-/// What is told of a value of `--in` that names no network.
-pub(crate) const NO_NETWORK: &str = "is no network";
+/// What is reported about a value of `--in` that names no network.
+pub(crate) const NO_NETWORK: &str = "not a network";
 
-// The options.
+// The rows of the options.
 const ROWS: [Row; 4] = [
     long!("--in", Text, true, NO_NETWORK),
     long!("--json", Flag, false, ""),
-    long!("--help", Alone, false, "is not the only argument"),
-    long!("--version", Alone, false, "is not the only argument"),
+    long!("--help", Alone, false, "not the only argument"),
+    long!("--version", Alone, false, "not the only argument"),
 ];
 
-// Which do not go together, and that `--in` is given once at the most.
+// `--in` may be given only once, and not together with `--json`.
 const PAIRS: [Pair; 2] = [
     pair!(IN, IN, "--in is given more than once"),
     pair!(IN, JSON, "--in does not go with --json"),
 ];
 
-/// The options, none of which has to be given.
+/// Returns the table of the options, none of which is required.
 pub(crate) fn table() -> Table<'static> {
     Table {
         rows: &ROWS,

@@ -1,6 +1,6 @@
 // Written by scripts/plain out of crates/cidr_info/src/run.rt
 
-//! The run that the program makes.
+//! A run of the program.
 
 use fosibegan::plain_std::vec::Vec;
 use fosibegan::plain_std::string::String;
@@ -27,7 +27,7 @@ use cidr_programs::program::start::text_asked;
 use fosibegan::plain_std::alloc::Global;
 use fosibegan::plain_std::io::Write;
 
-/// The most bytes of standard input.
+/// The most bytes that are read of standard input.
 const INPUT_MAX: usize = 1_073_741_824;
 
 /// Does what the words after the program's name ask for, and returns the exit status.
@@ -51,7 +51,7 @@ pub(crate) fn run<L: OpenLists, W: Write, E: Write>(
     read(alloc, items.as_slice(), lists, output, errors)
 }
 
-// What is wrong with a command line that says this: with its words, or with the value of `--in`.
+// Returns what is wrong with a command line: with its words, or else with the value of `--in`.
 fn fault_of<'a>(table: &Table<'_>, items: &[Item<'a>]) -> Option<Fault<'a>> {
     match operands_fault(table, items) {
         Some(fault) => Some(fault),
@@ -59,7 +59,7 @@ fn fault_of<'a>(table: &Table<'_>, items: &[Item<'a>]) -> Option<Fault<'a>> {
     }
 }
 
-// What is wrong with the value of `--in`, if it is given: it names no network.
+// Returns the fault of `--in`, if the option is given with a value that names no network.
 fn in_fault<'a>(items: &[Item<'a>]) -> Option<Fault<'a>> {
     if is_given(items, IN) && outer_of(items).is_none() {
         let value = Text::new(value_of(items, IN));
@@ -68,7 +68,8 @@ fn in_fault<'a>(items: &[Item<'a>]) -> Option<Fault<'a>> {
     None
 }
 
-// The network that `--in` gives.
+// Returns the network that the value of `--in` names, if the option is given and its value names
+// one.
 fn outer_of(items: &[Item<'_>]) -> Option<IpNetwork> {
     if is_given(items, IN) {
         network_in(value_of(items, IN).as_bytes())
@@ -94,7 +95,7 @@ fn read<L: OpenLists, W: Write, E: Write>(
     }
 }
 
-// The bytes of standard input, or none if no word asks for it.
+// Returns the bytes of standard input, or none if no word asks for it.
 fn input_of<L: OpenLists>(
     alloc: Global,
     items: &[Item<'_>],
@@ -107,7 +108,7 @@ fn input_of<L: OpenLists>(
     }
 }
 
-// Answers what is asked for of the words and of the lines of this input.
+// Answers the words of the command line, with the lines of this input in the place of `-`.
 fn answer<W: Write, E: Write>(
     alloc: Global,
     items: &[Item<'_>],
@@ -125,7 +126,7 @@ fn answer<W: Write, E: Write>(
     end(written, status, errors)
 }
 
-// The exit status by these texts: 2 if one of them names no network.
+// Returns the exit status for these texts: 2 if one of them names no network.
 fn status_of(outer: Option<IpNetwork>, all: &[Said<'_>]) -> u8 {
     if is_refused(all) {
         return FAILED;
@@ -138,7 +139,8 @@ fn is_refused(all: &[Said<'_>]) -> bool {
     all.iter().any(|said| said.network().is_none())
 }
 
-// The exit status if each of them names one: 1 if one is to lie within a network and does not, or there is none to.
+// Returns the exit status if each text names a network: with an outer network, 1 if one of them
+// does not lie within it, or if there are no texts; else 0.
 fn within_status(outer: Option<IpNetwork>, all: &[Said<'_>]) -> u8 {
     match outer {
         Some(outer) => {
@@ -152,14 +154,15 @@ fn within_status(outer: Option<IpNetwork>, all: &[Said<'_>]) -> u8 {
     }
 }
 
-// Whether each of these texts names a network that lies within this one.
+// Whether each of these texts names a network that lies within `outer`.
 fn all_within(outer: IpNetwork, all: &[Said<'_>]) -> bool {
     all.iter().all(|said| is_within(outer, said.network()))
 }
 
-// Whether a network lies within another.
+// Whether there is a network, and it lies within `outer`.
 fn is_within(outer: IpNetwork, network: Option<IpNetwork>) -> bool {
-    // Does nothing: the proof of this body needs the law, and from the next two calls that these are networks.
+    // This call does nothing: the proof of this body needs its law, and learns from the two calls
+    // of `prefix` that these are networks.
     match network {
         Some(network) => {
             let _ = network.prefix();
@@ -170,7 +173,7 @@ fn is_within(outer: IpNetwork, network: Option<IpNetwork>) -> bool {
     }
 }
 
-// Writes what waits and what there is to tell of the networks of these texts, unless `--in` is given.
+// Writes what waits and, unless `--in` is given, the fields of the networks that these texts name.
 fn write_answer<W: Write>(
     items: &[Item<'_>],
     all: &[Said<'_>],

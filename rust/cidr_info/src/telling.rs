@@ -1,6 +1,6 @@
 // Written by scripts/plain out of crates/cidr_info/src/telling.rt
 
-//! What is reported of texts that name no network, and of standard input.
+//! Reports texts that name no network, and faults of standard input.
 
 use crate::help::PROGRAM;
 use crate::said::Said;
@@ -36,7 +36,8 @@ fn tell_refusal<E: Write>(said: &Said<'_>, errors: &mut Output<'_, E>) {
     tell("\n", errors);
 }
 
-// Writes where a text stands: the word, without what a terminal obeys, or `-` and the number of the line.
+// Writes where a text stands: the word, with control characters escaped, or `-` and the line
+// number.
 fn tell_place<E: Write>(said: &Said<'_>, errors: &mut Output<'_, E>)
 {
     let line = said.line();
@@ -48,7 +49,8 @@ fn tell_place<E: Write>(said: &Said<'_>, errors: &mut Output<'_, E>)
     }
 }
 
-// Why a text names no network, in a word, or what it is, if it is no plain text.
+// Returns the name of the encoding, if the text is not plain text, and else why it names no
+// network.
 fn cause_word(text: &[u8]) -> &'static str {
     match encoding_of(text) {
         Some(encoding) => encoding.text(),
@@ -56,9 +58,9 @@ fn cause_word(text: &[u8]) -> &'static str {
     }
 }
 
-// Why a plain text names no network, in a word.
+// Returns why a plain text names no network, in one word.
 fn plain_word(text: &[u8]) -> &'static str {
-    // Do nothing: the proof of this body needs the laws.
+    // These two calls do nothing: the proof of this body needs their laws.
     match cause(text) {
         Some(CidrFault::Format) => "format",
         Some(CidrFault::Prefix) => "prefix",

@@ -1,6 +1,6 @@
 // Written by scripts/plain out of crates/cidr_info/src/value.rt
 
-//! What a field tells of a network.
+//! The values of the fields of a network.
 
 use crate::field::Field;
 use crate::number_texts::{decimal_text, hex_text, power_text};
@@ -9,10 +9,10 @@ use fosibegan::plain_std::arrayvec::ArrayString;
 use fosibegan::ipnetwork::{IpAddr, IpNetwork, Ipv4Addr, Ipv4Network, Ipv6Addr};
 use fosibegan::ipnetwork_addr::decimal::push_decimal;
 
-/// The most bytes of a value: two addresses of IPv6 with ` - ` between them.
+/// The most bytes of a value: two IPv6 addresses with ` - ` between them.
 pub(crate) const VALUE_MAX: usize = 81;
 
-/// What a field tells of a network.
+/// Returns the value of a field of a network, as text.
 pub(crate) fn value_of(field: Field, network: &IpNetwork) -> ArrayString<VALUE_MAX> {
     match field {
         Field::Address => address_text(network.ip()),
@@ -29,14 +29,14 @@ pub(crate) fn value_of(field: Field, network: &IpNetwork) -> ArrayString<VALUE_M
     }
 }
 
-// The canonical text of an address.
+// Returns the canonical text of an address.
 fn address_text(address: IpAddr) -> ArrayString<VALUE_MAX> {
     let mut text = ArrayString::new();
     text.push_text(&address.canonical());
     text
 }
 
-// The canonical text of a network without host bits.
+// Returns the canonical text of a network without its host bits.
 fn block_text(network: &IpNetwork) -> ArrayString<VALUE_MAX> {
     let mut text = address_text(network.network());
     text.push_str("/");
@@ -44,7 +44,7 @@ fn block_text(network: &IpNetwork) -> ArrayString<VALUE_MAX> {
     text
 }
 
-// The complement of the mask of a network, as an address.
+// Returns the complement of the mask of a network, as an address.
 fn wildcard_of(network: &IpNetwork) -> IpAddr {
     match network.mask() {
         IpAddr::V4(mask) => IpAddr::V4(Ipv4Addr::from(u32::MAX - u32::from(mask))),
@@ -52,7 +52,7 @@ fn wildcard_of(network: &IpNetwork) -> IpAddr {
     }
 }
 
-// The first and the last address of a network that a host may have, with ` - ` between them.
+// Returns the first and the last address that a host may have, with ` - ` between them.
 fn hosts_text(network: &IpNetwork) -> ArrayString<VALUE_MAX> {
     let (first, last) = hosts_of(network);
     let mut text = address_text(first);
@@ -61,7 +61,7 @@ fn hosts_text(network: &IpNetwork) -> ArrayString<VALUE_MAX> {
     text
 }
 
-// The first and the last address of a network that a host may have.
+// Returns the first and the last address that a host of a network may have.
 fn hosts_of(network: &IpNetwork) -> (IpAddr, IpAddr) {
     match network {
         IpNetwork::V4(network) => {
@@ -78,7 +78,7 @@ fn hosts_of(network: &IpNetwork) -> (IpAddr, IpAddr) {
     }
 }
 
-// The same of an IPv4 network, as numbers.
+// Returns the first and the last address that a host of an IPv4 network may have, as numbers.
 fn v4_hosts_of(network: &Ipv4Network) -> (u32, u32) {
     let first = u32::from(network.network());
     let last = u32::from(network.broadcast());
@@ -89,7 +89,7 @@ fn v4_hosts_of(network: &Ipv4Network) -> (u32, u32) {
     }
 }
 
-// How many bits of the addresses of a network are not fixed.
+// Returns the number of host bits of a network.
 fn host_bits(network: &IpNetwork) -> u8 {
     match network {
         IpNetwork::V4(network) => 32 - network.prefix(),
@@ -97,7 +97,7 @@ fn host_bits(network: &IpNetwork) -> u8 {
     }
 }
 
-// An address as a number.
+// Returns an address as a number.
 fn number_of(address: IpAddr) -> u128 {
     match address {
         IpAddr::V4(address) => u128::from(u32::from(address)),
@@ -105,7 +105,7 @@ fn number_of(address: IpAddr) -> u128 {
     }
 }
 
-// How many digits of base 16 the addresses of an address's family have.
+// Returns the number of hexadecimal digits of an address of this family.
 fn hex_width(address: IpAddr) -> u8 {
     match address {
         IpAddr::V4(_) => 8,

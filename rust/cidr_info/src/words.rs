@@ -8,7 +8,7 @@ use cidr_programs::lists::{ByteKind, trim};
 use cidr_programs::options::items::Item;
 use fosibegan::plain_std::alloc::{AllocError, Global};
 
-// What may stand around a text in a line: spaces, tabs and carriage returns.
+// The bytes that are trimmed from a line: spaces, tabs and carriage returns.
 struct Blank;
 
 impl ByteKind for Blank {
@@ -17,7 +17,7 @@ impl ByteKind for Blank {
     }
 }
 
-/// Whether one of the words is `-`, which is standard input.
+/// Whether one of the words is `-`, which stands for standard input.
 pub(crate) fn reads_input(items: &[Item<'_>]) -> bool {
     items.iter().any(|item| is_input(item))
 }
@@ -30,7 +30,9 @@ fn is_input(item: &Item<'_>) -> bool {
     }
 }
 
-/// What the words say, in turn, of which `-` stands for the lines of this input.
+/// Returns what the words say, in their order; `-` stands for the lines of `input`.
+///
+/// An error is returned if memory runs out.
 pub(crate) fn words_said<'a>(
     alloc: Global,
     items: &[Item<'a>],
@@ -45,7 +47,7 @@ pub(crate) fn words_said<'a>(
     Ok(all)
 }
 
-// Adds what a word says.
+// Appends what a word says.
 fn put_word<'a>(item: &Item<'a>, input: &'a [u8], all: &mut Vec<Said<'a>>) -> Result<(), AllocError> {
     if is_input(item) {
         return put_lines(input, all);
@@ -57,7 +59,7 @@ fn put_word<'a>(item: &Item<'a>, input: &'a [u8], all: &mut Vec<Said<'a>>) -> Re
     Ok(())
 }
 
-// Adds what the lines of an input say.
+// Appends what the lines of an input say.
 fn put_lines<'a>(input: &'a [u8], all: &mut Vec<Said<'a>>) -> Result<(), AllocError> {
     let mut line = 1u64;
     for bytes in input.split(|byte| *byte == b'\n') {
@@ -67,7 +69,7 @@ fn put_lines<'a>(input: &'a [u8], all: &mut Vec<Said<'a>>) -> Result<(), AllocEr
     Ok(())
 }
 
-// Adds what a line says, if that is something.
+// Appends what a line says, unless it is empty or a comment.
 fn put_line<'a>(line: u64, bytes: &'a [u8], all: &mut Vec<Said<'a>>) -> Result<(), AllocError> {
     let text = trim::<Blank>(bytes);
     if !is_skipped(text) {
@@ -76,7 +78,7 @@ fn put_line<'a>(line: u64, bytes: &'a [u8], all: &mut Vec<Said<'a>>) -> Result<(
     Ok(())
 }
 
-// Whether a text, without the blanks around it, is empty or a comment.
+// Whether a text without the blanks around it is empty or a comment.
 fn is_skipped(text: &[u8]) -> bool {
     match text.first() {
         Some(byte) => *byte == b'#',

@@ -1,6 +1,6 @@
 // Written by scripts/plain out of crates/cidr_info/src/zone.rt
 
-//! The zone of the reverse names of a network.
+//! The zone that holds the reverse names of a network.
 
 use crate::number_texts::hex_digit;
 use crate::value::VALUE_MAX;
@@ -8,7 +8,8 @@ use fosibegan::plain_std::arrayvec::ArrayString;
 use fosibegan::ipnetwork::IpNetwork;
 use fosibegan::ipnetwork_addr::decimal::push_decimal;
 
-/// The zone of the reverse names of the whole octets of an IPv4 network, or of the whole nibbles of an IPv6 network.
+/// Returns the reverse zone of a network: that of the octets that its prefix length covers in full,
+/// or of the nibbles of an IPv6 network.
 pub(crate) fn zone_text(network: &IpNetwork) -> ArrayString<VALUE_MAX> {
     let mut text = ArrayString::new();
     match network {
@@ -24,7 +25,7 @@ pub(crate) fn zone_text(network: &IpNetwork) -> ArrayString<VALUE_MAX> {
     text
 }
 
-// Writes the first octets of an address, this many, the last of them first, each with a dot behind it.
+// Appends the first `count` octets of an address, the last of them first, each followed by a dot.
 #[inline]
 fn push_octets(text: &mut ArrayString<VALUE_MAX>, address: u32, count: u8) {
     if count > 0 {
@@ -34,12 +35,12 @@ fn push_octets(text: &mut ArrayString<VALUE_MAX>, address: u32, count: u8) {
     }
 }
 
-// The octet behind this many others of an address.
+// Returns the octet of an address that comes after `place` others.
 fn octet_at(place: u8, address: u32) -> u8 {
     ((address >> (8 * (3 - place))) % 256) as u8
 }
 
-// Writes the first nibbles of an address, this many, the last of them first, each with a dot behind it.
+// Appends the first `count` nibbles of an address, the last of them first, each followed by a dot.
 #[inline]
 fn push_nibbles(text: &mut ArrayString<VALUE_MAX>, address: u128, count: u8) {
     if count > 0 {
@@ -49,7 +50,7 @@ fn push_nibbles(text: &mut ArrayString<VALUE_MAX>, address: u128, count: u8) {
     }
 }
 
-// The nibble behind this many others of an address.
+// Returns the nibble of an address that comes after `place` others.
 fn nibble_at(place: u8, address: u128) -> u8 {
     ((address >> (4 * (31 - place))) % 16) as u8
 }

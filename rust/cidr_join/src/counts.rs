@@ -34,18 +34,20 @@ impl Counts {
 
     /// Counts a text by its bytes. Allocates only if these were not counted before.
     pub(crate) fn count_text(&mut self, alloc: Global, text: &[u8]) -> Result<(), AllocError> {
-        self.tally.count(alloc, text, 1)
+        self.tally.count(alloc, text, 1, false)
     }
 
     /// The counts and their texts, most first, and those of one count by the bytes of the texts, if
-    /// these are what the numbers stand for.
+    /// these are what the numbers stand for. If `zeros`, what a number stands for that was not
+    /// counted has the count 0.
     pub(crate) fn into_rows(
         self,
         alloc: Global,
         founds: &[Found<'_>],
+        zeros: bool,
     ) -> Result<Vec<Row>, AllocError> {
         let mut tally = self.tally;
-        count_each(alloc, founds, self.numbers.as_slice(), &mut tally)?;
+        count_each(alloc, founds, self.numbers.as_slice(), zeros, &mut tally)?;
         tally.into_rows(alloc)
     }
 }
@@ -60,29 +62,29 @@ fn count_each(
     alloc: Global,
     founds: &[Found<'_>],
     numbers: &[u64],
+    zeros: bool,
     tally: &mut Tally,
 ) -> Result<(), AllocError> {
     for place in 0..founds.len().min(numbers.len()) {
-        count_found(alloc, &founds[place], numbers[place], tally)?;
+        count_found(alloc, &founds[place], numbers[place], zeros, tally)?;
     }
     Ok(())
 }
 
-// Counts what is printed of an address so often.
+// Counts what is printed of an address so often. If `zeros`, it keeps what is of a network and was
+// counted never.
 fn count_found(
     alloc: Global,
     found: &Found<'_>,
     count: u64,
+    zeros: bool,
     tally: &mut Tally,
 ) -> Result<(), AllocError> {
-    if count == 0 {
-        return Ok(());
-    }
     match found {
         Found::Network(network) => {
-            tally.count(alloc, network.canonical().as_bytes(), count)
+            tally.count(alloc, network.canonical().as_bytes(), count, zeros)
         }
-        Found::Value(value) => tally.count(alloc, value.bytes(), count),
-        Found::Nothing => tally.count(alloc, b"-", count),
+        Found::Value(value) => tally.count(alloc, value.bytes(), count, zeros),
+        Found::Nothing => tally.count(alloc, b"-", count, false),
     }
 }

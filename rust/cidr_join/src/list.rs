@@ -2,13 +2,17 @@
 
 //! Reads the networks of a list with their values.
 
-use crate::line::read_route;
+use crate::line::{Cause, read_route};
 use crate::routes::{Networks, RouteFault, set_one, set_range};
 use crate::value::Value;
 use fosibegan::byte_search::find_from;
 use fosibegan::ipnetwork::{IpAddr, IpNetwork};
+use cidr_programs::lines::output::Output;
 use cidr_programs::lists::Entry;
+use cidr_programs::program::log_fault::tell_line;
+use cidr_programs::program::telling::tell_more;
 use fosibegan::plain_std::alloc::Global;
+use fosibegan::plain_std::io::Write;
 
 /// How the lines of a list are taken.
 #[derive(Clone, Copy, Debug, PartialEq, Eq)]
@@ -17,6 +21,8 @@ pub struct ListRules {
     pub last_wins: bool,
     /// A line may have no value.
     pub bare: bool,
+    /// A refused line is reported and left out, and is no fault.
+    pub skips: bool,
 }
 
 /// Why a list is not taken to its end: a fault of the line after these.
@@ -28,26 +34,101 @@ pub struct TakeFault {
     pub fault: RouteFault,
 }
 
-/// The networks and values of the lines of a list, taken by these rules.
-pub(crate) fn networks_of<'a>(
+/// How many of the refused lines that are left out are reported; of the others it is told how many
+/// they are.
+const TOLD_MAX: usize = 100;
+
+/// What was taken of the lines of a list.
+pub struct Listing<'a> {
+    pub(crate) networks: Networks<'a>,
+    // How many lines there were.
+    pub(crate) lines: usize,
+    // How many of them were refused and left out.
+    pub(crate) skipped: usize,
+}
+
+/// The networks and values of the lines of the list of this name, taken by these rules.
+pub(crate) fn networks_of<'a, E: Write>(
     alloc: Global,
+    name: &str,
     text: &'a [u8],
     rules: ListRules,
+    errors: &mut Output<'_, E>,
 ) -> Result<Networks<'a>, TakeFault> {
-    let mut networks = Networks::new(alloc);
-    let mut lines = 0;
+    let mut listing = Listing {
+        networks: Networks::new(alloc),
+        lines: 0,
+        skipped: 0,
+    };
+    let end = take_lines(&mut listing, name, text, rules, errors);
+    tell_more(listing.skipped.saturating_sub(TOLD_MAX) as u64, errors);
+    match end {
+        Ok(()) => Ok(listing.networks),
+        Err(fault) => Err(fault),
+    }
+}
+
+// Takes the lines of a list of this name.
+fn take_lines<'a, E: Write>(
+    listing: &mut Listing<'a>,
+    name: &str,
+    text: &'a [u8],
+    rules: ListRules,
+    errors: &mut Output<'_, E>,
+) -> Result<(), TakeFault> {
     let mut at = 0;
     'lines: while let Some(end) = find_from(text, at, b'\n') {
-        if let Err(fault) = take_line(&mut networks, &text[at..end], rules) {
-            return Err(TakeFault { lines, fault });
+        if let Err(fault) = take_next(listing, name, &text[at..end], rules, errors) {
+            return Err(fault);
         }
-        lines += 1;
         at = end + 1;
     }
-    if let Err(fault) = take_line(&mut networks, &text[at..], rules) {
-        return Err(TakeFault { lines, fault });
+    take_next(listing, name, &text[at..], rules, errors)
+}
+
+// Takes the next line, or leaves it out.
+fn take_next<'a, E: Write>(
+    listing: &mut Listing<'a>,
+    name: &str,
+    line: &'a [u8],
+    rules: ListRules,
+    errors: &mut Output<'_, E>,
+) -> Result<(), TakeFault> {
+    let lines = listing.lines;
+    listing.lines += 1;
+    match take_line(&mut listing.networks, line, rules) {
+        Ok(()) => Ok(()),
+        Err(fault) => match left_out(rules, fault) {
+            Some(cause) => {
+                skip(&mut listing.skipped, name, lines, cause, errors);
+                Ok(())
+            }
+            None => Err(TakeFault { lines, fault }),
+        },
     }
-    Ok(networks)
+}
+
+// Why a line of this fault is left out, if it is.
+fn left_out(rules: ListRules, fault: RouteFault) -> Option<Cause> {
+    match fault {
+        RouteFault::Refused(cause) if rules.skips => Some(cause),
+        _ => None,
+    }
+}
+
+// Counts a line that is left out, the one after this many, and reports it, if it is one of the
+// first.
+fn skip<E: Write>(
+    skipped: &mut usize,
+    name: &str,
+    lines: usize,
+    cause: Cause,
+    errors: &mut Output<'_, E>,
+) {
+    *skipped += 1;
+    if *skipped <= TOLD_MAX {
+        tell_line(name, lines as u64, cause.text(), errors);
+    }
 }
 
 // Takes what a line says.

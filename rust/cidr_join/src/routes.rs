@@ -5,7 +5,7 @@
 use crate::line::Cause;
 use crate::value::Value;
 use fosibegan::ipnetwork::{IpAddr, IpNetwork, Ipv4Network, Ipv6Network};
-use fosibegan::ipnetwork_blocks::{AddressSpace, range_to_blocks};
+use fosibegan::ipnetwork_blocks::{AddressSpace, RangeBlocks, range_to_blocks};
 use fosibegan::ipnetwork_index::RouteIndex;
 use fosibegan::ipnetwork_table::PrefixTable;
 use fosibegan::plain_std::alloc::{AllocError, Global};
@@ -65,23 +65,25 @@ impl<'a> Routes<'a> {
     }
 }
 
-/// Gives a network a value. One that has a value gets this one if `last_wins`, and is refused if not.
+/// Gives a network a value. One that has a value gets this one if `last_wins`, and if not, it keeps
+/// its own, and this one is refused.
 pub(crate) fn set_one<'a, N: AddressSpace>(
     table: &mut PrefixTable<N, Value<'a>>,
     network: N,
     value: Value<'a>,
     last_wins: bool,
 ) -> Result<(), RouteFault> {
-    let Ok(had) = table.insert(network, value) else {
-        return Err(RouteFault::OutOfMemory);
-    };
-    if had.is_some() && !last_wins {
+    if !last_wins && table.get(network).is_some() {
         return Err(RouteFault::Refused(Cause::Twice));
     }
-    Ok(())
+    match table.insert(network, value) {
+        Ok(_) => Ok(()),
+        Err(_) => Err(RouteFault::OutOfMemory),
+    }
 }
 
-/// Gives a value to each of the fewest blocks that have the addresses from `first` to `last`.
+/// Gives a value to each of the fewest blocks that have the addresses from `first` to `last`, or to
+/// none of them.
 pub(crate) fn set_range<'a, N: AddressSpace>(
     table: &mut PrefixTable<N, Value<'a>>,
     first: N::Addr,
@@ -89,13 +91,42 @@ pub(crate) fn set_range<'a, N: AddressSpace>(
     value: Value<'a>,
     last_wins: bool,
 ) -> Result<(), RouteFault> {
-    // The clause `address` of this call says that `last` is an address of the family.
-    let _ = N::block(last, N::WIDTH);
-    let Some(mut blocks) = range_to_blocks::<N>(first, last) else {
-        unreachable!()
-    };
+    if refuses_range(table, first, last, last_wins) {
+        return Err(RouteFault::Refused(Cause::Twice));
+    }
+    let mut blocks = blocks_of::<N>(first, last);
     while let Some(block) = blocks.next() {
-        set_one(table, block, value, last_wins)?;
+        set_one(table, block, value, true)?;
     }
     Ok(())
+}
+
+// Whether a range is refused: one of the fewest blocks that have its addresses has a value, unless
+// `last_wins`.
+fn refuses_range<N: AddressSpace>(
+    table: &PrefixTable<N, Value<'_>>,
+    first: N::Addr,
+    last: N::Addr,
+    last_wins: bool,
+) -> bool {
+    let mut blocks = blocks_of::<N>(first, last);
+    if last_wins {
+        return false;
+    }
+    while let Some(block) = blocks.next() {
+        if table.get(block).is_some() {
+            return true;
+        }
+    }
+    false
+}
+
+// The fewest blocks that have the addresses from `first` to `last`.
+fn blocks_of<N: AddressSpace>(first: N::Addr, last: N::Addr) -> RangeBlocks<N> {
+    // The clause `address` of this call says that `last` is an address of the family.
+    let _ = N::block(last, N::WIDTH);
+    let Some(blocks) = range_to_blocks::<N>(first, last) else {
+        unreachable!()
+    };
+    blocks
 }

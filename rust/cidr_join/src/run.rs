@@ -12,7 +12,7 @@ use crate::list::{ListRules, networks_of};
 use crate::logs::join_logs;
 use crate::missing::status;
 use crate::routes::Routes;
-use crate::rows::{BAD, GROUP, LAST, LAST_WINS, NETWORK, TALLY, table};
+use crate::rows::{BAD, GROUP, LAST, LAST_WINS, NETWORK, SKIPS_BAD, TALLY, ZERO, table};
 use crate::tally_logs::tally_logs;
 use crate::telling::{tell_bytes_fault, tell_take_fault};
 use cidr_programs::lines::output::Output;
@@ -21,8 +21,10 @@ use cidr_programs::log_programs::areas::area_of;
 use cidr_programs::log_programs::rows::{LIST, MAPPED};
 use cidr_programs::log_programs::without_address::bad_in;
 use cidr_programs::options::asking::{About, asked};
+use cidr_programs::options::faults::{Subject, about};
 use cidr_programs::options::given::{inputs_of, is_given, value_of};
 use cidr_programs::options::items::Item;
+use cidr_programs::options::refusing::refuse;
 use cidr_programs::options::values::lengths_in;
 use cidr_programs::program::ending::{FAILED, end};
 use cidr_programs::program::log_reader::BUFFER_LEN;
@@ -61,10 +63,19 @@ fn join<L: OpenLists, W: Write, E: Write>(
     output: &mut Output<'_, W>,
     errors: &mut Output<'_, E>,
 ) -> u8 {
+    if lacks_tally(items) {
+        let fault = about(Subject::CommandLine, "--zero goes only with --tally");
+        return refuse(PROGRAM, USAGE, &[], &fault, errors);
+    }
     match inputs_of(alloc, items) {
         Ok(files) => join_files(alloc, items, files.as_slice(), lists, output, errors),
         Err(_) => refuse_memory(errors),
     }
+}
+
+// Whether `--zero` is given without `--tally`.
+fn lacks_tally(items: &[Item<'_>]) -> bool {
+    is_given(items, ZERO) && !is_given(items, TALLY)
 }
 
 // Reads the list, and then joins these logs to it, if their lines are not grouped in blocks.
@@ -118,7 +129,7 @@ fn join_to<L: OpenLists, W: Write, E: Write>(
     output: &mut Output<'_, W>,
     errors: &mut Output<'_, E>,
 ) -> u8 {
-    let networks = match networks_of(alloc, text, rules_of(items)) {
+    let networks = match networks_of(alloc, name, text, rules_of(items), errors) {
         Ok(networks) => networks,
         Err(fault) => {
             tell_take_fault(name, fault, errors);
@@ -138,6 +149,7 @@ fn rules_of(items: &[Item<'_>]) -> ListRules {
     ListRules {
         last_wins: is_given(items, LAST_WINS),
         bare: is_given(items, NETWORK),
+        skips: is_given(items, SKIPS_BAD),
     }
 }
 
@@ -185,5 +197,6 @@ fn join_of<'a>(items: &[Item<'a>], answers: Answers<'a>) -> Join<'a>
         mapped: is_given(items, MAPPED),
         last: is_given(items, LAST),
         bad: bad_in(value_of(items, BAD)),
+        zeros: is_given(items, ZERO),
     }
 }

@@ -23,8 +23,18 @@ impl Tally {
         }
     }
 
-    /// Counts a text so often. Allocates only if it was not counted before.
-    pub(crate) fn count(&mut self, alloc: Global, text: &[u8], count: u64) -> Result<(), AllocError> {
+    /// Counts a text so often, of which it keeps that it was counted never, if `named`. Allocates
+    /// only if it does not have the text.
+    pub(crate) fn count(
+        &mut self,
+        alloc: Global,
+        text: &[u8],
+        count: u64,
+        named: bool,
+    ) -> Result<(), AllocError> {
+        if count == 0 && !named {
+            return Ok(());
+        }
         if let Some(before) = self.counts.get_mut(text) {
             *before = before.saturating_add(count);
             return Ok(());

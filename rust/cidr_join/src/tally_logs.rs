@@ -54,7 +54,7 @@ pub(crate) fn tally_logs<L: OpenLists, W: Write, E: Write>(
     ) else {
         return FAILED;
     };
-    let Ok(rows) = counts.into_rows(alloc, founds) else {
+    let Ok(rows) = counts.into_rows(alloc, founds, join.zeros) else {
         return refuse_memory(errors);
     };
     let written = write_rows(rows.as_slice(), output);

@@ -2,24 +2,29 @@
 
 //! Prints addresses.
 
+use crate::set_names::{SetNames, put_line};
 use fosibegan::ipnetwork::{Address, NetworkIterator};
 use cidr_programs::lines::fault::RunFault;
 use cidr_programs::lines::output::Output;
-use cidr_programs::program::putting::put_all;
 use fosibegan::plain_std::io::Write;
 
 /// Prints each of the addresses on a line.
 pub(crate) fn print_addresses<A: Address, W: Write>(
+    names: &SetNames<'_>,
     mut addresses: NetworkIterator<A>,
     output: &mut Output<'_, W>,
 ) -> Result<(), RunFault> {
     while let Some(address) = addresses.next() {
-        put_address(address, output)?;
+        put_address(names, address, output)?;
     }
     Ok(())
 }
 
 // Prints an address on a line.
-fn put_address<A: Address, W: Write>(address: A, output: &mut Output<'_, W>) -> Result<(), RunFault> {
-    put_all(&[address.canonical().as_str(), "\n"], output)
+fn put_address<A: Address, W: Write>(
+    names: &SetNames<'_>,
+    address: A,
+    output: &mut Output<'_, W>,
+) -> Result<(), RunFault> {
+    put_line(names, address.canonical().as_str(), output)
 }

@@ -97,13 +97,13 @@ pub enum Command {
 }
 
 /// What is asked for, and the FILEs, those of the first side first.
-pub struct Asked {
+pub struct Asked<'a> {
     /// What is asked for.
     pub command: Command,
     /// The FILEs.
     pub names: Vec<String>,
-    /// The names of the sets that an export fills.
-    pub sets: SetNames,
+    /// The names of the sets that an export fills, and what stands around each line.
+    pub sets: SetNames<'a>,
 }
 
 /// What the words after the program's name ask for, or what is wrong with them, unless memory runs out.
@@ -111,7 +111,7 @@ pub(crate) fn command_of<'a>(
     alloc: Global,
     table: &Table<'_>,
     words: &'a [String],
-) -> Result<Result<Asked, Fault<'a>>, AllocError> {
+) -> Result<Result<Asked<'a>, Fault<'a>>, AllocError> {
     let Some((name, others)) = words.split_first() else {
         return Ok(Err(about(Subject::CommandLine, "no operation")));
     };
@@ -128,7 +128,7 @@ fn command_for<'a>(
     task: Task,
     name: &'a str,
     others: &'a [String],
-) -> Result<Result<Asked, Fault<'a>>, AllocError> {
+) -> Result<Result<Asked<'a>, Fault<'a>>, AllocError> {
     let mut items = items_of(alloc, table.rows, before_dashes(others))?;
     let mut names = files_of(alloc, items.as_slice())?;
     let middle = names.len();

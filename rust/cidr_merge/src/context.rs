@@ -14,6 +14,6 @@ pub(crate) struct Context<'a, L> {
     pub names: &'a [String],
     /// The lists that it can open.
     pub lists: &'a L,
-    /// The names of the sets that an export fills.
-    pub sets: &'a SetNames,
+    /// The names of the sets that an export fills, and what stands around each line.
+    pub sets: &'a SetNames<'a>,
 }

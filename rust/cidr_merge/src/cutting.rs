@@ -2,46 +2,49 @@
 
 //! Cuts networks into those of one prefix length.
 
+use crate::set_names::{SetNames, put_line};
 use fosibegan::ipnetwork::{Address, CidrNetwork, Network};
 use fosibegan::ipnetwork_blocks::subnets;
 use fosibegan::ipnetwork_sets::AddressSet;
 use cidr_programs::lines::fault::RunFault;
 use cidr_programs::lines::output::Output;
-use cidr_programs::program::putting::put_all;
 use fosibegan::plain_std::io::Write;
 
 /// Prints the pieces of this prefix length of each block of a set.
 pub(crate) fn print_pieces<A: Address, W: Write>(
+    names: &SetNames<'_>,
     length: u8,
     set: &AddressSet<Network<A>>,
     output: &mut Output<'_, W>,
 ) -> Result<(), RunFault> {
     let mut blocks = set.iter();
     while let Some(block) = blocks.next() {
-        print_block(length, block, output)?;
+        print_block(names, length, block, output)?;
     }
     Ok(())
 }
 
 // Prints the pieces of a block.
 fn print_block<A: Address, W: Write>(
+    names: &SetNames<'_>,
     length: u8,
     block: Network<A>,
     output: &mut Output<'_, W>,
 ) -> Result<(), RunFault> {
     let Some(mut pieces) = subnets(block, length) else {
-        return put_network(block, output);
+        return put_network(names, block, output);
     };
     while let Some(piece) = pieces.next() {
-        put_network(piece, output)?;
+        put_network(names, piece, output)?;
     }
     Ok(())
 }
 
-// Prints a network on a line.
-fn put_network<A: Address, W: Write>(
+/// Prints a network on a line.
+pub(crate) fn put_network<A: Address, W: Write>(
+    names: &SetNames<'_>,
     network: Network<A>,
     output: &mut Output<'_, W>,
 ) -> Result<(), RunFault> {
-    put_all(&[network.canonical().as_str(), "\n"], output)
+    put_line(names, network.canonical().as_str(), output)
 }

@@ -3,6 +3,7 @@
 //! How a block is written in an export.
 
 use crate::addresses::print_addresses;
+use crate::cutting::put_network;
 use crate::exports::{Export, Version, family_word};
 use crate::set_names::{Name, SetNames};
 use fosibegan::plain_std::arrayvec::ArrayString;
@@ -22,19 +23,19 @@ type Line = ArrayString<LINE_CAPACITY>;
 /// Writes a block.
 pub(crate) fn print_element<A: Address, W: Write>(
     export: Export,
-    names: &SetNames,
+    names: &SetNames<'_>,
     version: Version,
     block: Network<A>,
     output: &mut Output<'_, W>,
 ) -> Result<(), RunFault> {
     match export {
-        Export::Netmask => put_with_mask(version, block, block.mask(), output),
-        Export::Wildcard => put_with_mask(version, block, wildcard(block), output),
+        Export::Netmask => put_with_mask(names, version, block, block.mask(), output),
+        Export::Wildcard => put_with_mask(names, version, block, wildcard(block), output),
         Export::Csv => output.put(csv_line(version, block).as_bytes()),
         Export::Nft => output.put(block.canonical().as_bytes()),
         Export::Ipset => put_ipset(names.set, version, block, output),
         Export::Json => put_all(&["\"", block.canonical().as_str(), "\""], output),
-        Export::Addresses => print_addresses(block.iter(), output),
+        Export::Addresses => print_addresses(names, block.iter(), output),
     }
 }
 
@@ -45,6 +46,7 @@ fn wildcard<A: Address>(block: Network<A>) -> A {
 
 // Writes a line with the address of an IPv4 block and this mask, or with the text of an IPv6 block.
 fn put_with_mask<A: Address, W: Write>(
+    names: &SetNames<'_>,
     version: Version,
     block: Network<A>,
     mask: A,
@@ -53,14 +55,16 @@ fn put_with_mask<A: Address, W: Write>(
     match version {
         Version::V4 => put_all(
             &[
+                names.before,
                 block.ip().canonical().as_str(),
                 " ",
                 mask.canonical().as_str(),
+                names.after,
                 "\n",
             ],
             output,
         ),
-        Version::V6 => put_all(&[block.canonical().as_str(), "\n"], output),
+        Version::V6 => put_network(names, block, output),
     }
 }
 

@@ -15,7 +15,7 @@ use fosibegan::plain_std::io::Write;
 /// Prints an export of the blocks of both families.
 pub(crate) fn print_export<W: Write>(
     export: Export,
-    names: &SetNames,
+    names: &SetNames<'_>,
     v4: Sweep<'_, Ipv4Network>,
     v6: Sweep<'_, Ipv6Network>,
     output: &mut Output<'_, W>,
@@ -30,7 +30,7 @@ pub(crate) fn print_export<W: Write>(
 // printed yet.
 fn print_family<A: Address, W: Write>(
     export: Export,
-    names: &SetNames,
+    names: &SetNames<'_>,
     version: Version,
     follows: bool,
     blocks: Sweep<'_, Network<A>>,
@@ -45,7 +45,7 @@ fn print_family<A: Address, W: Write>(
 // Prints the blocks of a family with what stands around them.
 fn print_listed<A: Address, W: Write>(
     export: Export,
-    names: &SetNames,
+    names: &SetNames<'_>,
     version: Version,
     follows: bool,
     mut blocks: Sweep<'_, Network<A>>,
@@ -65,7 +65,7 @@ fn print_listed<A: Address, W: Write>(
 // Prints the blocks after the first of a family.
 fn print_following<A: Address, W: Write>(
     export: Export,
-    names: &SetNames,
+    names: &SetNames<'_>,
     version: Version,
     mut blocks: Sweep<'_, Network<A>>,
     output: &mut Output<'_, W>,
@@ -81,7 +81,7 @@ fn print_following<A: Address, W: Write>(
 fn print_after<A: Address, W: Write>(
     text: &str,
     export: Export,
-    names: &SetNames,
+    names: &SetNames<'_>,
     version: Version,
     block: Network<A>,
     output: &mut Output<'_, W>,

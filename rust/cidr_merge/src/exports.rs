@@ -84,7 +84,7 @@ pub enum Frame {
 /// Writes what stands around the blocks.
 pub(crate) fn put_frame<W: Write>(
     export: Export,
-    names: &SetNames,
+    names: &SetNames<'_>,
     frame: Frame,
     output: &mut Output<'_, W>,
 ) -> Result<(), RunFault> {

@@ -5,7 +5,7 @@
 use fosibegan::plain_std::string::String;
 use crate::command_line::{Form, Operation, form_called, form_of, prefix_in};
 use crate::exports::Export;
-use crate::rows::{FORMAT, JSON, PREFIX, SET, STRICT, TABLE, taken};
+use crate::rows::{AFTER, BEFORE, FORMAT, JSON, PREFIX, SET, STRICT, TABLE, taken};
 use crate::set_names::is_set_name;
 use crate::tasks::{ONE_SIDE, Task, is_two_sided, no_first, no_option};
 use cidr_programs::options::faults::{Fault, Subject, about, pair_fault, problem_at};
@@ -127,7 +127,18 @@ fn has_table(form: Form) -> bool {
     matches!(form, Form::Exported(Export::Nft))
 }
 
-// What is wrong with options that name sets, in this form.
+// Whether a form has lines, around which texts can stand.
+fn has_lines(form: Form) -> bool {
+    !matches!(
+        form,
+        Form::Counts | Form::Exported(Export::Csv | Export::Nft | Export::Ipset | Export::Json)
+    )
+}
+
+// What is told of a text around lines in another form.
+const NO_LINES: &str = "not together with --count, nor with --format csv, nft, ipset or json";
+
+// What is wrong with options that name sets, or texts around lines, in this form.
 fn names_fault<'a>(items: &[Item<'a>], form: Form) -> Option<Fault<'a>> {
     if is_given(items, SET) && !has_sets(form) {
         return Some(about(
@@ -137,6 +148,12 @@ fn names_fault<'a>(items: &[Item<'a>], form: Form) -> Option<Fault<'a>> {
     }
     if is_given(items, TABLE) && !has_table(form) {
         return Some(about(Subject::Option(TABLE), "only together with --format nft"));
+    }
+    if is_given(items, BEFORE) && !has_lines(form) {
+        return Some(about(Subject::Option(BEFORE), NO_LINES));
+    }
+    if is_given(items, AFTER) && !has_lines(form) {
+        return Some(about(Subject::Option(AFTER), NO_LINES));
     }
     None
 }
@@ -193,7 +210,7 @@ fn sides_fault<'a>(
 // What is wrong with the names of lists: that one is empty, or that standard input is among them twice.
 fn files_fault<'a>(files: &[String]) -> Option<Fault<'a>> {
     if count_of(files, "") > 0 {
-        Some(at("", "not the name of a file"))
+        Some(at("", "not a file name"))
     } else if count_of(files, "-") > 1 {
         Some(at("-", "standard input can be read only once"))
     } else {

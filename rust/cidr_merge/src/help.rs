@@ -4,12 +4,12 @@
 
 /// What `--help` prints.
 pub(crate) const HELP: &str = "\
-Merges lists of IP networks, and prints the shortest list with exactly the addresses that are left.
+Merges lists of IP networks, and prints the shortest list with exactly the resulting addresses.
 
     cidr_merge union  [OPTION..] FILE..             the addresses of any of the files
-    cidr_merge common [OPTION..] FILE.. -- FILE..   of both sides
-    cidr_merge minus  [OPTION..] FILE.. -- FILE..   of the first side and not of the second
-    cidr_merge differ [OPTION..] FILE.. -- FILE..   what one side has and the other has not
+    cidr_merge common [OPTION..] FILE.. -- FILE..   the addresses of both sides
+    cidr_merge minus  [OPTION..] FILE.. -- FILE..   the addresses of the first side alone
+    cidr_merge differ [OPTION..] FILE.. -- FILE..   the addresses of either side alone
     cidr_merge list   [OPTION..] FILE..             each address of any of the files
     cidr_merge split --prefix N [OPTION..] FILE..   the networks of union, in pieces of length N
     cidr_merge check  [--strict] FILE..             wrong entries; --strict: host bits, overlaps too
@@ -19,22 +19,25 @@ Merges lists of IP networks, and prints the shortest list with exactly the addre
     --ranges       print FIRST - LAST for each run of addresses
     --count        print v4 BLOCKS ADDRESSES and v6 BLOCKS ADDRESSES
     --format FORM  print plain, range, netmask, wildcard, csv, nft, ipset, json or addresses
-    --set NAME     of nft, ipset: fill NAME_ipv4 and NAME_ipv6; --table NAME: of this table of nft
+    --set NAME     for nft and ipset: fill NAME_ipv4 and NAME_ipv6; --table NAME: the table of nft
+    --line-prefix TEXT  print TEXT before each line; --line-suffix TEXT: print TEXT after it. Not
+                   for csv, nft, ipset and json
     --skip-bad     report refused lines, and print the result for the others
-    --json         each FILE is JSON: take its strings that are entries; --strict refuses others
+    --json         each FILE is JSON: use its strings that are entries; --strict refuses others
     --quiet        as the first word: do not show on a terminal how much was read
-    --help         print this text; --version prints the version. Options stand in any order
+    --help         print this text; --version prints the version. Options can stand in any order
 
-A FILE is a name or -, standard input. A line has a network (10.0.0.0/8, 10.0.0.1, 2001:db8::/32), a
-range (A - B) or nothing, and at most 1,024 bytes; # and ; begin a comment. Host bits are dropped.
-The result ascends, IPv4 first; differ puts < before what only the first side has, and > before what
-only the second has. A refused line is reported as FILE:LINE: refused CAUSE; check prints that, and
-the line; find FILE:LINE: has ADDRESS, and the line. split leaves longer networks whole, and those
-of IPv4 if N is above 32; it takes --skip-bad, --json, --strict.
+A FILE is a name, or - for standard input. A line has a network (10.0.0.0/8, 10.0.0.1,
+2001:db8::/32), a range (A - B) or nothing, and at most 1,024 bytes; # and ; begin a comment. Host
+bits are ignored. The result is in ascending order, IPv4 first; differ puts < before what only the
+first side has, and > before what only the second has. A refused line is reported as FILE:LINE:
+refused CAUSE; check prints that and the line; find prints FILE:LINE: has ADDRESS and the line.
+split leaves longer networks whole, and all of IPv4 if N is above 32; it takes --line-prefix,
+--line-suffix, --skip-bad, --json and --strict.
 
-Status: 0; 1 if the sides of differ are not equal, check or overlaps found something or find
-nothing; 2 on wrong usage, a refused line, a file not read, a failed write or no memory; 3 if lines
-were skipped.
+Status: 0; 1 if the sides of differ are not equal, check or overlaps found something, or find found
+nothing; 2 after wrong usage, a refused line, a file that cannot be read, a failed write, or lack of
+memory; 3 if lines were skipped.
 Example: sort -u today.txt | cidr_merge differ --count yesterday.txt -- -
 ";
 

@@ -1,11 +1,15 @@
 // Written by scripts/plain out of crates/cidr_merge/src/set_names.rt
 
-//! What other programs call the sets that an export fills.
+//! What other programs call the sets that an export fills, and what stands around each line.
 
-use crate::rows::{SET, TABLE};
+use crate::rows::{AFTER, BEFORE, SET, TABLE};
 use fosibegan::plain_std::arrayvec::ArrayString;
+use cidr_programs::lines::fault::RunFault;
+use cidr_programs::lines::output::Output;
 use cidr_programs::options::given::{is_given, value_of};
 use cidr_programs::options::items::Item;
+use cidr_programs::program::putting::put_all;
+use fosibegan::plain_std::io::Write;
 
 /// The most bytes of a name: ipset takes 31, of which `_ipv4_new` needs nine.
 const NAME_MAX: usize = 22;
@@ -13,21 +17,36 @@ const NAME_MAX: usize = 22;
 /// A name.
 pub(crate) type Name = ArrayString<NAME_MAX>;
 
-/// The table of nftables, and what the names of both sets begin with.
+/// The table of nftables, what the names of both sets begin with, and what stands before and after each line.
 #[derive(Debug)]
-pub struct SetNames {
+pub struct SetNames<'a> {
     /// The table.
     pub table: Name,
     /// The beginning of `NAME_ipv4` and `NAME_ipv6`.
     pub set: Name,
+    /// What stands before each line.
+    pub before: &'a str,
+    /// What stands after each line.
+    pub after: &'a str,
 }
 
 /// Those that options name.
-pub(crate) fn names_of(items: &[Item<'_>]) -> SetNames {
+pub(crate) fn names_of<'a>(items: &[Item<'a>]) -> SetNames<'a> {
     SetNames {
         table: name_by(items, TABLE),
         set: name_by(items, SET),
+        before: value_of(items, BEFORE),
+        after: value_of(items, AFTER),
     }
+}
+
+/// Prints a text between what stands before and after each line.
+pub(crate) fn put_line<W: Write>(
+    names: &SetNames<'_>,
+    text: &str,
+    output: &mut Output<'_, W>,
+) -> Result<(), RunFault> {
+    put_all(&[names.before, text, names.after, "\n"], output)
 }
 
 // The name that the option of a row says, or else the usual one.

@@ -3,7 +3,9 @@
 //! The parts that an operation leaves of one side: blocks, or ranges of addresses.
 
 use crate::command_line::Operation;
+use crate::cutting::put_network;
 use crate::merge_join::Side;
+use crate::set_names::SetNames;
 use crate::sweep::Sweep;
 use fosibegan::ipnetwork::{Address, CidrNetwork, Network};
 use fosibegan::ipnetwork_sets::{Ranges, SetBlocks};
@@ -25,6 +27,7 @@ pub(crate) trait Parts {
 
     /// Prints a part of a side.
     fn put<W: Write>(
+        names: &SetNames<'_>,
         operation: Operation,
         side: Side,
         part: Self::Part,
@@ -45,13 +48,14 @@ impl<'a, A: Address> Parts for Sweep<'a, Network<A>> {
     }
 
     fn put<W: Write>(
+        names: &SetNames<'_>,
         operation: Operation,
         side: Side,
         block: Network<A>,
         output: &mut Output<'_, W>,
     ) -> Result<(), RunFault> {
-        let sign = sign_of(operation, side);
-        put_all(&[sign, block.canonical().as_str(), "\n"], output)
+        output.put(sign_of(operation, side).as_bytes())?;
+        put_network(names, block, output)
     }
 }
 
@@ -68,15 +72,35 @@ impl<'a, A: Address> Parts for Ranges<Network<A>, Sweep<'a, Network<A>>> {
     }
 
     fn put<W: Write>(
+        names: &SetNames<'_>,
         operation: Operation,
         side: Side,
         range: (A, A),
         output: &mut Output<'_, W>,
     ) -> Result<(), RunFault> {
-        let sign = sign_of(operation, side);
-        let (first, last) = (range.0.canonical(), range.1.canonical());
-        put_all(&[sign, first.as_str(), " - ", last.as_str(), "\n"], output)
+        output.put(sign_of(operation, side).as_bytes())?;
+        put_range(names, range, output)
     }
+}
+
+// Prints a range on a line.
+fn put_range<A: Address, W: Write>(
+    names: &SetNames<'_>,
+    range: (A, A),
+    output: &mut Output<'_, W>,
+) -> Result<(), RunFault> {
+    let (first, last) = (range.0.canonical(), range.1.canonical());
+    put_all(
+        &[
+            names.before,
+            first.as_str(),
+            " - ",
+            last.as_str(),
+            names.after,
+            "\n",
+        ],
+        output,
+    )
 }
 
 /// What stands before a part of a side.

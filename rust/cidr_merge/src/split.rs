@@ -6,6 +6,7 @@ use crate::command_line::SplitRequest;
 use crate::context::Context;
 use crate::cutting::print_pieces;
 use crate::reading::{Sets, read_side, refuse_lists};
+use crate::set_names::SetNames;
 use cidr_programs::lines::fault::RunFault;
 use cidr_programs::lines::output::Output;
 use cidr_programs::lists::{OpenLists, Refusals};
@@ -25,13 +26,21 @@ pub(crate) fn split<L: OpenLists, W: Write, E: Write>(
     let (sets, refusals, read) = read_side(context, request.shape, names, 0, none);
     tell_refusals(names, &InLists, &refusals, errors);
     match read {
-        Ok(()) => print_split(request, !refusals.is_empty(), &sets, output, errors),
+        Ok(()) => print_split(
+            context.sets,
+            request,
+            !refusals.is_empty(),
+            &sets,
+            output,
+            errors,
+        ),
         Err(fault) => refuse_lists(names, fault, errors),
     }
 }
 
 // Prints the pieces of the networks, unless lines were refused that are not to be skipped.
 fn print_split<W: Write, E: Write>(
+    names: &SetNames<'_>,
     request: SplitRequest,
     skips: bool,
     sets: &Sets,
@@ -41,17 +50,18 @@ fn print_split<W: Write, E: Write>(
     if skips && !request.skips_bad {
         return FAILED;
     }
-    let written = write_split(request.length, sets, output);
+    let written = write_split(names, request.length, sets, output);
     end(written, if skips { 3 } else { 0 }, errors)
 }
 
 // Writes the pieces of the networks of both families.
 fn write_split<W: Write>(
+    names: &SetNames<'_>,
     length: u8,
     sets: &Sets,
     output: &mut Output<'_, W>,
 ) -> Result<(), RunFault> {
-    print_pieces(length, &sets.v4, output)?;
-    print_pieces(length, &sets.v6, output)?;
+    print_pieces(names, length, &sets.v4, output)?;
+    print_pieces(names, length, &sets.v6, output)?;
     output.finish()
 }

@@ -1,9 +1,10 @@
 // Written by scripts/plain out of crates/lists/src/lib.rt
 
-//! Lists of networks: what their lines name, read into the networks of each family, and which lines are refused.
+//! Lists of networks: reads what their lines name into the networks of each family, and keeps the
+//! lines that are refused.
 //!
-//! A line is a network, a range of addresses, or empty. A comment begins with `#` or `;`. Only the networks that a list
-//! names take memory.
+//! A line is a network, a range of addresses, or empty. A comment begins with `#` or `;`. Only the
+//! networks that a list names take memory.
 
 mod bytes;
 mod comment;

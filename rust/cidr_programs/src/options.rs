@@ -1,6 +1,7 @@
 // Written by scripts/plain out of crates/options/src/lib.rt
 
-//! Command lines by a table of options: what their words say, one after another, and what is wrong with them.
+//! Command lines by a table of options: the items that their words say, and what is wrong with
+//! them.
 
 pub mod asking;
 pub mod faults;

@@ -1,7 +1,7 @@
 // Written by scripts/plain out of crates/program/src/lib.rt
 
-//! What programs that read lists share: their arguments, the files they open, the lines of logs, and what they report
-//! on standard error.
+//! What the programs that read lists share: their arguments, the files that they open, the lines of
+//! logs, and what they report on standard error.
 
 pub mod arguments;
 pub mod ending;

@@ -1,5 +1,8 @@
 -- Lines that are copied into the output before it is known whether they are selected.
-use Rattle.std.specs.Prelude.{◌≡◌, ℕ, Bool, true, false, List, [], if◌then◌else◌}
+use Rattle.std.specs.Prelude.{◌≡◌, ℕ, Bool, true, false, List, [], ◌∷◌, if◌then◌else◌}
+use Rattle.ipnetwork_addr.specs.declared.ip.IpAddr.{IpAddr}
+use Rattle.line_addresses.specs.Areas.{spelled_in}
+use Rattle.line_addresses.specs.declared.area.Area.{Area}
 use Rattle.cidr_filter.specs.Addressed.{is_addressed_by}
 use Rattle.cidr_filter.specs.Filters.{IsVerdict, is_refused, is_selected, head_of, shown_of}
 use Rattle.cidr_filter.specs.declared.filter.Filter.{Filter}
@@ -9,6 +12,11 @@ use Rattle.cidr_filter.specs.declared.filter.Verdict.{Verdict}
 abbrev pub PrintsAsRead : Filter → Type 0
 PrintsAsRead filter = (number : ℕ) → (verdict : Verdict) → (line text : List ℕ)
     → shown_of filter (head_of filter number) verdict line text ≡ text
+
+-- the part of a line in which an address is looked for is this one, and nothing else
+abbrev pub HasOnly : Area → List ℕ → IpAddr → Type 0
+HasOnly area line address = (text : List ℕ)
+    × (spelled_in false area line ≡ record { text = text; address = address } ∷ [])
 
 -- a line, given without its end, has an address, and is selected or not
 abbrev pub IsSelectedByAddress : Filter → List ℕ → Bool → Type 0

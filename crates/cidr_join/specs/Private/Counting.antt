@@ -1,11 +1,15 @@
 -- How a tally counts.
-use Rattle.std.specs.Prelude.{◌≡◌, ℕ, zero, suc, List, [], ◌∷◌, ◌++◌, replicate, Option, None, Some, Vec, nat_eq}
+use Rattle.std.specs.Prelude.{◌≡◌, ℕ, zero, suc, Bool, List, [], ◌∷◌, ◌++◌, replicate, Option, None, Some, Vec, nat_eq}
+use Rattle.std.specs.Prelude.{if◌then◌else◌}
 use Rattle.std.specs.Cmp.Lexicographic.{pointwise}
 use Rattle.std.specs.HashMap.{HashMap, get_by}
+use Rattle.std.specs.List.{count_by}
+use Rattle.std.specs.Str.{bytes_eq}
 use Rattle.std.specs.declared.cmp.Reverse.{Reverse}
 use Rattle.cidr_join.specs.Joins.{mark_of}
 use Rattle.cidr_join.specs.Tallies.{Row, count_of}
 use Rattle.cidr_join.specs.declared.found.Found.{Found}
+use Rattle.cidr_join.specs.declared.found.Found.TheVariants as prints
 
 -- a row of the code
 abbrev pub row_of : {Z : Type 0} → Reverse ℕ × Vec ℕ Z → Row
@@ -15,17 +19,29 @@ row_of row = record { count = row.0.0; text = row.1.items }
 abbrev pub found_for : {Z S : Type 0} → HashMap (Vec ℕ Z) ℕ S → List ℕ → Option ℕ
 found_for counts text = get_by (λ key. pointwise nat_eq text key.items) counts
 
-abbrev pub some_count : ℕ → Option ℕ
-some_count zero = None
-some_count (suc number) = Some (suc number)
+-- this count, if there is a text at all
+abbrev pub some_count : ℕ → ℕ → Option ℕ
+some_count zero count = None
+some_count (suc number) count = Some count
 
--- each text that is among these is counted as often as it is, and no other text is
-abbrev pub Counted : {Z S : Type 0} → List (List ℕ) → HashMap (Vec ℕ Z) ℕ S → Type 0
-Counted texts counts = (text : List ℕ) → found_for counts text ≡ some_count (count_of text texts)
+-- each text that is named or among these has a count, of how often it is among these, and no other text has
+abbrev pub Counted : {Z S : Type 0} → List (List ℕ) → List (List ℕ) → HashMap (Vec ℕ Z) ℕ S → Type 0
+Counted named texts counts = (text : List ℕ)
+    → found_for counts text ≡ some_count (count_by (bytes_eq text) (named ++ texts)) (count_of text texts)
 
--- these texts more
-abbrev pub CountsTexts : {Z S : Type 0} → List (List ℕ) → HashMap (Vec ℕ Z) ℕ S → HashMap (Vec ℕ Z) ℕ S → Type 0
-CountsTexts marks old new = (texts : List (List ℕ)) → Counted texts old → Counted (texts ++ marks) new
+-- these are named, and these texts counted, more
+abbrev pub CountsTexts : {Z S : Type 0} → List (List ℕ) → List (List ℕ) → HashMap (Vec ℕ Z) ℕ S
+    → HashMap (Vec ℕ Z) ℕ S → Type 0
+CountsTexts named marks old new = (names texts : List (List ℕ)) → Counted names texts old
+    → Counted (names ++ named) (texts ++ marks) new
+
+-- a text is named, if that is asked for, and what is found, if it is of a network
+abbrev pub named_if : Bool → List ℕ → List (List ℕ)
+named_if named text = if named then text ∷ [] else []
+
+abbrev pub named_by : Bool → Found → List (List ℕ)
+named_by zeros prints.Nothing = []
+named_by zeros found = named_if zeros (mark_of found)
 
 -- what the numbers stand for, each as often as it was counted
 abbrev pub repeated : List Found → List ℕ → List (List ℕ)

@@ -1,6 +1,7 @@
 -- The numbers of the networks of a list.
-use Rattle.std.specs.Prelude.{◌≡◌, ℕ, Bool, true, false, List, [], ◌++◌, Option, None, Some, IsSome, slice_get}
-use Rattle.std.specs.FinMap.{FinMap, get}
+use Rattle.std.specs.Prelude.{◌≡◌, ℕ, Bool, true, false, List, [], ◌∷◌, ◌++◌, map, Option, None, Some, IsSome}
+use Rattle.std.specs.Prelude.{slice_get}
+use Rattle.std.specs.FinMap.{FinMap, get, entries}
 use Rattle.ipnetwork_addr.specs.declared.ip.IpAddr.{IpAddr}
 use Rattle.ipnetwork.specs.declared.ip_network.IpNetwork.{IpNetwork}
 use Rattle.ipnetwork.specs.declared.ip_network.IpNetwork.TheVariants as families
@@ -30,17 +31,22 @@ pub record AreNumbered (by : Network → Value → Found) (table : Values) (numb
       × (slice_get founds number ≡ Some (by n value))
   pub all : (n : Network) → IsSome (get table n) → IsSome (get numbers n)
 
+-- what is printed where the networks of the table are the longest
+abbrev pub founds_of : (Network → Value → Found) → Values → List Found
+founds_of by table = map (λ e. by e.0 e.1) (entries table)
+
 -- those of one more table are, behind what the numbers before stand for
 pub record AddsNumbers (by : Network → Value → Found) (table : Values) (numbers : FinMap network_cmp ℕ)
     (before founds : List Found) : Type 0 where
-  pub behind : (added : List Found) × (founds ≡ before ++ added)
+  pub behind : founds ≡ before ++ founds_of by table
   pub numbered : AreNumbered by table numbers founds
 
 -- so are those of a list, and 0 stands for no network
 pub record NumbersRoutes (network : Bool) (routes : Routes) (numbered : ValueIds) : Type 0 where
   pub v4 : AreNumbered (found_by network (λ n. families.V4 n)) routes.v4 numbered.v4 numbered.founds.items
   pub v6 : AreNumbered (found_by network (λ n. families.V6 n)) routes.v6 numbered.v6 numbered.founds.items
-  pub nothing : slice_get numbered.founds.items 0 ≡ Some prints.Nothing
+  pub founds : numbered.founds.items ≡ prints.Nothing ∷ (founds_of (found_by network (λ n. families.V4 n)) routes.v4
+      ++ founds_of (found_by network (λ n. families.V6 n)) routes.v6)
 
 -- the networks by which this is printed of addresses are numbered, if it is not their blocks
 abbrev pub IsNumbering : Answers → ValueIds → Type 0

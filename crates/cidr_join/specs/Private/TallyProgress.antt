@@ -1,5 +1,5 @@
 -- How far the lines of logs are counted.
-use Rattle.std.specs.Prelude.{◌≡◌, ℕ, Bool, true, false, List, ◌++◌, length, codes, Option, None, Result, Ok, Err}
+use Rattle.std.specs.Prelude.{◌≡◌, ℕ, Bool, true, false, List, [], ◌++◌, length, codes, Option, None, Result, Ok, Err}
 use Rattle.ipnetwork_addr.specs.declared.ip.IpAddr.{IpAddr}
 use Rattle.lines.specs.Outputs.{Written}
 use Rattle.lists.specs.KnownLists.{KnownLists}
@@ -32,7 +32,7 @@ use Rattle.cidr_join.specs.declared.tally_log.TallyFault.TheVariants as tallies
 -- the numbers stand for together
 pub record IsCounted (founds : List Found) (texts : List (List ℕ)) (counts : Counts) : Type 0 where
   pub kept : List (List ℕ)
-  pub is_kept : Counted kept counts.tally.counts
+  pub is_kept : Counted [] kept counts.tally.counts
   pub size : length counts.numbers.items ≡ length founds
   pub all : (text : List ℕ) → count_of text (kept ++ repeated founds counts.numbers.items) ≡ count_of text texts
 

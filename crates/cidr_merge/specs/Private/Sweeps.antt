@@ -3,6 +3,7 @@ use Rattle.std.specs.Prelude.{ℕ, Bool, true, false, List, [], ◌∷◌, Optio
 use Rattle.ipnetwork_family.specs.Family.{Family}
 use Rattle.ipnetwork_family.specs.Network.{Network}
 use Rattle.cidr_merge.specs.Answers.{AreBlockLines, AreRangeLines}
+use Rattle.cidr_merge.specs.SetNames.{Names}
 use Rattle.cidr_merge.specs.declared.command_line.Operation.{Operation}
 use Rattle.cidr_merge.specs.declared.command_line.Operation.TheVariants as operations
 use Rattle.cidr_merge.specs.declared.sweep.Sweep.{Sweep}
@@ -30,8 +31,8 @@ left_of_second operations.Minus parts = []
 left_of_second operations.Differ parts = parts
 
 -- the lines of the ranges that an operation leaves of two sets, or else those of the blocks
-abbrev pub AreLines : {w : ℕ} → Bool → Operation → Family w → List Network → List Network → List ℕ
+abbrev pub AreLines : {w : ℕ} → Bool → Names → Operation → Family w → List Network → List Network → List ℕ
     → Type 0
-AreLines true operation family first second text = AreRangeLines operation family first second text
-AreLines false operation family first second text =
-    AreBlockLines operation family first second text
+AreLines true names operation family first second text = AreRangeLines names operation family first second text
+AreLines false names operation family first second text =
+    AreBlockLines names operation family first second text

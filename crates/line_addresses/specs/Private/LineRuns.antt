@@ -3,6 +3,7 @@ use Rattle.std.specs.Prelude.{◌≡◌, ℕ, ◌<◌, ◌≤◌, Bool, true, fa
 use Rattle.ipnetwork_addr.specs.declared.ip.IpAddr.{IpAddr}
 use Rattle.line_addresses.specs.Addresses.{Spelled}
 use Rattle.line_addresses.specs.LineRuns.{is_run_byte}
+use Rattle.line_addresses.specs.Networks.{is_stretch_byte}
 use Rattle.line_addresses.specs.Words.{is_blank}
 
 -- from one index on, no byte up to the other is cut out by the test; there the line ends, or such a byte stands
@@ -14,6 +15,9 @@ pub record IsPartEnd (cuts : ℕ → Bool) (line : List ℕ) (start end : ℕ) :
 
 abbrev pub IsRunEnd : List ℕ → ℕ → ℕ → Type 0
 IsRunEnd line start end = IsPartEnd (λ byte. not (is_run_byte byte)) line start end
+
+abbrev pub IsStretchEnd : List ℕ → ℕ → ℕ → Type 0
+IsStretchEnd line start end = IsPartEnd (λ byte. not (is_stretch_byte byte)) line start end
 
 abbrev pub IsWordEnd : List ℕ → ℕ → ℕ → Type 0
 IsWordEnd line start end = IsPartEnd is_blank line start end

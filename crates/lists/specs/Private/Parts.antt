@@ -1,4 +1,4 @@
--- The two kinds of entries, each by itself.
+-- The two kinds of entries, networks and ranges, each by itself.
 use Rattle.std.specs.Prelude.{ℕ, List, Result, MatchResult}
 use Rattle.ipnetwork.specs.IpNetworkText.{NamesIpNetwork, IsIpCause}
 use Rattle.ipnetwork.specs.declared.ip_network.IpNetwork.{IpNetwork}
@@ -15,7 +15,7 @@ abbrev pub IsNamedNetwork : List ℕ → Entry → Type 0
 IsNamedNetwork text (entries.Network n) = NamesIpNetwork text n
 IsNamedNetwork text (entries.Range first last) = ⊥
 
--- why a text names no network
+-- this is why the text names no network
 abbrev pub IsNetworkFault : List ℕ → EntryFault → Type 0
 IsNetworkFault text faults.Format = IsIpCause text causes.Format
 IsNetworkFault text faults.Address = IsIpCause text causes.Addr
@@ -23,18 +23,18 @@ IsNetworkFault text faults.Prefix = IsIpCause text causes.Prefix
 IsNetworkFault text faults.Range = ⊥
 IsNetworkFault text (faults.Encoding encoding) = ⊥
 
--- the network that the text names, or why it names none
+-- reading the text gives the network that it names, or, if it names none, the reason
 abbrev pub ReadsNetworkText : List ℕ → Result Entry EntryFault → Type 0
 ReadsNetworkText text result =
     MatchResult result (IsNamedNetwork text) (λ fault. IsNetworkFault text fault
     × ((n : IpNetwork) → ¬ (NamesIpNetwork text n)))
 
--- the entry is the range of these ends
+-- the entry is the range between the ends that the two texts name
 abbrev pub IsRangeOf : List ℕ → List ℕ → Entry → Type 0
 IsRangeOf before after (entries.Network n) = ⊥
 IsRangeOf before after (entries.Range first last) = NamesEnds before after first last × IsRange first last
 
--- why the ends are those of no range
+-- this is why the two texts name the ends of no range
 abbrev pub IsRangeFault : List ℕ → List ℕ → EntryFault → Type 0
 IsRangeFault before after faults.Format = ⊥
 IsRangeFault before after faults.Prefix = ⊥
@@ -43,11 +43,11 @@ IsRangeFault before after faults.Address = (first last : IpAddr) → ¬ (NamesEn
 IsRangeFault before after faults.Range = (first : IpAddr) × (last : IpAddr) × NamesEnds before after first last
     × ¬ (IsRange first last)
 
--- the range of these ends, or why there is none
+-- reading the two texts gives the range between the ends that they name, or the reason why there is none
 abbrev pub ReadsRange : List ℕ → List ℕ → Result Entry EntryFault → Type 0
 ReadsRange before after result = MatchResult result (IsRangeOf before after) (IsRangeFault before after)
 
--- the entry that a text names, or why it names none as a plain text
+-- reading the text gives the entry that it names, or, if it names none, the reason as plain text
 abbrev pub ReadsPlain : List ℕ → Result Entry EntryFault → Type 0
 ReadsPlain text result = MatchResult result (NamesEntry text) (λ cause. IsPlainCause text cause
     × ((entry : Entry) → ¬ (NamesEntry text entry)))

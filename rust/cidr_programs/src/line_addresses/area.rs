@@ -46,7 +46,7 @@ pub enum Part<'a> {
 /// ```
 /// # use cidr_programs::in_examples::*;
 /// # ended(|| {
-/// let found = picked(b"10.1.1.1, 10.1.1.2", Pick::Last);
+/// let found = picked(b"10.1.1.1, 10.1.1.2", Pick::Last, false);
 /// assert_eq!(found.map(|found| found.address), Some("10.1.1.2".parse()?));
 /// # Ok(())
 /// # });

@@ -3,35 +3,39 @@
 //! Which address of a part of a line is looked at.
 
 use crate::line_addresses::area::Pick;
-use crate::line_addresses::found::{Found, next_address};
+use crate::line_addresses::found::Found;
+use crate::line_addresses::network::named_network;
 use crate::line_addresses::run::address_of;
+use crate::line_addresses::stretches::next_found;
+use fosibegan::ipnetwork_addr::IpAddr;
 
-/// The address of a part of a line that is looked at, or the first of them. Goes over the part once at the most.
+/// The address of a part of a line that is looked at, or the first of them; or, if `networks`, the network or address.
+/// Goes over the part once at the most.
 ///
 /// ```
 /// # use cidr_programs::in_examples::*;
 /// # ended(|| {
 /// let forwarded = b"10.1.1.1, 192.0.2.7, 198.51.100.9";
-/// let second = picked(forwarded, Pick::Number(2));
+/// let second = picked(forwarded, Pick::Number(2), false);
 /// assert_eq!(second.map(|found| found.address), Some("192.0.2.7".parse()?));
-/// assert_eq!(picked(forwarded, Pick::Whole), None);
+/// assert_eq!(picked(forwarded, Pick::Whole, false), None);
 /// # Ok(())
 /// # });
 /// ```
 #[inline(always)]
-pub fn picked(text: &[u8], pick: Pick) -> Option<Found> {
+pub fn picked(text: &[u8], pick: Pick, networks: bool) -> Option<Found> {
     match pick {
-        Pick::Whole => whole(text),
-        Pick::Each => next_address(text, 0),
-        Pick::Number(number) => numbered(text, number),
-        Pick::Last => last(text),
+        Pick::Whole => whole(text, networks),
+        Pick::Each => next_found(text, 0, networks),
+        Pick::Number(number) => numbered(text, number, networks),
+        Pick::Last => last(text, networks),
     }
 }
 
-// The address that a text is.
+// The address, or the network, that a text is.
 #[inline(always)]
-fn whole(text: &[u8]) -> Option<Found> {
-    match address_of(text) {
+fn whole(text: &[u8], networks: bool) -> Option<Found> {
+    match named(text, networks) {
         Some(address) => Some(Found {
             address,
             start: 0,
@@ -42,11 +46,21 @@ fn whole(text: &[u8]) -> Option<Found> {
     }
 }
 
+// The address that a text names, or that of the network that it names.
+#[inline(always)]
+fn named(text: &[u8], networks: bool) -> Option<IpAddr> {
+    if networks {
+        named_network(text)
+    } else {
+        address_of(text)
+    }
+}
+
 // The address of this number, from 1 on, of those of a text.
-fn numbered(text: &[u8], number: u32) -> Option<Found> {
+fn numbered(text: &[u8], number: u32, networks: bool) -> Option<Found> {
     let mut at = 0;
     let mut more = number.saturating_sub(1);
-    'addresses: while let Some(found) = next_address(text, at) {
+    'addresses: while let Some(found) = next_found(text, at, networks) {
         if more == 0 {
             return Some(found);
         }
@@ -57,10 +71,10 @@ fn numbered(text: &[u8], number: u32) -> Option<Found> {
 }
 
 // The last of the addresses of a text.
-fn last(text: &[u8]) -> Option<Found> {
+fn last(text: &[u8], networks: bool) -> Option<Found> {
     let mut at = 0;
     let mut last = None;
-    'addresses: while let Some(found) = next_address(text, at) {
+    'addresses: while let Some(found) = next_found(text, at, networks) {
         at = found.next;
         last = Some(found);
     }

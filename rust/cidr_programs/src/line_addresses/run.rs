@@ -56,8 +56,8 @@ pub fn address_of(text: &[u8]) -> Option<IpAddr> {
     }
 }
 
-// Whether a text ends with a `.` or a `:`.
-fn ends_with_mark(text: &[u8]) -> bool {
+/// Whether a text ends with a `.` or a `:`.
+pub(crate) fn ends_with_mark(text: &[u8]) -> bool {
     if text.is_empty() {
         return false;
     }

@@ -9,10 +9,10 @@ use crate::lines::watched::Watched;
 use fosibegan::plain_std::alloc::Global;
 use fosibegan::plain_std::io::Read;
 
-/// How many bytes are read at once.
+/// The number of bytes that are read at once.
 const CHUNK_LEN: usize = 65536;
 
-/// Why the bytes of a list were not read to their end.
+/// Why the bytes of a list were not read to the end.
 ///
 /// ```
 /// # use cidr_programs::in_examples::*;
@@ -26,13 +26,16 @@ pub enum BytesFault {
     Open(OpenFault),
     /// A read failed.
     Read,
-    /// It has more bytes than were asked for.
+    /// The list has more bytes than were allowed.
     Length,
-    /// Out of memory.
+    /// Memory ran out.
     OutOfMemory,
 }
 
-/// Opens the list of this name, reads all of its bytes, if it has at most `max`, and closes it.
+/// Opens the list of this name, reads all of its bytes, and closes it.
+///
+/// An error is returned if the list cannot be opened, a read fails, the list has more than `max`
+/// bytes, or memory runs out.
 ///
 /// ```
 /// # use cidr_programs::in_examples::*;
@@ -59,7 +62,7 @@ pub fn read_bytes<L: OpenLists>(
     bytes
 }
 
-// The bytes that a device has left.
+// Reads all bytes that a device has left, at most `max`.
 fn read_all<R: Read>(
     alloc: Global,
     reader: &mut Watched<R>,

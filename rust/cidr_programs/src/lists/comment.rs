@@ -1,15 +1,15 @@
 // Written by scripts/plain out of crates/lists/src/comment.rt
 
-//! A line without its comment.
+//! Removes the comment of a line.
 
 use fosibegan::byte_search::find_from;
 
-/// What stands before the first `#` or `;` of a line.
+/// Returns what stands before the first `#` or `;` of a line, or the whole line if it has neither.
 pub(crate) fn without_comment(line: &[u8]) -> &[u8] {
     before(before(line, b'#'), b';')
 }
 
-/// What stands before the first byte of this value, or the whole text.
+/// Returns what stands before the first byte of this value, or the whole text if it has none.
 fn before(text: &[u8], byte: u8) -> &[u8] {
     match find_from(text, 0, byte) {
         Some(end) => &text[..end],

@@ -1,6 +1,6 @@
 // Written by scripts/plain out of crates/lists/src/document.rt
 
-//! Reads a document of JSON as a list.
+//! Reads a JSON document as a list.
 
 use fosibegan::plain_std::serde_json::OfKit;
 use crate::lists::bytes::{BytesFault, read_bytes};
@@ -20,16 +20,19 @@ use fosibegan::plain_std::alloc::Global;
 /// ```
 pub const DOCUMENT_MAX: usize = 1_073_741_824;
 
-/// Opens the document of JSON (RFC 8259) of this name, which is the word at the index `place`,
-/// reads it, and closes it.
+/// Opens the JSON document (RFC 8259) of this name, which is the word at the index `place`, reads
+/// it, and closes it.
 ///
-/// Each of its strings that is the text of a network or of a range is an entry, at any depth, as an
-/// element of an array or as a value of an object; keys are not looked at. Of values of one key the
-/// last counts. Another string is passed over, or refused if the reading is strict: strings are then
-/// numbered as lines are, in the order of `Value`, which has the keys of an object in order. A
-/// document has at most 1,073,741,824 bytes and 127 levels.
+/// Each of its strings that is the text of a network or of a range is an entry. A string may stand
+/// at any depth, as an element of an array or as a value of an object; keys are not looked at. If
+/// an object has a key more than once, the last value counts.
 ///
-/// If the reading stops, the reader is unchanged, unless memory ran out for an entry.
+/// Any other string is skipped, or refused if the reading is strict. For refusals, strings are
+/// numbered as lines are, in the order of `Value`, which sorts the keys of an object.
+///
+/// An error is returned if the document cannot be opened, a read fails, it has more than
+/// 1,073,741,824 bytes, it is not JSON in UTF-8 or has more than 127 levels, or memory runs out.
+/// The reader is then unchanged, unless memory ran out for an entry.
 ///
 /// ```
 /// # use cidr_programs::in_examples::*;
@@ -57,7 +60,7 @@ pub fn read_document<L: OpenLists>(
     take_document(alloc, bytes.as_slice(), place, is_strict, reader)
 }
 
-// Takes the strings of the document of these bytes. Changes nothing if they are no document.
+// Takes the strings of the document of these bytes. Nothing changes if they are no document.
 fn take_document(
     alloc: Global,
     bytes: &[u8],
@@ -78,7 +81,8 @@ fn take_document(
     Ok(())
 }
 
-// Why the document was not read that the word at this index names.
+// Returns why the document that the word at this index names was not read, by the fault of its
+// bytes.
 fn not_read(fault: BytesFault, place: usize) -> ReadFault {
     match fault {
         BytesFault::Open(cause) => ReadFault::Open(place, cause),

@@ -1,8 +1,8 @@
 // Written by scripts/plain out of crates/lists/src/encoding.rt
 
-//! Texts that are no plain text.
+//! Recognizes texts that are not plain text.
 
-/// What a text is, by its bytes, that is no plain text.
+/// What a text is that is not plain text, by its bytes.
 ///
 /// ```
 /// # use cidr_programs::in_examples::*;
@@ -10,18 +10,19 @@
 /// ```
 #[derive(Clone, Copy, Debug, PartialEq, Eq)]
 pub enum Encoding {
-    /// UTF-8 behind a byte order mark.
+    /// UTF-8 after a byte order mark.
     ByteOrderMark,
-    /// UTF-16 behind a byte order mark.
+    /// UTF-16 after a byte order mark.
     Utf16,
-    /// Data of gzip (RFC 1952).
+    /// Data compressed by gzip (RFC 1952).
     Gzip,
-    /// Data with a NUL byte.
+    /// A text that has a NUL byte.
     Nul,
 }
 
 impl Encoding {
-    /// How it is named: `byte order mark`, `UTF-16 text`, `gzip data` or `NUL byte`.
+    /// Returns the name of the encoding: `byte order mark`, `UTF-16 text`, `gzip data` or
+    /// `NUL byte`.
     ///
     /// ```
     /// # use cidr_programs::in_examples::*;
@@ -37,7 +38,7 @@ impl Encoding {
     }
 }
 
-/// What a text is, if it is no plain text.
+/// Returns what a text is if it is not plain text, and `None` if it is.
 ///
 /// ```
 /// # use cidr_programs::in_examples::*;
@@ -59,17 +60,17 @@ pub fn encoding_of(text: &[u8]) -> Option<Encoding> {
     }
 }
 
-// Whether a text begins as one of UTF-16 does, of either byte order.
+// Whether the text begins with a byte order mark of UTF-16, of either byte order.
 fn is_utf16(text: &[u8]) -> bool {
     begins(text, &[0xFF, 0xFE]) || begins(text, &[0xFE, 0xFF])
 }
 
-// Whether a text has a NUL byte.
+// Whether the text has a NUL byte.
 fn has_nul(text: &[u8]) -> bool {
     text.iter().any(|byte| *byte == 0)
 }
 
-// Whether a text begins with these bytes.
+// Whether the text begins with these bytes.
 fn begins(text: &[u8], first: &[u8]) -> bool {
     text.starts_with(first)
 }

@@ -1,6 +1,6 @@
 // Written by scripts/plain out of crates/lists/src/fault.rt
 
-//! Why a line is refused.
+//! Why a line of a list is refused.
 
 use crate::lists::EntryFault;
 
@@ -25,7 +25,8 @@ pub enum LineFault {
 }
 
 impl LineFault {
-    /// The fault in a word, `length` or that of the entry, or as its encoding is named.
+    /// Returns the fault in a word, `length` or that of the entry, or the name of the entry's
+    /// encoding.
     ///
     /// ```
     /// # use cidr_programs::in_examples::*;

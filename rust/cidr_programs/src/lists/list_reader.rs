@@ -1,6 +1,6 @@
 // Written by scripts/plain out of crates/lists/src/list_reader.rt
 
-//! What was read of lists.
+//! Collects what is read of lists.
 
 use fosibegan::plain_std::vec::Vec;
 use crate::lists::entry::{Entry, read_entry, read_text};
@@ -11,11 +11,11 @@ use fosibegan::ipnetwork::{IpAddr, IpNetwork, Ipv4Network, Ipv6Network};
 use fosibegan::ipnetwork_sets::AddressSet;
 use fosibegan::plain_std::alloc::{AllocError, Global};
 
-/// The networks that the lines of lists name, by family, and the lines that are refused.
+/// Collects the networks that the lines of lists name, by family, and the lines that are refused.
 ///
-/// It reads any number of lists, one after the other (`read_list`). Networks are kept in the
-/// order in which they are read, and a range as its blocks. Once memory has run out for a network, nothing more is
-/// read.
+/// It reads any number of lists, one after another (`read_list`). It keeps the networks in the
+/// order in which they are read, and a range as its blocks. Once memory has run out for a network,
+/// nothing more is read.
 ///
 /// ```
 /// # use cidr_programs::in_examples::*;
@@ -40,7 +40,8 @@ pub struct ListReader {
 }
 
 impl ListReader {
-    /// A reader that has read no list yet. `refusals` has the lines that were refused before.
+    /// Creates a reader that has read no list yet. `refusals` holds the lines that were refused
+    /// before.
     ///
     /// ```
     /// # use cidr_programs::in_examples::*;
@@ -80,7 +81,7 @@ impl ListReader {
         self.is_out_of_memory
     }
 
-    /// The addresses of the networks of each family, and the refused lines.
+    /// Returns the set of the addresses of each family, and the refused lines.
     ///
     /// ```
     /// # use cidr_programs::in_examples::*;
@@ -97,9 +98,10 @@ impl ListReader {
         (self.v4.into_set(), self.v6.into_set(), self.refusals)
     }
 
-    /// The networks of each family in the order in which they were read, and the refused lines.
+    /// Returns the networks of each family, in the order in which they were read, and the refused
+    /// lines.
     ///
-    /// A range is given as the fewest blocks that have its addresses.
+    /// A range is returned as the fewest blocks that have its addresses.
     ///
     /// ```
     /// # use cidr_programs::in_examples::*;
@@ -130,7 +132,7 @@ impl ListReader {
         }
     }
 
-    /// Refuses a longer line, unless memory has run out.
+    /// Refuses a line that is too long, unless memory has run out.
     pub(crate) fn refuse_long_line(&mut self) {
         if self.is_out_of_memory() {
             return;
@@ -139,8 +141,8 @@ impl ListReader {
         self.refuse(LineFault::Length);
     }
 
-    /// Takes a string of a document, unless memory has run out. One that names no entry is refused if the reading is
-    /// strict.
+    /// Takes a string of a document, unless memory has run out. A string that names no entry is
+    /// refused if the reading is strict.
     pub(crate) fn take_string(&mut self, text: &[u8], is_strict: bool) {
         if self.is_out_of_memory() {
             return;
@@ -153,12 +155,12 @@ impl ListReader {
         }
     }
 
-    // Goes on to the next line of the list.
+    // Moves on to the next line of the list.
     fn next_line(&mut self) {
         self.line = self.line.saturating_add(1);
     }
 
-    // Notes that the line is refused.
+    // Notes that the current line is refused.
     fn refuse(&mut self, fault: LineFault) {
         self.refusals.add(Refusal {
             list: self.list,
@@ -167,14 +169,14 @@ impl ListReader {
         });
     }
 
-    // Takes what an entry names.
+    // Takes an entry, or notes that memory ran out for it.
     fn take(&mut self, entry: Entry) {
         let pushed = push_entry(&mut self.v4, &mut self.v6, entry);
         self.is_out_of_memory = pushed.is_err();
     }
 }
 
-// Adds the network, or the blocks of the range, to those of its family.
+// Appends the network, or the blocks of the range, to the networks of its family.
 fn push_entry(
     v4: &mut Networks<Ipv4Network>,
     v6: &mut Networks<Ipv6Network>,
@@ -186,7 +188,7 @@ fn push_entry(
     }
 }
 
-// Adds the network to those of its family.
+// Appends a network to those of its family.
 fn push_network(
     v4: &mut Networks<Ipv4Network>,
     v6: &mut Networks<Ipv6Network>,
@@ -198,7 +200,7 @@ fn push_network(
     }
 }
 
-// Adds the blocks of the range to those of its family.
+// Appends the blocks of a range to the networks of its family.
 fn push_range(
     v4: &mut Networks<Ipv4Network>,
     v6: &mut Networks<Ipv6Network>,

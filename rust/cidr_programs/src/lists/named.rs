@@ -17,22 +17,25 @@ use crate::lines::fault::RunFault;
 /// ```
 #[derive(Clone, Copy, Debug, PartialEq, Eq)]
 pub enum ReadFault {
-    /// The list that is named by the word at this index cannot be opened, for this cause.
+    /// The list that the word at this index names cannot be opened, for this cause.
     Open(usize, OpenFault),
-    /// The list that is named by the word at this index cannot be read.
+    /// The list that the word at this index names cannot be read to its end.
     Read(usize),
-    /// The document that is named by the word at this index has more than 1,073,741,824 bytes.
+    /// The document that the word at this index names has more than 1,073,741,824 bytes.
     Length(usize),
-    /// The document that is named by the word at this index is not JSON, or has more than 127 levels: the first is the
-    /// word, and the second the line.
+    /// The document that the word at this index names is not JSON or has more than 127 levels: the
+    /// index of the word, and the line.
     NotJson(usize, u64),
-    /// Out of memory for what the lists name.
+    /// Memory ran out.
     OutOfMemory,
 }
 
-/// Opens the list of this name, which is the word at the index `place`, reads it to the end, and closes it.
+/// Opens the list of this name, which is the word at the index `place`, reads it to its end, and
+/// closes it.
 ///
-/// The refused lines are added to the earlier ones, even if the reading ends with a fault.
+/// An error is returned if the list cannot be opened, a read fails, the list has more than
+/// 18,446,744,073,709,551,615 bytes, or memory runs out. Even then the refused lines are added to
+/// the earlier ones.
 ///
 /// ```
 /// # use cidr_programs::in_examples::*;
@@ -59,7 +62,9 @@ pub fn read_named<L: OpenLists>(
     end_of(read, place, reader.is_out_of_memory())
 }
 
-/// Reads a text, which is the word at the index `place`, as a list to its end. Only memory can run out.
+/// Reads a text, which is the word at the index `place`, to its end as a list.
+///
+/// The only error is that memory ran out.
 ///
 /// ```
 /// # use cidr_programs::in_examples::*;
@@ -76,7 +81,8 @@ pub fn read_text(text: &str, place: usize, reader: &mut ListReader) -> Result<()
     Ok(())
 }
 
-// How the reading of the list at a place ends, by how its lines were taken, and whether memory ran out.
+// Returns the result of reading the list at this index, by how its lines were taken and whether
+// memory ran out.
 fn end_of(read: Result<(), RunFault>, place: usize, is_out_of_memory: bool) -> Result<(), ReadFault> {
     if is_out_of_memory {
         return Err(ReadFault::OutOfMemory);

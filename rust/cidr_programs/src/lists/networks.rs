@@ -7,27 +7,27 @@ use fosibegan::ipnetwork_blocks::{AddressSpace, range_to_blocks};
 use fosibegan::ipnetwork_sets::AddressSet;
 use fosibegan::plain_std::alloc::{AllocError, Global};
 
-/// Networks of one family.
+/// Networks of one family, in the order in which they were read.
 #[derive(Debug)]
 pub(crate) struct Networks<N: AddressSpace> {
     networks: Vec<N>,
 }
 
 impl<N: AddressSpace> Networks<N> {
-    /// None.
+    /// Creates an empty list of networks.
     pub(crate) fn new(alloc: Global) -> Networks<N> {
         Networks {
             networks: Vec::new(alloc),
         }
     }
 
-    /// Adds a network.
+    /// Appends a network.
     pub(crate) fn push(&mut self, network: N) -> Result<(), AllocError> {
         self.networks.push(network)?;
         Ok(())
     }
 
-    /// Adds the blocks of the addresses from `first` to `last`.
+    /// Appends the fewest blocks that have the addresses from `first` to `last`.
     pub(crate) fn push_range(&mut self, first: N::Addr, last: N::Addr) -> Result<(), AllocError> {
         // The clause `address` of this call says that `last` is an address of the family.
         let _ = N::block(last, N::WIDTH);
@@ -40,12 +40,12 @@ impl<N: AddressSpace> Networks<N> {
         Ok(())
     }
 
-    /// The networks, in their order.
+    /// Returns the networks, in their order.
     pub(crate) fn into_vec(self) -> Vec<N> {
         self.networks
     }
 
-    /// The set of their addresses. Keeps their memory.
+    /// Returns the set of their addresses, in the memory of the networks.
     pub(crate) fn into_set(self) -> AddressSet<N> {
         AddressSet::from_networks(self.networks)
     }

@@ -19,7 +19,7 @@ use fosibegan::plain_std::io::Read;
 /// assert!(is_there(&program::system::System::new(&rt), "-"));
 /// ```
 pub trait OpenLists {
-    /// A list that was opened.
+    /// A list that is open.
     type List: Read;
 
     /// Opens the list of this name. The error is the system's.
@@ -35,8 +35,11 @@ pub trait OpenLists {
     /// ```
     fn open(&self, name: &str) -> io::Result<Self::List>;
 
-    /// Opens the file of this name to be read while its lines are written. It may be refused if it is the one that is
-    /// written, which would then never end. An implementation that does not say so opens it as a list.
+    /// Opens the file of this name, to be read while its lines are written. The error is the
+    /// system's.
+    ///
+    /// An implementation may refuse the file that is also being written, since reading it would
+    /// never end. By default the file is opened as a list.
     ///
     /// ```
     /// # use cidr_programs::in_examples::*;

@@ -1,6 +1,6 @@
 // Written by scripts/plain out of crates/lists/src/opening.rt
 
-//! Why a file cannot be opened.
+//! Opens files, and says why one cannot be opened.
 
 use crate::lists::open_lists::OpenLists;
 use crate::lines::watched::Watched;
@@ -19,18 +19,18 @@ use fosibegan::plain_std::io::ErrorKind;
 pub enum OpenFault {
     /// There is no file of this name.
     Missing,
-    /// It may not be read.
+    /// The program may not read it.
     Denied,
     /// It is a directory.
     Directory,
     /// It is also the output.
     Output,
-    /// Another cause.
+    /// There is another cause.
     Other,
 }
 
 impl OpenFault {
-    /// The cause that an error of the system names.
+    /// Returns the cause that the kind of the system's error stands for.
     ///
     /// ```
     /// # use cidr_programs::in_examples::*;
@@ -49,7 +49,7 @@ impl OpenFault {
         }
     }
 
-    /// What is reported of it, after the name of the file.
+    /// Returns what is reported about the cause, after the name of the file.
     ///
     /// ```
     /// # use cidr_programs::in_examples::*;
@@ -69,6 +69,8 @@ impl OpenFault {
 
 /// Opens the list of this name. Once a read of it has failed, it is not read again.
 ///
+/// An error that says why is returned if it cannot be opened.
+///
 /// ```
 /// # use cidr_programs::in_examples::*;
 /// # let rt = HostRuntime::new();
@@ -83,8 +85,10 @@ pub fn open_list<L: OpenLists>(lists: &L, name: &str) -> Result<Watched<L::List>
     }
 }
 
-/// Opens the file of this name to be read while its lines are written, as `open_list` opens a list. A file that is also
-/// the output may be refused.
+/// Opens the file of this name, to be read while its lines are written, as `open_list` opens a
+/// list. A file that is also the output may be refused.
+///
+/// An error that says why is returned if it cannot be opened.
 ///
 /// ```
 /// # use cidr_programs::in_examples::*;

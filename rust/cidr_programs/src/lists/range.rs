@@ -1,12 +1,12 @@
 // Written by scripts/plain out of crates/lists/src/range.rt
 
-//! The range of addresses between two ends.
+//! Reads a range of addresses.
 
 use crate::lists::entry::{Entry, EntryFault};
 use crate::lists::trimming::{Blank, trim};
 use fosibegan::ipnetwork::IpAddr;
 
-/// The range of which these texts name the ends.
+/// Returns the range between the ends that these texts name, or why there is none.
 pub(crate) fn read_range(before: &[u8], after: &[u8]) -> Result<Entry, EntryFault> {
     let Ok(first) = IpAddr::read_bytes(trim::<Blank>(before)) else {
         return Err(EntryFault::Address);
@@ -17,7 +17,7 @@ pub(crate) fn read_range(before: &[u8], after: &[u8]) -> Result<Entry, EntryFaul
     between(first, last)
 }
 
-/// The range from one address to another.
+/// Returns the range from one address to another, or the fault that they are the ends of none.
 fn between(first: IpAddr, last: IpAddr) -> Result<Entry, EntryFault> {
     if !is_range(&first, &last) {
         return Err(EntryFault::Range);

@@ -1,6 +1,6 @@
 // Written by scripts/plain out of crates/lists/src/read.rt
 
-//! Reads lists.
+//! Reads a list from a device or from a text.
 
 use crate::lists::list_reader::ListReader;
 use crate::lines::fault::RunFault;
@@ -25,11 +25,12 @@ pub const LINE_MAX: usize = 1024;
 /// The most bytes that are read and not yet taken.
 const BUFFER_MAX: usize = 65536;
 
-/// Reads a list to its end, or until memory runs out. `list` is a number that the caller chooses, by which refused lines name the list.
+/// Reads a list to its end, or until memory runs out. `list` is a number that the caller chooses,
+/// by which refused lines name the list.
 ///
-/// `RunFault::Read` if a read failed: exactly the lines that were complete before were read. `RunFault::InputTooLong`
-/// if there are more than 18,446,744,073,709,551,615 bytes. Allocates only for what the list names, unless the device
-/// allocates.
+/// The error is `RunFault::Read` if a read failed: exactly the lines that were complete before it
+/// were taken. It is `RunFault::InputTooLong` if there are more than 18,446,744,073,709,551,615
+/// bytes. Memory is allocated only for what the list names, unless the device allocates.
 ///
 /// ```
 /// # use cidr_programs::in_examples::*;
@@ -71,7 +72,7 @@ pub fn read_list<R: Read>(
     }
 }
 
-// Takes the lines that are whole.
+// Takes the whole lines that are pending in the buffer.
 fn take_whole_lines(lists: &mut ListReader, lines: &mut LineBuffer<'_>) {
     'lines: loop {
         match lines.next() {
@@ -83,7 +84,8 @@ fn take_whole_lines(lists: &mut ListReader, lines: &mut LineBuffer<'_>) {
     }
 }
 
-// Reads a text as a list to its end, as `read_list` reads its bytes. Refused lines name the text by the number `list`.
+// Reads a text to its end as a list, as `read_list` reads the bytes of a device. Refused lines name
+// the text by the number `list`.
 pub(crate) fn take_text(lists: &mut ListReader, list: usize, text: &str) {
     lists.begin(list);
     for line in text.lines() {
@@ -91,7 +93,7 @@ pub(crate) fn take_text(lists: &mut ListReader, list: usize, text: &str) {
     }
 }
 
-// Takes a line, unless it is too long.
+// Takes a line, or refuses it if it is too long.
 fn read_line(lists: &mut ListReader, line: &[u8]) {
     if line.len() > LINE_MAX {
         lists.refuse_long_line();

@@ -4,7 +4,7 @@
 
 use crate::lists::fault::LineFault;
 
-/// How many refused lines are kept.
+/// The most refused lines that are kept.
 ///
 /// ```
 /// # use cidr_programs::in_examples::*;
@@ -36,13 +36,14 @@ pub const REFUSALS_MAX: usize = 100;
 pub struct Refusal {
     /// The number that the caller gave the list.
     pub list: usize,
-    /// The number of the line in its list, from 1 on.
+    /// The number of the line in its list, counted from 1.
     pub line: u64,
-    /// Why it is refused.
+    /// Why the line is refused.
     pub fault: LineFault,
 }
 
-/// The first hundred refused lines, in the order in which they were read, and how many more there were.
+/// The first hundred refused lines, in the order in which they were read, and how many more there
+/// were.
 ///
 /// ```
 /// # use cidr_programs::in_examples::*;
@@ -62,7 +63,7 @@ pub struct Refusals {
     more: u64,
 }
 
-// What stands in a slot that is not used.
+// The content of a slot that is not used.
 const UNUSED: Refusal = Refusal {
     list: 0,
     line: 0,
@@ -70,7 +71,7 @@ const UNUSED: Refusal = Refusal {
 };
 
 impl Refusals {
-    /// No refused lines.
+    /// Creates an empty list of refused lines.
     ///
     /// ```
     /// # use cidr_programs::in_examples::*;
@@ -95,7 +96,7 @@ impl Refusals {
         }
     }
 
-    /// The refused lines that are kept: the first hundred.
+    /// Returns the refused lines that are kept: the first hundred.
     ///
     /// ```
     /// # use cidr_programs::in_examples::*;
@@ -112,7 +113,7 @@ impl Refusals {
         &self.slots[..self.count]
     }
 
-    /// How many more refused lines there were, up to 18,446,744,073,709,551,615.
+    /// Returns how many more refused lines there were, up to 18,446,744,073,709,551,615.
     ///
     /// ```
     /// # use cidr_programs::in_examples::*;

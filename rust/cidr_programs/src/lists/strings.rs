@@ -1,6 +1,6 @@
 // Written by scripts/plain out of crates/lists/src/strings.rt
 
-//! Takes the strings of a value of JSON.
+//! Takes the strings of a JSON value.
 
 use fosibegan::plain_std::string::String;
 use crate::lists::list_reader::ListReader;

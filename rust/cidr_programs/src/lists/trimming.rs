@@ -1,8 +1,8 @@
 // Written by scripts/plain out of crates/lists/src/trimming.rt
 
-//! A text without what stands around it.
+//! Trims texts.
 
-/// Some of the 256 bytes.
+/// A kind of bytes: some of the 256.
 ///
 /// ```
 /// # use cidr_programs::in_examples::*;
@@ -14,7 +14,7 @@
 /// assert_eq!(behind::<cidr_programs::lists::Blank>(b" # private"), b"# private".as_slice());
 /// ```
 pub trait ByteKind {
-    /// Whether a byte is one of them.
+    /// Whether a byte is of this kind.
     ///
     /// ```
     /// # use cidr_programs::in_examples::*;
@@ -39,7 +39,7 @@ impl ByteKind for Blank {
     }
 }
 
-/// The text without the bytes of a kind around it.
+/// Returns the text without the bytes of a kind around it.
 ///
 /// ```
 /// # use cidr_programs::in_examples::*;
@@ -50,7 +50,7 @@ pub fn trim<K: ByteKind>(text: &[u8]) -> &[u8] {
     &rest[..rest.len() - end_len::<K>(rest)]
 }
 
-/// How many bytes of a kind the text begins with.
+/// Returns how many bytes of a kind the text begins with.
 ///
 /// ```
 /// # use cidr_programs::in_examples::*;
@@ -64,7 +64,7 @@ pub fn front_len<K: ByteKind>(text: &[u8]) -> usize {
     count
 }
 
-// How many bytes of a kind it ends with.
+// Returns how many bytes of a kind the text ends with.
 fn end_len<K: ByteKind>(text: &[u8]) -> usize {
     let mut end = text.len();
     while end > 0 && K::has(text[end - 1]) {

@@ -45,14 +45,14 @@ macro_rules! log_rows {
         [
             letter!(b'a', Flag, ""),
             letter!(b'w', Flag, ""),
-            letter!(b'k', Field, "is no field number"),
-            letter!(b'd', Separator, "is not one ASCII byte other than LF, CR and NUL"),
+            letter!(b'k', Field, "not a field number"),
+            letter!(b'd', Separator, "not one ASCII byte other than LF, CR and NUL"),
             long!("--after", Text, false, "is no text"),
             long!("--mapped", Flag, false, ""),
-            letter!(b'f', File, "is no file name"),
-            long!("--help", Alone, false, "is not the only argument"),
-            long!("--version", Alone, false, "is not the only argument"),
-            long!("--nth", Nth, true, "is not first, last or a number from 1 on"),
+            letter!(b'f', File, "not a file name"),
+            long!("--help", Alone, false, "not the only argument"),
+            long!("--version", Alone, false, "not the only argument"),
+            long!("--nth", Nth, true, "not first, last or a number from 1 up"),
             $($row),*
         ]
     };

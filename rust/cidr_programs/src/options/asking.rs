@@ -1,6 +1,6 @@
 // Written by scripts/plain out of crates/options/src/asking.rt
 
-//! What the words of a program ask for.
+//! Reads what the words of a command line ask a program for.
 
 use fosibegan::plain_std::vec::Vec;
 use fosibegan::plain_std::string::String;
@@ -16,7 +16,7 @@ use crate::program::start::text_asked;
 use fosibegan::plain_std::alloc::Global;
 use fosibegan::plain_std::io::Write;
 
-/// What a program tells of itself.
+/// The texts that a program prints about itself.
 ///
 /// ```
 /// # use cidr_programs::in_examples::*;
@@ -32,19 +32,22 @@ use fosibegan::plain_std::io::Write;
 /// ```
 #[derive(Debug)]
 pub struct About<'a> {
-    /// Its name.
+    /// The program's name.
     pub program: &'a str,
-    /// What `--help` prints.
+    /// The text that `--help` prints.
     pub help: &'a str,
-    /// What `--version` prints.
+    /// The text that `--version` prints.
     pub version: &'a str,
-    /// How it is used.
+    /// The usage, which is reported after what is wrong with a command line.
     pub usage: &'a str,
 }
 
-/// What the words after the program's name say, by a table of options, if they are right. If they ask for the help or the
-/// version, that is printed, and if something is wrong with them, that and the usage are reported, or that memory ran out:
-/// the error is the exit status.
+/// Returns what the words after the program's name say, by a table of options.
+///
+/// If the only word asks for the help or the version, that is printed and the exit status is
+/// returned as the error. If something is wrong with the words, that and the usage are reported; if
+/// memory runs out, that is reported; in both cases the error is the exit status 2. On success
+/// nothing is printed or reported.
 ///
 /// ```
 /// # use cidr_programs::in_examples::*;

@@ -7,7 +7,7 @@ use fosibegan::plain_std::string::String;
 use crate::options::items::Item;
 use fosibegan::plain_std::alloc::{AllocError, Global};
 
-/// Whether the option of a row is given.
+/// Whether the option of this row is given.
 ///
 /// ```
 /// # use cidr_programs::in_examples::*;
@@ -22,7 +22,7 @@ pub fn is_given(items: &[Item<'_>], row: usize) -> bool {
     items.iter().any(|item| names(item, row))
 }
 
-/// Whether the option of a row is this one, also without the value that it takes.
+/// Whether the item is the option of this row, even if it lacks its value.
 ///
 /// ```
 /// # use cidr_programs::in_examples::*;
@@ -40,12 +40,12 @@ pub fn names(item: &Item<'_>, row: usize) -> bool {
     }
 }
 
-/// How often the option of a row is given.
+/// Returns how often the option of this row is given.
 pub(crate) fn times(items: &[Item<'_>], row: usize) -> usize {
     items.iter().filter(|item| names(item, row)).count()
 }
 
-/// The last value of the option of a row, or an empty text.
+/// Returns the last value that the option of this row is given, or an empty text if there is none.
 ///
 /// ```
 /// # use cidr_programs::in_examples::*;
@@ -66,7 +66,7 @@ pub fn value_of<'a>(items: &[Item<'a>], row: usize) -> &'a str {
     value
 }
 
-/// The value of the option of a row, or else this.
+/// Returns the value that the item has if it is the option of this row with one, and else `value`.
 ///
 /// ```
 /// # use cidr_programs::in_examples::*;
@@ -84,7 +84,9 @@ pub fn value_in<'a>(item: &Item<'a>, row: usize, value: &'a str) -> &'a str {
     }
 }
 
-/// The FILEs.
+/// Returns the names of the FILEs, in their order.
+///
+/// An error is returned if memory runs out.
 ///
 /// ```
 /// # use cidr_programs::in_examples::*;
@@ -111,7 +113,10 @@ pub fn files_of(alloc: Global, items: &[Item<'_>]) -> Result<Vec<String>, AllocE
     Ok(files)
 }
 
-/// The FILEs, or `-`, which is standard input, if there is none.
+/// Returns the names of the files to read: the FILEs, or `-`, which stands for standard input, if
+/// there are none.
+///
+/// An error is returned if memory runs out.
 ///
 /// ```
 /// # use cidr_programs::in_examples::*;

@@ -1,8 +1,8 @@
 // Written by scripts/plain out of crates/options/src/items.rt
 
-//! What the words of a command line say, one thing after another.
+//! What the words of a command line say, as a list of items.
 
-/// A text of a command line.
+/// A text from a command line.
 ///
 /// ```
 /// # use cidr_programs::in_examples::*;
@@ -15,7 +15,7 @@ pub struct Text<'a> {
 }
 
 impl<'a> Text<'a> {
-    /// This text.
+    /// Creates a text from a string slice.
     ///
     /// ```
     /// # use cidr_programs::in_examples::*;
@@ -25,7 +25,7 @@ impl<'a> Text<'a> {
         Text { text }
     }
 
-    /// It.
+    /// Returns the text as a string slice.
     ///
     /// ```
     /// # use cidr_programs::in_examples::*;
@@ -36,7 +36,8 @@ impl<'a> Text<'a> {
     }
 }
 
-/// An option, by the index of its row, or a FILE.
+/// An item of a command line: an option, by the index of its row in the table, a FILE, or a word
+/// that is no option.
 ///
 /// ```
 /// # use cidr_programs::in_examples::*;
@@ -49,15 +50,15 @@ impl<'a> Text<'a> {
 pub enum Item<'a> {
     /// An option without a value.
     Flag(usize),
-    /// An option and its value, which is the next word, or follows several letters.
+    /// An option and its value, which is the next word, or follows the last of several letters.
     Value(usize, Text<'a>),
-    /// An option and its value, in one word, which is this.
+    /// An option and its value in one word: the row, the value and the whole word.
     Joined(usize, Text<'a>, Text<'a>),
-    /// A FILE.
+    /// A FILE, by its name.
     File(Text<'a>),
-    /// A word that is no option, though it begins with a `-`.
+    /// A word that begins with `-` but is no option.
     Unknown(Text<'a>),
-    /// An option without the value that it takes.
+    /// An option that lacks the value it takes.
     Lacks(usize),
 }
 
@@ -71,10 +72,10 @@ pub enum Item<'a> {
 /// ```
 #[derive(Clone, Copy, Debug, PartialEq, Eq)]
 pub enum Mode {
-    /// An option, a FILE or a `--` may stand here.
+    /// Where an option, a FILE or `--` may stand.
     Free,
-    /// The value of the option of this row stands here.
+    /// Where the value of the option of this row stands.
     Value(usize),
-    /// A FILE stands here, behind a `--`.
+    /// After `--`, where only a FILE may stand.
     Files,
 }

@@ -2,7 +2,7 @@
 
 //! Numbers as values of options.
 
-/// Whether a text is digits, one or more.
+/// Whether the text consists of digits, one or more.
 ///
 /// ```
 /// # use cidr_programs::in_examples::*;
@@ -12,12 +12,12 @@ pub fn is_number(text: &[u8]) -> bool {
     !text.is_empty() && are_digits(text)
 }
 
-// Whether each byte is a digit.
+// Whether every byte is a digit.
 fn are_digits(text: &[u8]) -> bool {
     text.iter().all(|byte| byte.is_ascii_digit())
 }
 
-/// The number that digits name, or the greatest of 64 bits.
+/// Returns the number that decimal digits name, or `u64::MAX` if it is greater.
 ///
 /// ```
 /// # use cidr_programs::in_examples::*;

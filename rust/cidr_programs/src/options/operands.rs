@@ -1,6 +1,6 @@
 // Written by scripts/plain out of crates/options/src/operands.rt
 
-//! What is wrong with a command line, if a FILE has to be given and no option.
+//! Finds what is wrong with a command line that needs a FILE and no option.
 
 use crate::options::faults::{
     Fault, Subject, about, first_fault, has_file, is_read_once, pair_fault,
@@ -8,9 +8,15 @@ use crate::options::faults::{
 use crate::options::items::Item;
 use crate::options::table::Table;
 
-/// What is wrong with a command line that says this, if a FILE has to be given and no option: the first option that is
-/// none or has a wrong value or none, then the first pair of options that do not go together, then that there is no
-/// FILE, and then that standard input is read twice. A FILE may be empty.
+/// Returns the first fault of a command line that needs a FILE and no option, or `None` if it has
+/// none. A FILE may be empty.
+///
+/// Faults are looked for in this order:
+///
+/// 1. an option that does not exist, has a wrong value or lacks its value;
+/// 2. a pair of options that do not go together;
+/// 3. that there is no FILE;
+/// 4. that standard input is read twice.
 ///
 /// ```
 /// # use cidr_programs::in_examples::*;

@@ -1,6 +1,6 @@
 // Written by scripts/plain out of crates/options/src/reading.rt
 
-//! Reads the words of a command line by the rows of a table.
+//! Reads the words of a command line, by the rows of a table of options.
 
 use fosibegan::plain_std::vec::Vec;
 use fosibegan::plain_std::string::String;
@@ -8,7 +8,9 @@ use crate::options::items::{Item, Mode, Text};
 use crate::options::table::{Row, joined, kind_at, lettered, named};
 use fosibegan::plain_std::alloc::{AllocError, Global};
 
-/// What the words say, one thing after another.
+/// Returns the items that the words say, in their order, by the rows of a table of options.
+///
+/// An error is returned if memory runs out.
 ///
 /// ```
 /// # use cidr_programs::in_examples::*;
@@ -17,7 +19,7 @@ use fosibegan::plain_std::alloc::{AllocError, Global};
 /// use cidr_programs::options::reading::items_of;
 /// use cidr_programs::options::table::{Kind, Row, letter};
 ///
-/// let rows = [letter!(b'v', Flag, ""), letter!(b'k', Field, "is no field number")];
+/// let rows = [letter!(b'v', Flag, ""), letter!(b'k', Field, "not a field number")];
 /// let mut words = Vec::new(Global);
 /// words.push(String::from_str(Global, "-vk7")?)?;
 /// words.push(String::from_str(Global, "log")?)?;
@@ -44,7 +46,7 @@ pub fn items_of<'a>(
     Ok(all)
 }
 
-// Adds what a word says, and returns where the word behind it stands.
+// Appends the items of a word, and returns where the next word stands.
 fn put_word<'a>(
     rows: &[Row],
     mode: Mode,
@@ -65,7 +67,8 @@ fn put_word<'a>(
     }
 }
 
-// Adds what a word says where an option may stand.
+// Appends the items of a word that stands where an option may, and returns where the next word
+// stands.
 fn put_free<'a>(rows: &[Row], word: &'a str, all: &mut Vec<Item<'a>>) -> Result<Mode, AllocError>
 {
     if is_plain(word) {
@@ -80,7 +83,7 @@ fn put_free<'a>(rows: &[Row], word: &'a str, all: &mut Vec<Item<'a>>) -> Result<
     }
 }
 
-/// Whether a word is a FILE where an option may stand: it is `-`, or does not begin with a `-`.
+/// Whether a word, where an option may stand, is a FILE: it is `-`, or does not begin with `-`.
 ///
 /// ```
 /// # use cidr_programs::in_examples::*;
@@ -90,12 +93,12 @@ pub fn is_plain(word: &str) -> bool {
     word == "-" || !word.as_bytes().starts_with(b"-".as_slice())
 }
 
-// Whether a word begins with `--`.
+// Whether the word begins with `--`.
 fn begins_long(word: &str) -> bool {
     word.as_bytes().starts_with(b"--".as_slice())
 }
 
-// Adds what a word says that begins with `--`.
+// Appends the items of a word that begins with `--`, and returns the mode of the next word.
 fn put_name<'a>(rows: &[Row], word: &'a str, all: &mut Vec<Item<'a>>) -> Result<Mode, AllocError> {
     let Some(row) = named(rows, word) else {
         all.push(joined_item(rows, word))?;
@@ -108,7 +111,7 @@ fn put_name<'a>(rows: &[Row], word: &'a str, all: &mut Vec<Item<'a>>) -> Result<
     Ok(Mode::Free)
 }
 
-// A long name and its value behind a `=`, or an unknown word.
+// Returns the item of a long name with a value after `=`, or of an unknown word.
 fn joined_item<'a>(rows: &[Row], word: &'a str) -> Item<'a> {
     let Some((name, value)) = word.split_once('=') else {
         return Item::Unknown(Text::new(word));
@@ -119,7 +122,7 @@ fn joined_item<'a>(rows: &[Row], word: &'a str) -> Item<'a> {
     }
 }
 
-// Adds what the letters of a word say.
+// Appends the items of the letters of a word, and returns the mode of the next word.
 fn put_letters<'a>(rows: &[Row], word: &'a str, all: &mut Vec<Item<'a>>) -> Result<Mode, AllocError> {
     let mut text = behind_dash(word);
     let mut first = true;
@@ -141,7 +144,8 @@ fn put_letters<'a>(rows: &[Row], word: &'a str, all: &mut Vec<Item<'a>>) -> Resu
     Ok(Mode::Free)
 }
 
-// Adds an option with its value, if that follows its letter.
+// Appends an option with its value, if that follows its letter, and returns the mode of the next
+// word.
 fn put_value<'a>(
     row: usize,
     first: bool,
@@ -160,7 +164,7 @@ fn put_value<'a>(
     Ok(Mode::Free)
 }
 
-// What follows the `-` at the head of a word.
+// Returns what follows the `-` at the start of a word.
 fn behind_dash(word: &str) -> &str {
     match split_letter(word) {
         Some((_, rest)) => rest,
@@ -168,7 +172,7 @@ fn behind_dash(word: &str) -> &str {
     }
 }
 
-// The first character of a text, if it is one of ASCII, and what follows it.
+// Splits a text into its first character, if that is ASCII, and what follows it.
 fn split_letter(text: &str) -> Option<(u8, &str)> {
     let Some((first, _)) = text.as_bytes().split_first() else {
         return None;

@@ -1,6 +1,6 @@
 // Written by scripts/plain out of crates/options/src/refusing.rt
 
-//! What is reported of a command line with which something is wrong.
+//! Reports a command line that has a fault.
 
 use crate::options::faults::{Fault, Subject};
 use crate::options::items::Text;
@@ -11,10 +11,11 @@ use crate::program::messages::tell;
 use crate::program::usage::tell_shown;
 use fosibegan::plain_std::io::Write;
 
-/// Reports what is wrong with a command line, and how the program is used, and returns the exit status 2.
+/// Reports the fault of a command line and the usage, and returns the exit status 2.
 ///
-/// The first line is `PROGRAM: PROBLEM`, `PROGRAM: WORD: PROBLEM` or `PROGRAM: OPTION: VALUE PROBLEM`, by what the fault is
-/// about, where an empty word is shown as `''` and control characters are escaped; the second is the usage.
+/// The first line is `PROGRAM: PROBLEM`, `PROGRAM: WORD: PROBLEM`, `PROGRAM: OPTION: PROBLEM` or
+/// `PROGRAM: OPTION: VALUE PROBLEM`, by the subject of the fault. An empty word is shown as `''`,
+/// and control characters are escaped. The usage follows.
 ///
 /// ```
 /// # use cidr_programs::in_examples::*;
@@ -42,7 +43,7 @@ pub fn refuse<E: Write>(
     FAILED
 }
 
-// Writes what a fault is about, before what is wrong with it.
+// Writes the subject of a fault, as it stands before the problem.
 fn tell_subject<E: Write>(rows: &[Row], subject: &Subject<'_>, errors: &mut Output<'_, E>) {
     match subject {
         Subject::CommandLine => tell("", errors),
@@ -63,7 +64,7 @@ fn tell_subject<E: Write>(rows: &[Row], subject: &Subject<'_>, errors: &mut Outp
     }
 }
 
-// Writes the option of a row: its letter behind a `-`, or else its long name.
+// Writes the option of a row: its letter after `-`, or its long name if it has no letter.
 fn tell_option<E: Write>(rows: &[Row], row: usize, errors: &mut Output<'_, E>) {
     let Some(row) = rows.get(row) else {
         return tell("", errors);
@@ -84,7 +85,7 @@ fn tell_text<E: Write>(text: &Text<'_>, errors: &mut Output<'_, E>) {
     tell(text.as_str(), errors);
 }
 
-// Writes a word as it is shown.
+// Writes a word as messages show it.
 fn tell_word<E: Write>(word: &Text<'_>, errors: &mut Output<'_, E>) {
     let text = word.as_str();
     tell_shown(text.as_bytes(), errors);

@@ -1,11 +1,11 @@
 // Written by scripts/plain out of crates/options/src/values.rt
 
-//! What values of options say.
+//! Reads the values of options.
 
 use crate::options::numbers::{is_number, number_of};
 use crate::options::table::Kind;
 
-/// Whether this is a value of this kind.
+/// Whether the text is a value of this kind.
 pub(crate) fn is_right(kind: Kind, value: &str) -> bool {
     match kind {
         Kind::Flag => true,
@@ -20,7 +20,7 @@ pub(crate) fn is_right(kind: Kind, value: &str) -> bool {
     }
 }
 
-// Whether a text is digits of a number from 1 to the greatest of 32 bits.
+// Whether the text is a number from 1 to 4,294,967,295.
 fn is_field(text: &[u8]) -> bool {
     if !is_number(text) {
         return false;
@@ -29,7 +29,7 @@ fn is_field(text: &[u8]) -> bool {
     number > 0 && number <= 4_294_967_295
 }
 
-// Whether a text is a byte of ASCII other than LF, CR and NUL.
+// Whether the text is one byte of ASCII other than LF, CR and NUL.
 fn is_separator(text: &[u8]) -> bool {
     match text {
         [byte] => *byte < 128 && *byte != b'\n' && *byte != b'\r' && *byte != 0,
@@ -37,7 +37,8 @@ fn is_separator(text: &[u8]) -> bool {
     }
 }
 
-/// The number that a value says, if it is one; one above the greatest of 64 bits counts as that.
+/// Returns the number that a value is, or `u64::MAX` if the number is greater. Returns `None` if it
+/// is not a number.
 ///
 /// ```
 /// # use cidr_programs::in_examples::*;
@@ -50,7 +51,8 @@ pub fn number_in(value: &str) -> Option<u64> {
     Some(number_of(value.as_bytes()))
 }
 
-/// The number of a field that a value says, if it is one.
+/// Returns the number of a field that a value is, or `None` if it is not a number from 1 to
+/// 4,294,967,295.
 ///
 /// ```
 /// # use cidr_programs::in_examples::*;
@@ -66,7 +68,7 @@ pub fn field_in(value: &str) -> Option<u32> {
     }
 }
 
-/// The byte that a value is, if it is one.
+/// Returns the byte of a value of exactly one byte, or `None` for any other value.
 ///
 /// ```
 /// # use cidr_programs::in_examples::*;
@@ -79,7 +81,8 @@ pub fn byte_in(value: &str) -> Option<u8> {
     }
 }
 
-/// The two lengths that a value says, of which the first is at most 32 and the second at most 128.
+/// Returns the two prefix lengths of a value, or `None` if it is not two numbers with a comma
+/// between them, or the first is greater than 32 or the second greater than 128.
 ///
 /// ```
 /// # use cidr_programs::in_examples::*;
@@ -98,7 +101,8 @@ pub fn lengths_in(value: &str) -> Option<(u8, u8)> {
     }
 }
 
-/// The number that a text names, up to the greatest.
+/// Returns the number that a text is, or `None` if it is not a number or is greater than
+/// `greatest`.
 ///
 /// ```
 /// # use cidr_programs::in_examples::*;

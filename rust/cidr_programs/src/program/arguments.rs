@@ -1,6 +1,6 @@
 // Written by scripts/plain out of crates/program/src/arguments.rt
 
-//! The arguments of the program.
+//! Reads the arguments of the program.
 
 use fosibegan::plain_std::vec::Vec;
 use fosibegan::plain_std::string::String;
@@ -21,12 +21,13 @@ use fosibegan::plain_std::rt::Env;
 pub enum ArgumentsFault {
     /// An argument is not UTF-8.
     NotText,
-    /// Out of memory.
+    /// Memory ran out.
     OutOfMemory,
 }
 
 impl ArgumentsFault {
-    /// Why they cannot be read, by the system's error.
+    /// Returns why the arguments cannot be read, by the kind of the system's error: `OutOfMemory`
+    /// if that says so, and `NotText` for any other kind.
     ///
     /// ```
     /// # use cidr_programs::in_examples::*;
@@ -43,8 +44,10 @@ impl ArgumentsFault {
     }
 }
 
-/// The arguments after the program's name, in order. Each is a `String` of its own, in memory of the program's
-/// allocator.
+/// Returns the arguments after the program's name, in their order. Each is a `String` of its own,
+/// in memory of the program's allocator.
+///
+/// An error is returned if an argument is not UTF-8 or memory runs out.
 ///
 /// ```
 /// # use cidr_programs::in_examples::*;

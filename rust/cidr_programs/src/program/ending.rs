@@ -1,13 +1,13 @@
 // Written by scripts/plain out of crates/program/src/ending.rt
 
-//! How a program ends: its exit status, and what it reports on the error writer.
+//! How a program ends: its exit status, and what it reports about its output.
 
 use crate::program::messages::tell;
 use crate::lines::fault::RunFault;
 use crate::lines::output::Output;
 use fosibegan::plain_std::io::Write;
 
-/// The exit status of a program that could not do what it was asked.
+/// The exit status of a program that could not do what it was asked to do.
 ///
 /// ```
 /// # use cidr_programs::in_examples::*;
@@ -33,8 +33,8 @@ pub fn end<E: Write>(written: Result<(), RunFault>, status: u8, errors: &mut Out
     status
 }
 
-/// Writes what waits and then a text, and returns the exit status: 0, or 2 if a write failed, which is reported as
-/// `write error`.
+/// Writes what waits in the output and then a text, and returns the exit status: 0, or 2 if a write
+/// failed, which is reported as `write error`.
 ///
 /// ```
 /// # use cidr_programs::in_examples::*;
@@ -52,7 +52,7 @@ pub fn print_text<W: Write, E: Write>(
     end(written, 0, errors)
 }
 
-// Writes what waits and then a text.
+// Writes what waits in the output, and then a text.
 fn write_text<W: Write>(text: &str, output: &mut Output<'_, W>) -> Result<(), RunFault> {
     output.put(text.as_bytes())?;
     output.finish()

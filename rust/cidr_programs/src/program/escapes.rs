@@ -1,13 +1,16 @@
 // Written by scripts/plain out of crates/program/src/escapes.rt
 
-//! Text of others, as it is printed: without what a terminal obeys.
+//! Prints the texts of others, with the control characters that a terminal obeys escaped.
 
 use crate::program::messages::{tell, tell_bytes};
 use crate::lines::output::Output;
 use fosibegan::plain_std::io::Write;
 
-/// Writes bytes, of which control characters are escaped: `\x1b` stands for the byte 27. The tab stays. Of UTF-8 the
-/// characters from U+0080 to U+009F are escaped too, both of their bytes. If a write fails, now or earlier, the rest is lost.
+/// Writes bytes with their control characters escaped: `\x1b` stands for the byte 27.
+///
+/// The tab is not escaped. The characters from U+0080 to U+009F are: as a single byte after one of
+/// ASCII, and in UTF-8 with both of their bytes. If a write fails, now or earlier, the rest is
+/// lost.
 ///
 /// ```
 /// # use cidr_programs::in_examples::*;
@@ -28,7 +31,7 @@ pub fn tell_escaped<W: Write>(bytes: &[u8], output: &mut Output<'_, W>) {
     }
 }
 
-// The first byte, or 0.
+// Returns the first byte, or 0 if there is none.
 fn first_of(bytes: &[u8]) -> u8 {
     match bytes.first() {
         Some(byte) => *byte,
@@ -36,7 +39,7 @@ fn first_of(bytes: &[u8]) -> u8 {
     }
 }
 
-// Writes a byte between two others, or 0.
+// Writes a byte between two others (0 stands for none).
 fn tell_byte<W: Write>(before: u8, byte: u8, next: u8, output: &mut Output<'_, W>) {
     if is_control(before, byte, next) {
         tell("\\x", output);
@@ -46,7 +49,8 @@ fn tell_byte<W: Write>(before: u8, byte: u8, next: u8, output: &mut Output<'_, W
     }
 }
 
-// Whether a byte between two others, or 0, is a control character, or one of the two bytes of one in UTF-8.
+// Whether a byte between two others (0 stands for none) is a control character or one of the two
+// bytes of one in UTF-8.
 fn is_control(before: u8, byte: u8, next: u8) -> bool {
     let is_ascii = byte < 32 && byte != b'\t' || byte == 127;
     let is_last = byte >= 128 && byte < 160 && (before < 128 || before == 194);
@@ -54,7 +58,7 @@ fn is_control(before: u8, byte: u8, next: u8) -> bool {
     is_ascii || is_last || is_first
 }
 
-// A digit of base 16.
+// Returns the character of a hexadecimal digit.
 fn hex_digit(digit: u8) -> u8 {
     if digit < 10 {
         b'0' + digit

@@ -1,13 +1,13 @@
 // Written by scripts/plain out of crates/program/src/log_fault.rt
 
-//! Why a log is not read to its end, and what is reported then.
+//! Why a log was not read to its end, and what is reported then.
 
 use crate::program::messages::{tell, tell_number};
 use crate::lines::output::Output;
 use crate::lists::OpenFault;
 use fosibegan::plain_std::io::Write;
 
-/// Why a log is not read to its end.
+/// Why a log was not read to its end.
 #[derive(Clone, Copy, Debug, PartialEq, Eq)]
 pub enum LogFault {
     /// The log cannot be opened, for this cause.
@@ -16,16 +16,18 @@ pub enum LogFault {
     Read,
     /// A write failed.
     Write,
-    /// A line without an address ends the run.
+    /// A line without an address ended the run.
     Address,
-    /// A line that is too long ends the run.
+    /// A line that is too long ended the run.
     Length,
     /// The log has more than 18,446,744,073,709,551,615 bytes.
     Endless,
 }
 
-/// Writes what waits, and reports why the log of this name was not read to its end, after this many of its lines: a
-/// failed write, if one fails now.
+/// Writes what waits in the output, and reports why the log of this name was not read to its end,
+/// after this many of its lines.
+///
+/// If the fault is a failed write, or the write fails now, `write error` is reported.
 ///
 /// ```
 /// # use cidr_programs::in_examples::*;
@@ -80,7 +82,7 @@ pub fn tell_log_fault<E: Write>(name: &str, fault: LogFault, lines: u64, errors:
     }
 }
 
-/// Reports a name, and then a text.
+/// Reports a name, followed by a text.
 ///
 /// ```
 /// # use cidr_programs::in_examples::*;
@@ -94,7 +96,7 @@ pub fn tell_of<E: Write>(name: &str, text: &str, errors: &mut Output<'_, E>) {
     tell(text, errors);
 }
 
-/// Reports which line of a file is refused, the one after this many, and why.
+/// Reports that the line of a file after this many others is refused, and the cause.
 ///
 /// ```
 /// # use cidr_programs::in_examples::*;

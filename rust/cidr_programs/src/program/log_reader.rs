@@ -1,6 +1,6 @@
 // Written by scripts/plain out of crates/program/src/log_reader.rt
 
-//! The lines of a log, as they are read.
+//! Reads the lines of a log.
 
 use crate::program::log_fault::LogFault;
 use crate::lines::fault::RunFault;
@@ -13,7 +13,7 @@ use fosibegan::plain_std::io::{Read, Write};
 /// The most bytes of a line, not counting its line end.
 pub const LINE_MAX: usize = 1_048_576;
 
-/// How many bytes a buffer has: those of the longest line, and those that are read beside it.
+/// The number of bytes of a buffer: those of the longest line, and room for what is read beside it.
 pub const BUFFER_LEN: usize = LINE_MAX + 2 + 262_144;
 
 /// What comes next in a log.
@@ -36,19 +36,19 @@ pub const BUFFER_LEN: usize = LINE_MAX + 2 + 262_144;
 /// ```
 #[derive(Clone, Copy, Debug, PartialEq, Eq)]
 pub enum NextLogLine {
-    /// A line, which `line` lends, and how it ended.
+    /// A line, which `LogReader::line` returns, and how it ended.
     Line(LineEnd),
-    /// A line of more than 1,048,576 bytes.
+    /// A line of more than 1,048,576 bytes, not counting its line end.
     TooLong,
     /// No line: the log has ended.
     End,
 }
 
-/// The lines of a log.
+/// Reads the lines of a log.
 ///
-/// `next` hands out one line after the other, each where it was read. Before it asks the device for more bytes, and at
-/// the end, it writes what waits in an output: so what is written for the lines that a read completes is written before
-/// the next read.
+/// `next` hands out one line after another, each where it stands in the buffer. Before it asks the
+/// device for more bytes, and at the end of the log, it writes what waits in an output: whatever is
+/// written for the lines of one read reaches the writer before the next read.
 ///
 /// ```
 /// # use cidr_programs::in_examples::*;
@@ -73,13 +73,16 @@ pub struct LogReader<'b> {
     lines: LineBuffer<'b>,
     // How many more bytes may be read.
     room: u64,
-    // Whether a line that is too long is told before its end was read.
+    // Whether a line that is too long is reported before its end was read.
     hurries: bool,
 }
 
 impl<'b> LogReader<'b> {
-    /// The lines of a log of which nothing was read yet. If it `hurries`, a line that is too long is told as soon as that
-    /// is known, and is then the last.
+    /// Creates a reader of a log of which nothing was read yet.
+    ///
+    /// `buffer` must have at least 1,048,578 bytes; `BUFFER_LEN` is the length to use. If the
+    /// reader `hurries`, it reports a line that is too long as soon as it knows, and that line is
+    /// then the last.
     #[doc(hidden)]
     pub fn new(buffer: &'b mut [u8], hurries: bool) -> LogReader<'b> {
         LogReader {
@@ -89,7 +92,7 @@ impl<'b> LogReader<'b> {
         }
     }
 
-    /// The line that `next` handed out last, without the bytes that end it.
+    /// Returns the line that `next` handed out last, without the bytes that end it.
     ///
     /// ```
     /// # use cidr_programs::in_examples::*;
@@ -106,7 +109,7 @@ impl<'b> LogReader<'b> {
         self.lines.line()
     }
 
-    /// The line that `next` handed out last, with the bytes that end it.
+    /// Returns the line that `next` handed out last, with the bytes that end it.
     ///
     /// ```
     /// # use cidr_programs::in_examples::*;
@@ -123,11 +126,12 @@ impl<'b> LogReader<'b> {
         self.lines.whole_line()
     }
 
-    /// Hands out the next line, or says that there is none. What waits in the output is written before the device is
-    /// asked, and at the end of the log.
+    /// Hands out the next line, or says that there is none. What waits in the output is written
+    /// before the device is asked for more bytes, and at the end of the log.
     ///
-    /// The error is `LogFault::Read` or `LogFault::Write` if a read or a write failed, now or earlier, and
-    /// `LogFault::Endless` if more bytes were read than 64 bits count. After a failed read nothing is written.
+    /// An error is returned if a read or a write failed, now or earlier (`LogFault::Read`,
+    /// `LogFault::Write`), or if more bytes were read than 64 bits count (`LogFault::Endless`).
+    /// After a failed read, nothing waits in the output.
     ///
     /// ```
     /// # use cidr_programs::in_examples::*;
@@ -181,7 +185,7 @@ impl<'b> LogReader<'b> {
     }
 }
 
-/// Writes a line feed behind a line that has none.
+/// Writes a line feed after a line that had none.
 ///
 /// ```
 /// # use cidr_programs::in_examples::*;

@@ -1,6 +1,6 @@
 // Written by scripts/plain out of crates/program/src/memory.rt
 
-//! What is reported if memory runs out.
+//! Reports that memory ran out.
 
 use crate::program::ending::FAILED;
 use crate::program::messages::tell;

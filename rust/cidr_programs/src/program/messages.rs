@@ -1,13 +1,14 @@
 // Written by scripts/plain out of crates/program/src/messages.rt
 
-//! Messages on the error writer. If a write of one fails, nothing else changes.
+//! Messages on the error writer. If the write of one fails, nothing else changes.
 
 use fosibegan::plain_std::arrayvec::ArrayString;
 use fosibegan::ipnetwork_addr::decimal::push_number;
 use crate::lines::output::Output;
 use fosibegan::plain_std::io::Write;
 
-/// Writes a text to the error writer. If that fails, now or earlier, the text is lost, and nothing else happens.
+/// Writes a text to the error writer. If that fails, now or earlier, the text is lost, and nothing
+/// else happens.
 ///
 /// ```
 /// # use cidr_programs::in_examples::*;
@@ -20,7 +21,7 @@ pub fn tell<E: Write>(text: &str, errors: &mut Output<'_, E>) {
     tell_bytes(text.as_bytes(), errors);
 }
 
-/// Writes bytes to the error writer, as `tell` a text.
+/// Writes bytes to the error writer, as `tell` writes a text.
 ///
 /// ```
 /// # use cidr_programs::in_examples::*;
@@ -46,7 +47,7 @@ pub fn tell_number<E: Write>(number: u64, errors: &mut Output<'_, E>) {
     tell(number_text(number).as_str(), errors);
 }
 
-/// A number in decimal.
+/// Returns a number in decimal.
 ///
 /// ```
 /// # use cidr_programs::in_examples::*;

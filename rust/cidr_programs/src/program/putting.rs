@@ -1,12 +1,12 @@
 // Written by scripts/plain out of crates/program/src/putting.rt
 
-//! Texts that are written one after the other.
+//! Writes several texts, one after another.
 
 use crate::lines::fault::RunFault;
 use crate::lines::output::Output;
 use fosibegan::plain_std::io::Write;
 
-/// Writes two texts.
+/// Writes two texts, one after the other. The error is that a write failed.
 ///
 /// ```
 /// # use cidr_programs::in_examples::*;
@@ -26,7 +26,7 @@ pub fn put_both<W: Write>(
     output.put(second)
 }
 
-/// Writes texts, one after the other.
+/// Writes all of these texts, one after another. The error is that a write failed.
 ///
 /// ```
 /// # use cidr_programs::in_examples::*;

@@ -1,12 +1,12 @@
 // Written by scripts/plain out of crates/program/src/standard_error.rt
 
-//! Standard error, where a long reading is shown too.
+//! Standard error, which also shows how much a long reading has read.
 
 use crate::program::progress::Progress;
 use fosibegan::plain_std::io;
 use fosibegan::plain_std::io::{Stderr, Write};
 
-/// Standard error. What is shown there of a long reading is taken away before a write.
+/// Standard error. Before each write, it removes what is shown there of a long reading.
 ///
 /// ```
 /// # use cidr_programs::in_examples::*;
@@ -24,7 +24,7 @@ pub struct StandardError<'a> {
 }
 
 impl<'a> StandardError<'a> {
-    /// Standard error, with what is shown there.
+    /// Creates a writer from the system's standard error and the progress that is shown there.
     ///
     /// ```
     /// # use cidr_programs::in_examples::*;

@@ -1,6 +1,6 @@
 // Written by scripts/plain out of crates/program/src/start.rt
 
-//! The frame of a program: what it prints of itself, and the devices that its run has.
+//! Starts a program: sets up the devices of its run, and handles its arguments.
 
 use fosibegan::plain_std::vec::Vec;
 use fosibegan::plain_std::string::String;
@@ -25,10 +25,12 @@ const TOLD_MAX: usize = 1024;
 /// The exit status that a shell shows for a program that the signal of a closed pipe ended.
 const CLOSED: u8 = 141;
 
-/// Runs a program on the words after its name, less a `--quiet` that comes first, and returns the
-/// exit status. If the arguments cannot be read, that is reported instead. If standard output is a
-/// pipe that nobody reads any more, what waits to be reported is dropped, and the exit status is
-/// 141, as a shell shows it for a program that ends at such a write.
+/// Runs a program on the words after its name, without a first `--quiet`, and returns its exit
+/// status.
+///
+/// If the arguments cannot be read, that is reported instead. If a write to standard output failed
+/// because nobody reads its pipe any more, reports that still wait are dropped, and the exit status
+/// is 141, which a shell shows for a program that such a write ended.
 #[doc(hidden)]
 pub fn start<F>(rt: &HostRuntime, program: &str, usage: &str, run: F) -> ExitCode
 where
@@ -63,7 +65,8 @@ where
     ExitCode::from(status)
 }
 
-// Whether nothing is shown of a long reading: the first word is `--quiet`, or there will be none.
+// Whether no progress is shown: the first word is `--quiet`, or there is nothing to run since the
+// arguments cannot be read.
 fn is_quiet(words: &Result<Vec<String>, ArgumentsFault>) -> bool {
     match words {
         Ok(words) => begins_quiet(words.as_slice()),
@@ -79,7 +82,7 @@ fn begins_quiet(words: &[String]) -> bool {
     }
 }
 
-// The words, less a `--quiet` that comes first.
+// Returns the words without a first `--quiet`.
 fn without_quiet(words: &[String]) -> &[String] {
     match words {
         [first, rest @ ..] => { if is(first, "--quiet") { rest } else { words } }
@@ -87,7 +90,8 @@ fn without_quiet(words: &[String]) -> &[String] {
     }
 }
 
-/// The text that the only word asks for: the help or the version.
+/// Returns the text that the only word asks for: the help for `--help`, the version for
+/// `--version`, or `None` for any other words.
 ///
 /// ```
 /// # use cidr_programs::in_examples::*;

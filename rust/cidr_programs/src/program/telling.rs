@@ -1,6 +1,6 @@
 // Written by scripts/plain out of crates/program/src/telling.rt
 
-//! Messages about lists on the error writer. If a write of one fails, nothing else changes.
+//! Reports about lists on the error writer. If the write of one fails, nothing else changes.
 
 use fosibegan::plain_std::string::String;
 use crate::program::messages::{tell, tell_number};
@@ -9,7 +9,7 @@ use crate::lines::output::Output;
 use crate::lists::{ReadFault, Refusal, Refusals};
 use fosibegan::plain_std::io::Write;
 
-/// Where refused lines stand, in the words of a command line.
+/// Says where refused lines stand, in terms of the words of a command line.
 ///
 /// ```
 /// # use cidr_programs::in_examples::*;
@@ -20,11 +20,12 @@ use fosibegan::plain_std::io::Write;
 /// assert_eq!(InLists.place(refusal), (2, 7));
 /// ```
 pub trait Places {
-    /// The index of the word that names the place of a refused line, and the number that is told with it.
+    /// Returns the index of the word that names the place of a refused line, and the number that is
+    /// reported with it.
     fn place(&self, refusal: Refusal) -> (usize, u64);
 }
 
-/// A line stands in the list that a word names, and has its number there.
+/// Places a refused line in the list that a word names, with its line number there.
 ///
 /// ```
 /// # use cidr_programs::in_examples::*;
@@ -43,7 +44,8 @@ impl Places for InLists {
     }
 }
 
-/// Reports the refused lines: the first hundred, and how many more there were.
+/// Reports the refused lines: those that were kept, which are the first hundred, and how many more
+/// there were.
 ///
 /// ```
 /// # use cidr_programs::in_examples::*;
@@ -84,7 +86,7 @@ fn tell_refusal<P: Places, E: Write>(
     tell("\n", errors);
 }
 
-/// Writes the word at an index to the error writer, and nothing if there is no such word.
+/// Writes the word at this index to the error writer, or nothing if there is no such word.
 ///
 /// ```
 /// # use cidr_programs::in_examples::*;
@@ -97,7 +99,7 @@ pub fn tell_name<E: Write>(words: &[String], place: usize, errors: &mut Output<'
     tell(text_at(words, place), errors);
 }
 
-/// Reports how many more lines were refused, if any were.
+/// Reports how many more lines were refused, if there are any.
 ///
 /// ```
 /// # use cidr_programs::in_examples::*;

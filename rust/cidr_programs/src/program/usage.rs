@@ -1,6 +1,6 @@
 // Written by scripts/plain out of crates/program/src/usage.rt
 
-//! What a program reports about a command line that it does not take, or cannot read.
+//! Reports a command line that the program does not accept or cannot read.
 
 use crate::program::arguments::ArgumentsFault;
 use crate::program::ending::FAILED;
@@ -9,7 +9,8 @@ use crate::program::messages::tell;
 use crate::lines::output::Output;
 use fosibegan::plain_std::io::Write;
 
-/// Writes a word as it is shown: an empty one as two quotes, another without what a terminal obeys.
+/// Writes a word as messages show it: an empty word as `''`, any other with control characters
+/// escaped.
 ///
 /// ```
 /// # use cidr_programs::in_examples::*;
@@ -28,7 +29,8 @@ pub fn tell_shown<E: Write>(word: &[u8], errors: &mut Output<'_, E>) {
     }
 }
 
-/// Reports why the arguments cannot be read, and returns the exit status 2.
+/// Reports why the arguments cannot be read, with the usage if one of them is not UTF-8, and
+/// returns the exit status 2.
 ///
 /// ```
 /// # use cidr_programs::in_examples::*;

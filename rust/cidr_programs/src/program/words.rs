@@ -1,10 +1,10 @@
 // Written by scripts/plain out of crates/program/src/words.rt
 
-//! Words of a command line.
+//! The words of a command line.
 
 use fosibegan::plain_std::string::String;
 
-/// Whether a word is this text.
+/// Whether the word is this text.
 ///
 /// ```
 /// # use cidr_programs::in_examples::*;
@@ -19,12 +19,12 @@ pub fn is(word: &String, text: &str) -> bool {
     word.as_str() == text
 }
 
-/// Whether there is one word, and it is this text.
+/// Whether there is exactly one word, and it is this text.
 pub(crate) fn is_only(words: &[String], text: &str) -> bool {
     words.len() == 1 && is(&words[0], text)
 }
 
-/// How many of the words are this text.
+/// Returns how many of the words are this text.
 ///
 /// ```
 /// # use cidr_programs::in_examples::*;
@@ -40,7 +40,7 @@ pub fn count_of(words: &[String], text: &str) -> usize {
     count
 }
 
-/// The word at an index; past the last word, an empty text.
+/// Returns the word at this index, or an empty text if there is no such word.
 ///
 /// ```
 /// # use cidr_programs::in_examples::*;

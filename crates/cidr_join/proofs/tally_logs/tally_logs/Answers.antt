@@ -1,10 +1,12 @@
-use Rattle.std.proofs.Common.{[], false, List, map, length, inl, inr, refl, sym, ap, subst, codes}
+use Rattle.std.proofs.Common.{◌∙◌, [], false, List, ℕ, map, length, inl, inr, refl, sym, ap, subst, codes}
 use Rattle.program.specs.Endings.{ending}
+use Rattle.std.specs.List.{flat_map}
 use Rattle.std.specs.String.{string_bytes}
-use Rattle.cidr_join.specs.Tallies.{rows_text}
-use Rattle.cidr_join.specs.Private.Counting.{row_of}
+use Rattle.cidr_join.specs.Tallies.{IsTally, rows_text}
+use Rattle.cidr_join.specs.Private.Counting.{row_of, named_by}
 use Rattle.cidr_join.specs.Private.TallyProgress.{IsCounted}
 use Rattle.cidr_join.specs.declared.found.Found.{Found}
+use Rattle.cidr_join.proofs.Numbering.{named_listed}
 use Rattle.cidr_join.proofs.TallyNames.{ran_out, rows_lack}
 use Rattle.cidr_join.proofs.TallyRows.{ends_with}
 use Rattle.cidr_join.proofs.tally_logs.tally_logs.Goals as goal
@@ -38,9 +40,11 @@ returns g c =
       c.in-Some.missed,
       map row_of rows,
       counts.reads,
-      c.in-Ok-into_rows.ensures counts.all
+      subst (λ (n : List (List ℕ)). IsTally n counts.all (map row_of rows))
+          (ap (flat_map (named_by c.args.join.now.zeros)) c.founds-founds.ensures ∙ named_listed c.args.join.now.answers c.in-Ok.numbered c.args.join.now.zeros c.in-Ok.ensures)
+          (c.in-Ok-into_rows.ensures counts.all
           (subst (λ (f : List Found). IsCounted f counts.all c.tally_each.new.counts) (sym c.founds-founds.ensures)
-          (counts.is_done [] (c.in-Ok-new.ensures c.in-Ok.numbered.founds.items (ap length c.founds-founds.ensures)))),
+          (counts.is_done [] (c.in-Ok-new.ensures c.in-Ok.numbered.founds.items (ap length c.founds-founds.ensures))))),
       ends_with c.write_rows-written.result (ending c.args.output.now c.write_rows-written.new.output c.args.errors.now c.end.new.errors c.end.result)
           (rows_text (map row_of rows)) c.args.output.now.failed c.tally_each.new.errors counts.text c.in-Some.missed (rw c.as_slice.ensures.value at c.write_rows-written.ensures.ok)
           (rw c.as_slice.ensures.value at c.write_rows-written.ensures.beginning) c.write_rows-written.ensures.failed (rw c.status.ensures at c.end.ensures.status)

@@ -1,13 +1,13 @@
-use Rattle.std.proofs.Common.{◌≡◌, ◌++◌, List, length}
+use Rattle.std.proofs.Common.{◌≡◌, ◌++◌, map, length}
 use Rattle.ipnetwork_table.specs.Table.{by_pair}
-use Rattle.cidr_join.specs.Private.Numbering.{found_by}
-use Rattle.cidr_join.specs.declared.found.Found.{Found}
+use Rattle.cidr_join.specs.Private.Numbering.{found_by, founds_of}
 use Rattle.cidr_join.proofs.Numbering.{NumbersSoFar}
 use Rattle.cidr_join.proofs.value_ids.number_each.Given as goal
 
 abbrev pub invariant-listing : goal.invariant-listing
 invariant-listing g l = record {
-  behind : (added : List Found) × (l.founds.items ≡ l.initial.founds.items ++ added);
+  behind : l.founds.items ++ map (λ e. found_by l.network g.N.OfEither.either_of e.0 e.1) (by_pair g.N.CidrNetwork.pair l.left)
+      ≡ l.initial.founds.items ++ founds_of (found_by l.network g.N.OfEither.either_of) l.table;
   so_far : NumbersSoFar (found_by l.network g.N.OfEither.either_of) l.table (by_pair g.N.CidrNetwork.pair l.left) l.numbers l.founds.items;
 }
 

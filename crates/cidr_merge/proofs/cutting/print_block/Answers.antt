@@ -15,6 +15,6 @@ pub returns-clause-text : goal.returns-clause-text
 returns-clause-text g c =
     let cut = c.in-Some.ensures in
     subst (λ all. Prints c.args.output.now c.loop-piece.output
-    (flat_map (network_line g.A.Address.family) all))
+    (flat_map (network_line c.args.names.now g.A.Address.family) all))
     (cut.2 ∙ sym (cut_into g.A.Address.WIDTH c.args.length c.args.block cut.0 cut.1))
     (all_printed _ _ _ _ _ c.loop-piece.invariant c.in_default-next.ensures.steps.0)

@@ -9,7 +9,7 @@ pub returns-then-in_ranges-clause-text : goal.returns-then-in_ranges-clause-text
 returns-then-in_ranges-clause-text g c =
     let w = g.A.Address.WIDTH in
     rw c.if-in_ranges.true (line_ok c.print_parts.result
-    (AreRangeLines c.args.operation g.A.Address.family c.args.first.now c.args.second.now)
+    (AreRangeLines c.args.names.now c.args.operation g.A.Address.family c.args.first.now c.args.second.now)
     c.args.output.now.holds c.print_parts.new.output.holds
     c.args.output.now.waits c.print_parts.new.output.waits _ (
       _,
@@ -24,7 +24,7 @@ returns-then-in_ranges-clause-text g c =
 pub returns-clause-text : goal.returns-clause-text
 returns-clause-text g c =
     rw c.if-in_ranges.false (line_ok c.print_parts-2.result
-    (AreBlockLines c.args.operation g.A.Address.family c.args.first.now c.args.second.now)
+    (AreBlockLines c.args.names.now c.args.operation g.A.Address.family c.args.first.now c.args.second.now)
     c.args.output.now.holds c.print_parts-2.new.output.holds
     c.args.output.now.waits c.print_parts-2.new.output.waits _ (
       _,

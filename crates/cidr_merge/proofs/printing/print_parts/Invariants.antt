@@ -6,7 +6,7 @@ use Rattle.cidr_merge.proofs.printing.print_parts.Given as goal
 
 abbrev pub invariant-loop-next : goal.invariant-loop-next
 invariant-loop-next g l =
-    Printed (g.P.Parts.line l.operation)
+    Printed (g.P.Parts.line l.names l.operation)
     (merged_by g.P.Parts.begin (with_head g.P.Parts.seen l.initial.parts.first
     (g.P.Parts.left l.initial.parts.firsts)) (with_head g.P.Parts.seen l.initial.parts.second
     (g.P.Parts.left l.initial.parts.seconds)))

@@ -7,7 +7,7 @@ pub returns-in-Ok : goal.returns-in-Ok
 returns-in-Ok g c =
     let r = c.read_side-sets.result in
     lists_split (g.L.OpenLists.known c.args.context.now.lists.now) c.args.context.now.names.now
-    c.args.request r.0 r.1 c.is_empty.result
+    c.args.context.now.sets.now c.args.request r.0 r.1 c.is_empty.result
     (ending c.args.output.now c.print_split.new.output c.args.errors.now
     c.print_split.new.errors c.print_split.result) c.tell_refusals.new.errors
     (rw (c.in-Ok.is, c.new-none.ensures) at c.read_side-sets.ensures.read)

@@ -16,9 +16,12 @@ runs-preserved c = record {
   same = behind_run c.args.line.now c.args.from c.runs.at c.runs.invariant.same c.run_end-end.result c.run_end-end.ensures c.in_default.ensures;
 }
 
-pub returns-in-Some : goal.returns-in-Some
-returns-in-Some c =
+pub returns-in-Some-clause-first : goal.returns-in-Some-clause-first
+returns-in-Some-clause-first c =
     at_run c.args.line.now c.args.from c.runs.at c.runs.invariant.same c.run_end-end.result c.in-Some.size c.in-Some.address c.runs.invariant.behind c.run_end-end.ensures c.if-end-at.false c.in-Some.ensures
 
-pub returns : goal.returns
-returns c = no_more c.args.line.now c.args.from c.runs.at c.runs.invariant.same c.runs-test.false
+pub returns-clause-first : goal.returns-clause-first
+returns-clause-first c = no_more c.args.line.now c.args.from c.runs.at c.runs.invariant.same c.runs-test.false
+
+pub returns-in-Some-clause-stops : goal.returns-in-Some-clause-stops
+returns-in-Some-clause-stops c = c.run_end-end.ensures.stops

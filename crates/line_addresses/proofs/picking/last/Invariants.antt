@@ -1,12 +1,13 @@
 use Rattle.std.proofs.Common.{◌-◌, ◌≤◌, length}
 use Rattle.std.specs.Prelude.{IfSome}
+use Rattle.line_addresses.specs.Networks.{found_of}
 use Rattle.line_addresses.proofs.Picks.{IsLast, Lies}
 use Rattle.line_addresses.proofs.picking.last.Given as goal
 
 abbrev pub invariant-addresses : goal.invariant-addresses
 invariant-addresses l = record {
   within : l.at ≤ length l.text;
-  same : IsLast l.text l.at l.last;
+  same : IsLast (found_of l.networks) l.text l.at l.last;
   lies : IfSome l.last (Lies l.text);
 }
 

@@ -1,5 +1,6 @@
 use Rattle.std.proofs.Common.{ap, arith, ◌∙◌}
 use Rattle.std.specs.Prelude.{slice_get}
+use Rattle.line_addresses.specs.Networks.{found_of}
 use Rattle.line_addresses.proofs.NextWords.{later_word}
 use Rattle.line_addresses.proofs.Picks.{next_picked}
 use Rattle.line_addresses.proofs.picking.numbered.Goals as goal
@@ -11,7 +12,7 @@ addresses-preserved c = record {
 }
 
 pub returns-then-more-eq0 : goal.returns-then-more-eq0
-returns-then-more-eq0 c = next_picked c.args.text.now c.addresses.at c.addresses.more c.in-Some.found _ c.in-Some.ensures c.addresses.invariant.same c.if-more-eq0.true
+returns-then-more-eq0 c = next_picked (found_of c.args.networks) c.args.text.now c.addresses.at c.addresses.more c.in-Some.found _ c.in-Some.ensures c.addresses.invariant.same c.if-more-eq0.true
 
 pub returns : goal.returns
 returns c = c.addresses.invariant.same ∙ ap (λ l. slice_get l c.addresses.more) c.in_default.ensures

@@ -1,5 +1,4 @@
-use Rattle.std.proofs.Common.{ap}
-use Rattle.program.proofs.Reported.{tells_on, tells_same}
+use Rattle.program.proofs.Reported.{tells_on}
 use Rattle.log_programs.proofs.telling.tell_closed.Goals as goal
 
 pub returns : goal.returns

@@ -1,0 +1,52 @@
+//! The network of a stretch.
+ghost use Rattle.std.specs.Prelude.{◌≡◌, None, MatchOption};
+ghost use Rattle.line_addresses.specs.Networks.{has_slash, named_network, network_in};
+ghost use Rattle.line_addresses.specs.Private.LineRuns.{Shows};
+
+use crate::run::ends_with_mark;
+use byte_search::find_from;
+use ipnetwork::laws::ip_network_reading_is_computed;
+use ipnetwork::{IpAddr, IpNetwork};
+
+/// The network that a stretch with a `/` names, by its address, and the length of its text, with which the stretch
+/// begins.
+pub(crate) fn network_in(stretch: &[u8]) -> Option<(IpAddr, usize)>
+    ensures { MatchOption result (network_in stretch.now ≡ None)
+        (λ shown. Shows (network_in stretch.now) stretch.now shown.0 shown.1) }
+{
+    if !has_slash(stretch) {
+        return None;
+    }
+    if let Some(address) = named_network(stretch) {
+        return Some((address, stretch.len()));
+    }
+    if ends_with_mark(stretch) {
+        let end = stretch.len() - 1;
+        if let Some(address) = named_network(&stretch[..end]) {
+            return Some((address, end));
+        }
+    }
+    None
+}
+
+/// The address of the network that a text names, as it is spelled there, as `IpNetwork::read_bytes` reads it, if it
+/// names one.
+pub(crate) fn named_network(text: &[u8]) -> Option<IpAddr>
+    ensures { result ≡ named_network text.now }
+{
+    ip_network_reading_is_computed();
+    match IpNetwork::read_bytes(text) {
+        Ok(network) => Some(network.ip()),
+        Err(_) => None,
+    }
+}
+
+// Whether the first `/` of a text stands behind another byte.
+fn has_slash(text: &[u8]) -> bool
+    ensures { result ≡ has_slash text.now }
+{
+    match find_from(text, 0, b'/') {
+        Some(at) => at > 0,
+        None => false,
+    }
+}
