@@ -1,6 +1,6 @@
 -- What was taken of the lines of a list, one after the other.
 use Rattle.std.proofs.Common.{◌≡◌, ℕ, ◌+◌, ◌-◌, ◌<◌, ◌≤◌, ◌==◌, List, [], ◌∷◌, ◌++◌, length, take, drop, refl, inl, inr, sym, ap, subst, ◌∙◌, arith, append_assoc, append-nil, length-append}
-use Rattle.std.specs.Prelude.{Option, None, Some, Result, Ok, Err, OnOk, IfErr}
+use Rattle.std.specs.Prelude.{Some, Result, Ok, Err, OnOk, IfErr}
 use Rattle.std.specs.List.{slice_split, flat_map}
 use Rattle.std.proofs.lemmas.Bool.{cases_lt}
 use Rattle.std.proofs.lemmas.Grind.{flat_map-append}
@@ -16,7 +16,7 @@ use Rattle.program.proofs.Reported.{tells_more, tells_same}
 use Rattle.cidr_join.specs.Entries.{cause_text}
 use Rattle.cidr_join.specs.Reported.{first_refused_text, refused_text, EndsList}
 use Rattle.cidr_join.specs.Routes.{Keeps}
-use Rattle.cidr_join.specs.Takes.{Refused, Listed, nothing_listed, left_out, TakesLine, LineFails, TakesNext, TakesLines, StopsTaking}
+use Rattle.cidr_join.specs.Takes.{Refused, Listed, nothing_listed, left_out, TakesLine, LineFails, TakesNext, TakesLines}
 use Rattle.cidr_join.specs.Private.Listing.{nothing_taken, TellsFirst, IsListed, ListsNext, FailsNext, EndsLines}
 use Rattle.cidr_join.specs.declared.line.Cause.{Cause}
 use Rattle.cidr_join.specs.declared.list.Listing.{Listing}
@@ -27,9 +27,6 @@ use Rattle.cidr_join.specs.declared.routes.RouteFault.{RouteFault}
 use Rattle.cidr_join.specs.declared.routes.RouteFault.TheVariants as routes
 
 -- ---- refused lines
-
-told_of : List ℕ → Refused → List ℕ
-told_of name line = line_text name line.0 (cause_text line.1)
 
 -- one of the first, and one behind them
 first_more : (name : List ℕ) (refused : List Refused) (line : Refused) → length refused < 100

@@ -1,8 +1,7 @@
 -- What the lines of a list are taken for, one after the other.
-use Rattle.std.proofs.Common.{◌≡◌, ℕ, ◌≤◌, Bool, true, false, true≢false, List, [], ◌∷◌, ◌++◌, length, take, refl, inr, sym, ap, subst, ◌∙◌, append_assoc, append-nil}
-use Rattle.std.specs.Prelude.{Option, None, Some, Result, Ok, Err, OnOk, IfErr}
+use Rattle.std.proofs.Common.{◌≡◌, ℕ, ◌≤◌, Bool, false, List, [], ◌∷◌, ◌++◌, length, take, refl, inr, sym, ap, subst, ◌∙◌, append_assoc, append-nil}
+use Rattle.std.specs.Prelude.{Some, Result, Ok, Err, OnOk, IfErr}
 use Rattle.std.specs.FinMap.{insert}
-use Rattle.std.specs.Option.{is_some}
 use Rattle.ipnetwork_family.specs.Network.{Network, block_of}
 use Rattle.lists.specs.Entries.{ReadsEntry}
 use Rattle.lists.specs.declared.entry.Entry.{Entry}
@@ -58,10 +57,6 @@ unfolding both
 kept_v6 (Ok done) old v6 h = tt
 kept_v6 (Err routes.OutOfMemory) old v6 h = tt
 kept_v6 (Err (routes.Refused cause)) old v6 h = ap (λ (t : Values). both old.v4 t) h
-
-pub none_of : {A : Type 0} (o : Option A) → is_some o ≡ false → o ≡ None
-none_of None is = refl
-none_of (Some x) is = absurd (true≢false is)
 
 -- a fault that cannot be a repetition is a lack of memory
 pub only_memory : (P : Type 0) (fault : RouteFault) → ¬ P → IsRefusal P fault → fault ≡ routes.OutOfMemory
