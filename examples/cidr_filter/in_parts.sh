@@ -15,7 +15,7 @@ set -eu -o pipefail
 . "$(dirname "$0")/../log_in_parts.sh"
 . "$(dirname "$0")/../program.sh"
 program=$(program_of cidr_filter)
-valued=" -f -e -k -d -m --after --bad "
+valued=" -f -e -k -d -m --nth --after --bad "
 
 counts=
 option() {

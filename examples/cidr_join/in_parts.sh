@@ -10,12 +10,12 @@
 # program and the list at the same path. `--bad stop` is refused: a line would end its part only.
 #
 # If a line is too long, it is reported with its number in its part; the other parts are joined all the same, and the
-# status is 2.
+# status is 2. With `--skip-bad` the refused lines of the list are reported for each part.
 set -eu -o pipefail
 . "$(dirname "$0")/../log_in_parts.sh"
 . "$(dirname "$0")/../program.sh"
 program=$(program_of cidr_join)
-valued=" -f -k -d --after --group --bad "
+valued=" -f -k -d --nth --after --group --bad "
 
 tally=
 option() {
@@ -40,6 +40,8 @@ rows=$(mktemp)
 trap 'rm -f "$rows"' EXIT
 status=0
 in_parts "$program" "$@" > "$rows" || status=2
+# An empty log has no parts, but rows with `--zero`.
+[ -s "$rows" ] || "$program" "$@" < /dev/null > "$rows" || status=2
 # A row is a count, a tab and a text, which may have tabs too.
 export LC_ALL=C
 tab=$'\t'
