@@ -17,10 +17,12 @@ _cidr_merge() {
         union | common | minus | differ | list) options="--ranges --count --format --set --table --before --after --skip-bad --json --strict" ;;
         split) options="--prefix --before --after --skip-bad --json --strict" ;;
         check) options="--strict" ;;
+        find) options="--from" ;;
     esac
     case "$before" in
         --format) COMPREPLY=($(compgen -W "plain range netmask wildcard csv nft ipset json addresses" -- "$word")) ;;
         --set | --table | --before | --after | --prefix) COMPREPLY=() ;;
+        --from) ;;
         *)
             if [[ "$word" == -* ]]; then
                 COMPREPLY=($(compgen -W "$options -- -" -- "$word"))
