@@ -125,6 +125,11 @@ def merge(run):
         commands["iprange"] = ["iprange", lists[16], "--except", lists[24]]
     times, _ = least(run, commands)
     rows.append(["`minus` of these two lists", times["own"], beside(times["own"], times.get("iprange"))])
+    sought = run.folder / "sought"
+    sought.write_text("".join(f"{four(rng.randrange(1 << 24, 224 << 24))}\n" for _ in range(5000)))
+    times, _ = least(run, {"one": [program, "find", "5.6.7.8", "--", lists[16]], "all": [program, "find", "--from", sought, "--", lists[16]]})
+    rows.append(["`find` of an address in the second list", times["one"], beside(times["one"], None)])
+    rows.append(["`find --from` of 5,000 addresses", times["all"], beside(times["all"], None)])
     return ["Seconds of processor time for a million random IPv4 networks.", "",
             *table(["Command", "`cidr_merge`", "`iprange`"], rows)]
 

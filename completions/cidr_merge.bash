@@ -17,6 +17,7 @@ _cidr_merge() {
         union | common | minus | differ | list) options="--ranges --count --format --set --table --line-prefix --line-suffix --skip-bad --json --strict" ;;
         split) options="--prefix --line-prefix --line-suffix --skip-bad --json --strict" ;;
         check) options="--strict" ;;
+        find) options="--from" ;;
     esac
     case "$before" in
         --format) COMPREPLY=($(compgen -W "plain range netmask wildcard csv nft ipset json addresses" -- "$word")) ;;

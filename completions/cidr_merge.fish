@@ -8,7 +8,7 @@ complete -c cidr_merge -n "not __fish_seen_subcommand_from $tasks" -f -a list -d
 complete -c cidr_merge -n "not __fish_seen_subcommand_from $tasks" -f -a split -d "The networks of union, in pieces of length N"
 complete -c cidr_merge -n "not __fish_seen_subcommand_from $tasks" -f -a check -d "Wrong entries"
 complete -c cidr_merge -n "not __fish_seen_subcommand_from $tasks" -f -a overlaps -d "Wrong entries, and each pair that overlaps"
-complete -c cidr_merge -n "not __fish_seen_subcommand_from $tasks" -f -a find -d "The entries that have one of the addresses"
+complete -c cidr_merge -n "not __fish_seen_subcommand_from $tasks" -f -a find -d "Entries that have one"
 complete -c cidr_merge -n "not __fish_seen_subcommand_from $tasks" -l quiet -d "Do not show on a terminal how much was read"
 complete -c cidr_merge -n "not __fish_seen_subcommand_from $tasks" -l help -d "Print this text"
 complete -c cidr_merge -n "not __fish_seen_subcommand_from $tasks" -l version -d "Print the version"
@@ -24,3 +24,4 @@ complete -c cidr_merge -n "__fish_seen_subcommand_from union common minus differ
 complete -c cidr_merge -n "__fish_seen_subcommand_from union common minus differ list split" -l line-prefix -x -d "Print TEXT before each line"
 complete -c cidr_merge -n "__fish_seen_subcommand_from union common minus differ list split" -l line-suffix -x -d "Print TEXT after it"
 complete -c cidr_merge -n "__fish_seen_subcommand_from split" -l prefix -x -d "The networks of union, in pieces of length N"
+complete -c cidr_merge -n "__fish_seen_subcommand_from find" -l from -r -F -d "Or one of FILE"

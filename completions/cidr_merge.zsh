@@ -12,7 +12,7 @@ if (( CURRENT <= at )); then
         'split[the networks of union, in pieces of length N]' \
         'check[wrong entries]' \
         'overlaps[wrong entries, and each pair that overlaps]' \
-        'find[the entries that have one of the addresses]' \
+        'find[entries that have one]' \
         '--quiet[do not show on a terminal how much was read]' \
         '--help[print this text]' \
         '--version[print the version]'
@@ -21,6 +21,7 @@ else
     (union|common|minus|differ|list) _arguments '*--ranges[print FIRST - LAST for each run of addresses]' '*--count[print v4 BLOCKS ADDRESSES and v6 BLOCKS ADDRESSES]' '*--format=[print plain, range, netmask, wildcard, csv, nft, ipset, json or addresses]:value:(plain range netmask wildcard csv nft ipset json addresses)' '*--set=[fill NAME_ipv4 and NAME_ipv6]:text: ' '*--table=[the table of nft]:text: ' '*--line-prefix=[print TEXT before each line]:text: ' '*--line-suffix=[print TEXT after it]:text: ' '*--skip-bad[report refused lines]' '*--json[use its strings that are entries]' '*--strict[refuse others]' '*:list:_files' ;;
     (split) _arguments '*--prefix=[the networks of union, in pieces of length N]:text: ' '*--line-prefix=[print TEXT before each line]:text: ' '*--line-suffix=[print TEXT after it]:text: ' '*--skip-bad[report refused lines]' '*--json[use its strings that are entries]' '*--strict[refuse others]' '*:list:_files' ;;
     (check) _arguments '*--strict[host bits, overlaps too]' '*:list:_files' ;;
+    (find) _arguments '*--from=[or one of FILE]:list:_files' '*:list:_files' ;;
     (*) _files ;;
     esac
 fi

@@ -59,10 +59,10 @@ def cause(line):
 
 
 def finds(program, folder):
-    """Made-up lists that are searched for made-up addresses."""
+    """Made-up lists that are searched for made-up addresses, of words and of a file."""
     for seed in range(200):
         dice = random.Random(seed)
-        sought = [some_address(dice) for _ in range(dice.randrange(1, 6))]
+        sought = [some_address(dice) for _ in range(dice.choice((dice.randrange(1, 6), dice.randrange(1, 300))))]
         output = error = ""
         names = ["one", "two", "three"][: dice.randrange(1, 4)]
         for name in names:
@@ -74,6 +74,9 @@ def finds(program, folder):
                     error += f"{name}:{number}: refused {cause(line)}: {line}\n"
                 elif ends:
                     output += "".join(f"{name}:{number}: has {address}: {line}\n" for address in sought if has(ends, address))
-        words = ["find", *map(str, sought), "--", *names]
+        cut = dice.randrange(len(sought) + 1)
+        with open(os.path.join(folder, "sought"), "w") as file:
+            file.write("".join(f"{address}\n" for address in sought[cut:]))
+        words = ["find", *map(str, sought[:cut]), *(["--from", "sought"] if cut < len(sought) else []), "--", *names]
         status = 2 if error else 0 if output else 1
         yield f"find, seed {seed}", run(program, words, folder), (status, output.encode(), error.encode())

@@ -130,7 +130,7 @@ module _ {Z : Type 0} (minus a dashes b ranges : String Z) (o : string_bytes min
   right : AreRight table (tasks.Merge Minus) (first ++ second) (codes "a" ∷ []) (codes "b" ∷ [])
   right = record {
     each = (AFile (codes "a"), (AFile (codes "b"), (AFlag 0 refl, tt)));
-    apart = (refl, (refl, (refl, (refl, (refl, (refl, (refl, (refl, (refl, tt)))))))));
+    apart = (refl, (refl, (refl, (refl, (refl, (refl, (refl, (refl, (refl, (refl, tt))))))))));
     strict = λ t s. absurd (true≢false (sym s));
     form = λ e. absurd (let x = e in cc);
     prefix = λ e. absurd (let x = e in cc);

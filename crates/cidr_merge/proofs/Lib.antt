@@ -18,6 +18,7 @@ pub mod OverlapEnds
 pub mod OverlapPairs
 pub mod PartExamples
 pub mod Parts
+pub mod Passed
 pub mod Places
 pub mod Printed
 pub mod Putting

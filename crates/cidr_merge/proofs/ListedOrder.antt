@@ -38,7 +38,7 @@ up_to_all (V6 a) (V4 b) c e f = absurd (let g = e in cc)
 up_to_all (V6 a) (V6 b) (V4 c) e f = absurd (let g = f in cc)
 up_to_all (V6 a) (V6 b) (V6 c) e f = of_le a c (omega (arith, le_of a b e, le_of b c f))
 
-not_before : (a b : ℕ) (o : Ordering) → is_lt (ordering_then (nat_cmp b a) o) ≡ false → a ≤ b
+pub not_before : (a b : ℕ) (o : Ordering) → is_lt (ordering_then (nat_cmp b a) o) ≡ false → a ≤ b
 not_before a b o e = by (cases_lt b a) where
   by : ((b < a) ⊎ (a ≤ b)) → a ≤ b
   by (inl less) =

@@ -49,6 +49,7 @@ use Rattle.cidr_merge.specs.declared.command_line.Form.TheVariants.{Blocks}
 use Rattle.cidr_merge.specs.declared.command_line.Inspection.TheVariants.{Check}
 use Rattle.cidr_merge.specs.declared.command_line.Operation.{Operation}
 use Rattle.cidr_merge.specs.declared.command_line.Operation.TheVariants.{Union}
+use Rattle.cidr_merge.specs.SoughtLines.{lists_others, lists_sought}
 use Rattle.cidr_merge.specs.SetNames.{Names, usual_names}
 use Rattle.cidr_merge.specs.declared.command_line.Request.{Request}
 use Rattle.cidr_merge.specs.declared.reading.Sets.{Sets}
@@ -177,26 +178,33 @@ pub what_a_check_does : {Z W E : Type 0} (known : KnownLists) (words : List (Str
     × (end.status ≡ (if length (lists_findings false words texts) == 0 then 0 else 1)))))
 what_a_check_does known words end h = h
 
-abbrev found_in : {Z : Type 0} → List (String Z) → ℕ → List IpAddr → List (List ℕ) → List (List ℕ)
-found_in words middle addresses texts =
-    lists_matches (with_addresses (take middle words) addresses) (drop middle words) texts
+abbrev found_in : {Z : Type 0} → List (String Z) → ℕ → ℕ → List IpAddr → List (List ℕ) → List (List ℕ)
+found_in words middle from addresses texts =
+    lists_matches (with_addresses (take middle words) addresses ++ lists_sought (take from texts))
+    (drop from (drop middle words)) (drop from texts)
+
+abbrev refused_in : {Z : Type 0} → List (String Z) → ℕ → ℕ → List (List ℕ) → List (List ℕ)
+refused_in words middle from texts =
+    lists_others (take from (drop middle words)) (take from texts)
+    ++ lists_refusals (drop from (drop middle words)) (drop from texts)
 
 pub what_a_find_does : {Z W E : Type 0} (program usage : List ℕ) (rows : List Row) (known : KnownLists)
-    (words : List (String Z)) (middle : ℕ) (end : Ending W E) → EndsFind program usage rows known words middle end
+    (words : List (String Z)) (middle from : ℕ) (end : Ending W E) → EndsFind program usage rows known words middle from end
     → ((fault : QueryFault) × StopsAtWord 0 (take middle words) fault
     × (((end.output_after ≡ end.output) × (end.status ≡ 2))
     × HasTold end (sought_fault_text program usage rows words fault)))
     ⊎ ((addresses : List IpAddr) × AreAddresses (take middle words) addresses
     × (((fault : ReadFault) × TextsStop known middle (drop middle words) fault × (((end.output_after ≡ end.output) × (end.status ≡ 2))
     × HasTold end (fault_text words fault)))
+    ⊎ ((((end.output_after ≡ end.output) × (end.status ≡ 2)) × HasTold end (codes "out of memory\n"))
     ⊎ ((texts : List (List ℕ)) × AreTexts known (drop middle words) texts
     × ((errors : Written E)
-    × Reports end.errors errors (concat (lists_refusals (drop middle words) texts))
+    × Reports end.errors errors (concat (refused_in words middle from texts))
     × (FailsToWrite (record end { errors = errors })
-    ⊎ (HasWritten end (concat (found_in words middle addresses texts)) × Reports errors end.errors_after []
-    × (end.status ≡ (if length (lists_refusals (drop middle words) texts) == 0
-    then (if length (found_in words middle addresses texts) == 0 then 1 else 0) else 2))))))))
-what_a_find_does program usage rows known words middle end h = h
+    ⊎ (HasWritten end (concat (found_in words middle from addresses texts)) × Reports errors end.errors_after []
+    × (end.status ≡ (if length (refused_in words middle from texts) == 0
+    then (if length (found_in words middle from addresses texts) == 0 then 1 else 0) else 2)))))))))
+what_a_find_does program usage rows known words middle from end h = h
 
 -- ---- what the laws take: no more than this
 

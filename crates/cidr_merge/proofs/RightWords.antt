@@ -1,10 +1,10 @@
 -- Words are taken exactly if they are right.
-use Rattle.std.proofs.Common.{◌≡◌, ◌≢◌, ◌≤◌, ◌∙◌, ◌-◌, ◌==◌, ℕ, Bool, true, false, not, List, [], ◌∷◌, ◌++◌, refl, sym, ap, subst, arith, length, drop, get_or, true≢false}
+use Rattle.std.proofs.Common.{◌≡◌, ◌≢◌, ◌≤◌, ◌∙◌, ◌+◌, ◌-◌, ◌==◌, ℕ, Bool, true, false, not, List, [], ◌∷◌, ◌++◌, refl, sym, ap, subst, arith, length, drop, get_or, true≢false}
 use Rattle.std.specs.Prelude.{◌&&◌, Option, None, Some, Result, Ok, Err, String, codes, nat_lt, if◌then◌else◌}
 use Rattle.std.specs.List.{AllByRecursion, find}
 use Rattle.std.specs.Option.{option_or}
 use Rattle.std.specs.String.{string_bytes}
-use Rattle.std.proofs.lemmas.List.{length-append}
+use Rattle.std.proofs.lemmas.List.{append-nil, length-append}
 use Rattle.std.proofs.lemmas.Bool.{eqb-false, eqb-true, le-ltb, ltb-false, ne_eqb}
 use Rattle.std.proofs.lemmas.Option.{none-some}
 use Rattle.program.specs.Words.{count}
@@ -18,7 +18,7 @@ use Rattle.options.specs.declared.table.Pair.{Pair}
 use Rattle.options.specs.declared.table.Row.{Row}
 use Rattle.options.specs.declared.table.Table.{Table}
 use Rattle.cidr_merge.specs.CommandLines.{asked_for, command_if, command_of, first_said, second_said, unless}
-use Rattle.cidr_merge.specs.Faults.{cannot_print, fault_of, files_among, files_fault, is_exported, is_value, item_fault, items_fault, lacks_json, lacks_prefix, option_fault, sides_fault, takes, times_named, together_fault, value_fault, has_lines, has_sets, has_table}
+use Rattle.cidr_merge.specs.Faults.{cannot_print, fault_of, files_among, from_of, files_fault, is_exported, is_value, item_fault, items_fault, lacks_json, lacks_prefix, option_fault, sides_fault, takes, times_named, together_fault, value_fault, has_lines, has_sets, has_table}
 use Rattle.cidr_merge.specs.Forms.{form_of}
 use Rattle.cidr_merge.specs.Options as own
 use Rattle.cidr_merge.specs.RightWords.{AFile, AFlag, AJoined, AValue, AreRight, AskFor, IsRightItem, IsValue, RightWordsAreTaken, SaySides}
@@ -225,16 +225,27 @@ no_files_fault files e i = rw (le-ltb 0 (times_named [] files) (omega (arith, e)
 -- ---- all words behind the first
 
 module _ (table : Table) (task : Task) (name : List ℕ) (dashes : ℕ) (items : List Item) (firsts seconds : List (List ℕ)) where
-  behind : length (firsts ++ seconds) - length firsts ≡ length seconds
-  behind = let n = length-append firsts seconds in omega (arith, n)
+  abbrev froms : List (List ℕ)
+  froms = from_of task items
+
+  abbrev all : List (List ℕ)
+  all = firsts ++ froms ++ seconds
+
+  ahead : length firsts + length froms ≡ length (firsts ++ froms)
+  ahead = let n = length-append firsts froms in omega (arith, n)
+
+  behind : length all - length firsts - length froms ≡ length seconds
+  behind =
+      let n : length all ≡ length (firsts ++ froms) + length seconds = length-append (firsts ++ froms) seconds in
+      let m : length (firsts ++ froms) ≡ length firsts + length froms = length-append firsts froms in omega (arith, n, m)
 
   abbrev Untold : Type 0
-  Untold = fault_of table task name dashes items (length firsts) (firsts ++ seconds) ≡ None
+  Untold = fault_of table task name dashes items (length firsts) all ≡ None
 
   to_right : Untold → (dashes ≡ dashes_of (is_two_sided task)) × AreRight table task items firsts seconds
   to_right h =
-      let c = no_or _ (files_fault (files_among task (length firsts) (firsts ++ seconds))) h in
-      let b = no_or _ (sides_fault task name dashes (length firsts) (length (firsts ++ seconds) - length firsts)) c.0 in
+      let c = no_or _ (files_fault (files_among task (length firsts) all)) h in
+      let b = no_or _ (sides_fault task name dashes (length firsts + length froms) (length all - length firsts - length froms)) c.0 in
       let a = no_or (items_fault table.rows.now task items) (together_fault table task items) b.0 in
       let p = no_or (pair_fault items table.pairs.now) _ a.1 in
       let q = fails (lacks_json task items) _ _ p.1 in
@@ -244,8 +255,9 @@ module _ (table : Table) (task : Task) (name : List ℕ) (dashes : ℕ) (items :
       let v = fails (is_given items own.table && not (has_table (form_of Blocks items))) _ _ u.1 in
       let x = fails (is_given items own.before && not (has_lines (form_of Blocks items))) _ _ v.1 in
       let y = fails (is_given items own.after && not (has_lines (form_of Blocks items))) _ _ x.1 in
-      let t = right_sides task name dashes firsts seconds (subst (λ (n : ℕ). sides_fault task name dashes (length firsts) n ≡ None) behind b.1) in
-      let f = right_files (files_among task (length firsts) (firsts ++ seconds)) c.1 in (
+      let t = right_sides task name dashes (firsts ++ froms) seconds (subst (λ (n : ℕ). sides_fault task name dashes n (length seconds) ≡ None) ahead
+      (subst (λ (n : ℕ). sides_fault task name dashes (length firsts + length froms) n ≡ None) behind b.1)) in
+      let f = right_files (files_among task (length firsts) all) c.1 in (
         t.cut,
         record {
           each = right_items table.rows.now task items a.0;
@@ -266,8 +278,9 @@ module _ (table : Table) (task : Task) (name : List ℕ) (dashes : ℕ) (items :
 
   untold : dashes ≡ dashes_of (is_two_sided task) → AreRight table task items firsts seconds → Untold
   untold d r =
-      let sides = subst (λ (n : ℕ). sides_fault task name dashes (length firsts) n ≡ None) (sym behind)
-      (no_sides_fault task name dashes firsts seconds (record { cut = d; some = r.some; others = r.others })) in
+      let sides = subst (λ (n : ℕ). sides_fault task name dashes (length firsts + length froms) n ≡ None) (sym behind)
+      (subst (λ (n : ℕ). sides_fault task name dashes n (length seconds) ≡ None) (sym ahead)
+      (no_sides_fault task name dashes (firsts ++ froms) seconds (record { cut = d; some = r.some; others = r.others }))) in
       rw (
         no_items_fault table.rows.now task items r.each,
         no_pair items table.pairs.now r.apart,
@@ -281,7 +294,7 @@ module _ (table : Table) (task : Task) (name : List ℕ) (dashes : ℕ) (items :
       ) (rw (
         not_lacking (is_given items own.after) (has_lines (form_of Blocks items)) r.after,
         sides,
-      ) (no_files_fault (files_among task (length firsts) (firsts ++ seconds)) r.named r.input))))
+      ) (no_files_fault (files_among task (length firsts) all) r.named r.input))))
 
 -- ---- all words
 
@@ -307,8 +320,8 @@ module _ {Z : Type 0} (table : Table) (name : String Z) (others : List (String Z
       → command_if table (string_bytes name) called others ≡ Ok (command, names) → AskFor table (name ∷ others) command names
   asks None is command names e = absurd (let q = e in cc)
   asks (Some task) is command names e =
-      let u = unless_ok (fault_of table task (string_bytes name) (count (codes "--") others) (first ++ second) (length (files_of first)) (files_of first ++ files_of second))
-      (asked_for task (first ++ second) (length (files_of first))) command (files_of first ++ files_of second) names e in
+      let u = unless_ok (fault_of table task (string_bytes name) (count (codes "--") others) (first ++ second) (length (files_of first)) (files_of first ++ from_of task (first ++ second) ++ files_of second))
+      (asked_for task (first ++ second) (length (files_of first))) command (files_of first ++ from_of task (first ++ second) ++ files_of second) names e in
       let r = to_right table task (string_bytes name) (count (codes "--") others) (first ++ second) (files_of first) (files_of second) u.0 in record {
         name = name;
         others = others;
@@ -324,8 +337,8 @@ module _ {Z : Type 0} (table : Table) (name : String Z) (others : List (String Z
       }
 
   abbrev said_as : Task → List Item → List Item → Result (Command × List (List ℕ)) Fault
-  said_as task one other = unless (fault_of table task (string_bytes name) (count (codes "--") others) (one ++ other) (length (files_of one)) (files_of one ++ files_of other))
-      (asked_for task (one ++ other) (length (files_of one))) (files_of one ++ files_of other)
+  said_as task one other = unless (fault_of table task (string_bytes name) (count (codes "--") others) (one ++ other) (length (files_of one)) (files_of one ++ from_of task (one ++ other) ++ files_of other))
+      (asked_for task (one ++ other) (length (files_of one))) (files_of one ++ from_of task (one ++ other) ++ files_of other)
 
   taken : (command : Command) (names : List (List ℕ)) → AskFor table (name ∷ others) command names → command_of table (name ∷ others) ≡ Ok (command, names)
   taken command names a =
@@ -346,7 +359,7 @@ module _ {Z : Type 0} (table : Table) (name : String Z) (others : List (String Z
 
 abbrev middle_of : Command → ℕ
 middle_of (commands.Merge request) = request.middle
-middle_of (commands.Find middle) = middle
+middle_of (commands.Find middle from) = middle
 middle_of command = 0
 
 has_middle : (task : Task) (items : List Item) (middle : ℕ) (request : Request) → commands.Merge request ≡ asked_for task items middle → request.middle ≡ middle
@@ -357,15 +370,26 @@ has_middle tasks.Check items middle request e = absurd (let q = e in cc)
 has_middle tasks.Overlaps items middle request e = absurd (let q = e in cc)
 has_middle tasks.Find items middle request e = ap middle_of e
 
+no_from : (task : Task) (items : List Item) (middle : ℕ) (request : Request) → commands.Merge request ≡ asked_for task items middle → from_of task items ≡ []
+no_from (tasks.Merge operation) items middle request e = refl
+no_from tasks.List items middle request e = refl
+no_from tasks.Split items middle request e = refl
+no_from tasks.Check items middle request e = refl
+no_from tasks.Overlaps items middle request e = refl
+no_from tasks.Find items middle request e = absurd (let q = e in cc)
+
 sides_by : {Z : Type 0} (table : Table) (name : String Z) (others : List (String Z)) (called : Option Task) (request : Request) (names : List (List ℕ))
     → command_if table (string_bytes name) called others ≡ Ok (commands.Merge request, names) → AreCut table (name ∷ others) request names
 sides_by table name others None request names e = absurd (let q = e in cc)
 sides_by table name others (Some task) request names e =
     let first = first_said table.rows.now others in
     let second = second_said table.rows.now others in
-    let u = unless_ok (fault_of table task (string_bytes name) (count (codes "--") others) (first ++ second) (length (files_of first)) (files_of first ++ files_of second))
-    (asked_for task (first ++ second) (length (files_of first))) (commands.Merge request) (files_of first ++ files_of second) names e in
-    rw (has_middle task (first ++ second) (length (files_of first)) request u.1, u.2) (take-append_seam (files_of first) (files_of second), drop-append_seam (files_of first) (files_of second))
+    let u = unless_ok (fault_of table task (string_bytes name) (count (codes "--") others) (first ++ second) (length (files_of first)) (files_of first ++ from_of task (first ++ second) ++ files_of second))
+    (asked_for task (first ++ second) (length (files_of first))) (commands.Merge request) (files_of first ++ from_of task (first ++ second) ++ files_of second) names e in
+    let e : names ≡ files_of first ++ files_of second =
+    u.2 ∙ ap (λ (f : List (List ℕ)). files_of first ++ f ++ files_of second) (no_from task (first ++ second) (length (files_of first)) request u.1)
+    ∙ ap (λ (f : List (List ℕ)). f ++ files_of second) (append-nil (files_of first)) in
+    rw (has_middle task (first ++ second) (length (files_of first)) request u.1, e) (take-append_seam (files_of first) (files_of second), drop-append_seam (files_of first) (files_of second))
 
 pub sides_cut : {Z : Type 0} (table : Table) (words : List (String Z)) → SidesAreCut table words
 sides_cut table [] request names e = absurd (let q = e in cc)

@@ -1,6 +1,7 @@
 -- How a run ends that searches lists.
-use Rattle.std.proofs.Common.{◌≡◌, ◌==◌, ◌||◌, ◌∙◌, ℕ, Bool, true, false, not, List, ap}
-use Rattle.std.proofs.Common.{subst, inl, inr, length, take, drop}
+use Rattle.std.proofs.Common.{◌≡◌, ◌==◌, ◌||◌, ◌∙◌, ◌++◌, ℕ, Bool, true, false, not, List, ap}
+use Rattle.std.proofs.Common.{◌+◌, ◌≤◌, arith, subst, inl, inr, length, length-take, map, take, drop}
+use Rattle.std.proofs.lemmas.List.{drop-map, length-drop, take-map}
 use Rattle.std.specs.Prelude.{if◌then◌else◌, Result, Ok, Err, OnOk, IsFalse}
 use Rattle.std.specs.Prelude.{is_err, String}
 use Rattle.std.specs.Io.KnownBytes.{Appends}
@@ -14,8 +15,10 @@ use Rattle.cidr_merge.specs.Finds.{lists_matches, lists_refusals}
 use Rattle.cidr_merge.specs.FindRuns.{EndsSearching, EndsReadingAll}
 use Rattle.cidr_merge.specs.FindWords.{with_addresses}
 use Rattle.cidr_merge.specs.Private.Reported.{TellsFound}
+use Rattle.cidr_merge.specs.SoughtLines.{lists_others, lists_sought}
 use Rattle.cidr_merge.specs.Texts.{AreTexts}
 use Rattle.cidr_merge.proofs.Inspected.{works_before, fails_now, written_all}
+use Rattle.cidr_merge.proofs.WholeLists.{as_many_held}
 
 status_by : (no_told no_printed told printed : Bool) → told ≡ not no_told → printed ≡ not no_printed
     → ◌≡◌ {A = ℕ} (if told then 2 else (if printed then 0 else 1))
@@ -29,18 +32,18 @@ status_by true false told printed e f =
 status_by false no_printed told printed e f =
     ap {B = ℕ} (λ (t : Bool). if t then 2 else (if printed then 0 else 1)) e
 
-pub search_ended : {Z W E T : Type 0} (sought : List (List ℕ × IpAddr)) (names : List (String Z))
+pub search_ended : {Z W E T : Type 0} (sought : List (List ℕ × IpAddr)) (others : List (List ℕ)) (names : List (String Z))
     (texts : List (List ℕ)) (end : Ending W E) (mid : Written W) (errors : Written E)
     (written : Result T RunFault) (is_printed is_told : Bool) (status : ℕ)
     → TellsFound (lists_matches sought names texts) end.output mid is_printed
-    → TellsFound (lists_refusals names texts) end.errors errors is_told
+    → TellsFound (others ++ lists_refusals names texts) end.errors errors is_told
     → status ≡ (if is_told then 2 else (if is_printed then 0 else 1))
     → OnOk written (Appends mid.holds end.output_after.holds mid.waits)
     → OnOk written (IsFalse end.output_after.failed)
     → end.output_after.failed ≡ (mid.failed || is_err written)
     → end.status ≡ status_of written status → Reports errors end.errors_after (end_text written)
-    → EndsSearching sought names texts end
-search_ended sought names texts end mid errors
+    → EndsSearching sought others names texts end
+search_ended sought others names texts end mid errors
     (Ok done) is_printed is_told status h k s wrote works failed is told =
     let prints = h.0.told (works_before mid.failed end.output_after.failed failed works) in (
       errors,
@@ -49,27 +52,43 @@ search_ended sought names texts end mid errors
         written_all end.output.holds mid.holds end.output_after.holds end.output.waits mid.waits _
             prints wrote,
         told,
-        is ∙ s ∙ status_by (length (lists_refusals names texts) == 0)
+        is ∙ s ∙ status_by (length (others ++ lists_refusals names texts) == 0)
             (length (lists_matches sought names texts) == 0) is_told is_printed k.1 h.1,
       ),
     )
-search_ended sought names texts end mid errors
+search_ended sought others names texts end mid errors
     (Err fault) is_printed is_told status h k s wrote works failed is told =
     (errors, k.0, inl (fails_now mid.failed end.output_after.failed failed, told, is))
 
 -- ---- what the words say
 
-module _ {Z W E : Type 0} (known : KnownLists) (words sought names : List (String Z))
-    (middle : ℕ) (addresses : List IpAddr) (end : Ending W E) (s : sought ≡ take middle words)
-    (n : names ≡ drop middle words) where
+module _ {Z X : Type 0} (known : KnownLists) (words names : List (String Z)) (middle from : ℕ) (items : X → List ℕ)
+    (texts held : List X) (e : held ≡ texts) (n : names ≡ drop middle words) (within : middle + from ≤ length words)
+    (are : AreTexts known names (map items texts)) where
+  many : length held ≡ length names
+  many = as_many_held known names texts items held e are
+
+  pub names_within : from ≤ length names
+  names_within = let d = length-drop middle words in let l = ap length n in omega (arith, d, l, within)
+
+  pub froms_within : from ≤ length held
+  froms_within = let l = names_within in omega (arith, many, l)
+
+  pub as_many_froms : length (take from held) ≡ length (take from names)
+  as_many_froms = let t = length-take from held in let m = length-take from names in omega (arith, t, m, many)
+
+  pub as_many_lists : length (drop from held) ≡ length (drop from names)
+  as_many_lists = let t = length-drop from held in let m = length-drop from names in omega (arith, t, m, many)
+
   -- all lists were read
-  pub searched : (texts : List (List ℕ)) → AreTexts known names texts
-      → EndsSearching (with_addresses sought addresses) names texts end
-      → EndsReadingAll known words middle addresses end
-  searched texts are h =
-      inr (
-        texts,
-        subst (λ ns. AreTexts known ns texts) n are,
-        subst (λ ns. EndsSearching (with_addresses (take middle words) addresses) ns texts end) n
-            (subst (λ ss. EndsSearching (with_addresses ss addresses) names texts end) s h),
-      )
+  pub searched : {W E : Type 0} (addresses : List IpAddr) (end : Ending W E)
+      → EndsSearching (with_addresses (take middle words) addresses ++ lists_sought (map items (take from held)))
+      (lists_others (take from names) (map items (take from held)))
+      (drop from names) (map items (drop from held)) end
+      → EndsReadingAll known words middle from addresses end
+  searched addresses end h =
+      inr (inr (
+        map items texts,
+        subst (λ ns. AreTexts known ns (map items texts)) n are,
+        rw (← e, take-map items from held, drop-map items from held, ← n) h,
+      ))

@@ -70,7 +70,7 @@ pub sides_before_names : {Z : Type 0}
     × Have Z (codes "union" ∷ codes "--ranges" ∷ []) (codes "union: no FILE; - is standard input")
     × Have Z (codes "minus" ∷ codes "a" ∷ []) (codes "minus: no -- with a FILE behind it")
     × Have Z (codes "minus" ∷ [] ∷ codes "--" ∷ codes "--count" ∷ []) (codes "--: no FILE after it")
-    × Have Z (codes "find" ∷ codes "--" ∷ codes "a" ∷ []) (codes "--: no ADDRESS before it")
+    × Have Z (codes "find" ∷ codes "--" ∷ codes "a" ∷ []) (codes "--: no ADDRESS before it, and no --from FILE")
 sides_before_names = (
   (λ _ o _ a _ b. simp (o, a, b)),
   (λ _ o _ a _ b _ c. simp (o, a, b, c)),
@@ -122,7 +122,7 @@ pub options_anywhere : {Z : Type 0}
     × Ask Z (codes "split" ∷ codes "a" ∷ codes "--prefix=+9" ∷ codes "--skip-bad" ∷ [])
     (commands.Split (record { length = 9; skips_bad = true; shape = shapes.Lines })) (codes "a" ∷ [])
     × Ask Z (codes "check" ∷ codes "a" ∷ codes "--strict" ∷ []) (commands.Inspect inspections.Strict) (codes "a" ∷ [])
-    × Ask Z (codes "find" ∷ codes "::1" ∷ codes "-" ∷ codes "--" ∷ codes "-" ∷ []) (commands.Find 2) (codes "::1" ∷ codes "-" ∷ codes "-" ∷ [])
+    × Ask Z (codes "find" ∷ codes "::1" ∷ codes "-" ∷ codes "--" ∷ codes "-" ∷ []) (commands.Find 2 0) (codes "::1" ∷ codes "-" ∷ codes "-" ∷ [])
 options_anywhere = (
   (λ _ o _ a _ b _ c _ d. simp (o, a, b, c, d)),
   (λ _ o _ a _ b _ c. simp (o, a, b, c)),

@@ -12,7 +12,7 @@ use Rattle.options.specs.declared.items.Item.{Item}
 use Rattle.options.specs.declared.items.Mode.TheVariants as modes
 use Rattle.options.specs.declared.table.Row.{Row}
 use Rattle.options.specs.declared.table.Table.{Table}
-use Rattle.cidr_merge.specs.Faults.{fault_of, no_task_fault}
+use Rattle.cidr_merge.specs.Faults.{fault_of, from_of, no_task_fault}
 use Rattle.cidr_merge.specs.Forms.{form_of, shape_of, length_of}
 use Rattle.cidr_merge.specs.Options as own
 use Rattle.cidr_merge.specs.SetNames.{Names, names_of}
@@ -58,7 +58,7 @@ asked_for tasks.Split items middle = commands.Split
     })
 asked_for tasks.Check items middle = commands.Inspect (inspection_of (is_given items own.strict))
 asked_for tasks.Overlaps items middle = commands.Inspect inspections.Overlaps
-asked_for tasks.Find items middle = commands.Find middle
+asked_for tasks.Find items middle = commands.Find middle (length (from_of tasks.Find items))
 
 -- what the words before the first `--` say, and those behind it
 abbrev pub first_said : {Z : Type 0} → List Row → List (String Z) → List Item
@@ -91,7 +91,9 @@ command_for table name task others =
     command_by table name task (count (codes "--") others)
     (first_said table.rows.now others ++ second_said table.rows.now others)
     (length (files_of (first_said table.rows.now others)))
-    (files_of (first_said table.rows.now others) ++ files_of (second_said table.rows.now others))
+    (files_of (first_said table.rows.now others)
+    ++ from_of task (first_said table.rows.now others ++ second_said table.rows.now others)
+    ++ files_of (second_said table.rows.now others))
 
 -- what the first word says to do
 abbrev pub command_if : {Z : Type 0} → Table → List ℕ → Option Task → List (String Z)
@@ -99,7 +101,8 @@ abbrev pub command_if : {Z : Type 0} → Table → List ℕ → Option Task → 
 command_if table name None others = Err (no_task_fault table.rows.now name)
 command_if table name (Some task) others = command_for table name task others
 
--- what the words after the program's name ask for, and of which FILEs, those of the first side first; or what is wrong
+-- what the words after the program's name ask for, and of which FILEs, those of the first side first, and then the one
+-- of `--from`; or what is wrong
 -- with them
 abbrev pub command_of : {Z : Type 0} → Table → List (String Z) → Result (Command × List (List ℕ)) Fault
 command_of table [] = Err (about subjects.CommandLine (codes "no operation"))

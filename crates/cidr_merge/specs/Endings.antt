@@ -28,8 +28,8 @@ EndsCommand program usage rows known words sets (commands.Split request) end =
     EndsSplitting known words sets request end
 EndsCommand program usage rows known words sets (commands.Inspect inspection) end =
     EndsInspecting known words inspection end
-EndsCommand program usage rows known words sets (commands.Find middle) end =
-    EndsFind program usage rows known words middle end
+EndsCommand program usage rows known words sets (commands.Find middle from) end =
+    EndsFind program usage rows known words middle from end
 
 -- or something is wrong with the words, and that and the usage are reported
 abbrev pub EndsAsked : {W E : Type 0} → List ℕ → List ℕ → List Row → KnownLists → Names

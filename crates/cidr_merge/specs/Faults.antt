@@ -1,10 +1,10 @@
 -- What is wrong with the words of a command line.
-use Rattle.std.specs.Prelude.{ℕ, ◌-◌, ◌==◌, ◌&&◌, ◌||◌, Bool, true, false, not, List, [], ◌∷◌, Option, None, Some}
+use Rattle.std.specs.Prelude.{ℕ, ◌+◌, ◌-◌, ◌==◌, ◌&&◌, ◌||◌, Bool, true, false, not, List, [], ◌∷◌, Option, None, Some}
 use Rattle.std.specs.Prelude.{length, drop, nat_lt, if◌then◌else◌, codes, bytes_eq}
 use Rattle.std.specs.List.{list_any, count_by}
 use Rattle.std.specs.Option.{option_or, is_some}
 use Rattle.options.specs.Faults.{about, pair_fault, problem_at}
-use Rattle.options.specs.Given.{is_given}
+use Rattle.options.specs.Given.{is_given, value_of}
 use Rattle.options.specs.Items.{is_plain}
 use Rattle.options.specs.Table.{kind_at, named}
 use Rattle.options.specs.declared.faults.Fault.{Fault}
@@ -176,6 +176,11 @@ abbrev pub files_among : {X : Type 0} → Task → ℕ → List X → List X
 files_among tasks.Find middle names = drop middle names
 files_among task middle names = names
 
+-- the FILE of the `--from` of a `find`
+abbrev pub from_of : Task → List Item → List (List ℕ)
+from_of tasks.Find items = if is_given items own.from then value_of items own.from ∷ [] else []
+from_of task items = []
+
 -- ---- all words
 
 -- what is wrong with the words behind the first, which has this name: with an option, the first that is wrong; then
@@ -183,4 +188,5 @@ files_among task middle names = names
 abbrev pub fault_of : Table → Task → List ℕ → ℕ → List Item → ℕ → List (List ℕ) → Option Fault
 fault_of table task name dashes items middle names =
     option_or (option_or (option_or (items_fault table.rows.now task items) (together_fault table task items))
-    (sides_fault task name dashes middle (length names - middle))) (files_fault (files_among task middle names))
+    (sides_fault task name dashes (middle + length (from_of task items))
+    (length names - middle - length (from_of task items)))) (files_fault (files_among task middle names))

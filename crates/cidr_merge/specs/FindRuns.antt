@@ -1,5 +1,5 @@
 -- How a run ends that searches lists for addresses.
-use Rattle.std.specs.Prelude.{◌≡◌, ◌==◌, ◌⊎◌, ℕ, List, [], length, take, drop, if◌then◌else◌, codes, String}
+use Rattle.std.specs.Prelude.{◌≡◌, ◌==◌, ◌⊎◌, ◌++◌, ℕ, List, [], length, take, drop, if◌then◌else◌, codes, String}
 use Rattle.std.specs.List.{concat}
 use Rattle.lines.specs.Outputs.{Written}
 use Rattle.lists.specs.KnownLists.{KnownLists}
@@ -14,6 +14,7 @@ use Rattle.options.specs.Refusing.{refusal_text}
 use Rattle.options.specs.declared.table.Row.{Row}
 use Rattle.cidr_merge.specs.Faults.{at}
 use Rattle.cidr_merge.specs.FindWords.{AreAddresses, StopsAtWord, with_addresses}
+use Rattle.cidr_merge.specs.SoughtLines.{lists_others, lists_sought}
 use Rattle.cidr_merge.specs.Texts.{AreTexts, TextsStop}
 use Rattle.cidr_merge.specs.Writing.{FailsToWrite}
 use Rattle.cidr_merge.specs.declared.query.QueryFault.{QueryFault}
@@ -28,24 +29,33 @@ abbrev pub WritesReport : {W E : Type 0} → List (List ℕ) → List (List ℕ)
 WritesReport printed told end =
     HasWritten end (concat printed) × HasTold end [] × (end.status ≡ search_status printed told)
 
--- lists of these names and bytes were searched for these addresses: the refused lines were told,
--- and what there is to print was written, or the writer failed
-abbrev pub EndsSearching : {Z W E : Type 0} → List (List ℕ × IpAddr) → List (String Z)
+-- lists of these names and bytes were searched for these addresses: these lines and the refused ones of the lists were
+-- told, and what there is to print was written, or the writer failed
+abbrev pub EndsSearching : {Z W E : Type 0} → List (List ℕ × IpAddr) → List (List ℕ) → List (String Z)
     → List (List ℕ) → Ending W E → Type 0
-EndsSearching {Z} {W} {E} sought names texts end =
-    (errors : Written E) × Reports end.errors errors (concat (lists_refusals names texts))
+EndsSearching {Z} {W} {E} sought others names texts end =
+    (errors : Written E) × Reports end.errors errors (concat (others ++ lists_refusals names texts))
     × (FailsToWrite (record end { errors = errors })
-    ⊎ WritesReport (lists_matches sought names texts) (lists_refusals names texts)
+    ⊎ WritesReport (lists_matches sought names texts) (others ++ lists_refusals names texts)
     (record end { errors = errors }))
 
--- a list was not read, nothing was written, and the cause was reported; or all were read
-abbrev pub EndsReadingAll : {Z W E : Type 0} → KnownLists → List (String Z) → ℕ → List IpAddr
+-- these lists were read: the lines of so many of the first are sought too, in the others
+abbrev pub EndsReading : {Z W E : Type 0} → List (List ℕ × IpAddr) → List (String Z) → ℕ → List (List ℕ)
     → Ending W E → Type 0
-EndsReadingAll known words middle addresses end =
+EndsReading sought names from texts end =
+    EndsSearching (sought ++ lists_sought (take from texts)) (lists_others (take from names) (take from texts))
+    (drop from names) (drop from texts) end
+
+-- a list was not read, or there was no memory for what is sought: nothing was written, and the cause was reported; or
+-- all were read
+abbrev pub EndsReadingAll : {Z W E : Type 0} → KnownLists → List (String Z) → ℕ → ℕ → List IpAddr
+    → Ending W E → Type 0
+EndsReadingAll known words middle from addresses end =
     ((fault : ReadFault) × TextsStop known middle (drop middle words) fault
     × Refuses (fault_text words fault) end)
+    ⊎ (Refuses (fault_text words faults.OutOfMemory) end
     ⊎ ((texts : List (List ℕ)) × AreTexts known (drop middle words) texts
-    × EndsSearching (with_addresses (take middle words) addresses) (drop middle words) texts end)
+    × EndsReading (with_addresses (take middle words) addresses) (drop middle words) from texts end))
 
 -- what is reported of words that are not taken as addresses: the first that is none, and the usage,
 -- or that memory ran out
@@ -54,11 +64,12 @@ sought_fault_text program usage rows words (NotAnAddress place) =
     refusal_text program usage rows (at (name_at words place) (codes "not an address"))
 sought_fault_text program usage rows words OutOfMemory = fault_text words faults.OutOfMemory
 
--- that is reported before anything is read, or the words before this index name addresses, and those from it on lists
-abbrev pub EndsFind : {Z W E : Type 0} → List ℕ → List ℕ → List Row → KnownLists → List (String Z) → ℕ → Ending W E
-    → Type 0
-EndsFind program usage rows known words middle end =
+-- that is reported before anything is read, or the words before this index name addresses, and those from it on lists,
+-- of which so many of the first have addresses too
+abbrev pub EndsFind : {Z W E : Type 0} → List ℕ → List ℕ → List Row → KnownLists → List (String Z) → ℕ → ℕ
+    → Ending W E → Type 0
+EndsFind program usage rows known words middle from end =
     ((fault : QueryFault) × StopsAtWord 0 (take middle words) fault
     × Refuses (sought_fault_text program usage rows words fault) end)
     ⊎ ((addresses : List IpAddr) × AreAddresses (take middle words) addresses
-    × EndsReadingAll known words middle addresses end)
+    × EndsReadingAll known words middle from addresses end)

@@ -25,6 +25,7 @@ pub mod Runs
 pub mod SetNames
 pub mod Shapes
 pub mod Sides
+pub mod SoughtLines
 pub mod Splits
 pub mod Stopping
 pub mod Tasks

@@ -40,6 +40,9 @@ after = 9
 abbrev pub prefix : ℕ
 prefix = 10
 
+abbrev pub from : ℕ
+from = 11
+
 -- what is told of a name that is none
 abbrev pub no_name : List ℕ
 no_name = codes "not a name of 1 to 22 letters, digits, _, - and ., the first a letter"
@@ -54,6 +57,7 @@ entries =
     ∷ long (codes "--set") kinds.Text true no_name ∷ long (codes "--table") kinds.Text true no_name
     ∷ long (codes "--line-prefix") kinds.Text true [] ∷ long (codes "--line-suffix") kinds.Text true []
     ∷ long (codes "--prefix") kinds.Text true (codes "not a prefix length, 0 to 128")
+    ∷ long (codes "--from") kinds.File true []
     ∷ alone (codes "--help") (codes "taken only alone")
     ∷ alone (codes "--version") (codes "taken only alone")
     ∷ alone (codes "--quiet") (codes "taken only once, as the first word") ∷ []
@@ -82,4 +86,4 @@ taken tasks.List =
 taken tasks.Split = prefix ∷ before ∷ after ∷ skip_bad ∷ json ∷ strict ∷ []
 taken tasks.Check = strict ∷ []
 taken tasks.Overlaps = []
-taken tasks.Find = []
+taken tasks.Find = from ∷ []

@@ -14,7 +14,7 @@ use Rattle.options.specs.declared.table.Row.{Row}
 use Rattle.options.specs.declared.table.Table.{Table}
 use Rattle.program.specs.Words.{count}
 use Rattle.cidr_merge.specs.CommandLines.{asked_for, command_of}
-use Rattle.cidr_merge.specs.Faults.{is_exported, files_among, has_lines, has_sets, has_table, takes, times_named}
+use Rattle.cidr_merge.specs.Faults.{is_exported, files_among, from_of, has_lines, has_sets, has_table, takes, times_named}
 use Rattle.cidr_merge.specs.Forms.{form_called, form_of, prefix_in}
 use Rattle.cidr_merge.specs.Options as own
 use Rattle.cidr_merge.specs.SetNames.{is_set_name}
@@ -62,10 +62,10 @@ pub record AreRight (table : Table) (task : Task) (items : List Item) (first sec
   pub sets_table : IsTrue (is_given items own.table) → IsTrue (has_table (form_of Blocks items))
   pub before : IsTrue (is_given items own.before) → IsTrue (has_lines (form_of Blocks items))
   pub after : IsTrue (is_given items own.after) → IsTrue (has_lines (form_of Blocks items))
-  pub some : first ≢ []
+  pub some : first ++ from_of task items ≢ []
   pub others : IsTrue (is_two_sided task) → second ≢ []
-  pub named : times_named [] (files_among task (length first) (first ++ second)) ≡ 0
-  pub input : times_named (codes "-") (files_among task (length first) (first ++ second)) ≤ 1
+  pub named : times_named [] (files_among task (length first) (first ++ from_of task items ++ second)) ≡ 0
+  pub input : times_named (codes "-") (files_among task (length first) (first ++ from_of task items ++ second)) ≤ 1
 
 -- the words are right, and this is what they ask for, of these FILEs
 pub record AskFor {Z : Type 0} (table : Table) (words : List (String Z)) (command : Command)
@@ -80,7 +80,7 @@ pub record AskFor {Z : Type 0} (table : Table) (words : List (String Z)) (comman
   pub say : SaySides table.rows.now (is_two_sided task) others first second
   pub right : AreRight table task (first ++ second) (files_of first) (files_of second)
   pub asked : command ≡ asked_for task (first ++ second) (length (files_of first))
-  pub files : names ≡ files_of first ++ files_of second
+  pub files : names ≡ files_of first ++ from_of task (first ++ second) ++ files_of second
 
 -- words are taken exactly if they are right, as what they ask for
 abbrev pub RightWordsAreTaken : {Z : Type 0} → Table → List (String Z) → Type 0

@@ -31,7 +31,7 @@ no_option tasks.Split = codes "not an option of split; it takes --prefix N, --li
     ++ codes "--skip-bad, --json and --strict"
 no_option tasks.Check = codes "not an option of check; it takes --strict"
 no_option tasks.Overlaps = codes "not an option of overlaps; it takes none"
-no_option tasks.Find = codes "not an option of find; it takes none"
+no_option tasks.Find = codes "not an option of find; it takes --from FILE"
 no_option task = codes "not an option of union, common, minus, differ or list; they take --ranges, --count, "
     ++ codes "--format FORM, --set NAME, --table NAME, --line-prefix TEXT, --line-suffix TEXT, --skip-bad, --json and --strict"
 
@@ -40,5 +40,5 @@ abbrev pub one_side : List ℕ
 one_side = codes "only common, minus, differ and find take a --"
 
 abbrev pub no_first : Task → List ℕ
-no_first tasks.Find = codes "no ADDRESS before it"
+no_first tasks.Find = codes "no ADDRESS before it, and no --from FILE"
 no_first task = if is_two_sided task then codes "no FILE before it" else one_side

@@ -1,13 +1,15 @@
 //! What the words of a command line ask for.
-ghost use Rattle.std.specs.Prelude.{◌≡◌, ◌≤◌, ℕ, length, IfOk};
+ghost use Rattle.std.specs.Prelude.{◌≡◌, ◌≤◌, ◌+◌, ◌++◌, ℕ, length, map, IfOk, OnOk};
+ghost use Rattle.std.specs.String.{string_bytes};
+ghost use Rattle.cidr_merge.specs.Faults.{from_of};
 ghost use Rattle.cidr_merge.specs.CommandLines.{request_of, inspection_of, asked_for, command_for, command_of, told_of};
 ghost use Rattle.cidr_merge.specs.CommandLines.{sets_by, sets_of};
 ghost use Rattle.cidr_merge.specs.Forms.{form_called, form_of, shape_of, without_plus, prefix_in, length_of};
 ghost use Rattle.cidr_merge.specs.Private.Words.{IsCommandWithin};
 
 use crate::exports::Export;
-use crate::faults::{fault_of, no_task_fault};
-use crate::rows::{COUNT, FORMAT, JSON, PREFIX, RANGES, SKIP_BAD, STRICT, table};
+use crate::faults::{fault_of, from_count, no_task_fault};
+use crate::rows::{COUNT, FORMAT, FROM, JSON, PREFIX, RANGES, SKIP_BAD, STRICT, table};
 use crate::set_names::{SetNames, names_of};
 use crate::shapes::Shape;
 use crate::tasks::{Task, task_called};
@@ -93,8 +95,8 @@ pub enum Command {
     Split(SplitRequest),
     /// Lists are looked over.
     Inspect(Inspection),
-    /// Of so many names the addresses are sought in the lists that follow.
-    Find(usize),
+    /// The addresses of so many names, and those of so many lists that follow, are sought in the lists that follow these.
+    Find(usize, usize),
 }
 
 /// What is asked for, and the FILEs, those of the first side first.
@@ -150,6 +152,7 @@ fn command_for<'a>(
     let mut behind = items_of(alloc, table.rows, behind_dashes(others))?;
     let mut second = files_of(alloc, behind.as_slice())?;
     items.append(&mut behind)?;
+    add_from(alloc, task, items.as_slice(), &mut names)?;
     names.append(&mut second)?;
     let dashes = count_of(others, "--");
     let items = items.as_slice();
@@ -163,10 +166,27 @@ fn command_for<'a>(
     }
 }
 
+// Adds the FILE of `--from`.
+fn add_from(
+    alloc: Global,
+    task: Task,
+    items: &[Item<'_>],
+    names: &mut Vec<String>,
+) -> Result<(), AllocError>
+    ensures { OnOk result (map string_bytes names.new.items
+        ≡ map string_bytes names.old.items ++ from_of task items.now) }
+{
+    if from_count(task, items) > 0 {
+        names.push(String::from_str(alloc, value_of(items, FROM))?)?;
+    }
+    Ok(())
+}
+
 // What is asked for by options and so many FILEs of the first side.
 fn asked_for(task: Task, items: &[Item<'_>], middle: usize) -> Command
     ensures asked { result ≡ asked_for task items.now middle }
-    ensures within { (count : ℕ) → middle ≤ count → IsCommandWithin count result }
+    ensures within { (count : ℕ) → middle + length (from_of task items.now) ≤ count
+        → IsCommandWithin count result }
 {
     match task {
         Task::Merge(operation) => {
@@ -183,7 +203,7 @@ fn asked_for(task: Task, items: &[Item<'_>], middle: usize) -> Command
         }),
         Task::Check => Command::Inspect(inspection_of(is_given(items, STRICT))),
         Task::Overlaps => Command::Inspect(Inspection::Overlaps),
-        Task::Find => Command::Find(middle),
+        Task::Find => Command::Find(middle, from_count(task, items)),
     }
 }
 

@@ -1,11 +1,11 @@
 //! What is wrong with the words of a command line.
-ghost use Rattle.std.specs.Prelude.{◌≡◌, ◌≤◌, length, map};
+ghost use Rattle.std.specs.Prelude.{◌≡◌, ◌≤◌, ◌+◌, length, map};
 ghost use Rattle.std.specs.String.{string_bytes};
-ghost use Rattle.cidr_merge.specs.Faults.{at, problem_of_row, no_task_fault, takes, option_fault, is_value, value_fault, item_fault, items_fault, lacks_json, lacks_prefix, cannot_print, has_sets, has_table, has_lines, names_fault, together_fault, sides_fault, files_fault, files_among, fault_of};
+ghost use Rattle.cidr_merge.specs.Faults.{at, problem_of_row, no_task_fault, takes, option_fault, is_value, value_fault, item_fault, items_fault, lacks_json, lacks_prefix, cannot_print, has_sets, has_table, has_lines, names_fault, together_fault, sides_fault, files_fault, files_among, from_of, fault_of};
 
 use crate::command_line::{Form, Operation, form_called, form_of, prefix_in};
 use crate::exports::Export;
-use crate::rows::{AFTER, BEFORE, FORMAT, JSON, PREFIX, SET, STRICT, TABLE, taken};
+use crate::rows::{AFTER, BEFORE, FORMAT, FROM, JSON, PREFIX, SET, STRICT, TABLE, taken};
 use crate::set_names::is_set_name;
 use crate::tasks::{ONE_SIDE, Task, is_two_sided, no_first, no_option};
 use options::faults::{Fault, Subject, about, pair_fault, problem_at};
@@ -267,6 +267,17 @@ fn files_among(task: Task, middle: usize, names: &[String]) -> &[String]
     }
 }
 
+/// How many lists of addresses a `find` has: one if `--from` is given.
+pub(crate) fn from_count(task: Task, items: &[Item<'_>]) -> usize
+    ensures { result ≡ length (from_of task items.now) }
+{
+    if matches!(task, Task::Find) && is_given(items, FROM) {
+        1
+    } else {
+        0
+    }
+}
+
 /// What is wrong with the words behind the first: with an option, the first that is wrong; then with options together, with
 /// the sides, and with the names of lists.
 pub(crate) fn fault_of<'a>(
@@ -278,13 +289,14 @@ pub(crate) fn fault_of<'a>(
     middle: usize,
     names: &[String],
 ) -> Option<Fault<'a>>
-    requires { middle ≤ length names.now }
+    requires { middle + length (from_of task items.now) ≤ length names.now }
     ensures { result
         ≡ fault_of table.now task name.now dashes items.now middle (map string_bytes names.now) }
 {
-    let second = names.len() - middle;
+    let from = from_count(task, items);
+    let second = names.len() - middle - from;
     items_fault(table.rows, task, items)
         .or(together_fault(table, task, items))
-        .or(sides_fault(task, name, dashes, middle, second))
+        .or(sides_fault(task, name, dashes, middle + from, second))
         .or(files_fault(files_among(task, middle, names)))
 }

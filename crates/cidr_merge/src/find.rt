@@ -1,17 +1,23 @@
 //! The run of a `find`.
-ghost use Rattle.std.specs.Prelude.{◌≡◌, ◌≤◌, take, length, if◌then◌else◌};
+ghost use Rattle.std.specs.Prelude.{◌≡◌, ◌≤◌, ◌+◌, ◌++◌, take, length, map, if◌then◌else◌, IfOk};
 ghost use Rattle.program.specs.Endings.{ending};
 ghost use Rattle.program.specs.Messages.{Reports};
-ghost use Rattle.cidr_merge.specs.FindRuns.{EndsFind, EndsReadingAll};
+ghost use Rattle.cidr_merge.specs.FindRuns.{EndsFind, EndsReadingAll, EndsSearching};
 ghost use Rattle.cidr_merge.specs.FindRuns.{sought_fault_text};
-ghost use Rattle.cidr_merge.specs.FindWords.{AreAddresses};
+ghost use Rattle.cidr_merge.specs.FindWords.{AreAddresses, with_addresses};
+ghost use Rattle.cidr_merge.specs.Private.LinesLeft.{sought_as, sought_in};
+ghost use Rattle.cidr_merge.specs.Private.Numbers.{ArePlacesOf};
+ghost use Rattle.cidr_merge.specs.SoughtLines.{lists_others, lists_sought};
 
 use crate::context::Context;
 use crate::faults::at;
+use crate::findings::either;
 use crate::help::{PROGRAM, USAGE};
+use crate::numbers::{Place, places_of};
 use crate::query::{Query, QueryFault, addresses_of};
 use crate::reading::refuse_lists;
 use crate::searching::search_lists;
+use crate::sought::{Sought, add_lines, sought_in_words, tell_others};
 use crate::texts::{WholeLists, texts_of};
 use ipnetwork::IpAddr;
 use lines::output::Output;
@@ -20,6 +26,7 @@ use options::refusing::refuse;
 use options::table::Row;
 use program::ending::{FAILED, end};
 use program::words::text_at;
+use std::alloc::{AllocError, Global};
 use std::io::Write;
 
 /// The exit status if an entry was printed.
@@ -28,21 +35,22 @@ const FOUND: u8 = 0;
 /// The exit status if no entry has an address that is sought.
 const NOTHING_FOUND: u8 = 1;
 
-/// Prints the entries of lists that have addresses, and returns the exit status. The names before this index are the
-/// addresses, and those from it on the lists.
+/// Prints the entries of lists that have addresses, and returns the exit status. The names before this index are
+/// addresses, and those from it on lists, of which so many of the first have addresses too.
 pub(crate) fn find<L: OpenLists, W: Write, E: Write>(
     middle: usize,
+    from: usize,
     rows: &[Row],
     context: &Context<'_, L>,
     output: &mut Output<'_, W>,
     errors: &mut Output<'_, E>,
 ) -> u8
-    requires { middle ≤ length context.now.names.now }
+    requires { middle + from ≤ length context.now.names.now }
     ensures { EndsFind PROGRAM.now USAGE.now rows.now (L.known context.now.lists.now)
-        context.now.names.now middle (ending output.old output.new errors.old errors.new result) }
+        context.now.names.now middle from (ending output.old output.new errors.old errors.new result) }
 {
     match addresses_of(context.alloc, &context.names[..middle], 0) {
-        Ok(addresses) => find_all(middle, addresses.as_slice(), context, output, errors),
+        Ok(addresses) => find_all(middle, from, addresses.as_slice(), context, output, errors),
         Err(fault) => refuse_sought(rows, fault, context.names, errors),
     }
 }
@@ -67,35 +75,86 @@ fn refuse_sought<E: Write>(
     }
 }
 
-// Reads the lists, and prints their entries that have one of these addresses.
+// Reads the lists, and prints their entries that have one of these addresses, or of those of the first
+// lists.
 fn find_all<L: OpenLists, W: Write, E: Write>(
     middle: usize,
+    from: usize,
     addresses: &[IpAddr],
     context: &Context<'_, L>,
     output: &mut Output<'_, W>,
     errors: &mut Output<'_, E>,
 ) -> u8
-    requires words { middle ≤ length context.now.names.now }
+    requires words { middle + from ≤ length context.now.names.now }
     requires addresses { AreAddresses (take middle context.now.names.now) addresses.now }
-    ensures { EndsReadingAll (L.known context.now.lists.now) context.now.names.now middle
+    ensures { EndsReadingAll (L.known context.now.lists.now) context.now.names.now middle from
         addresses.now (ending output.old output.new errors.old errors.new result) }
 {
-    let query = Query {
-        words: &context.names[..middle],
-        addresses,
-    };
     let names = &context.names[middle..];
     let texts = match texts_of(context, names, middle) {
         Ok(texts) => texts,
         Err(fault) => return refuse_lists(context.names, fault, errors),
     };
-    let lists = WholeLists {
-        names,
-        texts: texts.as_slice(),
+    let (from_names, list_names) = names.split_at(from);
+    let (from_texts, list_texts) = texts.as_slice().split_at(from);
+    let froms = WholeLists {
+        names: from_names,
+        texts: from_texts,
     };
-    let reported = search_lists(&query, &lists, output, errors);
+    let lists = WholeLists {
+        names: list_names,
+        texts: list_texts,
+    };
+    match all_sought(context.alloc, &context.names[..middle], addresses, &froms) {
+        Ok((sought, places)) => {
+            let query = Query {
+                sought: sought.as_slice(),
+                places: places.as_slice(),
+            };
+            search(&query, &froms, &lists, output, errors)
+        }
+        Err(_) => refuse_lists(context.names, ReadFault::OutOfMemory, errors),
+    }
+}
+
+// The addresses that words name, and those of lists, with their places.
+fn all_sought(
+    alloc: Global,
+    words: &[String],
+    addresses: &[IpAddr],
+    froms: &WholeLists<'_>,
+) -> Result<(Vec<Sought>, Vec<Place>), AllocError>
+    requires { length addresses.now ≡ length words.now }
+    ensures sought { IfOk result (λ all. map sought_as all.0.items
+        ≡ with_addresses words.now addresses.now
+        ++ lists_sought (map (λ text. text.items) froms.now.texts.now)) }
+    ensures places { IfOk result (λ all. ArePlacesOf all.0.items all.1.items) }
+{
+    let mut sought = sought_in_words(alloc, words, addresses)?;
+    add_lines(alloc, froms, &mut sought)?;
+    let places = places_of(alloc, sought.as_slice())?;
+    Ok((sought, places))
+}
+
+// Prints the entries of lists that have an address that is sought, and tells the refused lines, those of the
+// lists of addresses first.
+fn search<W: Write, E: Write>(
+    query: &Query<'_>,
+    froms: &WholeLists<'_>,
+    lists: &WholeLists<'_>,
+    output: &mut Output<'_, W>,
+    errors: &mut Output<'_, E>,
+) -> u8
+    requires { ArePlacesOf query.now.sought.now query.now.places.now }
+    ensures { EndsSearching (sought_in query.now)
+        (lists_others froms.now.names.now (map (λ text. text.items) froms.now.texts.now))
+        lists.now.names.now (map (λ text. text.items) lists.now.texts.now)
+        (ending output.old output.new errors.old errors.new result) }
+{
+    let told = tell_others(froms, errors);
+    let reported = search_lists(query, lists, output, errors);
     let written = output.finish();
-    let status = status(reported.printed, reported.told);
+    let status = status(reported.printed, either(told, reported.told));
     end(written, status, errors)
 }
 

@@ -9,7 +9,7 @@ use crate::numbered_lines::Line;
 use lines::output::Output;
 use lists::LineFault;
 use program::escapes::tell_escaped;
-use program::messages::{tell, tell_number};
+use program::messages::{tell, tell_bytes, tell_number};
 use std::io::Write;
 
 /// Tells why a line is refused, and the line.
@@ -19,7 +19,13 @@ pub(crate) fn tell_wrong<W: Write>(line: &Line<'_>, fault: LineFault, output: &m
 {
     let text = shown(fault, line.text);
     let line = Line { text, ..*line };
-    tell_line(&line, ": refused ", fault.text(), separator(text), output);
+    tell_line(
+        &line,
+        ": refused ",
+        fault.text().as_bytes(),
+        separator(text),
+        output,
+    );
 }
 
 /// Tells that the entry of a line has host bits, and the line.
@@ -27,7 +33,7 @@ pub(crate) fn tell_host_bits<W: Write>(line: &Line<'_>, output: &mut Output<'_, 
     ensures { Reports output.old output.new
         (host_bits_text line.now.name.now line.now.number line.now.text.now) }
 {
-    tell_line(line, ": host bits", "", ": ", output);
+    tell_line(line, ": host bits", b"", ": ", output);
 }
 
 /// Tells where a line stands, what there is to say of it, in two parts, and behind a separator the
@@ -35,7 +41,7 @@ pub(crate) fn tell_host_bits<W: Write>(line: &Line<'_>, output: &mut Output<'_, 
 pub(crate) fn tell_line<W: Write>(
     line: &Line<'_>,
     what: &str,
-    about: &str,
+    about: &[u8],
     separator: &str,
     output: &mut Output<'_, W>,
 )
@@ -45,7 +51,7 @@ pub(crate) fn tell_line<W: Write>(
 {
     tell_place(line.name, line.number, output);
     tell(what, output);
-    tell(about, output);
+    tell_bytes(about, output);
     tell(separator, output);
     tell_escaped(line.text, output);
     tell("\n", output);

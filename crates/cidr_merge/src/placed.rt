@@ -61,8 +61,8 @@ fn add_line(line: &Line<'_>, entries: &mut Vec<Placed>) -> Result<(), AllocError
     Ok(())
 }
 
-// The first and the last address of an entry.
-fn ends_of(entry: &Entry) -> (IpAddr, IpAddr)
+/// The first and the last address of an entry.
+pub(crate) fn ends_of(entry: &Entry) -> (IpAddr, IpAddr)
     ensures { result ≡ ends_of entry.now }
 {
     match entry {

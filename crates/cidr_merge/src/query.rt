@@ -1,19 +1,19 @@
-//! The addresses that are sought in lists.
+//! The addresses that are sought in lists, as words name them, and those that are sought at once.
 ghost use Rattle.std.specs.Prelude.{◌≡◌, ◌+◌, ◌^◌, ◌<◌, length, IfOk, IfErr};
 ghost use Rattle.cidr_merge.specs.FindWords.{AreAddresses, StopsAtWord};
 
+use crate::numbers::Place;
+use crate::sought::Sought;
 use ipnetwork::IpAddr;
 use std::alloc::Global;
 
-/// Addresses, and the words that name them, in the same order.
+/// The addresses that are sought.
 #[derive(Drop)]
 pub(crate) struct Query<'a> {
-    /// The words.
-    pub words: &'a [String],
-    /// The address that each of them names.
-    pub addresses: &'a [IpAddr],
-
-    ghost as_many: { length addresses.now ≡ length words.now },
+    /// They, in the order in which they are printed.
+    pub sought: &'a [Sought],
+    /// Their places, by number.
+    pub places: &'a [Place],
 }
 
 /// Why words are not taken as addresses.

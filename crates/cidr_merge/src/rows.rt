@@ -38,8 +38,11 @@ pub(crate) const AFTER: usize = 9;
 /// The row of `--prefix`.
 pub(crate) const PREFIX: usize = 10;
 
+/// The row of `--from`.
+pub(crate) const FROM: usize = 11;
+
 // The options.
-const ROWS: [Row; 14] = [
+const ROWS: [Row; 15] = [
     long!("--ranges", Flag, false, ""),
     long!("--count", Flag, false, ""),
     long!(
@@ -57,6 +60,7 @@ const ROWS: [Row; 14] = [
     long!("--line-prefix", Text, true, ""),
     long!("--line-suffix", Text, true, ""),
     long!("--prefix", Text, true, "not a prefix length, 0 to 128"),
+    long!("--from", File, true, ""),
     long!("--help", Alone, false, "taken only alone"),
     long!("--version", Alone, false, "taken only alone"),
     long!(
@@ -74,7 +78,7 @@ const NO_NAME: &str = "not a name of 1 to 22 letters, digits, _, - and ., the fi
 const ANOTHER_FORM: &str = "--format: given twice, or together with --ranges or --count";
 
 // Which do not go together.
-const PAIRS: [Pair; 9] = [
+const PAIRS: [Pair; 10] = [
     pair!(RANGES, COUNT, "--ranges: not together with --count"),
     pair!(FORMAT, FORMAT, ANOTHER_FORM),
     pair!(FORMAT, RANGES, ANOTHER_FORM),
@@ -115,6 +119,7 @@ pub(crate) fn taken(task: Task) -> &'static [usize]
         Task::Merge(_) | Task::List => &OF_MERGES,
         Task::Split => &OF_SPLIT,
         Task::Check => &OF_CHECK,
-        Task::Overlaps | Task::Find => &[],
+        Task::Overlaps => &[],
+        Task::Find => &[FROM],
     }
 }

@@ -6,14 +6,16 @@ ghost use Rattle.cidr_merge.specs.Finds.{has_text, lists_matches, lists_refusals
 ghost use Rattle.cidr_merge.specs.Finds.{matches_by, refusals_by};
 ghost use Rattle.cidr_merge.specs.NumberedLines.{said_by};
 ghost use Rattle.cidr_merge.specs.Private.Reported.{TellsFound};
-ghost use Rattle.cidr_merge.specs.Private.LinesLeft.{sought_in};
+ghost use Rattle.cidr_merge.specs.Private.LinesLeft.{sought_as, sought_in};
+ghost use Rattle.cidr_merge.specs.Private.Numbers.{ArePlacesOf};
 
 use crate::entry_match::{entry_of, has_address};
 use crate::findings::{either, tell_line, tell_wrong};
 use crate::numbered_lines::{Line, NumberedLines};
+use crate::numbers::{next_place, places_in};
 use crate::query::Query;
+use crate::sought::Sought;
 use crate::texts::WholeLists;
-use ipnetwork::IpAddr;
 use lines::output::Output;
 use lists::Entry;
 use std::io::Write;
@@ -34,6 +36,7 @@ pub(crate) fn search_lists<W: Write, E: Write>(
     output: &mut Output<'_, W>,
     errors: &mut Output<'_, E>,
 ) -> Reported
+    requires { ArePlacesOf query.now.sought.now query.now.places.now }
     ensures printed { TellsFound (lists_matches (sought_in query.now) lists.now.names.now
         (map (λ text. text.items) lists.now.texts.now)) output.old output.new result.printed }
     ensures told { TellsFound (lists_refusals lists.now.names.now
@@ -57,6 +60,7 @@ fn search_line<W: Write, E: Write>(
     output: &mut Output<'_, W>,
     errors: &mut Output<'_, E>,
 ) -> Reported
+    requires { ArePlacesOf query.now.sought.now query.now.places.now }
     ensures printed { TellsFound (matches_by (sought_in query.now) line.now.name.now
         line.now.number line.now.text.now (said_by line.now.text.now))
         output.old output.new result.printed }
@@ -89,41 +93,44 @@ fn print_matches<W: Write>(
     entry: &Entry,
     output: &mut Output<'_, W>,
 ) -> bool
+    requires { ArePlacesOf query.now.sought.now query.now.places.now }
     ensures { TellsFound (flat_map (match_lines line.now.name.now line.now.number line.now.text.now
         entry.now) (sought_in query.now)) output.old output.new result }
 {
+    let places = places_in(query.places, entry);
+    let end = query.sought.len();
     let mut printed = false;
-    for place in 0..query.words.len() {
-        let word = query.words[place].as_str();
-        let more = print_match(word, &query.addresses[place], line, entry, output);
+    let mut at = next_place(places, 0, end);
+    while at < end {
+        let more = print_match(&query.sought[at], line, entry, output);
         printed = either(printed, more);
+        at = next_place(places, at + 1, end);
     }
     printed
 }
 
-// Prints a line if the entry of a line has the address that a word names.
+// Prints a line if the entry of a line has an address.
 fn print_match<W: Write>(
-    word: &str,
-    address: &IpAddr,
+    one: &Sought,
     line: &Line<'_>,
     entry: &Entry,
     output: &mut Output<'_, W>,
 ) -> bool
     ensures { TellsFound (match_lines line.now.name.now line.now.number line.now.text.now entry.now
-        (word.now, address.now)) output.old output.new result }
+        (sought_as one.now)) output.old output.new result }
 {
-    if has_address(entry, address) {
-        print_line(word, line, output);
+    if has_address(entry, &one.address) {
+        print_line(one.text.as_slice(), line, output);
         true
     } else {
         false
     }
 }
 
-// Prints that the entry of a line has the address that a word names.
-fn print_line<W: Write>(word: &str, line: &Line<'_>, output: &mut Output<'_, W>)
+// Prints that the entry of a line has the address that a text names.
+fn print_line<W: Write>(text: &[u8], line: &Line<'_>, output: &mut Output<'_, W>)
     ensures { Reports output.old output.new
-        (has_text line.now.name.now line.now.number word.now line.now.text.now) }
+        (has_text line.now.name.now line.now.number text.now line.now.text.now) }
 {
-    tell_line(line, ": has ", word, ": ", output);
+    tell_line(line, ": has ", text, ": ", output);
 }

@@ -5,8 +5,8 @@
 use fosibegan::plain_std::vec::Vec;
 use fosibegan::plain_std::string::String;
 use crate::exports::Export;
-use crate::faults::{fault_of, no_task_fault};
-use crate::rows::{COUNT, FORMAT, JSON, PREFIX, RANGES, SKIP_BAD, STRICT, table};
+use crate::faults::{fault_of, from_count, no_task_fault};
+use crate::rows::{COUNT, FORMAT, FROM, JSON, PREFIX, RANGES, SKIP_BAD, STRICT, table};
 use crate::set_names::{SetNames, names_of};
 use crate::shapes::Shape;
 use crate::tasks::{Task, task_called};
@@ -92,8 +92,8 @@ pub enum Command {
     Split(SplitRequest),
     /// Lists are looked over.
     Inspect(Inspection),
-    /// Of so many names the addresses are sought in the lists that follow.
-    Find(usize),
+    /// The addresses of so many names, and those of so many lists that follow, are sought in the lists that follow these.
+    Find(usize, usize),
 }
 
 /// What is asked for, and the FILEs, those of the first side first.
@@ -135,6 +135,7 @@ fn command_for<'a>(
     let mut behind = items_of(alloc, table.rows, behind_dashes(others))?;
     let mut second = files_of(alloc, behind.as_slice())?;
     items.append(&mut behind)?;
+    add_from(alloc, task, items.as_slice(), &mut names)?;
     names.append(&mut second)?;
     let dashes = count_of(others, "--");
     let items = items.as_slice();
@@ -146,6 +147,19 @@ fn command_for<'a>(
             sets: names_of(items),
         })),
     }
+}
+
+// Adds the FILE of `--from`.
+fn add_from(
+    alloc: Global,
+    task: Task,
+    items: &[Item<'_>],
+    names: &mut Vec<String>,
+) -> Result<(), AllocError> {
+    if from_count(task, items) > 0 {
+        names.push(String::from_str(alloc, value_of(items, FROM))?)?;
+    }
+    Ok(())
 }
 
 // What is asked for by options and so many FILEs of the first side.
@@ -165,7 +179,7 @@ fn asked_for(task: Task, items: &[Item<'_>], middle: usize) -> Command {
         }),
         Task::Check => Command::Inspect(inspection_of(is_given(items, STRICT))),
         Task::Overlaps => Command::Inspect(Inspection::Overlaps),
-        Task::Find => Command::Find(middle),
+        Task::Find => Command::Find(middle, from_count(task, items)),
     }
 }
 

@@ -5,7 +5,7 @@
 use fosibegan::plain_std::string::String;
 use crate::command_line::{Form, Operation, form_called, form_of, prefix_in};
 use crate::exports::Export;
-use crate::rows::{AFTER, BEFORE, FORMAT, JSON, PREFIX, SET, STRICT, TABLE, taken};
+use crate::rows::{AFTER, BEFORE, FORMAT, FROM, JSON, PREFIX, SET, STRICT, TABLE, taken};
 use crate::set_names::is_set_name;
 use crate::tasks::{ONE_SIDE, Task, is_two_sided, no_first, no_option};
 use cidr_programs::options::faults::{Fault, Subject, about, pair_fault, problem_at};
@@ -226,6 +226,15 @@ fn files_among(task: Task, middle: usize, names: &[String]) -> &[String] {
     }
 }
 
+/// How many lists of addresses a `find` has: one if `--from` is given.
+pub(crate) fn from_count(task: Task, items: &[Item<'_>]) -> usize {
+    if matches!(task, Task::Find) && is_given(items, FROM) {
+        1
+    } else {
+        0
+    }
+}
+
 /// What is wrong with the words behind the first: with an option, the first that is wrong; then with options together, with
 /// the sides, and with the names of lists.
 pub(crate) fn fault_of<'a>(
@@ -237,9 +246,10 @@ pub(crate) fn fault_of<'a>(
     middle: usize,
     names: &[String],
 ) -> Option<Fault<'a>> {
-    let second = names.len() - middle;
+    let from = from_count(task, items);
+    let second = names.len() - middle - from;
     items_fault(table.rows, task, items)
         .or(together_fault(table, task, items))
-        .or(sides_fault(task, name, dashes, middle, second))
+        .or(sides_fault(task, name, dashes, middle + from, second))
         .or(files_fault(files_among(task, middle, names)))
 }

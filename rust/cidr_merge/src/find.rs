@@ -2,13 +2,17 @@
 
 //! The run of a `find`.
 
+use fosibegan::plain_std::vec::Vec;
 use fosibegan::plain_std::string::String;
 use crate::context::Context;
 use crate::faults::at;
+use crate::findings::either;
 use crate::help::{PROGRAM, USAGE};
+use crate::numbers::{Place, places_of};
 use crate::query::{Query, QueryFault, addresses_of};
 use crate::reading::refuse_lists;
 use crate::searching::search_lists;
+use crate::sought::{Sought, add_lines, sought_in_words, tell_others};
 use crate::texts::{WholeLists, texts_of};
 use fosibegan::ipnetwork::IpAddr;
 use cidr_programs::lines::output::Output;
@@ -17,6 +21,7 @@ use cidr_programs::options::refusing::refuse;
 use cidr_programs::options::table::Row;
 use cidr_programs::program::ending::{FAILED, end};
 use cidr_programs::program::words::text_at;
+use fosibegan::plain_std::alloc::{AllocError, Global};
 use fosibegan::plain_std::io::Write;
 
 /// The exit status if an entry was printed.
@@ -25,17 +30,18 @@ const FOUND: u8 = 0;
 /// The exit status if no entry has an address that is sought.
 const NOTHING_FOUND: u8 = 1;
 
-/// Prints the entries of lists that have addresses, and returns the exit status. The names before this index are the
-/// addresses, and those from it on the lists.
+/// Prints the entries of lists that have addresses, and returns the exit status. The names before this index are
+/// addresses, and those from it on lists, of which so many of the first have addresses too.
 pub(crate) fn find<L: OpenLists, W: Write, E: Write>(
     middle: usize,
+    from: usize,
     rows: &[Row],
     context: &Context<'_, L>,
     output: &mut Output<'_, W>,
     errors: &mut Output<'_, E>,
 ) -> u8 {
     match addresses_of(context.alloc, &context.names[..middle], 0) {
-        Ok(addresses) => find_all(middle, addresses.as_slice(), context, output, errors),
+        Ok(addresses) => find_all(middle, from, addresses.as_slice(), context, output, errors),
         Err(fault) => refuse_sought(rows, fault, context.names, errors),
     }
 }
@@ -56,30 +62,69 @@ fn refuse_sought<E: Write>(
     }
 }
 
-// Reads the lists, and prints their entries that have one of these addresses.
+// Reads the lists, and prints their entries that have one of these addresses, or of those of the first
+// lists.
 fn find_all<L: OpenLists, W: Write, E: Write>(
     middle: usize,
+    from: usize,
     addresses: &[IpAddr],
     context: &Context<'_, L>,
     output: &mut Output<'_, W>,
     errors: &mut Output<'_, E>,
 ) -> u8 {
-    let query = Query {
-        words: &context.names[..middle],
-        addresses,
-    };
     let names = &context.names[middle..];
     let texts = match texts_of(context, names, middle) {
         Ok(texts) => texts,
         Err(fault) => return refuse_lists(context.names, fault, errors),
     };
-    let lists = WholeLists {
-        names,
-        texts: texts.as_slice(),
+    let (from_names, list_names) = names.split_at(from);
+    let (from_texts, list_texts) = texts.as_slice().split_at(from);
+    let froms = WholeLists {
+        names: from_names,
+        texts: from_texts,
     };
-    let reported = search_lists(&query, &lists, output, errors);
+    let lists = WholeLists {
+        names: list_names,
+        texts: list_texts,
+    };
+    match all_sought(context.alloc, &context.names[..middle], addresses, &froms) {
+        Ok((sought, places)) => {
+            let query = Query {
+                sought: sought.as_slice(),
+                places: places.as_slice(),
+            };
+            search(&query, &froms, &lists, output, errors)
+        }
+        Err(_) => refuse_lists(context.names, ReadFault::OutOfMemory, errors),
+    }
+}
+
+// The addresses that words name, and those of lists, with their places.
+fn all_sought(
+    alloc: Global,
+    words: &[String],
+    addresses: &[IpAddr],
+    froms: &WholeLists<'_>,
+) -> Result<(Vec<Sought>, Vec<Place>), AllocError> {
+    let mut sought = sought_in_words(alloc, words, addresses)?;
+    add_lines(alloc, froms, &mut sought)?;
+    let places = places_of(alloc, sought.as_slice())?;
+    Ok((sought, places))
+}
+
+// Prints the entries of lists that have an address that is sought, and tells the refused lines, those of the
+// lists of addresses first.
+fn search<W: Write, E: Write>(
+    query: &Query<'_>,
+    froms: &WholeLists<'_>,
+    lists: &WholeLists<'_>,
+    output: &mut Output<'_, W>,
+    errors: &mut Output<'_, E>,
+) -> u8 {
+    let told = tell_others(froms, errors);
+    let reported = search_lists(query, lists, output, errors);
     let written = output.finish();
-    let status = status(reported.printed, reported.told);
+    let status = status(reported.printed, either(told, reported.told));
     end(written, status, errors)
 }
 

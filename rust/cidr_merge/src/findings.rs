@@ -6,19 +6,25 @@ use crate::numbered_lines::Line;
 use cidr_programs::lines::output::Output;
 use cidr_programs::lists::LineFault;
 use cidr_programs::program::escapes::tell_escaped;
-use cidr_programs::program::messages::{tell, tell_number};
+use cidr_programs::program::messages::{tell, tell_bytes, tell_number};
 use fosibegan::plain_std::io::Write;
 
 /// Tells why a line is refused, and the line.
 pub(crate) fn tell_wrong<W: Write>(line: &Line<'_>, fault: LineFault, output: &mut Output<'_, W>) {
     let text = shown(fault, line.text);
     let line = Line { text, ..*line };
-    tell_line(&line, ": refused ", fault.text(), separator(text), output);
+    tell_line(
+        &line,
+        ": refused ",
+        fault.text().as_bytes(),
+        separator(text),
+        output,
+    );
 }
 
 /// Tells that the entry of a line has host bits, and the line.
 pub(crate) fn tell_host_bits<W: Write>(line: &Line<'_>, output: &mut Output<'_, W>) {
-    tell_line(line, ": host bits", "", ": ", output);
+    tell_line(line, ": host bits", b"", ": ", output);
 }
 
 /// Tells where a line stands, what there is to say of it, in two parts, and behind a separator the
@@ -26,14 +32,14 @@ pub(crate) fn tell_host_bits<W: Write>(line: &Line<'_>, output: &mut Output<'_, 
 pub(crate) fn tell_line<W: Write>(
     line: &Line<'_>,
     what: &str,
-    about: &str,
+    about: &[u8],
     separator: &str,
     output: &mut Output<'_, W>,
 )
 {
     tell_place(line.name, line.number, output);
     tell(what, output);
-    tell(about, output);
+    tell_bytes(about, output);
     tell(separator, output);
     tell_escaped(line.text, output);
     tell("\n", output);

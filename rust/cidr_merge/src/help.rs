@@ -14,7 +14,7 @@ Merges lists of IP networks, and prints the shortest list with exactly the resul
     cidr_merge split --prefix N [OPTION..] FILE..   the networks of union, in pieces of length N
     cidr_merge check  [--strict] FILE..             wrong entries; --strict: host bits, overlaps too
     cidr_merge overlaps FILE..                      wrong entries, and each pair that overlaps
-    cidr_merge find   ADDRESS.. -- FILE..           the entries that have one of the addresses
+    cidr_merge find [--from FILE] ADDRESS.. -- FILE..  entries that have one; --from: or one of FILE
 
     --ranges       print FIRST - LAST for each run of addresses
     --count        print v4 BLOCKS ADDRESSES and v6 BLOCKS ADDRESSES
@@ -50,4 +50,4 @@ pub(crate) const PROGRAM: &str = "cidr_merge";
 /// What is reported for arguments that are not a command, after what is wrong with them.
 pub(crate) const USAGE: &str =
     "usage: cidr_merge union|common|minus|differ|list|split|check|overlaps \
-     [OPTION..] FILE.. [-- FILE..], or find ADDRESS.. -- FILE..; try --help\n";
+     [OPTION..] FILE.. [-- FILE..], or find [--from FILE] ADDRESS.. -- FILE..; try --help\n";

@@ -53,8 +53,8 @@ fn add_line(line: &Line<'_>, entries: &mut Vec<Placed>) -> Result<(), AllocError
     Ok(())
 }
 
-// The first and the last address of an entry.
-fn ends_of(entry: &Entry) -> (IpAddr, IpAddr) {
+/// The first and the last address of an entry.
+pub(crate) fn ends_of(entry: &Entry) -> (IpAddr, IpAddr) {
     match entry {
         Entry::Network(network) => (network.network(), network.broadcast()),
         Entry::Range { first, last } => (*first, *last),

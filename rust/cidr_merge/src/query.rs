@@ -1,18 +1,20 @@
 // Written by scripts/plain out of crates/cidr_merge/src/query.rt
 
-//! The addresses that are sought in lists.
+//! The addresses that are sought in lists, as words name them, and those that are sought at once.
 
 use fosibegan::plain_std::vec::Vec;
 use fosibegan::plain_std::string::String;
+use crate::numbers::Place;
+use crate::sought::Sought;
 use fosibegan::ipnetwork::IpAddr;
 use fosibegan::plain_std::alloc::Global;
 
-/// Addresses, and the words that name them, in the same order.
+/// The addresses that are sought.
 pub(crate) struct Query<'a> {
-    /// The words.
-    pub words: &'a [String],
-    /// The address that each of them names.
-    pub addresses: &'a [IpAddr],
+    /// They, in the order in which they are printed.
+    pub sought: &'a [Sought],
+    /// Their places, by number.
+    pub places: &'a [Place],
 }
 
 /// Why words are not taken as addresses.

@@ -64,7 +64,7 @@ fn obey<L: OpenLists, W: Write, E: Write>(
         Command::Merge(request) => merge(request, context, output, errors),
         Command::Split(request) => split(request, context, output, errors),
         Command::Inspect(inspection) => inspect(inspection, context, output, errors),
-        Command::Find(middle) => find(middle, rows, context, output, errors),
+        Command::Find(middle, from) => find(middle, from, rows, context, output, errors),
     }
 }
 

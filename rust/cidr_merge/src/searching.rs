@@ -5,9 +5,10 @@
 use crate::entry_match::{entry_of, has_address};
 use crate::findings::{either, tell_line, tell_wrong};
 use crate::numbered_lines::{Line, NumberedLines};
+use crate::numbers::{next_place, places_in};
 use crate::query::Query;
+use crate::sought::Sought;
 use crate::texts::WholeLists;
-use fosibegan::ipnetwork::IpAddr;
 use cidr_programs::lines::output::Output;
 use cidr_programs::lists::Entry;
 use fosibegan::plain_std::io::Write;
@@ -72,32 +73,34 @@ fn print_matches<W: Write>(
     entry: &Entry,
     output: &mut Output<'_, W>,
 ) -> bool {
+    let places = places_in(query.places, entry);
+    let end = query.sought.len();
     let mut printed = false;
-    for place in 0..query.words.len() {
-        let word = query.words[place].as_str();
-        let more = print_match(word, &query.addresses[place], line, entry, output);
+    let mut at = next_place(places, 0, end);
+    while at < end {
+        let more = print_match(&query.sought[at], line, entry, output);
         printed = either(printed, more);
+        at = next_place(places, at + 1, end);
     }
     printed
 }
 
-// Prints a line if the entry of a line has the address that a word names.
+// Prints a line if the entry of a line has an address.
 fn print_match<W: Write>(
-    word: &str,
-    address: &IpAddr,
+    one: &Sought,
     line: &Line<'_>,
     entry: &Entry,
     output: &mut Output<'_, W>,
 ) -> bool {
-    if has_address(entry, address) {
-        print_line(word, line, output);
+    if has_address(entry, &one.address) {
+        print_line(one.text.as_slice(), line, output);
         true
     } else {
         false
     }
 }
 
-// Prints that the entry of a line has the address that a word names.
-fn print_line<W: Write>(word: &str, line: &Line<'_>, output: &mut Output<'_, W>) {
-    tell_line(line, ": has ", word, ": ", output);
+// Prints that the entry of a line has the address that a text names.
+fn print_line<W: Write>(text: &[u8], line: &Line<'_>, output: &mut Output<'_, W>) {
+    tell_line(line, ": has ", text, ": ", output);
 }

@@ -60,14 +60,14 @@ pub(crate) fn no_option(task: Task) -> &'static str {
         }
         Task::Check => "not an option of check; it takes --strict",
         Task::Overlaps => "not an option of overlaps; it takes none",
-        Task::Find => "not an option of find; it takes none",
+        Task::Find => "not an option of find; it takes --from FILE",
     }
 }
 
 /// What is told of a `--` with nothing before it.
 pub(crate) fn no_first(task: Task) -> &'static str {
     match task {
-        Task::Find => "no ADDRESS before it",
+        Task::Find => "no ADDRESS before it, and no --from FILE",
         _ if is_two_sided(task) => "no FILE before it",
         _ => ONE_SIDE,
     }

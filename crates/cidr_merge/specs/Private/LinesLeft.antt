@@ -6,7 +6,7 @@ use Rattle.cidr_merge.specs.NumberedLines.{NumberedLine, lines_from, numbered_li
 use Rattle.cidr_merge.specs.declared.numbered_lines.Line.{Line}
 use Rattle.cidr_merge.specs.declared.numbered_lines.NumberedLines.{NumberedLines}
 use Rattle.cidr_merge.specs.declared.query.Query.{Query}
-use Rattle.cidr_merge.specs.FindWords.{with_addresses}
+use Rattle.cidr_merge.specs.declared.sought.Sought.{Sought}
 
 -- a line
 abbrev pub as_numbered : Line → NumberedLine
@@ -18,6 +18,10 @@ lines_left left =
     lines_from left.list (1 + left.number) (lines left.lines.text.now)
     ++ numbered_lines left.next (map (λ text. text.items) left.texts.now)
 
--- the texts and the addresses that are sought
+-- a text and its address
+abbrev pub sought_as : Sought → List ℕ × IpAddr
+sought_as one = (one.text.items, one.address)
+
+-- those that are sought
 abbrev pub sought_in : Query → List (List ℕ × IpAddr)
-sought_in sought = with_addresses sought.words.now sought.addresses.now
+sought_in query = map sought_as query.sought.now

@@ -1,5 +1,5 @@
 -- Places among the FILEs of a command line.
-use Rattle.std.specs.Prelude.{ℕ, ◌≤◌}
+use Rattle.std.specs.Prelude.{ℕ, ◌≤◌, ◌+◌}
 use Rattle.cidr_merge.specs.declared.command_line.Command.{Command}
 use Rattle.cidr_merge.specs.declared.command_line.Command.TheVariants as commands
 
@@ -8,4 +8,4 @@ abbrev pub IsCommandWithin : ℕ → Command → Type 0
 IsCommandWithin count (commands.Merge request) = request.middle ≤ count
 IsCommandWithin count (commands.Split request) = Unit {0}
 IsCommandWithin count (commands.Inspect inspection) = Unit {0}
-IsCommandWithin count (commands.Find middle) = middle ≤ count
+IsCommandWithin count (commands.Find middle from) = middle + from ≤ count

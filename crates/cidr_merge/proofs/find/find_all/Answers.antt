@@ -1,40 +1,54 @@
-use Rattle.std.proofs.Common.{◌-◌, length, map, take, drop, refl, subst}
+use Rattle.std.proofs.Common.{◌-◌, drop, length, map, refl, take}
 use Rattle.std.proofs.lemmas.List.{take_rest}
 use Rattle.program.specs.Endings.{ending}
-use Rattle.cidr_merge.specs.FindRuns.{EndsSearching}
-use Rattle.cidr_merge.specs.FindWords.{with_addresses}
-use Rattle.cidr_merge.proofs.SearchEnds.{search_ended, searched}
+use Rattle.cidr_merge.specs.Private.LinesLeft.{sought_as}
+use Rattle.cidr_merge.proofs.SearchEnds.{as_many_froms, as_many_lists, froms_within, names_within, searched}
 use Rattle.cidr_merge.proofs.SoughtWords.{as_many_addresses}
-use Rattle.cidr_merge.proofs.WholeLists.{as_many_held}
 use Rattle.cidr_merge.proofs.find.find_all.Goals as goal
+
+pub split_at-requires : goal.split_at-requires
+split_at-requires g c = names_within (g.L.OpenLists.known c.args.context.now.lists.now) c.args.context.now.names.now
+    (take (length c.args.context.now.names.now - c.args.middle) (drop c.args.middle c.args.context.now.names.now))
+    c.args.middle c.args.from (λ text. text.items) c.in-Ok.texts.items c.in-Ok.texts.items refl
+    (take_rest c.args.context.now.names.now c.args.middle) c.requires.words c.in-Ok.ensures.ok
+
+pub split_at-requires-2 : goal.split_at-requires-2
+split_at-requires-2 g c = froms_within (g.L.OpenLists.known c.args.context.now.lists.now) c.args.context.now.names.now
+    (take (length c.args.context.now.names.now - c.args.middle) (drop c.args.middle c.args.context.now.names.now))
+    c.args.middle c.args.from (λ text. text.items) c.in-Ok.texts.items c.as_slice.result.now c.as_slice.ensures.value
+    (take_rest c.args.context.now.names.now c.args.middle) c.requires.words c.in-Ok.ensures.ok
+
+pub invariant_of-froms : goal.invariant_of-froms
+invariant_of-froms g c = record {
+  as_many = rw (c.split_at.ensures.front, c.split_at-2.ensures.front) (as_many_froms (g.L.OpenLists.known c.args.context.now.lists.now) c.args.context.now.names.now
+      (take (length c.args.context.now.names.now - c.args.middle) (drop c.args.middle c.args.context.now.names.now))
+      c.args.middle c.args.from (λ text. text.items) c.in-Ok.texts.items c.as_slice.result.now c.as_slice.ensures.value
+      (take_rest c.args.context.now.names.now c.args.middle) c.requires.words c.in-Ok.ensures.ok);
+}
 
 pub invariant_of-lists : goal.invariant_of-lists
 invariant_of-lists g c = record {
-  as_many = as_many_held (g.L.OpenLists.known c.args.context.now.lists.now) _ c.in-Ok.texts.items
-      (λ text. text.items) _ c.as_slice.ensures.value c.in-Ok.ensures.ok;
+  as_many = rw (c.split_at.ensures.back, c.split_at-2.ensures.back) (as_many_lists (g.L.OpenLists.known c.args.context.now.lists.now) c.args.context.now.names.now
+      (take (length c.args.context.now.names.now - c.args.middle) (drop c.args.middle c.args.context.now.names.now))
+      c.args.middle c.args.from (λ text. text.items) c.in-Ok.texts.items c.as_slice.result.now c.as_slice.ensures.value
+      (take_rest c.args.context.now.names.now c.args.middle) c.requires.words c.in-Ok.ensures.ok);
 }
 
-pub invariant_of-query : goal.invariant_of-query
-invariant_of-query g c = record {
-  as_many = as_many_addresses (take c.args.middle c.args.context.now.names.now) c.args.addresses.now c.requires.addresses;
-}
+pub all_sought-requires : goal.all_sought-requires
+all_sought-requires g c =
+    as_many_addresses (take c.args.middle c.args.context.now.names.now) c.args.addresses.now c.requires.addresses
 
-pub returns : goal.returns
-returns g c =
-    let words = c.args.context.now.names.now in
-    let sought = take c.args.middle words in
-    let names = take (length words - c.args.middle) (drop c.args.middle words) in
-    let end = ending c.args.output.now c.finish-written.new.self c.args.errors.now c.end.new.errors
-    c.end.result in
-    let reported = c.search_lists-reported in
-    searched (g.L.OpenLists.known c.args.context.now.lists.now) words sought names c.args.middle
-    c.args.addresses.now end refl (take_rest words c.args.middle)
-    (map (λ text. text.items) c.in-Ok.texts.items) c.in-Ok.ensures.ok
-    (subst (λ ts. EndsSearching (with_addresses sought c.args.addresses.now) names (map
-    (λ text. text.items) ts) end) c.as_slice.ensures.value
-    (search_ended (with_addresses sought c.args.addresses.now) names (map (λ text. text.items) c.as_slice.result.now) end
-    reported.new.output reported.new.errors c.finish-written.result
-    reported.result.printed reported.result.told c.status-status.result
-    reported.ensures.printed reported.ensures.told c.status-status.ensures
-    c.finish-written.ensures.ok c.finish-written.ensures.works c.finish-written.ensures.failed
-    c.end.ensures.status c.end.ensures.told))
+pub returns-in-Ok-all_sought : goal.returns-in-Ok-all_sought
+returns-in-Ok-all_sought g c = searched (g.L.OpenLists.known c.args.context.now.lists.now) c.args.context.now.names.now
+    (take (length c.args.context.now.names.now - c.args.middle) (drop c.args.middle c.args.context.now.names.now))
+    c.args.middle c.args.from (λ text. text.items) c.in-Ok.texts.items c.as_slice.result.now c.as_slice.ensures.value
+    (take_rest c.args.context.now.names.now c.args.middle) c.requires.words c.in-Ok.ensures.ok c.args.addresses.now
+    (ending c.args.output.now c.search.new.output c.args.errors.now c.search.new.errors c.search.result)
+    (rw (
+      c.as_slice-in-Ok-all_sought.ensures.value,
+      c.in-Ok-all_sought.ensures.sought,
+      c.split_at.ensures.front,
+      c.split_at.ensures.back,
+      c.split_at-2.ensures.front,
+      c.split_at-2.ensures.back,
+    ) at c.search.ensures)

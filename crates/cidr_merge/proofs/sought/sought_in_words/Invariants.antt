@@ -1,0 +1,9 @@
+use Rattle.std.proofs.Common.{◌≡◌, ◌++◌, drop, map}
+use Rattle.cidr_merge.specs.FindWords.{with_addresses}
+use Rattle.cidr_merge.specs.Private.LinesLeft.{sought_as}
+use Rattle.cidr_merge.proofs.sought.sought_in_words.Given as goal
+
+abbrev pub invariant-loop-place : goal.invariant-loop-place
+invariant-loop-place l =
+    map sought_as l.sought.items ++ with_addresses (drop l.place l.words) (drop l.place l.addresses)
+    ≡ with_addresses l.words l.addresses

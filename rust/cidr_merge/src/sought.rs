@@ -1,0 +1,104 @@
+// Written by scripts/plain out of crates/cidr_merge/src/sought.rt
+
+//! The addresses that are sought in lists, each with the text that names it.
+
+use fosibegan::plain_std::vec::Vec;
+use fosibegan::plain_std::string::String;
+use crate::findings::{either, tell_wrong};
+use crate::numbered_lines::{Line, NumberedLines};
+use crate::texts::WholeLists;
+use fosibegan::ipnetwork::IpAddr;
+use cidr_programs::lines::output::Output;
+use cidr_programs::lists::{Blank, EntryFault, LineFault, trim};
+use fosibegan::plain_std::alloc::{AllocError, Global};
+use fosibegan::plain_std::io::Write;
+
+/// An address that is sought, and the text that names it.
+pub(crate) struct Sought {
+    /// The text.
+    pub text: Vec<u8>,
+    /// The address.
+    pub address: IpAddr,
+}
+
+/// The addresses that these words name.
+pub(crate) fn sought_in_words(
+    alloc: Global,
+    words: &[String],
+    addresses: &[IpAddr],
+) -> Result<Vec<Sought>, AllocError> {
+    let mut sought = Vec::new(alloc);
+    for place in 0..words.len() {
+        let text = words[place].as_bytes();
+        add(alloc, text, addresses[place], &mut sought)?;
+    }
+    Ok(sought)
+}
+
+/// Adds those that the lines of lists name.
+pub(crate) fn add_lines(
+    alloc: Global,
+    lists: &WholeLists<'_>,
+    sought: &mut Vec<Sought>,
+) -> Result<(), AllocError> {
+    let mut lines = NumberedLines::of(lists);
+    while let Some(line) = lines.next() {
+        add_line(alloc, line.text, sought)?;
+    }
+    Ok(())
+}
+
+// Adds the address that a line names, if it names one.
+fn add_line(alloc: Global, line: &[u8], sought: &mut Vec<Sought>) -> Result<(), AllocError> {
+    let text = trim::<Blank>(line);
+    match address_of(text) {
+        Some(address) => add(alloc, text, address, sought),
+        None => Ok(()),
+    }
+}
+
+// Adds an address.
+fn add(
+    alloc: Global,
+    text: &[u8],
+    address: IpAddr,
+    sought: &mut Vec<Sought>,
+) -> Result<(), AllocError> {
+    let text = Vec::from_slice(alloc, text)?;
+    sought.push(Sought { text, address })?;
+    Ok(())
+}
+
+// The address that a text names, if it names one.
+fn address_of(text: &[u8]) -> Option<IpAddr> {
+    // Does nothing. The proof needs the law: what reading a text gives can be computed.
+    match IpAddr::read_bytes(text) {
+        Ok(address) => Some(address),
+        Err(_) => None,
+    }
+}
+
+/// Tells the lines of lists that have something else than an address.
+pub(crate) fn tell_others<E: Write>(lists: &WholeLists<'_>, errors: &mut Output<'_, E>) -> bool {
+    let mut told = false;
+    let mut lines = NumberedLines::of(lists);
+    while let Some(line) = lines.next() {
+        let more = tell_other(&line, errors);
+        told = either(told, more);
+    }
+    told
+}
+
+// Tells a line that has something else than an address.
+fn tell_other<E: Write>(line: &Line<'_>, errors: &mut Output<'_, E>) -> bool {
+    if !is_other(trim::<Blank>(line.text)) {
+        return false;
+    }
+    tell_wrong(line, LineFault::Entry(EntryFault::Address), errors);
+    true
+}
+
+// Whether a text has something that names no address.
+fn is_other(text: &[u8]) -> bool {
+    address_of(text).is_none() && !text.is_empty()
+}
