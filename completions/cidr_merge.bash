@@ -22,6 +22,7 @@ _cidr_merge() {
     case "$before" in
         --format) COMPREPLY=($(compgen -W "plain range netmask wildcard csv nft ipset json addresses" -- "$word")) ;;
         --set | --table | --line-prefix | --line-suffix | --prefix) COMPREPLY=() ;;
+        --from) ;;
         *)
             if [[ "$word" == -* ]]; then
                 COMPREPLY=($(compgen -W "$options -- -" -- "$word"))
