@@ -171,11 +171,12 @@ pub no_files : (files_among tasks.Find 2 (codes "-" ∷ [] ∷ codes "-" ∷ [])
     × (files_among tasks.Check 2 (codes "-" ∷ [] ∷ codes "-" ∷ []) ≡ codes "-" ∷ [] ∷ codes "-" ∷ [])
 no_files = (refl, refl)
 
--- of `--ranges`, `--skip-bad`, `--strict`, `--line-prefix`, `--prefix` and `--help` each task takes its own
-pub options_of_tasks : map (λ task. map (takes task) (0 ∷ 3 ∷ 5 ∷ 8 ∷ 10 ∷ 11 ∷ [])) (tasks.Merge Differ ∷ tasks.List ∷ tasks.Split ∷ tasks.Check ∷ tasks.Overlaps ∷ tasks.Find ∷ [])
-    ≡ (true ∷ true ∷ true ∷ true ∷ false ∷ false ∷ []) ∷ (true ∷ true ∷ true ∷ true ∷ false ∷ false ∷ [])
-    ∷ (false ∷ true ∷ true ∷ true ∷ true ∷ false ∷ []) ∷ (false ∷ false ∷ true ∷ false ∷ false ∷ false ∷ [])
-    ∷ (false ∷ false ∷ false ∷ false ∷ false ∷ false ∷ []) ∷ (false ∷ false ∷ false ∷ false ∷ false ∷ false ∷ []) ∷ []
+-- of `--ranges`, `--skip-bad`, `--strict`, `--line-prefix`, `--prefix`, `--from` and `--help` each task takes its own
+pub options_of_tasks : map (λ task. map (takes task) (0 ∷ 3 ∷ 5 ∷ 8 ∷ 10 ∷ 11 ∷ 12 ∷ [])) (tasks.Merge Differ ∷ tasks.List ∷ tasks.Split ∷ tasks.Check ∷ tasks.Overlaps ∷ tasks.Find ∷ [])
+    ≡ (true ∷ true ∷ true ∷ true ∷ false ∷ false ∷ false ∷ []) ∷ (true ∷ true ∷ true ∷ true ∷ false ∷ false ∷ false ∷ [])
+    ∷ (false ∷ true ∷ true ∷ true ∷ true ∷ false ∷ false ∷ []) ∷ (false ∷ false ∷ true ∷ false ∷ false ∷ false ∷ false ∷ [])
+    ∷ (false ∷ false ∷ false ∷ false ∷ false ∷ false ∷ false ∷ [])
+    ∷ (false ∷ false ∷ false ∷ false ∷ false ∷ true ∷ false ∷ []) ∷ []
 options_of_tasks = refl
 
 -- two ways to print, one of them twice, a form that is given twice, also without a value, and two lengths

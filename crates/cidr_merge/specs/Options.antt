@@ -71,7 +71,8 @@ pairs = (ranges, count, codes "--ranges: not together with --count") ∷ (format
     ∷ (format, ranges, another_form) ∷ (format, count, another_form)
     ∷ (prefix, prefix, codes "--prefix: given twice")
     ∷ (set, set, codes "--set: given twice") ∷ (table, table, codes "--table: given twice")
-    ∷ (before, before, codes "--line-prefix: given twice") ∷ (after, after, codes "--line-suffix: given twice") ∷ []
+    ∷ (before, before, codes "--line-prefix: given twice") ∷ (after, after, codes "--line-suffix: given twice")
+    ∷ (from, from, codes "--from: given twice") ∷ []
 
 -- the table has these
 abbrev pub IsOptions : Table → Type 0

@@ -88,6 +88,7 @@ const PAIRS: [Pair; 10] = [
     pair!(TABLE, TABLE, "--table: given twice"),
     pair!(BEFORE, BEFORE, "--line-prefix: given twice"),
     pair!(AFTER, AFTER, "--line-suffix: given twice"),
+    pair!(FROM, FROM, "--from: given twice"),
 ];
 
 /// The options.
