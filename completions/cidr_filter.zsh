@@ -11,6 +11,8 @@ _arguments \
     '*--nth=[only this one counts of the addresses that stand there]:value:(first last a)' \
     '*--after[the address is the first that follows the first TEXT of a line]:text: ' \
     '*-o[print the addresses that are in a network]' \
+    '*-4[only addresses of IPv4 count]' \
+    '*-6[only addresses of IPv6 count]' \
     '*--mapped[an address \:\:ffff\:A.B.C.D of a line counts as A.B.C.D]' \
     '*--networks[a network of a line counts if all its addresses are in the list]' \
     '*-v[print the lines whose address is in no network]' \

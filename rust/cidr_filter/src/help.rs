@@ -27,6 +27,9 @@ Prints the lines of logs whose address is in a list of IP networks.
                     -a, -k, -d or -w
     -o              print the addresses that are in a network, one a line, in place of lines; the
                     networks too with --networks. Not with -v or --longest
+    -4              only addresses of IPv4 count, as if a line had no others. Not with -6, --nth or
+                    --after
+    -6              only addresses of IPv6 count. Not with -4, --nth or --after
     --mapped        an address ::ffff:A.B.C.D of a line counts as A.B.C.D
     --networks      a network of a line counts if all its addresses are in the list: 10.1.0.0/16,
                     2001:db8::/32, 10.0.0.0/255.0.0.0; bits behind the prefix length are cleared.
@@ -85,6 +88,6 @@ pub(crate) const PROGRAM: &str = "cidr_filter";
 /// How the program is used: what is reported for arguments that are not a command, after what is
 /// wrong with them.
 pub(crate) const USAGE: &str = "usage: cidr_filter [-v] [-c | -H] [-h] [-n] [-l] [-q] [-o] [-m N] \
-     [--after TEXT | [-a] [-k N] [-d CHAR | -w]] [--nth first|last|N] [--mapped] [--networks] \
+     [--after TEXT | [-a] [-k N] [-d CHAR | -w]] [--nth first|last|N] [-4 | -6] [--mapped] [--networks] \
      [--bad drop|keep|stop|report] [--longest] [--skip-bad] (-f LIST | -e TEXT).. [FILE..]; \
      try --help\n";
