@@ -297,3 +297,24 @@ def networks(program, folder):
     output = "".join(f"{text}\n" for text in texts).encode()
     got = subprocess.run([program, "--networks", "-ao", *lists], input=log, capture_output=True, timeout=SECONDS)
     yield "networks, -ao", bool(output) and (got.stdout, got.stderr, got.returncode) == (output, b"", 0), got
+
+
+def families(program, folder):
+    """With -4 or -6 only the addresses of that family, as if there were no others."""
+    networks = [ipaddress.ip_network(text) for text in LIST]
+    lists = [word for text in LIST for word in ("-e", text)]
+    for name, lines in logs(random.Random(12)):
+        log = "".join(f"{line}\n" for line in lines).encode()
+        for version, words in itertools.product((4, 6), (["-a"], ["-av"], ["-a", "--mapped"], ["-v"])):
+            mapped = "--mapped" in words
+            places = (lambda line: [one for _, one in of_line(line)]) if "a" in words[0] else (lambda line: [one for one in [address(line.split(" ")[0])] if one])
+            found = lambda line: [one for one in places(line) if (asked(one) if mapped else one).version == version]
+            output = wanted(lines, networks, found, "v" in words[0], mapped).encode()
+            got = subprocess.run([program, f"-{version}", *words, *lists], input=log, capture_output=True, timeout=SECONDS)
+            got = (got.stdout, got.stderr, got.returncode)
+            error = b"" if any(found(line) for line in lines) else lacking("anywhere in it" if "a" in words[0] else "in field 1")
+            yield f"{name}, -{version} {words}", got == (output, error, 0 if output else 1), got
+        texts = [text for line in lines for text, one in of_line(line) if one.version == 6 and any(one in network for network in networks)]
+        output = "".join(f"{text}\n" for text in texts).encode()
+        got = subprocess.run([program, "-ao6", *lists], input=log, capture_output=True, timeout=SECONDS)
+        yield f"{name}, -ao6", (got.stdout, got.stderr) == (output, b""), got

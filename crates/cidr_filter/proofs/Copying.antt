@@ -1,5 +1,5 @@
 -- Lines that are copied into the output before it is known whether they are selected.
-use Rattle.std.proofs.Common.{◌≡◌, ◌↔◌, ℕ, ◌≤◌, ◌∙◌, Bool, true, false, not, List, [], ◌∷◌, length, refl, sym, ap, subst, arith, inl, true≢false}
+use Rattle.std.proofs.Common.{◌≡◌, ◌↔◌, ℕ, ◌≤◌, ◌∙◌, Bool, true, false, cond, not, List, [], ◌∷◌, length, refl, sym, ap, subst, arith, inl, true≢false}
 use Rattle.std.specs.Prelude.{Option, None, Some, IfSome, IsTrue, option_map}
 use Rattle.std.proofs.Math.Bool.{beq}
 use Rattle.std.specs.Option.{option_to_list}
@@ -10,7 +10,7 @@ use Rattle.line_addresses.specs.declared.area.Area.{Area}
 use Rattle.line_addresses.specs.declared.area.Pick.{Pick}
 use Rattle.line_addresses.specs.declared.area.Pick.TheVariants as picks
 use Rattle.log_programs.specs.Finding.{found_in}
-use Rattle.cidr_filter.specs.Filters.{IsVerdict, IsVerdictOfAddresses, FirstListed, TellsBlock, addresses_in}
+use Rattle.cidr_filter.specs.Filters.{IsVerdict, IsVerdictOfAddresses, FirstListed, TellsBlock, addresses_in, is_of_family, of_family}
 use Rattle.cidr_filter.specs.Matcher.{HasAddress, IsIn, asked, reads_networks}
 use Rattle.cidr_filter.specs.Private.Copying.{HasOnly, IsSelectedByAddress}
 use Rattle.cidr_filter.specs.declared.filter.Filter.{Filter}
@@ -38,6 +38,12 @@ only_found area line is found e =
     subst (λ (p : Pick). IfSome found (IsOnly (each_in false p part))) (sym is)
     (whole_found part found (e ∙ ap (λ (p : Pick). option_map (λ (s : Spelled). s.address) (picked_in false p part)) is))
 
+-- one that counts
+pub only_counted : (area : Area) (line : List ℕ) → area.pick ≡ picks.Whole → (found : Option IpAddr) → found ≡ found_in area line → (Counts : IpAddr → Type 0) (result : Option IpAddr)
+    → IfSome result (λ one. (found ≡ Some one) × Counts one) → IfSome result (λ one. HasOnly area line one × Counts one)
+only_counted area line is found e Counts None h = tt
+only_counted area line is found e Counts (Some one) h = (subst (λ (o : Option IpAddr). IfSome o (HasOnly area line)) h.0 (only_found area line is found e), h.1)
+
 -- ---- whether a line is selected
 
 unlike_true : (inverts : Bool) → not (beq true inverts) ≡ not inverts
@@ -48,12 +54,13 @@ unlike_false : (inverts : Bool) → not (beq false inverts) ≡ inverts
 unlike_false true = refl
 unlike_false false = refl
 
-module _ (filter : Filter) (line : List ℕ) (sets : Sets) (address : IpAddr) (short : length line ≤ 1048576) (is : filter.listed ≡ Addresses sets) (only : HasOnly filter.area line address) where
+module _ (filter : Filter) (line : List ℕ) (sets : Sets) (address : IpAddr) (short : length line ≤ 1048576) (is : filter.listed ≡ Addresses sets) (only : HasOnly filter.area line address)
+    (counts : is_of_family filter.family filter.mapped address ≡ true) where
   abbrev one : Spelled
   one = record { text = only.0; address = address }
 
   alone : addresses_in filter line ≡ one ∷ []
-  alone = ap (λ (l : Matcher). spelled_in (reads_networks l) filter.area line) is ∙ only.1
+  alone = ap (of_family filter.family filter.mapped) (ap (λ (l : Matcher). spelled_in (reads_networks l) filter.area line) is ∙ only.1) ∙ ap (λ b. cond b (one ∷ []) []) counts
 
   inside : HasAddress sets (asked filter.mapped address) → IsVerdict filter line (verdicts.Inside None)
   inside has = (

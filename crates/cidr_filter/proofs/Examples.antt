@@ -26,6 +26,7 @@ use Rattle.program.specs.Reported.{refusals_text}
 use Rattle.cidr_filter.specs.Reported.{in_option}
 use Rattle.log_programs.specs.declared.without_address.WithoutAddress.{WithoutAddress}
 use Rattle.log_programs.specs.declared.without_address.WithoutAddress.TheVariants as without
+use Rattle.cidr_filter.specs.declared.filter.Family.TheVariants as families
 use Rattle.cidr_filter.specs.declared.filter.Filter.{Filter}
 use Rattle.cidr_filter.specs.declared.filter.OutputMode.{OutputMode}
 use Rattle.cidr_filter.specs.declared.filter.OutputMode.TheVariants as shows
@@ -89,7 +90,7 @@ printed_with_an_end = refl
 -- ---- what a line is to a list
 
 abbrev pub by : Bool → WithoutAddress → Filter
-by inverts bad = record { listed = Addresses (record { v4 = []; v6 = [] }); area = whole (parts.Field 1 32); mapped = false; inverts = inverts; bad = bad; most = None; shows = shows.Lines; named = false; numbered = false; name = [] }
+by inverts bad = record { listed = Addresses (record { v4 = []; v6 = [] }); area = whole (parts.Field 1 32); mapped = false; family = families.Either; inverts = inverts; bad = bad; most = None; shows = shows.Lines; named = false; numbered = false; name = [] }
 
 -- one that only counts
 abbrev pub counting : WithoutAddress → Filter
@@ -144,6 +145,11 @@ mapped_address = refl
 pub address_as_it_is : asked_in (looking (whole (parts.Field 1 32)) false) (codes "::ffff:10.0.0.1 x") ≡ addresses.V6 0xffff0a000001 ∷ []
 unfolding address_of digits v6_of gap_below
 address_as_it_is = refl
+
+-- with `-4` or `-6` those of one family
+pub one_family : (asked_in (record (looking anywhere false) { family = families.V4 }) (codes "::1 10.0.0.1") ≡ addresses.V4 0x0a000001 ∷ []) × (asked_in (record (looking anywhere false) { family = families.V6 }) (codes "::1 10.0.0.1") ≡ addresses.V6 1 ∷ [])
+unfolding address_in before_port address_of digits v6_of gap_below
+one_family = (refl, refl)
 
 -- with `--networks` a network is found by its text, and without it only its address
 pub network_found : addresses_in (record (looking anywhere false) { listed = Networks [] }) (codes "to 10.0.0.1/24.") ≡ record { text = codes "10.0.0.1/24"; address = addresses.V4 0x0a000001 } ∷ []

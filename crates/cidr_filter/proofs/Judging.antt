@@ -1,5 +1,5 @@
 -- What a line is to a list.
-use Rattle.std.proofs.Common.{◌≡◌, ◌≢◌, ℕ, ◌<◌, ◌≤◌, Bool, true, false, List, [], ◌∷◌, length, drop, None, Some, ap, refl, sym, subst, arith, inl, inr, true≢false}
+use Rattle.std.proofs.Common.{◌≡◌, ◌≢◌, ℕ, ◌<◌, ◌≤◌, Bool, true, false, cond, List, [], ◌∷◌, length, drop, None, Some, ap, ◌∙◌, refl, sym, subst, arith, inl, inr, true≢false}
 use Rattle.std.specs.Prelude.{Option}
 use Rattle.std.specs.Option.{option_to_list}
 use Rattle.ipnetwork.specs.declared.ip_network.IpNetwork.{IpNetwork}
@@ -11,7 +11,7 @@ use Rattle.line_addresses.proofs.Picks.{each_is_one}
 use Rattle.line_addresses.specs.Found.{IsNextOf, spelled_at}
 use Rattle.line_addresses.specs.Networks.{found_of}
 use Rattle.line_addresses.specs.declared.found.Found.{Found}
-use Rattle.cidr_filter.specs.Filters.{IsListed, TellsOf, addresses_in, FirstListed, NoneListed, IsVerdictOfAddresses, IsVerdict}
+use Rattle.cidr_filter.specs.Filters.{IsListed, TellsOf, is_of_family, of_family, addresses_in, FirstListed, NoneListed, IsVerdictOfAddresses, IsVerdict}
 use Rattle.cidr_filter.specs.Matcher.{reads_networks}
 use Rattle.cidr_filter.specs.declared.filter.Filter.{Filter}
 use Rattle.cidr_filter.specs.declared.filter.Verdict.{Verdict}
@@ -48,56 +48,80 @@ found_first filter all address left is_seen told p listed tells = p.first told (
 abbrev pub all_of : Filter → List ℕ → List Spelled
 all_of filter text = found_of (reads_networks filter.listed) text
 
-module _ (filter : Filter) (line : List ℕ) (at : ℕ) (is_seen : Bool) (p : Passes filter (all_of filter line) (all_of filter (drop at line)) is_seen) where
-  next_passes : (found : Found) → IsNextOf (found_of (reads_networks filter.listed)) line at found → Passes filter (all_of filter line) (spelled_at line found ∷ all_of filter (drop found.next line)) is_seen
-  next_passes found next = subst (λ (l : List Spelled). Passes filter (all_of filter line) l is_seen) next.first p
+-- those of them that count
+abbrev pub counted : Filter → List ℕ → List Spelled
+counted filter text = of_family filter.family filter.mapped (all_of filter text)
 
-  pub passed : (found : Found) → IsNextOf (found_of (reads_networks filter.listed)) line at found → ¬ (IsListed filter (spelled_at line found))
-      → Passes filter (all_of filter line) (all_of filter (drop found.next line)) true
-  passed found next not = one_less filter _ _ _ is_seen (next_passes found next) not
+module _ (filter : Filter) (line : List ℕ) (at : ℕ) (is_seen : Bool) (p : Passes filter (counted filter line) (counted filter (drop at line)) is_seen) where
+  module _ (found : Found) (next : IsNextOf (found_of (reads_networks filter.listed)) line at found) where
+    by_family : (b : Bool) → is_of_family filter.family filter.mapped found.address ≡ b → Passes filter (counted filter line) (cond b (spelled_at line found ∷ counted filter (drop found.next line)) (counted filter (drop found.next line))) is_seen
+    by_family b is = subst (λ (l : List Spelled). Passes filter (counted filter line) l is_seen)
+        (ap (of_family filter.family filter.mapped) next.first ∙ ap (λ b. cond b (spelled_at line found ∷ counted filter (drop found.next line)) (counted filter (drop found.next line))) is) p
 
-  pub inside : (found : Found) (told : Option IpNetwork) → IsNextOf (found_of (reads_networks filter.listed)) line at found → IsListed filter (spelled_at line found)
-      → TellsOf filter (spelled_at line found) told → FirstListed filter (all_of filter line) told
-  inside found told next listed tells = found_first filter _ _ _ is_seen told (next_passes found next) listed tells
+    -- one of the other family
+    pub skipped : is_of_family filter.family filter.mapped found.address ≡ false → Passes filter (counted filter line) (counted filter (drop found.next line)) is_seen
+    skipped other = by_family false other
 
-  last_passes : all_of filter (drop at line) ≡ [] → Passes filter (all_of filter line) [] is_seen
-  last_passes none = subst (λ (l : List Spelled). Passes filter (all_of filter line) l is_seen) none p
+    pub passed : is_of_family filter.family filter.mapped found.address ≡ true → ¬ (IsListed filter (spelled_at line found)) → Passes filter (counted filter line) (counted filter (drop found.next line)) true
+    passed counts not = one_less filter _ _ _ is_seen (by_family true counts) not
 
-  pub outside : all_of filter (drop at line) ≡ [] → is_seen ≡ true → IsVerdictOfAddresses filter (all_of filter line) verdicts.Outside
+    pub inside : (told : Option IpNetwork) → is_of_family filter.family filter.mapped found.address ≡ true → IsListed filter (spelled_at line found) → TellsOf filter (spelled_at line found) told
+        → FirstListed filter (counted filter line) told
+    inside told counts listed tells = found_first filter _ _ _ is_seen told (by_family true counts) listed tells
+
+  last_passes : all_of filter (drop at line) ≡ [] → Passes filter (counted filter line) [] is_seen
+  last_passes none = subst (λ (l : List Spelled). Passes filter (counted filter line) l is_seen) (ap (of_family filter.family filter.mapped) none) p
+
+  pub outside : all_of filter (drop at line) ≡ [] → is_seen ≡ true → IsVerdictOfAddresses filter (counted filter line) verdicts.Outside
   outside none seen = let q = last_passes none in (q.seen seen, q.none tt)
 
-  pub without : all_of filter (drop at line) ≡ [] → is_seen ≡ false → IsVerdictOfAddresses filter (all_of filter line) verdicts.NoAddress
+  pub without : all_of filter (drop at line) ≡ [] → is_seen ≡ false → IsVerdictOfAddresses filter (counted filter line) verdicts.NoAddress
   without none unseen = (last_passes none).unseen unseen
 
 -- ---- the one that is looked at
 
-module _ (filter : Filter) (one : Option Spelled) (found : Spelled) (is : one ≡ Some found) where
-  pub picked_inside : (told : Option IpNetwork) → IsListed filter found → TellsOf filter found told → IsVerdictOfAddresses filter (option_to_list one) (verdicts.Inside told)
-  picked_inside told listed tells = subst (λ (o : Option Spelled). FirstListed filter (option_to_list o) told) (sym is) (inl (listed, tells))
+module _ (filter : Filter) (found : Spelled) where
+  only : (b : Bool) → is_of_family filter.family filter.mapped found.address ≡ b → of_family filter.family filter.mapped (found ∷ []) ≡ cond b (found ∷ []) []
+  only b is = ap (λ b. cond b (found ∷ []) []) is
 
-  pub picked_outside : ¬ (IsListed filter found) → IsVerdictOfAddresses filter (option_to_list one) verdicts.Outside
-  picked_outside not = subst (λ (o : Option Spelled). IsVerdictOfAddresses filter (option_to_list o) verdicts.Outside) (sym is) (omega arith, (not, tt))
+  pub one_inside : (told : Option IpNetwork) → is_of_family filter.family filter.mapped found.address ≡ true → IsListed filter found → TellsOf filter found told
+      → IsVerdictOfAddresses filter (of_family filter.family filter.mapped (found ∷ [])) (verdicts.Inside told)
+  one_inside told counts listed tells = subst (λ (l : List Spelled). FirstListed filter l told) (sym (only true counts)) (inl (listed, tells))
 
-pub picked_without : (filter : Filter) (one : Option Spelled) → one ≡ None → IsVerdictOfAddresses filter (option_to_list one) verdicts.NoAddress
-picked_without filter one none = ap (λ o. option_to_list o) none
+  pub one_outside : is_of_family filter.family filter.mapped found.address ≡ true → ¬ (IsListed filter found) → IsVerdictOfAddresses filter (of_family filter.family filter.mapped (found ∷ [])) verdicts.Outside
+  one_outside counts not = subst (λ (l : List Spelled). IsVerdictOfAddresses filter l verdicts.Outside) (sym (only true counts)) (omega arith, (not, tt))
+
+  pub one_other : is_of_family filter.family filter.mapped found.address ≡ false → IsVerdictOfAddresses filter (of_family filter.family filter.mapped (found ∷ [])) verdicts.NoAddress
+  one_other other = only false other
+
+pub picked_one : (filter : Filter) (one : Option Spelled) (found : Spelled) (verdict : Verdict) → one ≡ Some found → IsVerdictOfAddresses filter (of_family filter.family filter.mapped (found ∷ [])) verdict
+    → IsVerdictOfAddresses filter (of_family filter.family filter.mapped (option_to_list one)) verdict
+picked_one filter one found verdict is h = subst (λ (o : Option Spelled). IsVerdictOfAddresses filter (of_family filter.family filter.mapped (option_to_list o)) verdict) (sym is) h
+
+pub picked_without : (filter : Filter) (one : Option Spelled) → one ≡ None → IsVerdictOfAddresses filter (of_family filter.family filter.mapped (option_to_list one)) verdicts.NoAddress
+picked_without filter one none = ap (λ o. of_family filter.family filter.mapped (option_to_list o)) none
 
 -- ---- a line, by the part that is looked at
 
+-- what the line is to the list of which these are looked at
+abbrev IsOf : Filter → List Spelled → Verdict → Type 0
+IsOf filter found verdict = IsVerdictOfAddresses filter (of_family filter.family filter.mapped found) verdict
+
 pub by_part : (filter : Filter) (line part : List ℕ) (verdict : Verdict) → part_of filter.area.part line ≡ Some part
-    → IsVerdictOfAddresses filter (each_of (reads_networks filter.listed) filter.area.pick part) verdict → IsVerdictOfAddresses filter (addresses_in filter line) verdict
-by_part filter line part verdict is h = subst (λ (o : Option (List ℕ)). IsVerdictOfAddresses filter (each_in (reads_networks filter.listed) filter.area.pick o) verdict) (sym is) h
+    → IsOf filter (each_of (reads_networks filter.listed) filter.area.pick part) verdict → IsVerdictOfAddresses filter (addresses_in filter line) verdict
+by_part filter line part verdict is h = subst (λ (o : Option (List ℕ)). IsOf filter (each_in (reads_networks filter.listed) filter.area.pick o) verdict) (sym is) h
 
 module _ (filter : Filter) (part : List ℕ) (verdict : Verdict) where
-  pub by_each : filter.area.pick ≡ picks.Each → IsVerdictOfAddresses filter (all_of filter part) verdict
-      → IsVerdictOfAddresses filter (each_of (reads_networks filter.listed) filter.area.pick part) verdict
-  by_each each h = subst (λ (p : Pick). IsVerdictOfAddresses filter (each_of (reads_networks filter.listed) p part) verdict) (sym each) h
+  pub by_each : filter.area.pick ≡ picks.Each → IsVerdictOfAddresses filter (counted filter part) verdict
+      → IsOf filter (each_of (reads_networks filter.listed) filter.area.pick part) verdict
+  by_each each h = subst (λ (p : Pick). IsOf filter (each_of (reads_networks filter.listed) p part) verdict) (sym each) h
 
-  pub by_one : filter.area.pick ≢ picks.Each → IsVerdictOfAddresses filter (option_to_list (picked (reads_networks filter.listed) filter.area.pick part)) verdict
-      → IsVerdictOfAddresses filter (each_of (reads_networks filter.listed) filter.area.pick part) verdict
-  by_one other h = subst (λ (l : List Spelled). IsVerdictOfAddresses filter l verdict) (sym (each_is_one (reads_networks filter.listed) filter.area.pick part other)) h
+  pub by_one : filter.area.pick ≢ picks.Each → IsOf filter (option_to_list (picked (reads_networks filter.listed) filter.area.pick part)) verdict
+      → IsOf filter (each_of (reads_networks filter.listed) filter.area.pick part) verdict
+  by_one other h = subst (λ (l : List Spelled). IsOf filter l verdict) (sym (each_is_one (reads_networks filter.listed) filter.area.pick part other)) h
 
 pub no_part : (filter : Filter) (line : List ℕ) → part_of filter.area.part line ≡ None → IsVerdictOfAddresses filter (addresses_in filter line) verdicts.NoAddress
-no_part filter line none = ap (λ (o : Option (List ℕ)). each_in (reads_networks filter.listed) filter.area.pick o) none
+no_part filter line none = ap (λ (o : Option (List ℕ)). of_family filter.family filter.mapped (each_in (reads_networks filter.listed) filter.area.pick o)) none
 
 -- a line that is not too long
 pub judged : (filter : Filter) (line : List ℕ) (verdict : Verdict) → length line ≤ 1048576 → IsVerdictOfAddresses filter (addresses_in filter line) verdict → IsVerdict filter line verdict

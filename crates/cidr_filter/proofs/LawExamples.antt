@@ -105,7 +105,7 @@ long_line_is_not_lost law filter read rest line e long judges none =
 -- ---- words that are no options
 
 -- the letters of options without a value and with one, the long names, and those that a value may follow in their word
-pub letters_and_names : (flags_of entries ≡ codes "awvcoHhnlq") × (values_of entries ≡ codes "kdfem")
+pub letters_and_names : (flags_of entries ≡ codes "awvcoHhnlq46") × (values_of entries ≡ codes "kdfem")
     × (names_of entries ≡ codes "--after" ∷ codes "--mapped" ∷ codes "--help" ∷ codes "--version" ∷ codes "--nth" ∷ codes "--longest" ∷ codes "--bad" ∷ codes "--skip-bad" ∷ codes "--networks" ∷ [])
     × (joined_of entries ≡ codes "--nth" ∷ codes "--bad" ∷ [])
 letters_and_names = (refl, refl, refl, refl)

@@ -11,7 +11,7 @@ use Rattle.line_addresses.proofs.Picks.{each_is_one}
 use Rattle.line_addresses.specs.Found.{IsNextOf, spelled_at}
 use Rattle.line_addresses.specs.declared.found.Found.{Found}
 use Rattle.line_addresses.specs.Networks.{found_of}
-use Rattle.cidr_filter.specs.Filters.{addresses_in, text_of, texts_of}
+use Rattle.cidr_filter.specs.Filters.{sought_in, text_of, texts_of}
 use Rattle.cidr_filter.specs.Matcher.{reads_networks}
 use Rattle.cidr_filter.specs.declared.filter.Filter.{Filter}
 use Rattle.cidr_filter.proofs.Judging.{all_of}
@@ -41,7 +41,7 @@ all_put filter head line at held holds waited waits done p e none =
 
 -- ---- what is printed, by the part that is looked at
 
-pub of_part : (filter : Filter) (head line part : List ℕ) → part_of filter.area.part line ≡ Some part → texts_of filter head (each_of (reads_networks filter.listed) filter.area.pick part) ≡ texts_of filter head (addresses_in filter line)
+pub of_part : (filter : Filter) (head line part : List ℕ) → part_of filter.area.part line ≡ Some part → texts_of filter head (each_of (reads_networks filter.listed) filter.area.pick part) ≡ texts_of filter head (sought_in filter line)
 of_part filter head line part is = sym (ap (λ (o : Option (List ℕ)). texts_of filter head (each_in (reads_networks filter.listed) filter.area.pick o)) is)
 
 module _ (filter : Filter) (head part : List ℕ) where
@@ -51,7 +51,7 @@ module _ (filter : Filter) (head part : List ℕ) where
   pub of_one : filter.area.pick ≢ picks.Each → texts_of filter head (option_to_list (picked (reads_networks filter.listed) filter.area.pick part)) ≡ texts_of filter head (each_of (reads_networks filter.listed) filter.area.pick part)
   of_one other = sym (ap (texts_of filter head) (each_is_one (reads_networks filter.listed) filter.area.pick part other))
 
-pub of_no_part : (filter : Filter) (head line : List ℕ) → part_of filter.area.part line ≡ None → [] ≡ texts_of filter head (addresses_in filter line)
+pub of_no_part : (filter : Filter) (head line : List ℕ) → part_of filter.area.part line ≡ None → [] ≡ texts_of filter head (sought_in filter line)
 of_no_part filter head line none = sym (ap (λ (o : Option (List ℕ)). texts_of filter head (each_in (reads_networks filter.listed) filter.area.pick o)) none)
 
 -- the one that is looked at

@@ -1,9 +1,10 @@
 -- Which lines of a log are selected.
 use Rattle.std.specs.Prelude.{◌≡◌, ℕ, ◌+◌, ◌-◌, ◌^◌, ◌<◌, ◌≤◌, ◌⊎◌, Bool, true, false, not, List, [], ◌∷◌, ◌++◌, Option}
-use Rattle.std.specs.Prelude.{None, Some, length, flat_map, codes, decimal, min, nat_lt, nat_le}
+use Rattle.std.specs.Prelude.{◌&&◌, None, Some, length, filter, flat_map, codes, decimal, min, nat_lt, nat_le}
 use Rattle.std.specs.Prelude.{if◌then◌else◌}
 use Rattle.std.specs.List.{AllByRecursion}
 use Rattle.ipnetwork_addr.specs.declared.ip.IpAddr.{IpAddr}
+use Rattle.ipnetwork_addr.specs.declared.ip.IpAddr.TheVariants as addresses
 use Rattle.ipnetwork.specs.IpNetworkText.{ip_network_text}
 use Rattle.ipnetwork.specs.declared.ip_network.IpNetwork.{IpNetwork}
 use Rattle.line_addresses.specs.Addresses.{Spelled}
@@ -13,6 +14,8 @@ use Rattle.cidr_filter.specs.Matcher.{IsIn, IsLongestBlock, asked, covers_named,
 use Rattle.log_programs.specs.WithoutAddress.{is_stopped}
 use Rattle.log_programs.specs.declared.without_address.WithoutAddress.{WithoutAddress}
 use Rattle.log_programs.specs.declared.without_address.WithoutAddress.TheVariants as without
+use Rattle.cidr_filter.specs.declared.filter.Family.{Family}
+use Rattle.cidr_filter.specs.declared.filter.Family.TheVariants as families
 use Rattle.cidr_filter.specs.declared.filter.Filter.{Filter}
 use Rattle.cidr_filter.specs.declared.filter.OutputMode.{OutputMode}
 use Rattle.cidr_filter.specs.declared.filter.OutputMode.TheVariants as shows
@@ -35,9 +38,27 @@ TellsBlock (Blocks tables) address told = (block : IpNetwork) × (told ≡ Some 
 abbrev pub TellsOf : Filter → Spelled → Option IpNetwork → Type 0
 TellsOf filter found told = TellsBlock filter.listed (asked filter.mapped found.address) told
 
--- the addresses of a line, and with `--networks` its networks
+-- an address counts, by the family of the one that is asked
+abbrev pub is_v4 : IpAddr → Bool
+is_v4 (addresses.V4 address) = true
+is_v4 (addresses.V6 address) = false
+
+abbrev pub is_of_family : Family → Bool → IpAddr → Bool
+is_of_family families.Either mapped address = true
+is_of_family families.V4 mapped address = is_v4 (asked mapped address)
+is_of_family families.V6 mapped address = not (is_v4 (asked mapped address))
+
+-- those of these that count
+abbrev pub of_family : Family → Bool → List Spelled → List Spelled
+of_family family mapped found = filter (λ one. is_of_family family mapped one.address) found
+
+-- the addresses of a line that are looked for, and with `--networks` its networks
+abbrev pub sought_in : Filter → List ℕ → List Spelled
+sought_in filter line = spelled_in (reads_networks filter.listed) filter.area line
+
+-- those that count
 abbrev pub addresses_in : Filter → List ℕ → List Spelled
-addresses_in filter line = spelled_in (reads_networks filter.listed) filter.area line
+addresses_in filter line = of_family filter.family filter.mapped (sought_in filter line)
 
 -- one of these is in the lists, and this is what they say about the first that is
 abbrev pub FirstListed : Filter → List Spelled → Option IpNetwork → Type 0
@@ -123,9 +144,14 @@ number_head numbered number = if numbered then decimal (min number (2 ^ 64 - 1))
 abbrev pub head_of : Filter → ℕ → List ℕ
 head_of filter number = name_head filter.name ++ number_head filter.numbered number
 
--- with `-o`: the text of an address and a line feed, if it is in the lists, behind what stands first
+-- what was found is printed with `-o`, if it counts and is in the lists
+abbrev pub is_printed : Filter → Spelled → Bool
+is_printed filter found = is_of_family filter.family filter.mapped found.address
+    && is_listed filter.listed filter.mapped found
+
+-- with `-o`: the text of such an address and a line feed, behind what stands first
 abbrev pub text_of : Filter → List ℕ → Spelled → List ℕ
-text_of filter head found = if is_listed filter.listed filter.mapped found then head ++ (found.text ++ 10 ∷ []) else []
+text_of filter head found = if is_printed filter found then head ++ (found.text ++ 10 ∷ []) else []
 
 abbrev pub texts_of : Filter → List ℕ → List Spelled → List ℕ
 texts_of filter head found = flat_map (text_of filter head) found
@@ -140,7 +166,7 @@ is_count other = false
 -- before each; or with `-l` the name of its log; or nothing, with `-c` and with `-q`
 abbrev pub shown_by : OutputMode → Filter → List ℕ → Verdict → List ℕ → List ℕ → List ℕ
 shown_by shows.Lines filter head verdict line text = head ++ (mark_of filter.listed verdict ++ text)
-shown_by shows.Addresses filter head verdict line text = texts_of filter head (addresses_in filter line)
+shown_by shows.Addresses filter head verdict line text = texts_of filter head (sought_in filter line)
 shown_by shows.Count filter head verdict line text = []
 shown_by shows.Names filter head verdict line text = filter.name ++ 10 ∷ []
 shown_by shows.Nothing filter head verdict line text = []

@@ -6,7 +6,7 @@ use Rattle.options.specs.declared.table.Kind.TheVariants as kinds
 use Rattle.options.specs.declared.table.Table.{Table}
 
 -- the rows of the options that this program alone has: `-e`, `-m`, `--longest`, `--bad`, `-v`, `-c`, `-o`, `-H`, `-h`,
--- `-n`, `-l`, `-q`, `--skip-bad` and `--networks`
+-- `-n`, `-l`, `-q`, `--skip-bad`, `--networks`, `-4` and `-6`
 abbrev pub text : ℕ
 text = 10
 
@@ -49,6 +49,12 @@ skips_bad = 22
 abbrev pub networks : ℕ
 networks = 23
 
+abbrev pub only_v4 : ℕ
+only_v4 = 24
+
+abbrev pub only_v6 : ℕ
+only_v6 = 25
+
 -- the options, in the order of their rows
 abbrev pub entries : List Entry
 entries = rows.shared
@@ -57,11 +63,11 @@ entries = rows.shared
     ∷ long_flag (codes "--longest") ∷ long (codes "--bad") kinds.Rule true (codes "not drop, keep, stop or report")
     ∷ flag (codes "v") ∷ flag (codes "c") ∷ flag (codes "o") ∷ flag (codes "H") ∷ flag (codes "h") ∷ flag (codes "n")
     ∷ flag (codes "l") ∷ flag (codes "q") ∷ long_flag (codes "--skip-bad")
-    ∷ long_flag (codes "--networks") ∷ []
+    ∷ long_flag (codes "--networks") ∷ flag (codes "4") ∷ flag (codes "6") ∷ []
 
 -- which of them do not go together: `--longest` with `-v` or `-c`, those that say where addresses are looked for, `-o`
--- with `-v` or `--longest`, `-H` with `-c` or `-h`, and `--networks` with `--longest`. Of several such pairs the first
--- is told
+-- with `-v` or `--longest`, `-H` with `-c` or `-h`, `--networks` with `--longest`, and `-4` and `-6` with one another,
+-- with `--nth` or `--after`. Of several such pairs the first is told
 abbrev pub pairs : List (ℕ × ℕ × List ℕ)
 pairs =
     (longest, inverts, codes "--longest goes with neither -v nor -c")
@@ -69,7 +75,12 @@ pairs =
     ++ (only, inverts, codes "-o goes with neither -v nor --longest")
     ∷ (only, longest, codes "-o goes with neither -v nor --longest")
     ∷ (named, counts, codes "-H goes with neither -c nor -h") ∷ (named, unnamed, codes "-H goes with neither -c nor -h")
-    ∷ (networks, longest, codes "--networks does not go with --longest") ∷ []
+    ∷ (networks, longest, codes "--networks does not go with --longest")
+    ∷ (only_v4, only_v6, codes "-4 goes with none of -6, --nth and --after")
+    ∷ (only_v4, rows.nth, codes "-4 goes with none of -6, --nth and --after")
+    ∷ (only_v4, rows.after, codes "-4 goes with none of -6, --nth and --after")
+    ∷ (only_v6, rows.nth, codes "-6 goes with none of -4, --nth and --after")
+    ∷ (only_v6, rows.after, codes "-6 goes with none of -4, --nth and --after") ∷ []
 
 -- the table has these, and of `-f` and `-e` one at least is given
 abbrev pub IsOptions : Table → Type 0

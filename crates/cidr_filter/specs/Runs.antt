@@ -29,6 +29,8 @@ use Rattle.cidr_filter.specs.Options as own
 use Rattle.cidr_filter.specs.Options.{IsOptions}
 use Rattle.program.specs.LogLines.{LogLine}
 use Rattle.cidr_filter.specs.Reported.{in_option, told_name}
+use Rattle.cidr_filter.specs.declared.filter.Family.{Family}
+use Rattle.cidr_filter.specs.declared.filter.Family.TheVariants as families
 use Rattle.cidr_filter.specs.declared.filter.Filter.{Filter}
 use Rattle.cidr_filter.specs.declared.filter.OutputMode.{OutputMode}
 use Rattle.cidr_filter.specs.declared.filter.OutputMode.TheVariants as shows
@@ -94,6 +96,11 @@ pub record FiltersAll {W E : Type 0} (filter : Filter) (known : KnownLists) (nam
 abbrev pub EndsLogs : {W E : Type 0} → Filter → KnownLists → List (List ℕ) → Ending W E → Type 0
 EndsLogs filter known names end = FiltersAll filter known names end ⊎ StopsAtLog filter known names end
 
+-- of which family addresses count: of one, with `-4` or `-6`
+abbrev pub family_of : List Item → Family
+family_of items = if is_given items own.only_v4 then families.V4
+    else if is_given items own.only_v6 then families.V6 else families.Either
+
 -- how many lines of a log are selected at the most: with `-q` and with `-l` one is enough
 abbrev pub up_to_one : Option ℕ → Option ℕ
 up_to_one None = Some 1
@@ -123,6 +130,7 @@ filter_of items listed = record {
   listed = listed;
   area = area_of items;
   mapped = is_given items rows.mapped;
+  family = family_of items;
   inverts = is_given items own.inverts;
   bad = bad_in (value_of items own.bad);
   most = most_of items;

@@ -1,11 +1,11 @@
 //! What a line is to the lists, and whether it is selected.
-ghost use Rattle.std.specs.Prelude.{◌≡◌, ◌≤◌, IfSome, MatchOption, length};
+ghost use Rattle.std.specs.Prelude.{◌≡◌, ◌≤◌, ◌∷◌, [], IfSome, Some, true, MatchOption, length};
 ghost use Rattle.std.specs.Option.{option_to_list};
 ghost use Rattle.line_addresses.specs.Areas.{each_of, picked, spelled_in};
 ghost use Rattle.line_addresses.specs.Found.{spelled_at};
 ghost use Rattle.line_addresses.specs.Networks.{found_of};
 ghost use Rattle.cidr_filter.specs.Addressed.{is_addressed_by};
-ghost use Rattle.cidr_filter.specs.Filters.{is_listed, IsVerdict, IsVerdictOfAddresses, IsListed, TellsOf, addresses_in, is_selected, is_refused, is_count, is_silent};
+ghost use Rattle.cidr_filter.specs.Filters.{is_listed, is_of_family, is_printed, is_v4, of_family, IsVerdict, IsVerdictOfAddresses, IsListed, TellsOf, addresses_in, is_selected, is_refused, is_count, is_silent};
 ghost use Rattle.cidr_filter.specs.Matcher.{asked, reads_networks};
 ghost use Rattle.cidr_filter.specs.Private.Copying.{HasOnly, IsSelectedByAddress};
 
@@ -46,6 +46,17 @@ impl Verdict {
     }
 }
 
+/// Of which family the addresses of a line count. Another is as none.
+#[derive(Clone, Copy, Debug, PartialEq, Eq)]
+pub enum Family {
+    /// Of either.
+    Either,
+    /// Of IPv4.
+    V4,
+    /// Of IPv6.
+    V6,
+}
+
 /// What is printed.
 #[derive(Clone, Copy, Debug, PartialEq, Eq)]
 pub enum OutputMode {
@@ -68,6 +79,8 @@ pub struct Filter<'a> {
     pub(crate) area: Area<'a>,
     /// Whether an IPv4-mapped address of a line counts as its IPv4 one.
     pub(crate) mapped: bool,
+    /// Of which family its addresses count.
+    pub(crate) family: Family,
     pub(crate) inverts: bool,
     pub(crate) bad: WithoutAddress,
     /// How many lines of a log are selected at the most, if that is said: the log ends at the last
@@ -114,14 +127,31 @@ impl Filter<'_> {
         }
     }
 
-    // The address that the part of a line is in which it is looked for.
+    // The address that the part of a line is in which it is looked for, if it counts.
     #[inline(always)]
     fn only_address(&self, line: &[u8]) -> Option<IpAddr>
-        ensures { IfSome result (HasOnly self.now.area line.now) }
+        ensures { IfSome result (λ address. HasOnly self.now.area line.now address
+            × (is_of_family self.now.family self.now.mapped address ≡ true)) }
     {
         match self.area.pick {
-            Pick::Whole => found_in(&self.area, line),
+            Pick::Whole => self.counted(found_in(&self.area, line)),
             _ => None,
+        }
+    }
+
+    // An address, if it counts.
+    #[inline(always)]
+    fn counted(&self, address: Option<IpAddr>) -> Option<IpAddr>
+        ensures { IfSome result (λ one. (address ≡ Some one)
+            × (is_of_family self.now.family self.now.mapped one ≡ true)) }
+    {
+        let Some(address) = address else {
+            return None;
+        };
+        if self.is_of_family(&address) {
+            Some(address)
+        } else {
+            None
         }
     }
 
@@ -141,7 +171,8 @@ impl Filter<'_> {
     #[inline(always)]
     fn judge_part(&self, part: &[u8]) -> Verdict
         ensures { IsVerdictOfAddresses self.now
-            (each_of (reads_networks self.now.listed) self.now.area.pick part.now) result }
+            (of_family self.now.family self.now.mapped
+            (each_of (reads_networks self.now.listed) self.now.area.pick part.now)) result }
     {
         match self.area.pick {
             Pick::Each => self.judge_each(part),
@@ -153,26 +184,57 @@ impl Filter<'_> {
     #[inline(always)]
     fn judge_picked(&self, part: &[u8], pick: Pick) -> Verdict
         ensures { IsVerdictOfAddresses self.now
-            (option_to_list (picked (reads_networks self.now.listed) pick part.now)) result }
+            (of_family self.now.family self.now.mapped
+            (option_to_list (picked (reads_networks self.now.listed) pick part.now))) result }
     {
         match picked(part, pick, self.listed.reads_networks()) {
-            Some(found) => match self.told_of(part, &found) {
-                Some(told) => Verdict::Inside(told),
-                None => Verdict::Outside,
-            },
+            Some(found) => self.judge_found(part, &found),
             None => Verdict::NoAddress,
+        }
+    }
+
+    // What a line is to the list of which only this is looked at.
+    #[inline(always)]
+    fn judge_found(&self, part: &[u8], found: &Found) -> Verdict
+        requires ordered { found.now.start ≤ found.now.end }
+        requires within { found.now.end ≤ length part.now }
+        ensures { IsVerdictOfAddresses self.now
+            (of_family self.now.family self.now.mapped (spelled_at part.now found.now ∷ [])) result }
+    {
+        if !self.is_of_family(&found.address) {
+            return Verdict::NoAddress;
+        }
+        match self.told_of(part, found) {
+            Some(told) => Verdict::Inside(told),
+            None => Verdict::Outside,
+        }
+    }
+
+    // Whether an address of a line counts.
+    #[inline(always)]
+    fn is_of_family(&self, address: &IpAddr) -> bool
+        ensures { result ≡ is_of_family self.now.family self.now.mapped address.now }
+    {
+        match self.family {
+            Family::Either => true,
+            Family::V4 => is_v4(self.asked(*address)),
+            Family::V6 => !is_v4(self.asked(*address)),
         }
     }
 
     // What a line is to the list of which all addresses of this part are looked at.
     fn judge_each(&self, line: &[u8]) -> Verdict
         ensures { IsVerdictOfAddresses self.now
-            (found_of (reads_networks self.now.listed) line.now) result }
+            (of_family self.now.family self.now.mapped (found_of (reads_networks self.now.listed) line.now)) result }
     {
         let mut at = 0;
         let mut is_seen = false;
         let networks = self.listed.reads_networks();
         'addresses: while let Some(found) = next_found(line, at, networks) {
+            if !self.is_of_family(&found.address) {
+                at = found.next;
+                continue 'addresses;
+            }
             if let Some(told) = self.told_of(line, &found) {
                 return Verdict::Inside(told);
             }
@@ -217,9 +279,18 @@ impl Filter<'_> {
         }
     }
 
-    /// Whether an address or network of a line is printed in place of it: whether it is in the list.
-    /// Of blocks none is, since `-o` is not given together with `--longest`.
+    /// Whether an address or network of a line is printed in place of it: whether it counts and is in
+    /// the list. Of blocks none is, since `-o` is not given together with `--longest`.
     pub(crate) fn prints(&self, line: &[u8], found: &Found) -> bool
+        requires ordered { found.now.start ≤ found.now.end }
+        requires within { found.now.end ≤ length line.now }
+        ensures { result ≡ is_printed self.now (spelled_at line.now found.now) }
+    {
+        self.is_of_family(&found.address) && self.is_listed(line, found)
+    }
+
+    // Whether it is in the list.
+    fn is_listed(&self, line: &[u8], found: &Found) -> bool
         requires ordered { found.now.start ≤ found.now.end }
         requires within { found.now.end ≤ length line.now }
         ensures { result ≡ is_listed self.now.listed self.now.mapped (spelled_at line.now found.now) }
@@ -287,5 +358,16 @@ impl Filter<'_> {
             Verdict::NoAddress => self.bad.is_stopped(),
             Verdict::TooLong => self.bad.is_stopped(),
         }
+    }
+}
+
+// Whether an address is one of IPv4.
+#[inline(always)]
+fn is_v4(address: IpAddr) -> bool
+    ensures { result ≡ is_v4 address }
+{
+    match address {
+        IpAddr::V4(_) => true,
+        IpAddr::V6(_) => false,
     }
 }

@@ -5,7 +5,7 @@ ghost use Rattle.std.specs.Option.{option_to_list};
 ghost use Rattle.line_addresses.specs.Areas.{each_of, picked};
 ghost use Rattle.line_addresses.specs.Found.{spelled_at};
 ghost use Rattle.line_addresses.specs.Networks.{found_of};
-ghost use Rattle.cidr_filter.specs.Filters.{addresses_in, head_of, text_of, texts_of};
+ghost use Rattle.cidr_filter.specs.Filters.{head_of, sought_in, text_of, texts_of};
 ghost use Rattle.cidr_filter.specs.Matcher.{reads_networks};
 ghost use Rattle.program.specs.Putting.{PutsOrFails};
 
@@ -27,7 +27,7 @@ pub(crate) fn print_addresses<W: Write>(
 ) -> Result<(), RunFault>
     ensures { PutsOrFails result output.old output.new
         (texts_of filter.now (head_of filter.now line_number)
-        (addresses_in filter.now line.now)) }
+        (sought_in filter.now line.now)) }
 {
     let of_line = OfLine {
         filter,

@@ -1,7 +1,9 @@
 //! The options of the command line.
 ghost use Rattle.cidr_filter.specs.Options.{IsOptions};
 
-use log_programs::rows::{AFTER, ANYWHERE, FIELD, LIST, SEPARATOR, WORDS, log_pairs, log_rows};
+use log_programs::rows::{
+    AFTER, ANYWHERE, FIELD, LIST, NTH, SEPARATOR, WORDS, log_pairs, log_rows,
+};
 use options::table::{Kind, Pair, Row, Table, letter, long, pair};
 
 /// The row of `-e`.
@@ -46,6 +48,12 @@ pub(crate) const SKIPS_BAD: usize = 22;
 /// The row of `--networks`.
 pub(crate) const NETWORKS: usize = 23;
 
+/// The row of `-4`.
+pub(crate) const ONLY_V4: usize = 24;
+
+/// The row of `-6`.
+pub(crate) const ONLY_V6: usize = 25;
+
 // The options.
 const ROWS: [Row; 24] = log_rows![
     letter!(b'e', Text, "not a network or range"),
@@ -62,10 +70,12 @@ const ROWS: [Row; 24] = log_rows![
     letter!(b'q', Flag, ""),
     long!("--skip-bad", Flag, false, ""),
     long!("--networks", Flag, false, ""),
+    letter!(b'4', Flag, ""),
+    letter!(b'6', Flag, ""),
 ];
 
 // Which do not go together.
-const PAIRS: [Pair; 12] = log_pairs![
+const PAIRS: [Pair; 17] = log_pairs![
     [
         pair!(LONGEST, INVERTS, "--longest goes with neither -v nor -c"),
         pair!(LONGEST, COUNTS, "--longest goes with neither -v nor -c"),
@@ -76,6 +86,15 @@ const PAIRS: [Pair; 12] = log_pairs![
         pair!(NAMED, COUNTS, "-H goes with neither -c nor -h"),
         pair!(NAMED, UNNAMED, "-H goes with neither -c nor -h"),
         pair!(NETWORKS, LONGEST, "--networks does not go with --longest"),
+        pair!(
+            ONLY_V4,
+            ONLY_V6,
+            "-4 goes with none of -6, --nth and --after"
+        ),
+        pair!(ONLY_V4, NTH, "-4 goes with none of -6, --nth and --after"),
+        pair!(ONLY_V4, AFTER, "-4 goes with none of -6, --nth and --after"),
+        pair!(ONLY_V6, NTH, "-6 goes with none of -4, --nth and --after"),
+        pair!(ONLY_V6, AFTER, "-6 goes with none of -4, --nth and --after"),
     ],
 ];
 

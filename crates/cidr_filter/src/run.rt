@@ -3,16 +3,17 @@ ghost use Rattle.std.specs.Prelude.{◌≡◌, [], map};
 ghost use Rattle.std.specs.String.{string_bytes};
 ghost use Rattle.options.specs.Given.{inputs_of};
 ghost use Rattle.program.specs.Endings.{ending};
-ghost use Rattle.cidr_filter.specs.Runs.{EndsRequest, EndsReading, EndsAs, filter_of, is_stopped_by, most_of, up_to_one, shows_of, is_named};
+ghost use Rattle.cidr_filter.specs.Runs.{EndsRequest, EndsReading, EndsAs, filter_of, family_of, is_stopped_by, most_of, up_to_one, shows_of, is_named};
 ghost use Rattle.cidr_filter.specs.Reported.{told_name};
 
-use crate::filter::{Filter, OutputMode};
+use crate::filter::{Family, Filter, OutputMode};
 use crate::help::{HELP, PROGRAM, USAGE, VERSION};
 use crate::logs::filter_logs;
 use crate::matcher::Matcher;
 use crate::reading::{question_of, read_listed};
 use crate::rows::{
-    BAD, COUNTS, INVERTS, MOST, NAMED, NAMES, NUMBERED, ONLY, QUIET, SKIPS_BAD, table,
+    BAD, COUNTS, INVERTS, MOST, NAMED, NAMES, NUMBERED, ONLY, ONLY_V4, ONLY_V6, QUIET, SKIPS_BAD,
+    table,
 };
 use crate::telling::{InOptions, names_of};
 use line_addresses::Text;
@@ -141,6 +142,7 @@ fn filter_of<'a>(items: &[Item<'a>], listed: Matcher) -> Filter<'a>
         listed,
         area: area_of(items),
         mapped: is_given(items, MAPPED),
+        family: family_of(items),
         inverts: is_given(items, INVERTS),
         bad: bad_in(value_of(items, BAD)),
         most: most_of(items),
@@ -148,6 +150,19 @@ fn filter_of<'a>(items: &[Item<'a>], listed: Matcher) -> Filter<'a>
         named: is_named(items),
         numbered: is_given(items, NUMBERED),
         name: no_name(),
+    }
+}
+
+// Of which family addresses count.
+fn family_of(items: &[Item<'_>]) -> Family
+    ensures { result ≡ family_of items.now }
+{
+    if is_given(items, ONLY_V4) {
+        Family::V4
+    } else if is_given(items, ONLY_V6) {
+        Family::V6
+    } else {
+        Family::Either
     }
 }
 

@@ -38,6 +38,17 @@ impl Verdict {
     }
 }
 
+/// Of which family the addresses of a line count. Another is as none.
+#[derive(Clone, Copy, Debug, PartialEq, Eq)]
+pub enum Family {
+    /// Of either.
+    Either,
+    /// Of IPv4.
+    V4,
+    /// Of IPv6.
+    V6,
+}
+
 /// What is printed.
 #[derive(Clone, Copy, Debug, PartialEq, Eq)]
 pub enum OutputMode {
@@ -59,6 +70,8 @@ pub struct Filter<'a> {
     pub(crate) area: Area<'a>,
     /// Whether an IPv4-mapped address of a line counts as its IPv4 one.
     pub(crate) mapped: bool,
+    /// Of which family its addresses count.
+    pub(crate) family: Family,
     pub(crate) inverts: bool,
     pub(crate) bad: WithoutAddress,
     /// How many lines of a log are selected at the most, if that is said: the log ends at the last
@@ -101,12 +114,25 @@ impl Filter<'_> {
         }
     }
 
-    // The address that the part of a line is in which it is looked for.
+    // The address that the part of a line is in which it is looked for, if it counts.
     #[inline(always)]
     fn only_address(&self, line: &[u8]) -> Option<IpAddr> {
         match self.area.pick {
-            Pick::Whole => found_in(&self.area, line),
+            Pick::Whole => self.counted(found_in(&self.area, line)),
             _ => None,
+        }
+    }
+
+    // An address, if it counts.
+    #[inline(always)]
+    fn counted(&self, address: Option<IpAddr>) -> Option<IpAddr> {
+        let Some(address) = address else {
+            return None;
+        };
+        if self.is_of_family(&address) {
+            Some(address)
+        } else {
+            None
         }
     }
 
@@ -132,11 +158,30 @@ impl Filter<'_> {
     #[inline(always)]
     fn judge_picked(&self, part: &[u8], pick: Pick) -> Verdict {
         match picked(part, pick, self.listed.reads_networks()) {
-            Some(found) => match self.told_of(part, &found) {
-                Some(told) => Verdict::Inside(told),
-                None => Verdict::Outside,
-            },
+            Some(found) => self.judge_found(part, &found),
             None => Verdict::NoAddress,
+        }
+    }
+
+    // What a line is to the list of which only this is looked at.
+    #[inline(always)]
+    fn judge_found(&self, part: &[u8], found: &Found) -> Verdict {
+        if !self.is_of_family(&found.address) {
+            return Verdict::NoAddress;
+        }
+        match self.told_of(part, found) {
+            Some(told) => Verdict::Inside(told),
+            None => Verdict::Outside,
+        }
+    }
+
+    // Whether an address of a line counts.
+    #[inline(always)]
+    fn is_of_family(&self, address: &IpAddr) -> bool {
+        match self.family {
+            Family::Either => true,
+            Family::V4 => is_v4(self.asked(*address)),
+            Family::V6 => !is_v4(self.asked(*address)),
         }
     }
 
@@ -146,6 +191,10 @@ impl Filter<'_> {
         let mut is_seen = false;
         let networks = self.listed.reads_networks();
         'addresses: while let Some(found) = next_found(line, at, networks) {
+            if !self.is_of_family(&found.address) {
+                at = found.next;
+                continue 'addresses;
+            }
             if let Some(told) = self.told_of(line, &found) {
                 return Verdict::Inside(told);
             }
@@ -184,9 +233,14 @@ impl Filter<'_> {
         }
     }
 
-    /// Whether an address or network of a line is printed in place of it: whether it is in the list.
-    /// Of blocks none is, since `-o` is not given together with `--longest`.
+    /// Whether an address or network of a line is printed in place of it: whether it counts and is in
+    /// the list. Of blocks none is, since `-o` is not given together with `--longest`.
     pub(crate) fn prints(&self, line: &[u8], found: &Found) -> bool {
+        self.is_of_family(&found.address) && self.is_listed(line, found)
+    }
+
+    // Whether it is in the list.
+    fn is_listed(&self, line: &[u8], found: &Found) -> bool {
         match &self.listed {
             Matcher::Addresses(sets) => sets.has(self.asked(found.address)),
             Matcher::Networks(set) => covers(set, self.mapped, &line[found.start..found.end]),
@@ -240,5 +294,14 @@ impl Filter<'_> {
             Verdict::NoAddress => self.bad.is_stopped(),
             Verdict::TooLong => self.bad.is_stopped(),
         }
+    }
+}
+
+// Whether an address is one of IPv4.
+#[inline(always)]
+fn is_v4(address: IpAddr) -> bool {
+    match address {
+        IpAddr::V4(_) => true,
+        IpAddr::V6(_) => false,
     }
 }

@@ -86,6 +86,6 @@ pub(crate) const PROGRAM: &str = "cidr_filter";
 /// How the program is used: what is reported for arguments that are not a command, after what is
 /// wrong with them.
 pub(crate) const USAGE: &str = "usage: cidr_filter [-v] [-c | -H] [-h] [-n] [-l] [-q] [-o] [-m N] \
-     [--after TEXT | [-a] [-k N] [-d CHAR | -w]] [--nth first|last|N] [--mapped] [--networks] \
+     [--after TEXT | [-a] [-k N] [-d CHAR | -w]] [--nth first|last|N] [-4 | -6] [--mapped] [--networks] \
      [--bad drop|keep|stop|report] [--longest] [--skip-bad] (-f LIST | -e TEXT).. [FILE..]; \
      try --help\n";

@@ -4,13 +4,14 @@
 
 use fosibegan::plain_std::string::String;
 use fosibegan::plain_std::vec;
-use crate::filter::{Filter, OutputMode};
+use crate::filter::{Family, Filter, OutputMode};
 use crate::help::{HELP, PROGRAM, USAGE, VERSION};
 use crate::logs::filter_logs;
 use crate::matcher::Matcher;
 use crate::reading::{question_of, read_listed};
 use crate::rows::{
-    BAD, COUNTS, INVERTS, MOST, NAMED, NAMES, NUMBERED, ONLY, QUIET, SKIPS_BAD, table,
+    BAD, COUNTS, INVERTS, MOST, NAMED, NAMES, NUMBERED, ONLY, ONLY_V4, ONLY_V6, QUIET, SKIPS_BAD,
+    table,
 };
 use crate::telling::{InOptions, names_of};
 use cidr_programs::line_addresses::Text;
@@ -124,6 +125,7 @@ fn filter_of<'a>(items: &[Item<'a>], listed: Matcher) -> Filter<'a> {
         listed,
         area: area_of(items),
         mapped: is_given(items, MAPPED),
+        family: family_of(items),
         inverts: is_given(items, INVERTS),
         bad: bad_in(value_of(items, BAD)),
         most: most_of(items),
@@ -131,6 +133,17 @@ fn filter_of<'a>(items: &[Item<'a>], listed: Matcher) -> Filter<'a> {
         named: is_named(items),
         numbered: is_given(items, NUMBERED),
         name: no_name(),
+    }
+}
+
+// Of which family addresses count.
+fn family_of(items: &[Item<'_>]) -> Family {
+    if is_given(items, ONLY_V4) {
+        Family::V4
+    } else if is_given(items, ONLY_V6) {
+        Family::V6
+    } else {
+        Family::Either
     }
 }
 
