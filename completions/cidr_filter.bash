@@ -14,7 +14,7 @@ _cidr_filter() {
         -f) ;;
         *)
             if [[ "$word" == -* ]]; then
-                COMPREPLY=($(compgen -W "-f -e --skip-bad -k -d -w -a --nth --after -o -4 -6 --mapped --networks -v -c -l -q -m -H -n -h --longest --bad --quiet --help --version -- -" -- "$word"))
+                COMPREPLY=($(compgen -W "-f -e --skip-bad -k -d -w -a --nth --after -o --mapped -4 -6 --networks -v -c -l -q -m -H -n -h --longest --bad --quiet --help --version -- -" -- "$word"))
             fi
             ;;
     esac

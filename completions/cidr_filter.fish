@@ -10,6 +10,8 @@ complete -c cidr_filter -l nth -x -a "first last" -d "Use only this one of the a
 complete -c cidr_filter -l after -x -d "The address is the first one after the first TEXT in a line"
 complete -c cidr_filter -s o -d "Print the addresses that are in a network"
 complete -c cidr_filter -l mapped -d "Treat an address ::ffff:A.B.C.D of a line as A.B.C.D"
+complete -c cidr_filter -s 4 -d "Only IPv4 addresses count"
+complete -c cidr_filter -s 6 -d "Only IPv6 addresses count"
 complete -c cidr_filter -l networks -d "A network in a line counts too"
 complete -c cidr_filter -s v -d "Print the lines whose address is in no network"
 complete -c cidr_filter -s c -d "Print only the number of selected lines"

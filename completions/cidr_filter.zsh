@@ -12,6 +12,8 @@ _arguments \
     '*--after[the address is the first one after the first TEXT in a line]:text: ' \
     '*-o[print the addresses that are in a network]' \
     '*--mapped[treat an address \:\:ffff\:A.B.C.D of a line as A.B.C.D]' \
+    '*-4[only IPv4 addresses count]' \
+    '*-6[only IPv6 addresses count]' \
     '*--networks[a network in a line counts too]' \
     '*-v[print the lines whose address is in no network]' \
     '*-c[print only the number of selected lines]' \

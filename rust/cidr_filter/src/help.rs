@@ -28,6 +28,9 @@ Prints the lines of logs whose address is in a list of IP networks.
     -o              print the addresses that are in a network, and with --networks the networks, one
                     on each line, instead of lines. Not with -v or --longest
     --mapped        treat an address ::ffff:A.B.C.D of a line as A.B.C.D
+    -4              only IPv4 addresses count, as if a line had no others. Not with -6, --nth or
+                    --after
+    -6              only IPv6 addresses count. Not with -4, --nth or --after
     --networks      a network in a line (10.1.0.0/16) counts too, and is in the list if all its
                     addresses are; without this option only its address is tested. Not with
                     --longest

@@ -20,8 +20,7 @@ Merges lists of IP networks, and prints the shortest list with exactly the resul
     --count        print v4 BLOCKS ADDRESSES and v6 BLOCKS ADDRESSES
     --format FORM  print plain, range, netmask, wildcard, csv, nft, ipset, json or addresses
     --set NAME     for nft and ipset: fill NAME_ipv4 and NAME_ipv6; --table NAME: the table of nft
-    --line-prefix TEXT  print TEXT before each line; --line-suffix TEXT: print TEXT after it. Not
-                   for csv, nft, ipset and json
+    --line-prefix TEXT  print TEXT before each line; --line-suffix TEXT: print TEXT after it
     --skip-bad     report refused lines, and print the result for the others
     --json         each FILE is JSON: use its strings that are entries; --strict refuses others
     --quiet        as the first word: do not show on a terminal how much was read
@@ -29,15 +28,13 @@ Merges lists of IP networks, and prints the shortest list with exactly the resul
 
 A FILE is a name, or - for standard input. A line has a network (10.0.0.0/8, 10.0.0.1,
 2001:db8::/32), a range (A - B) or nothing, and at most 1,024 bytes; # and ; begin a comment. Host
-bits are ignored. The result is in ascending order, IPv4 first; differ puts < before what only the
-first side has, and > before what only the second has. A refused line is reported as FILE:LINE:
-refused CAUSE; check prints that and the line; find prints FILE:LINE: has ADDRESS and the line.
-split leaves longer networks whole, and all of IPv4 if N is above 32; it takes --line-prefix,
---line-suffix, --skip-bad, --json and --strict.
+bits are ignored. Results ascend, IPv4 first; differ puts < before what only the first side has, and
+> before what only the second has. check prints each refused line as FILE:LINE: refused CAUSE, and
+find prints FILE:LINE: has ADDRESS, both with the line. split leaves longer networks whole, and all
+of IPv4 if N is above 32; it takes --line-prefix, --line-suffix, --skip-bad, --json and --strict.
 
-Status: 0; 1 if the sides of differ are not equal, check or overlaps found something, or find found
-nothing; 2 after wrong usage, a refused line, a file that cannot be read, a failed write, or lack of
-memory; 3 if lines were skipped.
+Status: 0; 1 if the sides of differ are unequal, check or overlaps found something, or find nothing;
+2 after wrong usage, a refused line, an unreadable file, a failed write, no memory; 3 if skipped.
 Example: sort -u today.txt | cidr_merge differ --count yesterday.txt -- -
 ";
 
