@@ -58,9 +58,3 @@ more_so_far all left one rest old mid new is_found is_more both h e k b = (
   append_assoc h.0 one rest ∙ ap (λ l. h.0 ++ l) (sym e) ∙ h.1,
   tells_both h.0 one old mid new is_found is_more both h.2 k b,
 )
-
-pub all_so_far : {W : Type 0} (all left : List (List ℕ)) (old new : Written W) (is_found : Bool)
-    → ToldSoFar all left old new is_found → left ≡ [] → TellsFound all old new is_found
-all_so_far all left old new is_found h e =
-    subst (λ found. TellsFound found old new is_found)
-    (sym (append-nil h.0) ∙ ap (λ l. h.0 ++ l) (sym e) ∙ h.1) h.2

@@ -1,13 +1,13 @@
 -- The addresses that words name.
-use Rattle.std.proofs.Common.{◌≡◌, ◌+◌, ◌<◌, ◌≤◌, ◌∙◌, ℕ, List, [], ◌∷◌, ◌++◌, refl, sym}
-use Rattle.std.proofs.Common.{ap, subst, arith, length, take, drop, get_or}
+use Rattle.std.proofs.Common.{◌≡◌, ◌+◌, ◌<◌, ◌≤◌, ℕ, List, [], ◌∷◌, ◌++◌, refl, sym}
+use Rattle.std.proofs.Common.{subst, arith, length, take, drop, get_or}
 use Rattle.std.proofs.Common.{length-take}
 use Rattle.std.specs.Prelude.{String}
 use Rattle.std.specs.String.{string_bytes}
-use Rattle.std.proofs.lemmas.List.{drop_more, take_all}
+use Rattle.std.proofs.lemmas.List.{take_all}
 use Rattle.ipnetwork_addr.specs.Either.{NamesIp}
 use Rattle.ipnetwork_addr.specs.declared.ip.IpAddr.{IpAddr}
-use Rattle.cidr_merge.specs.FindWords.{AreAddresses, IsFirstWrong, with_addresses}
+use Rattle.cidr_merge.specs.FindWords.{AreAddresses, IsFirstWrong}
 use Rattle.cidr_merge.proofs.Places.{up_to_next, cut_at}
 
 -- there are as many addresses as words
@@ -18,22 +18,6 @@ as_many_addresses [] (address ∷ addresses) h = absurd h
 as_many_addresses (word ∷ words) [] h = absurd h
 as_many_addresses (word ∷ words) (address ∷ addresses) h =
     let e = as_many_addresses words addresses h.1 in omega (arith, e)
-
--- from a place on there is the text of the word at it, with its address, and those behind it
-pub sought_at : {Z : Type 0} (words : List (String Z)) (addresses : List IpAddr) (place : ℕ)
-    (word : String Z) (bytes : List ℕ) (d : IpAddr)
-    → place < length words → length addresses ≡ length words → word ≡ get_or words place word
-    → bytes ≡ string_bytes word
-    → with_addresses (drop place words) (drop place addresses)
-    ≡ (bytes, get_or addresses place d)
-    ∷ with_addresses (drop (place + 1) words) (drop (place + 1) addresses)
-sought_at words addresses place word bytes d l e w b =
-    let rest = with_addresses (drop (place + 1) words) (drop (place + 1) addresses) in
-    ap (λ ws. with_addresses ws (drop place addresses)) (drop_more words place word l)
-    ∙ ap (with_addresses (get_or words place word ∷ drop (place + 1) words))
-    (drop_more addresses place d (omega (arith, l, e)))
-    ∙ ap (λ (t : List ℕ). (t, get_or addresses place d) ∷ rest)
-    (sym (b ∙ ap string_bytes w))
 
 -- a word more
 addresses_more : {Z : Type 0} (words : List (String Z)) (addresses : List IpAddr) (word : String Z)
