@@ -1,6 +1,6 @@
 -- What was found and told so far, and what is still to be found.
 use Rattle.std.proofs.Common.{◌≡◌, ◌==◌, ◌||◌, ◌∙◌, ℕ, Bool, true, false, not, List, [], ◌∷◌, ◌++◌}
-use Rattle.std.proofs.Common.{refl, sym, ap, subst, length, append_assoc, append-nil}
+use Rattle.std.proofs.Common.{refl, sym, ap, length, append_assoc, append-nil}
 use Rattle.std.specs.List.{concat}
 use Rattle.std.proofs.Math.Dec.{eqb-suc-zero}
 use Rattle.std.proofs.lemmas.List.Folds.{concat-append}

@@ -24,7 +24,6 @@ use Rattle.ipnetwork_family.specs.Network.{Network, block_size, low, high}
 use Rattle.lists.specs.declared.entry.Entry.{Entry}
 use Rattle.lists.specs.declared.entry.Entry.TheVariants as entries
 use Rattle.cidr_merge.specs.Finds.{has, match_lines}
-use Rattle.cidr_merge.specs.NumberedLines.{is_range}
 use Rattle.cidr_merge.specs.Overlaps.{ends_of}
 use Rattle.cidr_merge.specs.Private.LinesLeft.{sought_as}
 use Rattle.cidr_merge.specs.Private.Numbers.{AreAscending, AreBefore, ArePlacesOf, number_of}

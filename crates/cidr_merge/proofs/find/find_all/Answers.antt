@@ -1,7 +1,6 @@
-use Rattle.std.proofs.Common.{◌-◌, drop, length, map, refl, take}
+use Rattle.std.proofs.Common.{◌-◌, drop, length, refl, take}
 use Rattle.std.proofs.lemmas.List.{take_rest}
 use Rattle.program.specs.Endings.{ending}
-use Rattle.cidr_merge.specs.Private.LinesLeft.{sought_as}
 use Rattle.cidr_merge.proofs.SearchEnds.{as_many_froms, as_many_lists, froms_within, names_within, searched}
 use Rattle.cidr_merge.proofs.SoughtWords.{as_many_addresses}
 use Rattle.cidr_merge.proofs.find.find_all.Goals as goal
