@@ -38,7 +38,7 @@ entries = rows.shared
     ∷ long_flag (codes "--tally")
     ∷ long (codes "--group") kinds.Lengths false (codes "not N,M with N up to 32 and M up to 128")
     ∷ long (codes "--bad") kinds.Rule true (codes "not drop, keep, stop or report")
-    ∷ long_flag (codes "--zero") ∷ []
+    ∷ long_flag (codes "--zero") ∷ long_flag (codes "--skip-bad") ∷ []
 
 -- which of them do not go together: those that say where addresses are looked for, `--tally` with `--last`, a second
 -- `-f`, and `--group` with `-f` or what says something of its list. Of several such pairs the first is told
