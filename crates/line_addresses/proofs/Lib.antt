@@ -17,4 +17,5 @@ pub mod PortTexts
 pub mod Picks
 pub mod Ports
 pub mod Shown
+pub mod SlashRuns
 pub mod StretchNetworks

@@ -16,7 +16,7 @@ BeginsWithCut cuts [] = Unit {0}
 BeginsWithCut cuts (byte ∷ bytes) = cuts byte ≡ true
 
 -- where a part ends, the line ends or is cut
-begins : (cuts : ℕ → Bool) (line : List ℕ) (start end : ℕ) → IsPartEnd cuts line start end → BeginsWithCut cuts (drop end line)
+pub begins : (cuts : ℕ → Bool) (line : List ℕ) (start end : ℕ) → IsPartEnd cuts line start end → BeginsWithCut cuts (drop end line)
 begins cuts line start end h = elim (cases_lt end (length line)) [
   | inl below ↦ subst (BeginsWithCut cuts) (sym (drop_more line end 0 below)) (h.stops below)
   | inr past ↦ subst (BeginsWithCut cuts) (sym (drop_all end line past)) tt

@@ -14,17 +14,17 @@ use Rattle.line_addresses.proofs.LineParts.{Gathers, flattens, part_at, cut_at, 
 use Rattle.line_addresses.proofs.Shown.{nothing_shown}
 use Rattle.line_addresses.proofs.StretchNetworks.{none_without, slash_first, slash_left}
 
-abbrev ends_stretch : ℕ → Bool
+abbrev pub ends_stretch : ℕ → Bool
 ends_stretch byte = not (is_stretch_byte byte)
 
 -- where there is no network, there are the addresses
-addresses_left : (stretch : List ℕ) → network_in stretch ≡ None → networks_in stretch ≡ addresses_of stretch
+pub addresses_left : (stretch : List ℕ) → network_in stretch ≡ None → networks_in stretch ≡ addresses_of stretch
 addresses_left stretch none = ap (λ o. or_addresses o stretch) none
 
-nothing_in : networks_in [] ≡ []
+pub nothing_in : networks_in [] ≡ []
 nothing_in = addresses_left [] (none_without [] refl) ∙ ap (λ o. cons_option o []) nothing_shown
 
-stretches : Gathers (flat_map networks_in) (λ stretch others. networks_in stretch ++ others)
+pub stretches : Gathers (flat_map networks_in) (λ stretch others. networks_in stretch ++ others)
 stretches = flattens networks_in nothing_in
 
 -- ---- the first of a stretch

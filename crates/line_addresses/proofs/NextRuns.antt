@@ -11,10 +11,10 @@ use Rattle.line_addresses.specs.LineRuns.{is_run_byte}
 use Rattle.line_addresses.proofs.LineParts.{Gathers, filters, part_at, cut_at, at_end}
 use Rattle.line_addresses.proofs.Shown.{nothing_shown}
 
-abbrev ends_runs : ℕ → Bool
+abbrev pub ends_runs : ℕ → Bool
 ends_runs byte = not (is_run_byte byte)
 
-runs : Gathers (filter_map address_in) (λ run found. cons_option (address_in run) found)
+pub runs : Gathers (filter_map address_in) (λ run found. cons_option (address_in run) found)
 runs = filters address_in nothing_shown
 
 module _ (line : List ℕ) (from at : ℕ) (same : addresses_of (drop from line) ≡ addresses_of (drop at line)) where
