@@ -5,6 +5,7 @@
 use crate::line_addresses::byte_kind::is_run_byte;
 use crate::line_addresses::found::{Found, next_address};
 use crate::line_addresses::network::network_in;
+use crate::line_addresses::run::{address_in, run_end};
 
 /// The first network or address of a line from an index on, which is at most the length of the line. A network is told
 /// by the address that is spelled in it, and by where its text stands. The rest of the line from there is looked at as
@@ -12,6 +13,20 @@ use crate::line_addresses::network::network_in;
 pub(crate) fn next_network(line: &[u8], from: usize) -> Option<Found> {
     let mut at = from;
     'stretches: while at < line.len() {
+        if line[at] == b'/' {
+            // No network begins so, and in the rest of its stretch are addresses alone.
+            let run = run_end(line, at + 1);
+            if let Some((address, size)) = address_in(&line[at + 1..run]) {
+                return Some(Found {
+                    address,
+                    start: at + 1,
+                    end: at + 1 + size,
+                    next: run,
+                });
+            }
+            at = run;
+            continue 'stretches;
+        }
         let end = stretch_end(line, at);
         if end == at {
             at += 1;
