@@ -297,6 +297,11 @@ def networks(program, folder):
     output = "".join(f"{text}\n" for text in texts).encode()
     got = subprocess.run([program, "--networks", "-ao", *lists], input=log, capture_output=True, timeout=SECONDS)
     yield "networks, -ao", bool(output) and (got.stdout, got.stderr, got.returncode) == (output, b"", 0), got
+    # The time grows as the line does: if each address of the first were looked for from its beginning, this took minutes.
+    for piece in ("11.1.1.1/", "/11.1.1.1x", "11.1.1.1/33,", "/"):
+        log = 4 * (piece * (1048000 // len(piece)) + " 10.0.0.0/8\n").encode()
+        got = subprocess.run([program, "--networks", "-ac", *lists], input=log, capture_output=True, timeout=SECONDS)
+        yield f"networks, long lines of {piece}", (got.stdout, got.stderr, got.returncode) == (b"4\n", b"", 0), got
 
 
 def families(program, folder):
