@@ -8,7 +8,8 @@ joined by itself. What is printed is that of the whole log (the laws `outputs_of
 The options are those of cidr_join. With --tally the counts of the parts are added up. The workers of the scheduler at
 ADDRESS need the program and the list at the same path; without a scheduler one is started here, with a worker for each
 processor. A part has about BYTES, 64 MB if that is not given. If a line is too long, it is reported with its number in
-its part, nothing behind it is printed, and the status is 2; with --tally nothing is printed then.
+its part; the other parts are joined all the same, and the status is 2. `--bad stop` is refused: a line would end its
+part only. With `--skip-bad` the refused lines of the list are reported for each part.
 """
 
 import collections
@@ -41,7 +42,7 @@ def options(words):
         letters = re.fullmatch("-[aw]*([fkd])(.*)", word, re.S)
         if letters:
             yield "-" + letters[1], letters[2] or next(rest, "")
-        elif word in ("--after", "--group"):
+        elif word in ("--after", "--bad", "--group", "--nth"):
             yield word, next(rest, "")
         elif word == "--" or not re.match("-.", word):
             refuse(f"{word}: the log is standard input")
@@ -54,13 +55,16 @@ def check(words):
     asked = list(options(words))
     if ("-f", "-") in asked:
         refuse("-f -: standard input is the log")
+    if ("--bad", "stop") in asked or ("--bad=stop", "") in asked:
+        refuse("--bad stop: a line would end its part only")
     if subprocess.run([PROGRAM, *words], stdin=subprocess.DEVNULL, stdout=subprocess.DEVNULL).returncode:
         sys.exit(2)
     return ("--tally", "") in asked
 
 
 def parts(log, size):
-    """The log, cut behind line feeds: so many bytes, and the rest of a line."""
+    """The log, cut behind line feeds: so many bytes, and the rest of a line. An empty one is one part."""
+    yield log.read(size) + log.readline()
     while block := log.read(size):
         yield block + log.readline()
 
@@ -97,17 +101,16 @@ def rows(counts):
 
 def join(client, words, size, is_tally):
     """Prints what the program prints of the log, and gives the status."""
-    counts, output = collections.Counter(), sys.stdout.buffer
+    counts, output, whole = collections.Counter(), sys.stdout.buffer, 0
     for status, printed, reported in in_order(client, [str(PROGRAM), *words], sys.stdin.buffer, size):
         sys.stderr.buffer.write(reported)
         if is_tally:
             add(counts, printed)
         else:
             output.write(printed)
-        if status:
-            return 2
+        whole = max(whole, status)
     output.writelines(rows(counts))
-    return 0
+    return whole
 
 
 def main(words):
