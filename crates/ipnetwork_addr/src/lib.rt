@@ -1,6 +1,6 @@
-//! IPv4 and IPv6 addresses: their texts, read and printed, and their numbers.
+//! IPv4 and IPv6 addresses: reading and printing their texts, and their numbers.
 //!
-//! Nothing here allocates. A text is a slice of bytes, of any length and any bytes.
+//! Nothing here allocates. A text is a byte slice of any length and content.
 #![tactic(auto)]
 
 mod canonical;
