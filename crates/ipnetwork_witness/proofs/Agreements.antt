@@ -1,4 +1,4 @@
--- When the answers of two readers agree.
+-- When the results of two readers agree.
 use Rattle.std.proofs.Common.{◌≡◌, ◌↔◌, ℕ, ◌^◌, ◌<◌, Bool, List, bytes_eq, sym, ◌∙◌, subst}
 use Rattle.std.proofs.lemmas.Slice.Eq.{bytes_eq-Decides}
 use Rattle.std.specs.Prelude.{IsTrue, Result, Ok, Err}
@@ -11,7 +11,7 @@ use Rattle.ipnetwork_addr.specs.Reading.{Reads}
 use Rattle.ipnetwork_witness.specs.Agreement.{Agree, SameV4, SameV6}
 use Rattle.ipnetwork_witness.proofs.SameAddresses.{octets_are, same_octets, segments_are, same_segments}
 
--- both readers answer as their grammars say, and the texts of the grammars are the same
+-- both readers return what their grammars say, and the grammars have the same texts
 module _ {A B E F : Type 0} (Names : List ℕ → A → Type 0) (Spells : List ℕ → B → Type 0) (Same : A → B → Type 0)
     (names_one : (text : List ℕ) (a b : A) → Names text a → Names text b → a ≡ b)
     (from_ours : (text : List ℕ) (ours : A) → Names text ours → (theirs : B) × Same ours theirs × Spells text theirs)
