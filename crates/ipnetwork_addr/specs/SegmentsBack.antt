@@ -36,7 +36,7 @@ segments_back xs are =
     sym (ap (λ segments. segments_of (number_of_segments segments)) all) ∙ first_back xs 8
     (le_of_eq (sym are.eight)) are.each ∙ all
 
--- ---- the lowest first
+-- ---- lowest segment first
 
 pub reversed_segments : (xs : List ℕ) → AreSegments xs → AreSegments (reverse xs)
 reversed_segments xs are = record {
