@@ -28,7 +28,7 @@ module _ {A B E F : Type 0} (Names : List ℕ → A → Type 0) (Spells : List �
       absurd (read.1 n named)
   readers_agree error text (Err e) (Err other) read parsed = tt
 
--- ---- comparing octets and groups tells whether two addresses are the same
+-- ---- two addresses are the same if and only if their octets or groups are equal
 
 pub octets_decide : (answer : Bool) (ours : ℕ) (theirs : Ipv4Addr) (xs ys : List ℕ) → ours < 2 ^ 32 → answer ≡ bytes_eq xs ys → xs ≡ octets_of ours → ys ≡ ipv4_octets theirs → IsTrue answer ↔ SameV4 ours theirs
 octets_decide answer ours theirs xs ys fits compared is_ours is_theirs = (

@@ -109,7 +109,7 @@ pub no_text_of_33_bits : ((text : List ℕ) (address : IpAddr) → NamesIp text 
     → (text : List ℕ) → ¬ (NamesIp text (V4 (2 ^ 32)))
 no_text_of_33_bits law text named = let fits = law text (V4 (2 ^ 32)) named in omega (arith, fits)
 
--- ---- what is printed
+-- ---- printing
 
 pub std_prints_v4
     : ((ours : ℕ) (theirs : Ipv4Addr) → SameV4 ours theirs → canonical_v4 ours ≡ ipv4_text (ipv4_octets theirs))
