@@ -17,8 +17,8 @@ use Rattle.ipnetwork.specs.declared.error.WrongFamily.{WrongFamily}
 use Rattle.ipnetwork.specs.declared.ip_network.IpNetwork.{IpNetwork}
 use Rattle.ipnetwork.specs.declared.size.NetworkSize.{NetworkSize}
 
--- each question about a network of either family is answered as in its own family: that is the one with addresses of w
--- bits, and the functions convert its networks, addresses and sizes to those of either family
+-- each question about a network of either family is answered as in its own family; that has addresses of w bits, and
+-- `network`, `address` and `size` convert its networks, addresses and sizes to those of either family
 pub record AsksItsFamily (w : ℕ) (network : Network → IpNetwork) (address : ℕ → IpAddr)
     (size : ℕ → NetworkSize) : Type 0 where
   pub network_fits : (n : Network) → IsIpNetwork (network n) ↔ IsNetwork w n

@@ -196,8 +196,8 @@ impl IpNetwork {
         }
     }
 
-    /// Returns the number of members, in the variant of the network's family. At prefix length 0 it
-    /// is one less than their number.
+    /// Returns the number of members, in the variant of the network's family. At prefix length 0
+    /// the result is one less than that.
     ///
     /// ```
     /// let network: IpNetwork = "192.0.2.77/26".parse()?;

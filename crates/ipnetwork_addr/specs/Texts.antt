@@ -24,7 +24,7 @@ pub data IsAddressByte (byte : ℕ) : Type 0 where
   Dot : byte ≡ dot → IsAddressByte byte
   Colon : byte ≡ colon → IsAddressByte byte
 
--- the first dot or colon of a text is a colon
+-- whether the first dot or colon of a text is a colon
 abbrev pub colon_first : List ℕ → Bool
 colon_first [] = false
 colon_first (byte ∷ text) = if byte == colon then true else (if byte == dot then false else colon_first text)

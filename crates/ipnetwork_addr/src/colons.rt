@@ -26,8 +26,8 @@ pub(crate) fn read_address(text: &[u8]) -> Option<(u64, u64)>
     }
 }
 
-/// Returns the same if it can with all colons located first. `None` means that the text may still
-/// name an address.
+/// Returns the same as `read_address` if it can, after locating all colons. `None` means that the
+/// text may still name an address.
 #[inline(never)]
 fn read_halves_at_once(text: &[u8]) -> Option<(u64, u64)>
     ensures { IfSome result (λ halves. NamesV6 text.now (halves.0 * 2 ^ 64 + halves.1)) }

@@ -29,7 +29,7 @@ pub use ip::IpAddr;
 pub use ipv4::Ipv4Addr;
 pub use ipv6::Ipv6Addr;
 
-/// The length in bytes of the longest canonical text of an address: eight groups of four hex digits.
+/// The length in bytes of the longest canonical address text: eight groups of four hex digits.
 ///
 /// ```
 /// let longest: Ipv6Addr = "ffff:ffff:ffff:ffff:ffff:ffff:ffff:ffff".parse()?;
