@@ -1,4 +1,4 @@
--- What the marks of a vector tell of the bytes under it.
+-- What the marks of a vector say about its bytes.
 use Rattle.std.proofs.Common.{◌≡◌, ◌≢◌, ℕ, ◌+◌, ◌-◌, ◌*◌, ◌/◌, ◌^◌, ◌<◌, ◌≤◌, ◌==◌, zero, suc, Bool, true, false, cond, not, List, [], ◌∷◌, length, take, drop, map, sym, ap, ◌∙◌, arith, inl, inr}
 use Rattle.std.proofs.lemmas.Bool.{eqb-true, eqb-false, cases_lt}
 use Rattle.std.proofs.lemmas.List.{drop-take, drop-drop}
@@ -9,12 +9,12 @@ use Rattle.byte_search.specs.Bytes.{IsAbsent, IsNext}
 use lib.Lanes.{mask_l}
 use lib.Count.{count_trailing_zeros}
 
--- a first bit is shifted out
+-- halving the marks drops the first bit
 shifted_out : (bit : Bool) (marks : ℕ) → (cond bit 1 0 + 2 * marks) / 2 ≡ marks
 shifted_out true marks = omega arith
 shifted_out false marks = omega arith
 
--- marks that are shifted down are those of the elements that are left
+-- dividing the marks by 2^count gives those of the elements after the first `count`
 shifted : (p : ℕ → Bool) (count : ℕ) (xs : List ℕ) → mask_l (map p xs) / 2 ^ count ≡ mask_l (map p (drop count xs))
 shifted p zero xs = omega arith
 shifted p (suc count) [] = omega arith
@@ -23,7 +23,7 @@ shifted p (suc count) (x ∷ xs) =
     ap (λ n. marks / n) (pow-suc 2 count ∙ mul_comm (2 ^ count) 2) ∙ sym (div-div-eq-div-mul marks 2 (2 ^ count))
     ∙ ap (λ n. n / 2 ^ count) (shifted_out (p x) (mask_l (map p xs))) ∙ shifted p count xs
 
--- where there is a mark, an element passes
+-- if there is a mark, some element passes the test
 one_passes : (p : ℕ → Bool) (xs : List ℕ) → 0 < mask_l (map p xs) → prefix_len (λ x. not (p x)) xs < length xs
 one_passes p [] marked = absurd (omega arith)
 one_passes p (x ∷ xs) marked = first (p x) marked (one_passes p xs)
@@ -32,14 +32,14 @@ one_passes p (x ∷ xs) marked = first (p x) marked (one_passes p xs)
     first true some later = omega arith
     first false some later = let below = later (omega arith) in omega arith
 
--- none up to a position, and none from there on
+-- a byte that occurs neither before nor after a position does not occur at all
 pub further : (byte : ℕ) (text : List ℕ) (from middle end : ℕ) → IsAbsent byte text from middle → IsAbsent byte text middle end → IsAbsent byte text from end
 further byte text from middle end before after position low high = elim (cases_lt position middle) [
   | inl left ↦ before position low left
   | inr right ↦ after position right high
 ]
 
--- The marks of the bytes of a text at these positions, of which there are as many as a number has bits, or fewer.
+-- The marks of the bytes of a text from `at` on, at most as many as a number has bits.
 module _ (byte : ℕ) (text : List ℕ) (at count marks : ℕ) (within : at + count ≤ length text) (few : count ≤ 64)
     (marked : marks ≡ mask_l (map (λ x. x == byte) (take count (drop at text)))) where
   pub unmarked : marks ≡ 0 → IsAbsent byte text at (at + count)
@@ -61,7 +61,7 @@ module _ (byte : ℕ) (text : List ℕ) (at count marks : ℕ) (within : at + co
         there = eqb-true _ _ (run_in_chunk_stops (λ x. x == byte) text at count (count_trailing_zeros 64 marks) 0 within before below);
       }
 
--- the marks of a vector that begins before a position, less those of the bytes before it
+-- the marks of a vector that begins before a position, without those of the bytes before the position
 pub left_of : (byte : ℕ) (text : List ℕ) (last at lanes marks : ℕ) → last ≤ at → at ≤ last + lanes
     → marks ≡ mask_l (map (λ x. x == byte) (take lanes (drop last text)))
     → marks / 2 ^ (at - last) ≡ mask_l (map (λ x. x == byte) (take (last + lanes - at) (drop at text)))
@@ -74,7 +74,7 @@ left_of byte text last at lanes marks low high marked =
     (ap (λ n. drop passed (take n (drop last text))) all ∙ drop-take passed (last + lanes - at) (drop last text)
     ∙ ap (take (last + lanes - at)) (drop-drop passed last text ∙ ap (λ n. drop n text) on))
 
--- the next one after bytes among which there is none
+-- the next position from `from` on, if the byte does not occur before `middle`
 pub onward : (byte : ℕ) (text : List ℕ) (from middle at : ℕ) → from ≤ middle → IsAbsent byte text from middle → IsNext byte text middle at → IsNext byte text from at
 onward byte text from middle at low none h = record {
   behind = omega (arith, h.behind);

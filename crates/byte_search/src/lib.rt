@@ -9,8 +9,8 @@ ghost use Rattle.byte_search.specs.Bytes.{IsAbsent, IsNext};
 
 use std::simd::prelude::*;
 
-/// The index of the first byte equal to `byte` at or after the index `from`, or `None`. `from` must be at
-/// most the length of the text.
+/// Returns the index of the first byte equal to `byte` at or after the index `from`, or `None` if
+/// there is none. `from` must be at most the length of the text.
 ///
 /// ```
 /// let next_dot = find_from(b"10.0.0.0/8", 3, b'.');
@@ -31,8 +31,9 @@ pub fn find_from(text: &[u8], from: usize, byte: u8) -> Option<usize>
     }
 }
 
-/// `find_from` for a byte that is likely to stand some way behind `from`, as a line feed does: 32
-/// bytes are compared at once, and then 64, so that seldom a branch depends on where it stands.
+/// Returns what `find_from` returns, for a byte that is likely to be far after `from`, such as a
+/// line feed. Compares 32 bytes at once and then 64 at a time, so that few branches depend on its
+/// position.
 ///
 /// ```
 /// let feed = find_far(b"10.0.0.0/8\n::/0", 3, b'\n');
@@ -60,8 +61,7 @@ pub fn find_far(text: &[u8], from: usize, byte: u8) -> Option<usize>
     find_from(text, at, byte)
 }
 
-/// The index of the first of the `N` bytes from the index `at` on that is equal to `byte`, or
-/// `None`.
+/// Returns the index of the first of the `N` bytes from `at` on that equals `byte`, or `None`.
 #[inline(always)]
 fn find_within<const N: usize>(text: &[u8], at: usize, byte: u8) -> Option<usize>
     requires few { N ≤ 64 }
@@ -75,8 +75,8 @@ fn find_within<const N: usize>(text: &[u8], at: usize, byte: u8) -> Option<usize
     Some(at + lanes.trailing_zeros() as usize)
 }
 
-/// `find_from` for a text of at least `N` bytes, in vectors of `N` bytes. The last vector ends at the end of the text,
-/// and may overlap the one before.
+/// Returns what `find_from` returns, for a text of at least `N` bytes, in vectors of `N` bytes. The
+/// last vector ends at the end of the text and may overlap the previous one.
 #[inline(always)]
 fn find_by<const N: usize>(text: &[u8], from: usize, byte: u8) -> Option<usize>
     requires some { 0 < N }
@@ -102,7 +102,7 @@ fn find_by<const N: usize>(text: &[u8], from: usize, byte: u8) -> Option<usize>
     Some(at + marks.trailing_zeros() as usize)
 }
 
-/// A bit for each of the `N` bytes from an index on, set if the byte has this value.
+/// Returns a bit for each of the `N` bytes from `at` on, which is set if the byte has this value.
 #[inline(always)]
 fn marks_of<const N: usize>(text: &[u8], at: usize, byte: u8) -> u64
     requires few { N ≤ 64 }
@@ -113,7 +113,7 @@ fn marks_of<const N: usize>(text: &[u8], at: usize, byte: u8) -> u64
     bytes.simd_eq(Simd::splat(byte)).to_bitmask()
 }
 
-/// `find_from`, a byte at a time.
+/// Returns what `find_from` returns, byte by byte.
 fn find_one_by_one(text: &[u8], from: usize, byte: u8) -> Option<usize>
     requires { from ≤ length text.now }
     ensures { MatchOption result (IsAbsent byte text.now from (length text.now))

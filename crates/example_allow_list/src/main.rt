@@ -1,4 +1,4 @@
-//! An allow list: which of its networks contain a client's address, and what is wrong with the others.
+//! An allow list: which networks contain a client's address, and which entries are invalid.
 #![tactic(auto)]
 
 use ipnetwork::{CidrFault, Ipv4Addr, Ipv4Network};

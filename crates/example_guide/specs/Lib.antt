@@ -1,2 +1,2 @@
--- What the contracts of this crate cite.
+-- Definitions for the contracts of this crate.
 pub mod Pools

@@ -1,4 +1,4 @@
-//! An address pool: blocks are taken out of a network, and given back.
+//! An address pool: blocks are taken from a network and given back.
 
 ghost use Rattle.std.specs.Prelude.{◌≡◌, ℕ, IfOk, OnErr, MatchBool, MatchOption};
 ghost use Rattle.ipnetwork_blocks.specs.Aggregate.{InUnion, LiesInUnion};
@@ -12,14 +12,14 @@ use std::alloc::{AllocError, Global};
 use std::io;
 use std::marker::Model;
 
-/// A network, and the addresses that are taken out of it.
+/// A network, and which of its addresses are taken.
 #[derive(Drop)]
 struct AddressPool {
     network: Ipv4Network,
     taken: AddressSet<Ipv4Network>,
 }
 
-// A contract sees the network and the blocks of what is taken: addresses of the network.
+// In contracts, a pool is its network and blocks with the taken addresses, all in the network.
 impl Model for AddressPool {
     ghost use Rattle.std.specs.Prelude.{ℕ};
     ghost use Rattle.ipnetwork_family.specs.Network.{Member};
@@ -34,7 +34,7 @@ impl Model for AddressPool {
 }
 
 impl AddressPool {
-    /// The pool of this network, nothing of which is taken.
+    /// Creates a pool of this network, with no address taken.
     fn new(alloc: Global, network: Ipv4Network) -> Self
         ensures network { result.network ≡ network }
         ensures free { (x : ℕ) → ¬ (InUnion 32 result.taken x) }
@@ -47,7 +47,7 @@ impl AddressPool {
         }
     }
 
-    /// Takes the first free block of this prefix length; `None` if there is none.
+    /// Takes the first free block of this prefix length; returns `None` if there is none.
     fn take(&mut self, prefix: u8) -> Result<Option<Ipv4Network>, AllocError>
         ensures taken { IfOk result (λ found. MatchOption found
             (NoBlockIsFree 32 self.old.network self.old.taken prefix × (self.new ≡ self.old))
@@ -62,7 +62,7 @@ impl AddressPool {
         Ok(Some(block))
     }
 
-    /// Gives a network back, if all of its addresses are taken; `false` if not: it is not from the pool.
+    /// Gives a network back if all its addresses are taken; otherwise returns `false`.
     fn give_back(&mut self, network: Ipv4Network) -> Result<bool, AllocError>
         ensures given { IfOk result (λ given. MatchBool given (GivesBack self.old network self.new)
             (¬ (LiesInUnion 32 network self.old.taken) × (self.new ≡ self.old))) }

@@ -1,4 +1,4 @@
-//! Which addresses are admitted: those of an allow list that are in no deny list.
+//! Which addresses are admitted: those in an allow list and not in a deny list.
 
 use ipnetwork::{Ipv4Addr, Ipv4Network};
 use ipnetwork_sets::AddressSet;

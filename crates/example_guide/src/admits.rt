@@ -6,7 +6,7 @@ ghost use Rattle.ipnetwork_family.specs.Network.{Member};
 use ipnetwork::{CidrNetwork, Ipv4Addr, Ipv4Network, Ipv6Addr, Ipv6Network};
 use std::io;
 
-/// Whether one of these networks contains the address.
+/// Returns whether one of these networks contains the address.
 fn admits<N: CidrNetwork>(allowed: &[N], client: N::Addr) -> bool
     ensures { IsTrue result ↔ Any (λ n. Member N.WIDTH (N.pair n) (N.number client)) allowed.now }
 {

@@ -1,4 +1,4 @@
-//! Networks in a JSON list: each is read, and written again in its canonical text.
+//! Networks in a JSON list: each is read and written back as its canonical text.
 
 use ipnetwork::{IpNetwork, JsonFault};
 use serde_json::Value;

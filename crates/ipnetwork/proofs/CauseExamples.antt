@@ -1,4 +1,4 @@
--- Causes at which a misreading of the definitions would show: a text has no two of them.
+-- Causes at which a misreading of the definitions would show: a text does not have two causes.
 use Rattle.std.proofs.Common.{◌↔◌, ℕ, List, None, Some, arith}
 use Rattle.std.specs.Prelude.{codes}
 use Rattle.ipnetwork_addr.specs.Either.{NamesIp}
@@ -23,7 +23,7 @@ pub several_slashes_are_not_prefix : (text : List ℕ) → HasSeveralSlashes tex
     → ¬ (IsIpCause text Prefix)
 several_slashes_are_not_prefix text several (few, some) = omega (arith, several, few)
 
--- an address of either family is enough
+-- an address of either family suffices
 pub address_is_not_addr : (text : List ℕ) (a : IpAddr) → NamesIp (before_slash text) a
     → ¬ (IsIpCause text Addr)
 address_is_not_addr text a named (few, none) = none a named
@@ -32,20 +32,20 @@ pub no_address_is_not_prefix : (text : List ℕ) → ((a : IpAddr) → ¬ (Names
     → ¬ (IsIpCause text Prefix)
 no_address_is_not_prefix text none (few, (a, named, refused)) = none a named
 
--- the suffix that is refused is one of the family of the address
+-- the refused suffix is of the family of the address
 pub suffix_is_of_the_family : (text : List ℕ)
     → ((a : IpAddr) → NamesIp (before_slash text) a → ¬ (HasNoSuffix (IsIpSuffix a) text))
     → ¬ (IsIpCause text Prefix)
 suffix_is_of_the_family text given (few, (a, named, refused)) = given a named refused
 
--- and each family has its own: IPv4 also masks
+-- each family has its own suffixes: IPv4 also has masks
 pub suffix_of_v4 : (a p : ℕ) (text : List ℕ) → IsIpSuffix (V4 a) text p ↔ IsV4Suffix text p
 suffix_of_v4 a p text = ((λ h. h), (λ h. h))
 
 pub suffix_of_v6 : (a p : ℕ) (text : List ℕ) → IsIpSuffix (V6 a) text p ↔ IsV6Suffix text p
 suffix_of_v6 a p text = ((λ h. h), (λ h. h))
 
--- nothing is told of the texts that name a network, and of no others
+-- there is no cause if the text names a network, and only then
 pub nothing_is_told : (text : List ℕ) → TellsIpCause text None
     → (n : IpNetwork) × NamesIpNetwork text n
 nothing_is_told text named = named

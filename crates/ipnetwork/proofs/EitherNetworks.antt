@@ -21,7 +21,7 @@ use Rattle.ipnetwork.proofs.Families.{names_none}
 use Rattle.ipnetwork.specs.IpNetworkText.{NamesIpNetwork, ReadsIpNetwork, ip_network_text}
 use Rattle.ipnetwork.specs.Computed.IpNetworkText.{either_network_of, ip_network_of}
 
--- the address of a network that was computed stands before the slash
+-- the address of a computed network comes from the text before the slash
 from_address : (address prefix : Option ℕ) (n : Network) → network_from address prefix ≡ Ok n → address ≡ Some n.address
 from_address None prefix n e = cc
 from_address (Some a) None n e = cc
@@ -37,7 +37,7 @@ address_before_slash w address_of length_of text n =
     (λ two e. cc)
     (λ few e. from_address _ _ n e)
 
--- what the laws of the families say of their texts
+-- what the laws of the families say about their texts
 pub record FamilyTexts : Type 0 where
   pub v4_address : (text : List ℕ) (address : ℕ) → NamesV4 text address ↔ (v4_of text ≡ Some address)
   pub v6_address : (text : List ℕ) (address : ℕ) → NamesV6 text address ↔ (v6_of text ≡ Some address)
@@ -45,7 +45,7 @@ pub record FamilyTexts : Type 0 where
   pub v4_reading : (text : List ℕ) (result : Result Network CidrFault) → ReadsV4Network text result ↔ (result ≡ v4_network_of text)
   pub v6_reading : (text : List ℕ) (result : Result Network CidrFault) → ReadsV6Network text result ↔ (result ≡ v6_network_of text)
 
--- no text names networks of both families, since no text before the slash is an address of both
+-- no text names networks of both families, since the text before the slash names no address of both
 not_both : FamilyTexts → (text : List ℕ) (a b : Network) → NamesV4Network text a → NamesV6Network text b → ⊥
 not_both f text a b h k =
     let front = before_slash text in
@@ -65,13 +65,13 @@ names_one f text (V4 a) (V6 b) h k = absurd (not_both f text a b h k)
 names_one f text (V6 a) (V4 b) h k = absurd (not_both f text b a k h)
 names_one f text (V6 a) (V6 b) h k = ap V6 (same_v6 f text a b h k)
 
--- the computed answer is an answer
+-- the computed result is a result of reading
 read_either : (text : List ℕ) (v4 v6 : Result Network CidrFault) → ReadsV4Network text v4 → ReadsV6Network text v6 → ReadsIpNetwork text (either_network_of v4 v6)
 read_either text (Ok n) v6 h k = h
 read_either text (Err fault) (Ok n) h k = k
 read_either text (Err fault) (Err other) h k = (refl, names_none text h.1 k.1)
 
--- and there is one
+-- there is only one result of reading
 one_answer : (text : List ℕ) → ((a b : IpNetwork) → NamesIpNetwork text a → NamesIpNetwork text b → a ≡ b) → (r s : Result IpNetwork CidrFault) → ReadsIpNetwork text r → ReadsIpNetwork text s → r ≡ s
 one_answer text one (Ok a) (Ok b) h k = ap Ok (one a b h k)
 one_answer text one (Ok a) (Err d) h k = absurd (k.1 a h)

@@ -1,4 +1,4 @@
--- Values at which a misreading of the definitions would show. What these say is computed.
+-- Values at which a misreading of the definitions would show. All of these are proved by computing.
 use Rattle.std.proofs.Common.{◌≡◌, [], ◌∷◌, Ok, Err, inl, refl, arith}
 use Rattle.std.specs.Prelude.{codes}
 use Rattle.std.specs.Fmt.{digits}
@@ -60,7 +60,7 @@ small_v6_size_does_not_fit = refl
 pub host_of_an_address : made_of (addresses.V4 7) (width_of (addresses.V4 7)) ≡ V4 (record { address = 7; prefix = 32 })
 host_of_an_address = refl
 
--- 255.255.0.0 is a mask as an IPv4 address, and its number is none as an IPv6 address
+-- 255.255.0.0 is a mask as an IPv4 address, but its number is not one as an IPv6 address
 pub mask_of_16 : IsIpMask (addresses.V4 4294901760) 16
 mask_of_16 = (omega arith, refl)
 
@@ -81,7 +81,7 @@ pub v6_text : ip_network_of (codes "::1") ≡ Ok (V6 (record { address = 1; pref
 unfolding digits v6_of gap_below
 v6_text = refl
 
--- the cause in a family is not told
+-- the cause within a family is not reported
 pub prefix_past_the_width : ip_network_of (codes "10.0.0.0/99") ≡ Err Addr
 unfolding digits v6_of gap_below
 prefix_past_the_width = refl
@@ -90,7 +90,7 @@ pub two_slashes : ip_network_of (codes "::1/24/") ≡ Err Addr
 unfolding digits v6_of gap_below
 two_slashes = refl
 
--- ---- 2001:db8::3/126, a network with host bits, whose set begins at 2001:db8::
+-- ---- 2001:db8::3/126, a network with host bits; its least member is 2001:db8::
 
 abbrev pub four : Network
 four = record { address = 42540766411282592856903984951653826563; prefix = 126 }
@@ -104,7 +104,7 @@ and_not_in_the_least_member = refl
 pub greatest_member : ip_high (V6 (record { address = 42540766411282592856903984951653826561; prefix = 126 })) ≡ addresses.V6 42540766411282592856903984951653826563
 greatest_member = refl
 
--- ffff:ffff:ffff::, the mask of 48
+-- ffff:ffff:ffff::, the mask of prefix length 48
 pub mask_of_48 : ip_mask_of (V6 (record { address = 1; prefix = 48 })) ≡ addresses.V6 340282366920937254537554992802593505280
 mask_of_48 = refl
 
@@ -123,7 +123,7 @@ pub v6_is_printed : ip_network_text (V6 (record { address = 1; prefix = 64 })) �
 unfolding digits
 v6_is_printed = refl
 
--- ---- what is made
+-- ---- making networks
 
 pub greatest_prefix_is_made : Makes (addresses.V6 1) 128 (Ok (V6 (record { address = 1; prefix = 128 })))
 greatest_prefix_is_made = (refl, omega arith)
@@ -134,15 +134,15 @@ one_more_is_refused = (refl, omega arith)
 pub a_prefix_is_not_refused : ¬ (Makes (addresses.V4 1) 32 (Err errors.InvalidPrefix))
 a_prefix_is_not_refused h = omega (arith, h.1)
 
--- 10.0.0.1 with ffff:ff00:: is 10.0.0.1/24: the mask of one family gives a prefix length of the other
+-- 10.0.0.1 with ffff:ff00:: is 10.0.0.1/24: a mask of one family gives a prefix length for the other
 pub mask_of_the_other_family : MakesWithMask (addresses.V4 167772161) (addresses.V6 340282346638528859811704183484516925440) (Ok (V4 (record { address = 167772161; prefix = 24 })))
 mask_of_the_other_family = (refl, omega arith, (omega arith, refl))
 
--- and 255.255.0.0 with ::1 is ::1/16
+-- ::1 with 255.255.0.0 is ::1/16
 pub mask_of_v4_for_v6 : MakesWithMask (addresses.V6 1) (addresses.V4 4294901760) (Ok (V6 (record { address = 1; prefix = 16 })))
 mask_of_v4_for_v6 = (refl, omega arith, (omega arith, refl))
 
--- ffff:ffff:8000::, the mask of 33, gives IPv4 no prefix length
+-- ffff:ffff:8000::, the mask of prefix length 33, gives no prefix length for IPv4
 pub mask_past_the_width : ¬ (MakesWithMask (addresses.V4 1) (addresses.V6 340282366881324382206242438634996236288) (Ok (V4 (record { address = 1; prefix = 33 }))))
 mask_past_the_width h = omega (arith, h.1)
 
@@ -169,7 +169,7 @@ each_v4_comes_first a b = (tt, tt)
 pub no_v6_comes_first : (a b : Network) → ¬ (IsIpBefore (V6 a) (V4 b)) × ¬ (IsIpAtMost (V6 a) (V4 b)) × (ip_network_cmp (V6 a) (V4 b) ≡ Greater)
 no_v6_comes_first a b = ((λ h. h), (λ h. h), refl)
 
--- the family as eight bytes, the address as 4 or 16, the prefix length as one
+-- the family is fed as eight bytes, the address as 4 or 16, and the prefix length as one
 pub v4_is_fed : ip_network_writes (V4 (record { address = 258; prefix = 24 })) ≡ (0 ∷ 0 ∷ 0 ∷ 0 ∷ 0 ∷ 0 ∷ 0 ∷ 0 ∷ []) ∷ (2 ∷ 1 ∷ 0 ∷ 0 ∷ []) ∷ (24 ∷ []) ∷ []
 unfolding le_bytes
 v4_is_fed = refl

@@ -1,4 +1,4 @@
--- Each question of a network of either family is the question of its own family.
+-- Each question about a network of either family is answered as in its own family.
 use Rattle.std.proofs.Common.{◌≡◌, ◌↔◌, ℕ, Result, Ok, Err, refl}
 use Rattle.ipnetwork_addr.specs.Ipv4Text.{canonical_v4}
 use Rattle.ipnetwork_addr.specs.Computed.Ipv6Canonical.{canonical_v6}
@@ -54,7 +54,7 @@ v6_asks = record {
   compare = λ a b. refl;
 }
 
--- ---- what is made, and masks
+-- ---- making networks, and masks
 
 v4_converts : (mask : ℕ) (result : Result ℕ IpNetworkError) → GivesMaskPrefix (addresses.V4 mask) result ↔ GivesPrefixOfMask 32 mask result
 v4_converts mask (Ok p) = same

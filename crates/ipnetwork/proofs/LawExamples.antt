@@ -1,5 +1,5 @@
--- What the laws let one conclude, where a weaker law would not: of any network, also one whose address or prefix length is
--- past the width.
+-- What follows from the laws, and would not follow from weaker ones, for any network, even if its address or prefix
+-- length exceeds the width.
 use Rattle.std.proofs.Common.{◌≡◌, ◌↔◌, ℕ, ◌<◌, ◌≤◌, List, refl, arith, Ok, Err, Result}
 use Rattle.std.specs.Prelude.{Contains, map, IsErr, MatchResult}
 use Rattle.std.specs.List.{AllPairs}
@@ -20,7 +20,7 @@ use Rattle.ipnetwork.specs.declared.ip_network.IpNetwork.TheVariants.{V4, V6}
 use Rattle.ipnetwork.specs.declared.size.NetworkSize.{NetworkSize}
 
 module _ (w : ℕ) (network other : Network → IpNetwork) (address : ℕ → IpAddr) (size : ℕ → NetworkSize) (n m : Network) where
-  -- what stands in a network
+  -- the properties of a network
   pub asks : AsksItsFamily w network address size
       → (IsIpNetwork (network n) ↔ IsNetwork w n) × (address_of (network n) ≡ address n.address) × (prefix_of (network n) ≡ n.prefix)
       × (ip_mask_of (network n) ≡ address (mask_of w n.prefix)) × (ip_low (network n) ≡ address (low w n)) × (ip_high (network n) ≡ address (high w n))
@@ -28,7 +28,7 @@ module _ (w : ℕ) (network other : Network → IpNetwork) (address : ℕ → Ip
   asks law =
       (law.network_fits n, law.its_address n, law.its_prefix n, law.its_mask n, law.its_low n, law.its_high n, law.its_size n, law.its_members n)
 
-  -- and how two compare
+  -- how two networks compare
   pub compares : AsksItsFamily w network address size
       → ((x : ℕ) → IpMember (network n) (address x) ↔ Member w n x) × (IpSubnet (network n) (network m) ↔ Subnet w n m)
       × (IpOverlap (network n) (network m) ↔ Overlap w n m) × (IsIpBefore (network n) (network m) ↔ IsNetworkBefore n m)
@@ -52,11 +52,11 @@ module _ (w : ℕ) (network other : Network → IpNetwork) (address : ℕ → Ip
       × ((result : Result Network WrongFamily) → Takes (other n) result ↔ IsErr result)
   takes Is Takes law = (law.is_own n, law.is_no_other n, law.takes_own n, law.takes_no_other n)
 
--- networks of two families
+-- networks of different families
 pub apart : (a b : IpNetwork) → AreApart a b → ¬ (IpSubnet a b) × ¬ (IpSubnet b a) × ¬ (IpOverlap a b)
 apart a b law = (law.not_inside, law.not_around, law.no_overlap)
 
--- ---- masks of the other family: ffff:ff00:: and, of 33, ffff:ffff:8000:: for IPv4; 255.0.255.0, which is none, for IPv6
+-- ---- masks of the other family: for IPv4 ffff:ff00:: and ffff:ffff:8000:: of length 33; for IPv6 255.0.255.0, no mask
 
 pub masked : MaskedIsMade → (result : Result IpNetwork IpNetworkError)
     → MakesWithMask (addresses.V4 167772161) (addresses.V6 340282346638528859811704183484516925440) result ↔ Makes (addresses.V4 167772161) 24 result
@@ -70,7 +70,7 @@ pub no_mask : NoMaskIsRefused → ((p : ℕ) → ¬ (IsIpMask (addresses.V4 4278
     → MakesWithMask (addresses.V6 1) (addresses.V4 4278255360) result ↔ (result ≡ Err InvalidPrefix)
 no_mask law none result = law (addresses.V6 1) (addresses.V4 4278255360) result none
 
--- ---- members: of 0.0.0.7/30 the four from 0.0.0.4 on, and no address of the other family
+-- ---- members: those of 0.0.0.7/30 are the four from 0.0.0.4 on, with no address of the other family
 
 abbrev pub four : Network
 four = record { address = 7; prefix = 30 }

@@ -1,4 +1,4 @@
--- The list of a network of either family has the members of its set and no others, and it ascends.
+-- The list of members of a network of either family contains exactly the addresses of its set, in ascending order.
 use Rattle.std.proofs.Common.{◌≡◌, ℕ, suc, zero, ◌<◌, List, [], ◌∷◌, length, get_or, ap, sym, subst, arith}
 use Rattle.std.specs.Prelude.{map, Contains}
 use Rattle.std.specs.List.{AllPairs}
@@ -12,14 +12,14 @@ use Rattle.ipnetwork_family.specs.Laws.{MembersLaw}
 use Rattle.ipnetwork.specs.declared.ip_network.IpNetwork.TheVariants.{V4, V6}
 use Rattle.ipnetwork.specs.Laws.{IpMembersAreListed, IpMembersAscend}
 
--- the images of a list's elements are the elements of the list of images
+-- the images of a list's elements are elements of the mapped list
 pub image_listed : {A B : Type 0} (f : A → B) (x : A) (xs : List A) → Contains xs x → Contains (map f xs) (f x)
 image_listed f x [] (k, below, at) = absurd (omega arith)
 image_listed f x (y ∷ ys) (zero, below, at) = (0, omega arith, ap f at)
 image_listed f x (y ∷ ys) (suc k, below, at) =
     let (j, within, is) = image_listed f x ys (k, omega arith, at) in (suc j, omega arith, is)
 
--- and where different elements have different images, no others
+-- if different elements have different images, only elements of the list have their images in the mapped list
 listed_back : {A B : Type 0} (f : A → B) → ((x y : A) → f x ≡ f y → x ≡ y) → (x : A) (xs : List A) → Contains (map f xs) (f x) → Contains xs x
 listed_back f one x [] (k, below, at) = absurd (omega arith)
 listed_back f one x (y ∷ ys) (zero, below, at) = (0, omega arith, one y x at)
@@ -31,7 +31,7 @@ none_listed f z none [] (k, below, at) = omega arith
 none_listed f z none (y ∷ ys) (zero, below, at) = none y at
 none_listed f z none (y ∷ ys) (suc k, below, at) = none_listed f z none ys (k, omega arith, at)
 
--- so the list is the set
+-- the list contains exactly the members
 pub listed_members : MembersLaw → IpMembersAreListed
 listed_members law (V4 n) (addresses.V4 x) h =
     ((λ c. (law 32 n h).each x (listed_back addresses.V4 (λ y z e. cc) x (members 32 n) c)), (λ m. image_listed addresses.V4 x (members 32 n) ((law 32 n h).all x m)))
@@ -40,7 +40,7 @@ listed_members law (V6 n) (addresses.V4 x) h = ((λ c. none_listed addresses.V6 
 listed_members law (V6 n) (addresses.V6 x) h =
     ((λ c. (law 128 n h).each x (listed_back addresses.V6 (λ y z e. cc) x (members 128 n) c)), (λ m. image_listed addresses.V6 x (members 128 n) ((law 128 n h).all x m)))
 
--- numbers that ascend are addresses that do
+-- if numbers ascend, so do their addresses
 images_ascend : (address : ℕ → IpAddr) (xs : List ℕ) → ((x y : ℕ) → x < y → IsAddrBefore (address x) (address y)) → AllPairs (λ x y. x < y) xs
     → AllPairs IsAddrBefore (map address xs)
 images_ascend address xs before pairs i j d l m =

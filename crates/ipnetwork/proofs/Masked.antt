@@ -1,4 +1,4 @@
--- Networks that are made with a mask of either family.
+-- Networks made with a mask of either family.
 use Rattle.std.proofs.Common.{◌≡◌, ℕ, ◌<◌, ◌≤◌, Ok, Err, refl, sym, ap, subst, ◌∙◌}
 use Rattle.ipnetwork_addr.specs.declared.ip.IpAddr.{IpAddr}
 use Rattle.ipnetwork_addr.specs.declared.ip.IpAddr.TheVariants as addresses
@@ -11,7 +11,7 @@ prefix_of_made : (ip : IpAddr) (p : ℕ) → prefix_of (made_of ip p) ≡ p
 prefix_of_made (addresses.V4 a) p = refl
 prefix_of_made (addresses.V6 a) p = refl
 
--- no address is the mask of two prefix lengths
+-- no address is the mask of two different prefix lengths
 one_mask : MasksDiffer → (mask : IpAddr) (p q : ℕ) → IsIpMask mask p → IsIpMask mask q → p ≡ q
 one_mask law (addresses.V4 m) p q h k = law 32 p q h.0 k.0 (sym h.1 ∙ k.1)
 one_mask law (addresses.V6 m) p q h k = law 128 p q h.0 k.0 (sym h.1 ∙ k.1)

@@ -1,3 +1,3 @@
--- Functions that compute what relations of the folder above say. The laws say that the two agree.
+-- Functions that compute what the relations in the folder above define. The laws state that the two agree.
 pub mod IpNetworks
 pub mod IpNetworkText

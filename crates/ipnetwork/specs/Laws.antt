@@ -17,8 +17,8 @@ use Rattle.ipnetwork.specs.declared.error.WrongFamily.{WrongFamily}
 use Rattle.ipnetwork.specs.declared.ip_network.IpNetwork.{IpNetwork}
 use Rattle.ipnetwork.specs.declared.size.NetworkSize.{NetworkSize}
 
--- of a family whose addresses have w bits, and whose networks, addresses and sizes stand among those of either family
--- as these functions say: each question of a network of either family is the question of its own family
+-- each question about a network of either family is answered as in its own family; that has addresses of w bits, and
+-- `network`, `address` and `size` convert its networks, addresses and sizes to those of either family
 pub record AsksItsFamily (w : ℕ) (network : Network → IpNetwork) (address : ℕ → IpAddr)
     (size : ℕ → NetworkSize) : Type 0 where
   pub network_fits : (n : Network) → IsIpNetwork (network n) ↔ IsNetwork w n
@@ -36,7 +36,7 @@ pub record AsksItsFamily (w : ℕ) (network : Network → IpNetwork) (address : 
   pub at_most : (a b : Network) → IsIpAtMost (network a) (network b) ↔ IsNetworkAtMost a b
   pub compare : (a b : Network) → ip_network_cmp (network a) (network b) ≡ network_cmp a b
 
--- and each call that makes a network or converts a mask is that of the family
+-- each call that makes a network or converts a mask does what that of the address's own family does
 pub record MakesInItsFamily (w : ℕ) (network : Network → IpNetwork) (address : ℕ → IpAddr) : Type 0 where
   pub width : (a : ℕ) → width_of (address a) ≡ w
   pub made : (a p : ℕ) → made_of (address a) p ≡ network (record { address = a; prefix = p })
@@ -47,24 +47,24 @@ pub record MakesInItsFamily (w : ℕ) (network : Network → IpNetwork) (address
   pub converts : (mask : ℕ) (result : Result ℕ IpNetworkError)
       → GivesMaskPrefix (address mask) result ↔ GivesPrefixOfMask w mask result
 
--- and its texts are those of the family: these texts name its networks, and its addresses are printed so
+-- the texts of a network are those of its own family: `Names` says which name it, and `canonical` prints its address
 pub record ReadsInItsFamily (network : Network → IpNetwork) (Names : List ℕ → Network → Type 0)
     (canonical : ℕ → List ℕ) : Type 0 where
   pub names : (text : List ℕ) (n : Network) → NamesIpNetwork text (network n) ↔ Names text n
   pub printed : (n : Network) → ip_network_text (network n) ≡ network_text canonical n
 
--- making a network with a mask is making it with the prefix length that the conversion of the mask gives,
+-- making a network with a mask is making it with the mask's prefix length
 abbrev pub MaskedIsMade : Type 0
 MaskedIsMade = (ip mask : IpAddr) (p : ℕ) (result : Result IpNetwork IpNetworkError) → IsIpMask mask p
     → MakesWithMask ip mask result ↔ Makes ip p result
 
--- and it is refused if the address is not a mask
+-- making a network with an address that is not a mask is refused
 abbrev pub NoMaskIsRefused : Type 0
 NoMaskIsRefused = (ip mask : IpAddr) (result : Result IpNetwork IpNetworkError) → ((p : ℕ) → ¬ (IsIpMask mask p))
     → MakesWithMask ip mask result ↔ (result ≡ Err InvalidPrefix)
 
--- what converts to a network of one family is a network of that family, and converts to itself: of networks that stand
--- among those of either family as `own` says, and those of the other family as `other` says
+-- a network converts to a network of its own family, and the result is the network itself; it does not convert to the
+-- other family. `own` and `other` convert the networks of the two families to those of either family
 pub record TakesItsFamily (own other : Network → IpNetwork) (Is : IpNetwork → Type 0)
     (Takes : IpNetwork → Result Network WrongFamily → Type 0) : Type 0 where
   pub is_own : (n : Network) → Is (own n)
@@ -72,10 +72,10 @@ pub record TakesItsFamily (own other : Network → IpNetwork) (Is : IpNetwork �
   pub takes_own : (n : Network) (result : Result Network WrongFamily) → Takes (own n) result ↔ (result ≡ Ok n)
   pub takes_no_other : (n : Network) (result : Result Network WrongFamily) → Takes (other n) result ↔ IsErr result
 
--- the list of the members has each address of the set and no other,
+-- the list of members contains exactly the addresses of the set
 abbrev pub IpMembersAreListed : Type 0
 IpMembersAreListed = (n : IpNetwork) (x : IpAddr) → IsIpNetwork n → Contains (ip_members n) x ↔ IpMember n x
 
--- and each is before the next, so it has each once
+-- the list of members is in ascending order, with each member once
 abbrev pub IpMembersAscend : Type 0
 IpMembersAscend = (n : IpNetwork) → IsIpNetwork n → AllPairs IsAddrBefore (ip_members n)

@@ -1,3 +1,3 @@
--- How contracts see private fields, and what the private functions promise each other.
+-- The meaning of private fields in contracts, and definitions for the contracts of private functions.
 pub mod Causes
 pub mod Members

@@ -22,7 +22,7 @@ enum Members {
     V6(Ipv6NetworkIterator),
 }
 
-// A contract sees an iterator as the list of the addresses still to come.
+// In contracts, an iterator is the list of the remaining addresses.
 impl Model for IpNetworkIterator {
     ghost use Rattle.std.specs.Prelude.{List};
     ghost use Rattle.ipnetwork_addr.specs.declared.ip.IpAddr.{IpAddr};
@@ -37,7 +37,7 @@ impl IpNetworkIterator {
     ghost use Rattle.std.specs.Prelude.{◌≡◌, map};
     ghost use Rattle.ipnetwork_addr.specs.declared.ip.IpAddr.TheVariants as addresses;
 
-    /// The members of an IPv4 network.
+    /// Creates an iterator over the members of an IPv4 network.
     pub(crate) fn of_v4(members: Ipv4NetworkIterator) -> Self
         ensures { result ≡ map addresses.V4 members }
     {
@@ -46,7 +46,7 @@ impl IpNetworkIterator {
         }
     }
 
-    /// The members of an IPv6 network.
+    /// Creates an iterator over the members of an IPv6 network.
     pub(crate) fn of_v6(members: Ipv6NetworkIterator) -> Self
         ensures { result ≡ map addresses.V6 members }
     {

@@ -4,7 +4,8 @@ ghost use Rattle.ipnetwork.specs.IpNetworks.{GivesMaskPrefix};
 use ipnetwork_addr::IpAddr;
 use ipnetwork_family::{IpNetworkError, ipv4_mask_to_prefix, ipv6_mask_to_prefix};
 
-/// The prefix length of a mask of either family; `InvalidPrefix` if the address is not one of its family's masks.
+/// Returns the prefix length of a mask of either family, or `InvalidPrefix` if the address is not a
+/// mask of its family.
 ///
 /// ```
 /// assert_eq!(rt; ip_mask_to_prefix("255.255.240.0".parse()?), Ok(20));

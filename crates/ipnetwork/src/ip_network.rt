@@ -16,8 +16,8 @@ use std::alloc::{AllocError, Global};
 use std::fmt;
 use std::str::FromStr;
 
-/// A network of either family. Its set has only addresses of its family. Every IPv4 network is ordered before every
-/// IPv6 network.
+/// A network of either family. Its set contains only addresses of its family. Every IPv4 network is
+/// ordered before every IPv6 network.
 ///
 /// ```
 /// let network: IpNetwork = "10.1.9.32/8".parse()?;
@@ -31,14 +31,14 @@ pub enum IpNetwork {
     V6(Ipv6Network),
 }
 
-// The clause `network` tells a proof in another crate what is true of each network: its fields are private, so nothing
-// else says it.
+// The clause `network` tells proofs in other crates what holds for every network; they could not
+// know it otherwise, since its fields are private.
 impl IpNetwork {
     ghost use Rattle.ipnetwork.specs.IpNetworks.{IsIpNetwork, address_of, prefix_of, ip_mask_of, ip_low, ip_high, ip_size, ip_members, IpMember, IpSubnet, IpOverlap, Makes, MakesWithMask, IsV4, IsV6};
     ghost use Rattle.ipnetwork.specs.IpNetworkText.{ReadsIpNetwork, ParsesIpNetwork, ip_network_text};
 
-    /// The network of this address, host bits kept, and this prefix length; `InvalidPrefix` if that is greater than
-    /// the number of bits of the address, 32 or 128.
+    /// Creates a network from an address, whose host bits are kept, and a prefix length. Returns
+    /// `InvalidPrefix` if that exceeds the number of bits of the address, 32 or 128.
     ///
     /// ```
     /// let network = IpNetwork::new("2001:db8::1".parse()?, 64)?;
@@ -53,9 +53,10 @@ impl IpNetwork {
         }
     }
 
-    /// The network of this address, host bits kept, and the prefix length of this mask; `InvalidPrefix` if the mask is
-    /// not one of its family's masks, or its prefix length is greater than the number of bits of the address. The two
-    /// need not be of one family: the mask only gives a prefix length.
+    /// Creates a network from an address, whose host bits are kept, and the prefix length of a
+    /// mask. Returns `InvalidPrefix` if `netmask` is not a mask of its family, or its prefix length
+    /// exceeds the number of bits of the address. The two may differ in family: the mask only gives
+    /// a prefix length.
     ///
     /// ```
     /// let network = IpNetwork::with_netmask("10.1.9.32".parse()?, "255.0.0.0".parse()?)?;
@@ -64,7 +65,7 @@ impl IpNetwork {
     pub fn with_netmask(netaddr: IpAddr, netmask: IpAddr) -> Result<Self, IpNetworkError>
         ensures { MakesWithMask netaddr netmask result }
     {
-        // Does nothing: the proof of this body needs the law.
+        // This call does nothing, but its law is needed to prove this body.
         laws::masks();
         match ip_mask_to_prefix(netmask) {
             Ok(prefix) => IpNetwork::new(netaddr, prefix),
@@ -72,7 +73,7 @@ impl IpNetwork {
         }
     }
 
-    /// The address as made, host bits included.
+    /// Returns the address as given, with host bits.
     ///
     /// ```
     /// let network: IpNetwork = "2001:db8::7/126".parse()?;
@@ -88,7 +89,7 @@ impl IpNetwork {
         }
     }
 
-    /// The prefix length, in bits.
+    /// Returns the prefix length, in bits.
     ///
     /// ```
     /// let network: IpNetwork = "2001:db8::7/126".parse()?;
@@ -104,7 +105,7 @@ impl IpNetwork {
         }
     }
 
-    /// The mask of the prefix length, in the network's family.
+    /// Returns the mask of the prefix length, in the network's family.
     ///
     /// ```
     /// let network: IpNetwork = "2001:db8::7/126".parse()?;
@@ -119,7 +120,7 @@ impl IpNetwork {
         }
     }
 
-    /// The least member: the address with its host bits cleared.
+    /// Returns the least member: the address with all host bits cleared.
     ///
     /// ```
     /// let network: IpNetwork = "2001:db8::7/126".parse()?;
@@ -134,7 +135,7 @@ impl IpNetwork {
         }
     }
 
-    /// The greatest member: the address with its host bits set.
+    /// Returns the greatest member: the address with all host bits set.
     ///
     /// ```
     /// let network: IpNetwork = "2001:db8::7/126".parse()?;
@@ -149,7 +150,7 @@ impl IpNetwork {
         }
     }
 
-    /// Whether the network is an IPv4 network.
+    /// Returns whether the network is an IPv4 network.
     ///
     /// ```
     /// assert!(rt; "10.1.9.32/8".parse::<IpNetwork>()?.is_ipv4());
@@ -163,7 +164,7 @@ impl IpNetwork {
         }
     }
 
-    /// Whether the network is an IPv6 network.
+    /// Returns whether the network is an IPv6 network.
     ///
     /// ```
     /// assert!(rt; "::ffff:10.1.9.32/104".parse::<IpNetwork>()?.is_ipv6());
@@ -177,8 +178,8 @@ impl IpNetwork {
         }
     }
 
-    /// Whether an address lies in the network's set. No address of the other family does, not even an IPv4-mapped
-    /// IPv6 address in an IPv4 network.
+    /// Returns whether an address is in the network's set. No address of the other family is, not
+    /// even an IPv4-mapped IPv6 address in an IPv4 network.
     ///
     /// ```
     /// let network: IpNetwork = "10.0.0.0/8".parse()?;
@@ -195,7 +196,8 @@ impl IpNetwork {
         }
     }
 
-    /// The number of members, in the variant of the network's family; at prefix length 0 it is one less.
+    /// Returns the number of members, in the variant of the network's family. At prefix length 0
+    /// the result is one less than that.
     ///
     /// ```
     /// let network: IpNetwork = "192.0.2.77/26".parse()?;
@@ -210,7 +212,7 @@ impl IpNetwork {
         }
     }
 
-    /// The members, each once, in ascending order.
+    /// Returns the members, each once, in ascending order.
     ///
     /// ```
     /// let network: IpNetwork = "2001:db8::7/126".parse()?;
@@ -225,8 +227,8 @@ impl IpNetwork {
         }
     }
 
-    /// Whether each member of this network is a member of `other`. Host bits are ignored. `false` if the two are of
-    /// different families.
+    /// Returns whether each member of this network is a member of `other`. Host bits are ignored.
+    /// The result is `false` if the two are of different families.
     ///
     /// ```
     /// let network: IpNetwork = "2001:db8::7/126".parse()?;
@@ -236,8 +238,8 @@ impl IpNetwork {
     pub fn is_subnet_of(self, other: IpNetwork) -> bool
         ensures { IsTrue result ↔ IpSubnet self other }
     {
-        // The clause `network` of `ip` says that the address fits its family, so it is a member and the set is not
-        // empty.
+        // The clause `network` of `ip` states that the address fits in its family, so that it is a
+        // member and the set is not empty.
         let _ = self.ip();
         match self {
             IpNetwork::V4(inner) => match other {
@@ -251,8 +253,8 @@ impl IpNetwork {
         }
     }
 
-    /// Whether each member of `other` is a member of this network. Host bits are ignored. `false` if the two are of
-    /// different families.
+    /// Returns whether each member of `other` is a member of this network. Host bits are ignored.
+    /// The result is `false` if the two are of different families.
     ///
     /// ```
     /// let network: IpNetwork = "10.0.0.0/8".parse()?;
@@ -264,7 +266,7 @@ impl IpNetwork {
         other.is_subnet_of(self)
     }
 
-    /// Whether some address is a member of both.
+    /// Returns whether the two networks have a member in common.
     ///
     /// ```
     /// let network: IpNetwork = "10.0.0.0/8".parse()?;
@@ -286,8 +288,9 @@ impl IpNetwork {
         }
     }
 
-    /// The network that a text names, as `Ipv4Network::read_bytes` or `Ipv6Network::read_bytes` reads it: no text
-    /// names one of each family. Any other text is `CidrFault::Addr`, whatever is wrong with it.
+    /// Reads the network that a text names, with `Ipv4Network::read_bytes` or
+    /// `Ipv6Network::read_bytes`; no text names a network of each family. For any other text the
+    /// error is `CidrFault::Addr`, whatever is wrong with it.
     ///
     /// ```
     /// let network = IpNetwork::read_bytes(b"2001:db8::1/64")?;
@@ -297,7 +300,7 @@ impl IpNetwork {
     pub fn read_bytes(text: &[u8]) -> Result<Self, CidrFault>
         ensures { ReadsIpNetwork text.now result }
     {
-        // Does nothing: the proof of this body needs the laws.
+        // These calls do nothing, but their laws are needed to prove this body.
         laws::v4_text_has_a_dot_first();
         laws::v6_text_has_a_colon_first();
         if has_colon_first(text) {
@@ -313,8 +316,8 @@ impl IpNetwork {
         }
     }
 
-    /// The network that a text names, as `read_bytes` reads it; any other text is `InvalidAddr` with the
-    /// whole text, or `OutOfMemory`. Allocates at most once, for a refusal.
+    /// Reads the network that a text names, as `read_bytes` does. For any other text the error is
+    /// `InvalidAddr` with the whole text, or `OutOfMemory`. Allocates only for an error, once.
     ///
     /// ```
     /// let refused = IpNetwork::parse(rt.alloc(), "10.0.0.0/33");
@@ -329,7 +332,7 @@ impl IpNetwork {
         }
     }
 
-    /// The canonical text, at most 43 bytes: that of the network in its family.
+    /// Returns the canonical text, at most 43 bytes: that of the network in its family.
     ///
     /// ```
     /// let network: IpNetwork = "2001:DB8::1".parse()?;
@@ -345,7 +348,8 @@ impl IpNetwork {
         }
     }
 
-    /// The canonical text as a `String`. Allocates once.
+    /// Returns the canonical text as a `String`. Allocates once; returns `AllocError` if out of
+    /// memory.
     ///
     /// ```
     /// let network: IpNetwork = "10.1.9.32/255.0.0.0".parse()?;
@@ -363,7 +367,7 @@ impl From<Ipv4Network> for IpNetwork {
 
     ghost from_gives = { λ network either. either ≡ networks.V4 network };
 
-    /// The network itself, in the variant `V4`.
+    /// Returns the network in the variant `V4`.
     fn from(network: Ipv4Network) -> Self {
         IpNetwork::V4(network)
     }
@@ -374,7 +378,7 @@ impl From<Ipv6Network> for IpNetwork {
 
     ghost from_gives = { λ network either. either ≡ networks.V6 network };
 
-    /// The network itself, in the variant `V6`.
+    /// Returns the network in the variant `V6`.
     fn from(network: Ipv6Network) -> Self {
         IpNetwork::V6(network)
     }
@@ -385,7 +389,7 @@ impl From<IpAddr> for IpNetwork {
 
     ghost from_gives = { λ address network. network ≡ made_of address (width_of address) };
 
-    /// The network that has only this address, of prefix length 32 or 128.
+    /// Returns the network with only this address, of prefix length 32 or 128.
     fn from(address: IpAddr) -> Self {
         match address {
             IpAddr::V4(address) => IpNetwork::V4(Ipv4Network::from(address)),
@@ -401,7 +405,7 @@ impl TryFrom<IpNetwork> for Ipv4Network {
 
     ghost try_from_gives = { TakesV4 };
 
-    /// The network itself, or `WrongFamily` if it is an IPv6 network.
+    /// Returns the network itself, or `WrongFamily` if it is an IPv6 network.
     fn try_from(network: IpNetwork) -> Result<Self, WrongFamily> {
         match network {
             IpNetwork::V4(network) => Ok(network),
@@ -417,7 +421,7 @@ impl TryFrom<IpNetwork> for Ipv6Network {
 
     ghost try_from_gives = { TakesV6 };
 
-    /// The network itself, or `WrongFamily` if it is an IPv4 network.
+    /// Returns the network itself, or `WrongFamily` if it is an IPv4 network.
     fn try_from(network: IpNetwork) -> Result<Self, WrongFamily> {
         match network {
             IpNetwork::V4(_) => Err(WrongFamily),

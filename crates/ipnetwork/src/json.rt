@@ -1,5 +1,5 @@
-//! Networks of either family to and from values of JSON (RFC 8259): a network is the string of its canonical
-//! text.
+//! Converts networks of either family to and from JSON values (RFC 8259): a network is the string
+//! of its canonical text.
 ghost use Rattle.std.specs.Prelude.{IfOk};
 ghost use Rattle.serde_json.specs.Find.{as_str};
 ghost use Rattle.serde_json.specs.View.{view};
@@ -12,7 +12,8 @@ use serde_json::Value;
 use std::alloc::{AllocError, Global};
 
 impl IpNetwork {
-    /// The string value of the canonical text. Allocates once; `AllocError` when out of memory.
+    /// Returns the canonical text as a string value. Allocates once; returns `AllocError` if out of
+    /// memory.
     ///
     /// ```
     /// let network: IpNetwork = "10.1.9.32/8".parse()?;
@@ -25,10 +26,10 @@ impl IpNetwork {
         Value::try_from_str(alloc, self.canonical().as_str())
     }
 
-    /// The network of either family that a string value names. A string is read as `parse` reads it, and one that it
-    /// refuses is `Refused` with its error; any other value is `NotAString`. Allocates at most once, only for a
-    /// refusal whose error carries a text: if that is out of memory, the result is
-    /// `Refused(IpNetworkError::OutOfMemory)`.
+    /// Reads the network of either family that a string value names, as `parse` does. If `parse`
+    /// returns an error, this returns `Refused` with it; for a value that is not a string it
+    /// returns `NotAString`. Allocates at most once, only for an error that carries a text; if that
+    /// allocation fails, the error is `Refused(IpNetworkError::OutOfMemory)`.
     ///
     /// ```
     /// let value = serde_json::Value::try_from_str(rt.alloc(), "10.1.9.32/8")?;

@@ -1,10 +1,10 @@
-//! IPv4 and IPv6 networks in CIDR notation: read from texts, printed, and asked about the set of
-//! addresses that they stand for.
+//! IPv4 and IPv6 networks in CIDR notation: reading and printing them, and questions about their
+//! sets of addresses.
 //!
-//! Only calls that are given an allocator allocate.
+//! Only calls that take an allocator allocate.
 //!
-//! This crate re-exports the crates below it at its root: `ipnetwork_addr`, the addresses, and `ipnetwork_family`, the
-//! networks of one family.
+//! This crate re-exports at its root the crates `ipnetwork_addr`, for addresses, and
+//! `ipnetwork_family`, for networks of one family.
 #![tactic(auto)]
 
 mod error;

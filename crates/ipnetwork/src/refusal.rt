@@ -5,10 +5,11 @@ ghost use Rattle.ipnetwork.specs.Private.Causes.{first_cause};
 
 use ipnetwork_family::{CidrFault, Ipv4Network, Ipv6Network};
 
-/// Why a text names no network of either family, or `None` if it names one.
+/// Returns why a text names no network of either family, or `None` if it names one.
 ///
-/// `Format` if the text has two or more `/`; else `Addr` if what stands before the `/` is an address of neither family;
-/// else `Prefix`. `IpNetwork::read_bytes` returns `Addr` for every text that names none: this call says more.
+/// The cause is `Format` if the text has two or more `/`, else `Addr` if the text before the `/` is
+/// no address of either family, else `Prefix`. `IpNetwork::read_bytes` returns `Addr` in all three
+/// cases.
 ///
 /// ```
 /// assert_eq!(rt; cause(b"10.0.0.0/33"), Some(CidrFault::Prefix));
@@ -26,7 +27,7 @@ pub fn cause(text: &[u8]) -> Option<CidrFault>
     Some(first_cause(v4, v6))
 }
 
-/// The cause for both families, of the causes for each.
+/// Returns the cause for both families, from the cause for each.
 fn first_cause(v4: CidrFault, v6: CidrFault) -> CidrFault
     ensures { result ≡ first_cause v4 v6 }
 {

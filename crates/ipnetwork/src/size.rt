@@ -13,12 +13,13 @@ use std::cmp::Ordering;
 use std::fmt;
 use std::hash::{Hash, Hasher};
 
-/// The most bytes that a size is printed as.
+/// The greatest number of bytes that a size is printed as.
 const DECIMAL_MAX: usize = 39;
 
-/// The number of addresses of an IPv4 network or of an IPv6 network.
+/// The number of addresses of an IPv4 or IPv6 network.
 ///
-/// Sizes are compared and hashed only by their numbers: an IPv4 and an IPv6 size of one number are equal.
+/// Sizes are compared and hashed only by their numbers: an IPv4 and an IPv6 size of the same number
+/// are equal.
 ///
 /// ```
 /// let size = "2001:db8::/120".parse::<IpNetwork>()?.size();
@@ -38,7 +39,7 @@ impl From<u32> for NetworkSize {
 
     ghost from_gives = { λ number size. size ≡ sizes.V4 number };
 
-    /// The size of this number, in the variant `V4`.
+    /// Returns the size of this number, in the variant `V4`.
     fn from(number: u32) -> Self {
         NetworkSize::V4(number)
     }
@@ -49,7 +50,7 @@ impl From<u128> for NetworkSize {
 
     ghost from_gives = { λ number size. size ≡ sizes.V6 number };
 
-    /// The size of this number, in the variant `V6`.
+    /// Returns the size of this number, in the variant `V6`.
     fn from(number: u128) -> Self {
         NetworkSize::V6(number)
     }
@@ -60,7 +61,7 @@ impl From<NetworkSize> for u128 {
 
     ghost from_gives = { λ size number. number ≡ size_number size };
 
-    /// The number of either size.
+    /// Returns the number of a size of either family.
     fn from(size: NetworkSize) -> Self {
         match size {
             NetworkSize::V4(number) => u128::from(number),
@@ -76,7 +77,8 @@ impl TryFrom<NetworkSize> for u32 {
 
     ghost try_from_gives = { FitsV4 };
 
-    /// The number of an IPv4 size. An IPv6 size is `NetworkIsTooLarge`, however small it is.
+    /// Returns the number of an IPv4 size, or `NetworkIsTooLarge` for an IPv6 size, however small
+    /// it is.
     fn try_from(size: NetworkSize) -> Result<Self, NetworkSizeError> {
         match size {
             NetworkSize::V4(number) => Ok(number),

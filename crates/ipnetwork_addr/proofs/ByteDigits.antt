@@ -1,4 +1,4 @@
--- Bytes by their position are the digits in base 256. `ipnetwork_witness` cites it too.
+-- The bytes of a number by position are its digits in base 256. Also used by `ipnetwork_witness`.
 use Rattle.std.proofs.Common.{◌≡◌, ℕ, zero, suc, ◌/◌, ◌%◌, ◌^◌, [], ◌∷◌, ◌++◌, refl, sym, ap, ap₂, ◌∙◌}
 use Rattle.std.proofs.Math.Nat.{div-div-eq-div-mul, pow-succ'}
 use Rattle.std.specs.Int.{byte_at, bytes_high_first}

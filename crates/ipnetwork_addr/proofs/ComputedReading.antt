@@ -1,4 +1,4 @@
--- What a reader answers, from the address that is computed.
+-- What a reader returns, from the computed address.
 use Rattle.std.proofs.Common.{◌≡◌, ◌↔◌, ℕ, List, Option, None, Some, refl, sym, ap, ◌∙◌, subst}
 use Rattle.std.specs.Prelude.{Result, Ok, Err}
 use Rattle.std.proofs.lemmas.Option.{none-some, same_Some}

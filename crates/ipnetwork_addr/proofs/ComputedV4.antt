@@ -1,4 +1,4 @@
--- The address that a text names, computed.
+-- The address that an IPv4 text names, computed.
 use Rattle.std.proofs.Common.{◌≡◌, ℕ, ◌/◌, ◌%◌, ◌^◌, ◌<◌, ◌≤◌, ◌==◌, true, false, cond, List, [], ◌∷◌, ◌++◌, map, decimal, Option, None, Some, refl, sym, ap, subst, ◌∙◌, arith, append-nil}
 use Rattle.std.proofs.lemmas.Bool.{cond_both, ltb-true, lt-ltb, ne_eqb}
 use Rattle.std.proofs.lemmas.Option.{none-some, same_Some}
@@ -26,7 +26,7 @@ v4_of_sound text address =
     (λ other e. absurd (none-some address e)))
     (λ past e. absurd (none-some address e))
 
--- ---- the other way: digits hold no dot
+-- ---- the other direction: digits contain no dot
 
 abbrev NoDot : List ℕ → Type 0
 NoDot [] = Unit {0}

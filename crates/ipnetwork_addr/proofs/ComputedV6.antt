@@ -77,7 +77,7 @@ groups_complete [] (g ∷ gs) h = absurd h
 groups_complete (part ∷ parts) [] h = absurd h
 groups_complete (part ∷ parts) (g ∷ gs) h = rw (group_complete part g h.0, groups_complete parts gs h.1) refl
 
--- ---- cutting at colons
+-- ---- splitting at colons
 
 abbrev NoColon : List ℕ → Type 0
 NoColon [] = Unit {0}
@@ -102,7 +102,7 @@ abbrev NoColons : List (List ℕ) → Type 0
 NoColons [] = Unit {0}
 NoColons (part ∷ parts) = NoColon part × NoColons parts
 
--- parts that are joined are cut again
+-- splitting joined parts at the colons gives the parts back
 cut_again : (part : List ℕ) (parts : List (List ℕ)) → NoColons (part ∷ parts) → colon_parts (join_with_byte colon (part ∷ parts)) ≡ part ∷ parts
 cut_again part [] h = split_none part h.0
 cut_again part (next ∷ parts) h = split_at part (join_with_byte colon (next ∷ parts)) h.0 ∙ ap (λ ps. part ∷ ps) (cut_again next parts h.1)
@@ -146,7 +146,7 @@ halves_some : (o : Option ℕ) (gs : List ℕ) → two_groups_of o ≡ Some gs �
 halves_some None gs e = absurd (none-some gs e)
 halves_some (Some a) gs e = (a, refl, sym (same_Some (two_groups a) gs e))
 
--- parts of which the last is an IPv4 text
+-- parts whose last one is an IPv4 text
 record DottedParts (parts : List (List ℕ)) (gs : List ℕ) : Type 0 where
   front_parts : List (List ℕ)
   front : List ℕ
@@ -293,7 +293,7 @@ v6_of_sound text a e =
     (gap_below_sound text (length text)))
     e
 
--- ---- something is found where the text names something
+-- ---- an address is found if the text names one
 
 abbrev Found : Option ℕ → Type 0
 Found o = (x : ℕ) × (o ≡ Some x)

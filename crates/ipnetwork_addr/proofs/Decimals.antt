@@ -1,10 +1,10 @@
--- The shortest decimal of a byte, digit by digit.
+-- The shortest decimal form of a byte, digit by digit.
 use Rattle.std.proofs.Common.{◌≡◌, ℕ, ◌+◌, ◌/◌, ◌%◌, ◌<◌, ◌≤◌, List, [], ◌∷◌, ◌++◌, decimal, ap, ◌∙◌, arith, append_assoc}
 use Rattle.std.proofs.lemmas.Fmt.{decimal_digit, decimal_step}
 use Rattle.std.proofs.lemmas.List.{length-append}
 use Rattle.std.proofs.lemmas.Str.{encode_ascii}
 
--- how many bytes a text has after a byte was pushed
+-- the length of a text after a byte is pushed
 pub ruleset pushing = (encode_ascii, length-append)
 
 pub decimal_two : (n : ℕ) → 10 ≤ n → n < 100 → decimal n ≡ (48 + n / 10) ∷ (48 + n % 10) ∷ []
@@ -20,16 +20,16 @@ decimal_three n low high =
     ∙ ap (λ front. front ++ (48 + n % 10) ∷ []) (decimal_two (n / 10) (omega arith) (omega arith)
     ∙ ap (λ d. (48 + d) ∷ (48 + n / 10 % 10) ∷ []) hundreds)
 
--- a text, after a byte was pushed
+-- a text after a byte is pushed
 pub record IsPushed (text : List ℕ) (byte : ℕ) (now : List ℕ) : Type 0 where
   pub is : now ≡ text ++ byte ∷ []
 
--- by what the byte is
+-- pushing a byte is pushing an equal one
 pub pushed_as : (text now : List ℕ) (byte other : ℕ) → byte ≡ other → now ≡ text ++ byte ∷ []
     → IsPushed text other now
 pushed_as text now byte other same pushed = record { is = pushed ∙ ap (λ b. text ++ b ∷ []) same }
 
--- a text, after the digits of a number were pushed one at a time
+-- a text after the digits of a number are pushed one at a time
 pub one_pushed : {text one : List ℕ} (n : ℕ) → n < 10 → IsPushed text (48 + n) one → one
     ≡ text ++ decimal n
 one_pushed n low h = h.is ∙ rw (decimal_digit n low)

@@ -1,4 +1,4 @@
--- The values of the hex digits of a text, as the lanes of vectors.
+-- The values of the hex digits of a text, in the lanes of vectors.
 use Rattle.std.proofs.Common.{◌≡◌, ℕ, zero, suc, ◌+◌, ◌-◌, ◌%◌, ◌^◌, ◌<◌, ◌≤◌, ◌==◌, cond, true, inl, inr, List, [], ◌∷◌, length, map, take, drop, get_or, refl, sym, ap, ◌∙◌, subst, arith, replicate, bit_or, ltb}
 use Rattle.std.proofs.lemmas.Bool.{agree_below_at, eqb-true, lt-ltb, cases_lt}
 use Rattle.std.proofs.lemmas.List.{get_or-map}
@@ -25,7 +25,7 @@ one_value byte =
     cond (top 7 (less (minus byte 48) 10)) (minus byte 48)
     (cond (top 7 (less (minus (bit_or byte 32) 97) 6)) (plus (minus (bit_or byte 32) 97) 10) 255)
 
--- by computing all of them
+-- the value of each byte, checked by computing all of them
 one_value_is : (byte : ℕ) → byte < 256 → one_value byte < 16 → digit_value byte ≡ one_value byte
 one_value_is byte fits small =
     let test : cond (ltb (one_value byte) 16) (digit_value byte == one_value byte) true ≡ true

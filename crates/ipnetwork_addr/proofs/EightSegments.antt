@@ -1,4 +1,4 @@
--- Segments, by the address that they make up.
+-- Segments and the address that they make up.
 use Rattle.std.proofs.Common.{◌≡◌, ℕ, zero, suc, ◌+◌, ◌*◌, ◌^◌, ◌<◌, ◌≤◌, List, length, take, get_or, ap, subst, ◌∙◌, arith, lit<}
 use Rattle.std.proofs.lemmas.Int.Digits.{number_more}
 use Rattle.std.proofs.lemmas.List.{take_all}
@@ -6,7 +6,7 @@ use Rattle.std.proofs.lemmas.Nat.{pow-add}
 use Rattle.ipnetwork_addr.specs.Digits.{segments_of}
 use Rattle.ipnetwork_addr.specs.Segments.{number_of_segments, AreSegments}
 
--- the address of the first segments fits in their bits
+-- the number of the first segments fits in their bits
 first_fits : (xs : List ℕ) (count : ℕ) → count ≤ length xs → ((i : ℕ) → get_or xs i 0 < 65536) → number_of_segments (take count xs) < 65536 ^ count
 first_fits xs zero within fit = lit< tt
 first_fits xs (suc count) within fit =
@@ -19,10 +19,10 @@ first_fits xs (suc count) within fit =
 pub address_fits : (xs : List ℕ) → AreSegments xs → number_of_segments xs < 2 ^ 128
 address_fits xs h = subst (λ (l : List ℕ). number_of_segments l < 65536 ^ 8) (take_all 8 xs (omega (arith, h.eight))) (first_fits xs 8 (omega (arith, h.eight)) h.each)
 
--- the address of the segments of an address
+-- the segments of an address make up the address
 pub number_back : (n : ℕ) → n < 2 ^ 128 → number_of_segments (segments_of n) ≡ n
 number_back n h = omega arith
 
--- the segments of an argument
+-- segments that are those of a number make up the number
 pub made_of : (segments : List ℕ) (n : ℕ) → n < 2 ^ 128 → segments ≡ segments_of n → number_of_segments segments ≡ n
 made_of segments n fits e = ap number_of_segments e ∙ number_back n fits

@@ -14,7 +14,7 @@ use Rattle.ipnetwork_addr.proofs.Parts.{v4_begins, IsLast, IsDot, IsGap, IsNext,
 use Rattle.ipnetwork_addr.proofs.Ipv6Names.{Shape, Full, Gapped, shape_of, v6_unique}
 use Rattle.ipnetwork_addr.proofs.Ipv6Printed.{canonical_v6_names, canonical_v6_is}
 
--- an IPv4 text is a part of two groups, up to the end
+-- a text part that is an IPv4 text has two groups and reaches the end of the text
 alone : (groups text : List ℕ) (end : Option (List ℕ)) (address : ℕ) → NamesV4 text address → IsTextPart groups text end → (length groups ≡ 2) × (end ≡ None)
 alone groups text end address named part =
     let b = v4_begins text address named in

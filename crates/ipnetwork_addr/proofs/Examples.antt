@@ -1,4 +1,4 @@
--- Texts and values at which a misreading of the definitions would show. Each of these computes.
+-- Texts and values at which a misreading of the definitions would show. All of these are proved by computing.
 use Rattle.std.proofs.Common.{◌≡◌, ℕ, ◌^◌, ◌-◌, ◌<◌, ◌≤◌, true, false, List, [], ◌∷◌, length, None, Some, refl, ap, arith, lit≤}
 use Rattle.std.specs.Prelude.{codes, map, Ok, Err}
 use Rattle.std.specs.Fmt.{digits}
@@ -125,7 +125,7 @@ pub either_printed : map canonical_ip (V4 1 ∷ V6 1 ∷ []) ≡ codes "0.0.0.1"
 unfolding digits
 either_printed = refl
 
--- ---- what a reader answers
+-- ---- what a reader returns
 
 abbrev kind : AddrParseError → ℕ
 kind Ipv4 = 4
@@ -148,7 +148,7 @@ faults = refl
 
 -- ---- bytes of addresses
 
--- each is a dot, a digit or a colon, or a letter of hex
+-- an address byte is a dot, a digit, a colon or a hex letter
 only : {P : Type 0} (byte : ℕ) → IsAddressByte byte → (byte ≡ 46 → P) → (48 ≤ byte → byte ≤ 58 → P)
     → (65 ≤ byte → byte ≤ 70 → P) → (97 ≤ byte → byte ≤ 102 → P) → P
 only byte (Digit low high) dot digit upper lower = digit low (omega arith)
@@ -172,7 +172,7 @@ none_from_capital_g byte l m h = only byte h (λ is. omega arith) (λ low high. 
 pub none_from_letter_g : (byte : ℕ) → 102 < byte → ¬ (IsAddressByte byte)
 none_from_letter_g byte l h = only byte h (λ is. omega arith) (λ low high. omega arith) (λ low high. omega arith) (λ low high. omega arith)
 
--- ---- the first mark of a text
+-- ---- the first dot or colon of a text
 
 pub first_marks : map colon_first (codes "1:2.3" ∷ codes "1.2:3" ∷ codes "12" ∷ [])
     ≡ true ∷ false ∷ false ∷ []
@@ -185,7 +185,7 @@ pub v4_texts : map v4_of (codes "1.2.3.4" ∷ codes "255.255.255.255" ∷ [])
 unfolding digits
 v4_texts = refl
 
--- a leading zero, an octet of 256, three octets, a blank behind
+-- a leading zero, an octet of 256, three octets, a trailing blank
 pub no_v4_texts : map v4_of
     (codes "01.2.3.4" ∷ codes "256.0.0.0" ∷ codes "1.2.3" ∷ codes "1.2.3.4 " ∷ [])
     ≡ None ∷ None ∷ None ∷ None ∷ []
@@ -208,14 +208,14 @@ pub dotted_texts : map v6_of (codes "::1.2.3.4" ∷ codes "0:0:0:0:0:0:1.2.3.4" 
 unfolding digits v6_of gap_below
 dotted_texts = refl
 
--- a gap beside eight groups, two gaps, three colons, five digits
+-- a gap in addition to eight groups, two gaps, three colons, five digits
 pub no_v6_texts : map v6_of
     (codes "1::2:3:4:5:6:7:8" ∷ codes "1::2::3" ∷ codes ":::1" ∷ codes "12345::" ∷ [])
     ≡ None ∷ None ∷ None ∷ None ∷ []
 unfolding digits v6_of gap_below
 no_v6_texts = refl
 
--- an IPv4 address before the gap, and after three colons
+-- an IPv4 text before a gap, and one after three colons
 pub no_dotted_texts : map v6_of (codes "1.2.3.4::" ∷ codes ":::1.2.3.4" ∷ []) ≡ None ∷ None ∷ []
 unfolding digits v6_of gap_below
 no_dotted_texts = refl
@@ -226,7 +226,7 @@ pub longest_text : length (canonical_v6 (2 ^ 128 - 1)) ≡ 39
 unfolding digits
 longest_text = refl
 
--- what these groups are printed as
+-- the canonical text of these groups
 abbrev printed : List ℕ → List ℕ
 printed groups = canonical_v6 (number_from_digits (2 ^ 16) groups)
 
@@ -235,7 +235,7 @@ pub lower_case_hex : printed (0xabcd ∷ 0xef ∷ 0x10 ∷ 0x100 ∷ 0x1000 ∷ 
 unfolding digits
 lower_case_hex = refl
 
--- the first of equal runs is left out, the longest of others, and none of one group
+-- of equal runs the first is left out, otherwise the longest, and never a single group
 pub zeros_left_out :
     map printed (
     (0 ∷ 0 ∷ 1 ∷ 0 ∷ 0 ∷ 1 ∷ 0 ∷ 0 ∷ [])
@@ -249,7 +249,7 @@ pub mapped_address : printed (0 ∷ 0 ∷ 0 ∷ 0 ∷ 0 ∷ 65535 ∷ 258 ∷ 77
 unfolding digits
 mapped_address = refl
 
--- the first and the last mapped address, and those just outside
+-- the first and last mapped addresses, and the addresses next to them
 pub mapped_ends : IsMapped 0xffff_0000_0000 × IsMapped 0xffff_ffff_ffff
 mapped_ends = (refl, refl)
 
@@ -268,7 +268,7 @@ pub stand_for : map unmapped (V6 0xffff0a010101 ∷ V6 0x0a010101 ∷ V6 0x1ffff
     ≡ V4 0x0a010101 ∷ V6 0x0a010101 ∷ V6 0x1ffff0a010101 ∷ V4 1 ∷ []
 stand_for = refl
 
--- both ends of ::ffff:0:0/96, which are ::ffff:0.0.0.0 and ::ffff:255.255.255.255, and what stands beside them,
+-- both ends of ::ffff:0:0/96, which are ::ffff:0.0.0.0 and ::ffff:255.255.255.255, and the addresses next to them,
 -- ::fffe:255.255.255.255 and ::1:0:0:0
 pub first_and_last_mapped :
     map unmapped (V6 0xffff00000000 ∷ V6 0xffffffffffff ∷ V6 0xfffeffffffff ∷ V6 0x1000000000000 ∷ [])

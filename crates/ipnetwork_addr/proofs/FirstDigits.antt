@@ -1,4 +1,4 @@
--- Octets of two or three digits, by what the tables tell of their bytes.
+-- Octets of two or three digits, from the table entries of their bytes.
 use Rattle.std.proofs.Common.{◌≡◌, ◌≢◌, ℕ, zero, suc, ◌+◌, ◌-◌, ◌*◌, ◌<◌, ◌≤◌, ◌==◌, ◌⊎◌, inl, inr, cond, nat_lt, Bool, true, false, List, [], ◌∷◌, length, take, drop, get_or, refl, sym, ap, ◌∙◌, subst, arith, length-drop, get_or-drop, drop-drop}
 use Rattle.std.proofs.Math.Nat.{mul-le-mul_left}
 use Rattle.std.proofs.lemmas.Bool.{cases_lt, cases_eq, lt-ltb, le-ltb, eq-eqb, ne_eqb}
@@ -8,18 +8,18 @@ use Rattle.ipnetwork_addr.specs.Ipv4Text.{IsOctet}
 use Rattle.ipnetwork_addr.specs.Private.OctetFront.{IsNoOctet, IsOctetEnd, HasNoOctetEnd, BeginsWithOctet, NoOctetAndDot, first_value, before_dot}
 use Rattle.ipnetwork_addr.proofs.OctetFronts.{Value, two_digits, three_digits, no_octet_of_two, no_octet_of_three, no_end, no_octet_before, octet_before}
 
--- a value is that of a digit, or 256
+-- a byte's value is at most 9, or 256 if the byte is no digit
 value_cases : (a v : ℕ) → Value a v → (v ≤ 9) ⊎ (v ≡ 256)
 value_cases a v value = elim (cases_lt (digit_value a) 10) [
   | inl digit ↦ let k = value ∙ ap (λ b. cond b (digit_value a) 256) (lt-ltb (digit_value a) 10 digit) in inl (omega arith)
   | inr none ↦ inr (value ∙ ap (λ b. cond b (digit_value a) 256) (le-ltb (digit_value a) 10 none))
 ]
 
--- what stands in the table of first digits
+-- the table of first digits
 abbrev tens : ℕ → ℕ
 tens d = cond (nat_lt d 10) (cond (nat_lt 0 d) (d * 10) 2560) 2560
 
--- it is ten times the value of a first digit, or 2560 if that is 0 or 256
+-- the table entry of a first digit: ten times its value, or 2560 if the value is 0 or 256
 data First (t u : ℕ) : Type 0 where
   Digit : t ≡ u * 10 → 1 ≤ u → u ≤ 9 → First t u
   Zero : t ≡ 2560 → u ≡ 0 → First t u
@@ -48,16 +48,16 @@ first_bound a t first = elim (first_cases (digit_value a) t (cond (nat_lt (digit
 pub digit_bound : (a v : ℕ) → Value a v → v ≤ 256
 digit_bound a v value = elim (value_cases a v value) [ inl digit ↦ omega arith | inr none ↦ omega arith ]
 
--- ---- what a byte before which two digits stand is worth, by whether it is a dot
+-- ---- the byte after two digits: a dot, or a third digit
 
--- the factor of the digits before it, and its own value
+-- the factor of the digits before a byte, and the value of the byte itself
 abbrev Factor : ℕ → ℕ → Type 0
 Factor c f = f ≡ cond (c == dot) 1 10
 
 abbrev Last : ℕ → ℕ → Type 0
 Last c w = w ≡ cond (c == dot) 0 (cond (nat_lt (digit_value c) 10) (digit_value c) 256)
 
--- a dot, or a byte with a value
+-- the third byte is a dot, or a byte with a value
 data Third (c f w : ℕ) : Type 0 where
   IsDot : (c == dot) ≡ true → f ≡ 1 → w ≡ 0 → Third c f w
   NoDot : (c == dot) ≡ false → f ≡ 10 → Value c w → Third c f w
@@ -139,7 +139,7 @@ no_octet_of_several a b c {t} {v} {w} (suc zero) first second third few high =
     ])
 no_octet_of_several a b c (suc (suc more)) first second third few high = absurd (omega arith)
 
--- the octet before a dot, by what the tables give
+-- the bound of the octet before a dot that the tables give
 pub octet_fits : {t v f : ℕ} → t ≤ 2560 → v ≤ 256 → f ≤ 10 → (t + v) * f ≤ 28160
 octet_fits {t} {v} {f} first second factor = let k = mul-le-mul_left (t + v) factor in omega arith
 
@@ -169,7 +169,7 @@ no_octet_before_dot a b c {t} {v} {f} {w} n first second factor last is high = e
       subst IsNoOctet front (no_octet_of_several a b c 1 first second value (omega arith) (omega (arith, n_is)))
 ]
 
--- the whole text, where it has two bytes or three
+-- the first, second and last bytes of a text of two or three are the whole text
 pub all_of : (text : List ℕ) → 2 ≤ length text → length text ≤ 3
     → take (2 + (length text - 2)) (get_or text 0 0 ∷ get_or text 1 0 ∷ get_or text (length text - 1) 0 ∷ []) ≡ text
 all_of [] low high = absurd (omega arith)
@@ -178,7 +178,7 @@ all_of (x ∷ y ∷ []) low high = refl
 all_of (x ∷ y ∷ z ∷ []) low high = refl
 all_of (x ∷ y ∷ z ∷ u ∷ text) low high = absurd (omega arith)
 
--- ---- the dot behind two bytes or three, if none stands behind the first
+-- ---- the dot after two or three bytes, if there is none after the first
 
 more_cases : (byte more : ℕ) → more ≡ cond (byte == dot) 0 1 → ((byte ≡ dot) × (more ≡ 0)) ⊎ ((byte ≢ dot) × (more ≡ 1))
 more_cases byte more is = elim (cases_eq byte dot) [
@@ -221,7 +221,7 @@ dot_after text more long first is here = elim (more_cases (get_or text 2 0) more
   }
 ]
 
--- the bytes before it
+-- the bytes before the dot
 front_of : (text : List ℕ) → 4 ≤ length text → (more : ℕ) → more ≡ cond (get_or text 2 0 == dot) 0 1
     → before_dot (get_or text 0 0) (get_or text 1 0) (get_or text 2 0) ≡ take (2 + more) text
 front_of [] long more is = absurd (omega arith)
@@ -232,12 +232,12 @@ front_of (x ∷ y ∷ z ∷ text) long more is = elim (more_cases z more is) [
   | inr three ↦ rw (three.1, ne_eqb z dot three.0) refl
 ]
 
--- ---- the same from a position of the text on
+-- ---- an octet from a position on
 
 byte_at : (text : List ℕ) (at i j : ℕ) → at + i ≡ j → get_or (drop at text) i 0 ≡ get_or text j 0
 byte_at text at i j e = get_or-drop at text i 0 ∙ ap (λ k. get_or text k 0) e
 
--- what is known of the three bytes there
+-- what is known about the three bytes at a position
 record Front (text : List ℕ) (at more : ℕ) : Type 0 where
   first : get_or (drop at text) 1 0 ≢ dot
   is : more ≡ cond (get_or (drop at text) 2 0 == dot) 0 1
@@ -255,7 +255,7 @@ no_octet_at text at more first is last =
     no_end (drop at text) (no_dot_after (drop at text) more front.first front.is (λ here.
     last (sym (byte_at text at (2 + more) (at + 2 + more) (omega arith)) ∙ here)))
 
--- where the dot is
+-- the position of the dot
 dotted_at : (text : List ℕ) (at more : ℕ) → 4 ≤ length text - at → get_or text (at + 1) 0 ≢ dot → more ≡ cond (get_or text (at + 2) 0 == dot) 0 1
     → get_or text (at + 2 + more) 0 ≡ dot
     → IsOctetEnd (drop at text) (2 + more)
@@ -278,7 +278,7 @@ no_octet_before_at text at more long first is here none =
     let k = dotted_at text at more long first is here in
     no_octet_before (drop at text) (2 + more) k.0 (subst IsNoOctet k.1 none)
 
--- the octet before an end, and what stands behind the dot
+-- the octet before an end, and the text after the dot
 pub behind_end : (text : List ℕ) (at end n next : ℕ) → IsOctetEnd (drop at text) end → at + (end + 1) ≡ next → IsOctet (take end (drop at text)) n
     → BeginsWithOctet (drop at text) n (dot ∷ drop next text)
 behind_end text at end n next found is octet =
@@ -292,6 +292,6 @@ octet_before_at text at more n long first is here octet =
     let k = dotted_at text at more long first is here in
     behind_end text at (2 + more) n (at + 2 + more + 1) k.0 (omega arith) (subst (λ (s : List ℕ). IsOctet s n) k.1 octet)
 
--- that position is within the text
+-- the position after the dot is within the text
 pub behind_within : (text : List ℕ) (at end : ℕ) → at ≤ length text → IsOctetEnd (drop at text) end → at + end + 1 ≤ length text
 behind_within text at end within found = omega (arith, found.within, length-drop at text)

@@ -1,9 +1,9 @@
--- Which of a dot and a colon comes first among the bytes that a text begins with.
+-- Whether a dot or a colon comes first among the first bytes of a text.
 use Rattle.std.proofs.Common.{◌≡◌, ℕ, ◌+◌, ◌<◌, ◌==◌, Bool, true, false, cond, not, List, [], ◌∷◌, ◌++◌, refl, arith}
 use Rattle.std.specs.List.{prefix_len}
 use Rattle.ipnetwork_addr.specs.Texts.{dot, colon, colon_first}
 
--- whether fewer bytes come before the first colon than before the first dot, or the other way round
+-- fewer bytes come before the first colon than before the first dot, or vice versa
 abbrev Fewer : Bool → ℕ → ℕ → Type 0
 Fewer true colons dots = colons < dots
 Fewer false colons dots = dots < colons

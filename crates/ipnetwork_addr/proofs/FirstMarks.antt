@@ -14,7 +14,7 @@ use Rattle.ipnetwork_addr.specs.Ipv6Text.{IsGroup, IsEnded, NamesV6, two_groups}
 use Rattle.ipnetwork_addr.proofs.Decimals.{decimal_two, decimal_three}
 use Rattle.ipnetwork_addr.proofs.Ipv4Lemmas.{reading_of}
 
--- a byte that is neither is passed over
+-- a byte that is neither a dot nor a colon is skipped
 passed : (byte : ℕ) (text : List ℕ) → (byte == colon) ≡ false → (byte == dot) ≡ false → colon_first (byte ∷ text) ≡ colon_first text
 passed byte text no_colon no_dot = rw (no_colon, no_dot) refl
 
@@ -32,7 +32,7 @@ decimal_passed n text bound = elim (cases_lt n 10) [
   ]
 ]
 
--- in an IPv4 text a dot comes first
+-- in an IPv4 text, a dot comes first
 pub v4_dot_first : (text rest : List ℕ) (address : ℕ) → NamesV4 text address → colon_first (text ++ rest) ≡ false
 v4_dot_first text rest address h =
     let read = reading_of text address h in
@@ -40,18 +40,18 @@ v4_dot_first text rest address h =
     let second = read.chain.second in
     rw (first.split, second.dotted, append_assoc) (decimal_passed read.a (dot ∷ (second.after_dot ++ rest)) first.bound)
 
--- hex digits are passed over
+-- hex digits are skipped
 hex_passed : (ds text : List ℕ) → AllDigits 16 ds → colon_first (ds ++ text) ≡ colon_first text
 hex_passed [] text h = refl
 hex_passed (d ∷ ds) text h =
     passed d (ds ++ text) (ne_eqb d colon (λ e. omega (arith, h.0, ap digit_value e))) (ne_eqb d dot (λ e. omega (arith, h.0, ap digit_value e)))
     ∙ hex_passed ds text h.1
 
--- after a group a colon comes first
+-- a colon after a group comes first
 group_colon : (part text : List ℕ) (group : ℕ) → IsGroup part group → colon_first (part ++ colon ∷ text) ≡ true
 group_colon part text group h = hex_passed part (colon ∷ text) h.digits.1
 
--- two groups or more, joined by colons
+-- in two or more groups joined by colons, a colon comes first
 groups_colon : (parts : List (List ℕ)) (groups rest : List ℕ) → AllZip IsGroup parts groups → 2 ≤ length groups → colon_first (join_with_byte colon parts ++ rest) ≡ true
 groups_colon [] [] rest h two = absurd (omega arith)
 groups_colon [] (g ∷ groups) rest h two = absurd h
@@ -60,7 +60,7 @@ groups_colon (p ∷ []) (g ∷ []) rest h two = absurd (omega arith)
 groups_colon (p ∷ []) (g ∷ k ∷ groups) rest h two = absurd h.1
 groups_colon (p ∷ q ∷ parts) (g ∷ groups) rest h two = rw append_assoc (group_colon p (join_with_byte colon (q ∷ parts) ++ rest) g h.0)
 
--- one group or more before a last part
+-- with one or more groups before a last part, a colon comes first
 dotted_colon : (parts : List (List ℕ)) (groups last rest : List ℕ) → AllZip IsGroup parts groups → 1 ≤ length groups → colon_first (join_with_byte colon (parts ++ last ∷ []) ++ rest) ≡ true
 dotted_colon [] [] last rest h one = absurd (omega arith)
 dotted_colon [] (g ∷ groups) last rest h one = absurd h
@@ -68,7 +68,7 @@ dotted_colon (p ∷ parts) [] last rest h one = absurd h
 dotted_colon (p ∷ []) (g ∷ groups) last rest h one = rw append_assoc (group_colon p (last ++ rest) g h.0)
 dotted_colon (p ∷ q ∷ parts) (g ∷ groups) last rest h one = rw append_assoc (group_colon p (join_with_byte colon (q ∷ (parts ++ last ∷ [])) ++ rest) g h.0)
 
--- groups, or none, before a gap
+-- with any number of groups before a gap, a colon comes first
 gap_colon : (parts : List (List ℕ)) (groups rest : List ℕ) → AllZip IsGroup parts groups → colon_first (join_with_byte colon parts ++ colon ∷ rest) ≡ true
 gap_colon [] groups rest h = refl
 gap_colon (p ∷ parts) [] rest h = absurd h
@@ -81,24 +81,24 @@ full_colon text groups rest (inr h) eight =
     let count : length groups ≡ length h.front + 2 = ap length h.value ∙ length-append h.front (two_groups h.address) in
     rw h.spelled (dotted_colon h.parts h.front h.last rest h.named (omega arith))
 
--- in an IPv6 text a colon comes first
+-- in an IPv6 text, a colon comes first
 pub v6_colon_first : (text rest : List ℕ) (address : ℕ) → NamesV6 text address → colon_first (text ++ rest) ≡ true
 v6_colon_first text rest address (inl h) = full_colon text h.groups rest h.ended h.eight
 v6_colon_first text rest address (inr h) =
     let front = h.high_groups in
     rw (h.split, front.spelled) (simp append_assoc (gap_colon front.parts h.high (colon ∷ (h.behind ++ rest)) front.named))
 
--- ---- a text that its first mark leaves to one family
+-- ---- the family that the first dot or colon leaves
 
 different : true ≡ false → ⊥
 different e = cc
 
--- a text with a colon first that names no IPv6 address names none
+-- a text with a colon first names no address if it names no IPv6 address
 pub none_with_colon : (text : List ℕ) → colon_first text ≡ true → ((address : ℕ) → ¬ (NamesV6 text address)) → (address : IpAddr) → ¬ (NamesIp text address)
 none_with_colon text at_colon none (V4 address) named = different (sym at_colon ∙ ap colon_first (sym (append-nil text)) ∙ v4_dot_first text [] address named)
 none_with_colon text at_colon none (V6 address) named = none address named
 
--- one without that names no IPv4 address names none
+-- a text with no colon first names no address if it names no IPv4 address
 pub none_without_colon : (text : List ℕ) → colon_first text ≡ false → ((address : ℕ) → ¬ (NamesV4 text address)) → (address : IpAddr) → ¬ (NamesIp text address)
 none_without_colon text no_colon none (V4 address) named = none address named
 none_without_colon text no_colon none (V6 address) named = different (sym (v6_colon_first text [] address named) ∙ ap colon_first (append-nil text) ∙ no_colon)

@@ -9,7 +9,7 @@ use Rattle.ipnetwork_addr.specs.Private.GroupFront.{NoHex, BeginsWithHex, Begins
 below : {text : List ℕ} {d : ℕ} {r : List ℕ} → (h : BeginsWithHex text d r) → digit_value h.byte < 16
 below h = subst (λ (v : ℕ). v < 16) (sym h.value) h.below_sixteen
 
--- ---- digits that were read
+-- ---- groups of one to four digits
 
 pub one_hex : {text rest : List ℕ} {a : ℕ} → BeginsWithHex text a rest → NoHex rest → BeginsWithGroup text a rest
 one_hex first stops = record {
@@ -61,7 +61,7 @@ four_hexes first second third fourth stops = record {
 
 -- ---- texts that begin with no group
 
--- the digits of a group end within this text, at a byte that is no hex digit
+-- a text that begins with a hex digit does not stop a group
 pub goes_on : {text : List ℕ} {d : ℕ} {r : List ℕ} → BeginsWithHex text d r → ¬ (NoHex text)
 goes_on {text} h stops =
     let e : get_or text 0 0 ≡ h.byte = ap (λ t. get_or t 0 0) h.split in
@@ -95,7 +95,7 @@ no_group_of_five {text} {r} {s} {t} {u} first second third fourth fifth group re
     go (x ∷ y ∷ z ∷ w ∷ []) some short split = goes_on fifth (subst NoHex (sym (ap (drop 4) split) ∙ is_u) h.stops)
     go (x ∷ y ∷ z ∷ w ∷ q ∷ more) some short split = omega (arith, short)
 
--- ---- a text begins with one group at most
+-- ---- a text begins with at most one group
 
 pub same_digits : (a b r s : List ℕ) → AllDigits 16 a → AllDigits 16 b → NoHex r → NoHex s → a ++ r ≡ b ++ s → (a ≡ b) × (r ≡ s)
 same_digits [] [] r s h k f g e = (refl, e)

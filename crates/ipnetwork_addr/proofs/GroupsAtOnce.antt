@@ -1,4 +1,4 @@
--- A group of an IPv6 text by the position where it ends, of which the values of the digits are known.
+-- A group of an IPv6 text, given its end and the values of its digits.
 use Rattle.std.proofs.Common.{◌≡◌, ◌≢◌, ℕ, zero, suc, ◌+◌, ◌-◌, ◌*◌, ◌/◌, ◌%◌, ◌^◌, ◌<◌, ◌≤◌, List, ◌∷◌, length, drop, get_or, refl, sym, ap, ◌∙◌, subst, arith, lit≤, bit_and, min, inl, inr}
 use Rattle.std.proofs.lemmas.Bool.{cases_lt}
 use Rattle.std.proofs.lemmas.List.{drop_more, drop_all}
@@ -17,7 +17,7 @@ no_bit word marks i none set =
     let e : min (bit_at word i) (bit_at marks i) ≡ 0 = sym (bit_at_and word marks i) ∙ ap (λ n. bit_at n i) none ∙ bit_at-zero i in
     omega (arith, e, set)
 
--- a part of a number whose bits from the fourth on are not set
+-- a byte of a number is below sixteen if its upper four bits are not set
 below_sixteen : (q : ℕ) → q / 16 % 2 ≡ 0 → q / 32 % 2 ≡ 0 → q / 64 % 2 ≡ 0 → q / 128 % 2 ≡ 0 → q % 256 < 16
 below_sixteen q a b c d = omega (arith, a, b, c, d)
 
@@ -48,7 +48,7 @@ hex_at text values shown p q r next position within small =
       split = drop_more text p 0 within ∙ ap (λ i. get_or text p 0 ∷ drop i text) next;
     }
 
--- no group goes on where the text ends or a colon stands
+-- a group stops at the end of the text and at a colon
 stops_at : (text : List ℕ) (end : ℕ) → end ≤ length text → (end < length text → get_or text end 0 ≡ colon) → NoHex (drop end text)
 stops_at text end within there = elim (cases_lt end (length text)) [
   | inl more ↦ subst NoHex (sym (drop_more text end 0 more ∙ ap (λ b. b ∷ drop (end + 1) text) (there more))) (lit≤ tt)

@@ -1,4 +1,4 @@
--- The shortest hex of a group, digit by digit.
+-- The shortest hex form of a group, digit by digit.
 use Rattle.std.proofs.Common.{◌≡◌, ◌≢◌, false, ℕ, ◌/◌, ◌%◌, ◌^◌, ◌<◌, ◌≤◌, inl, inr, lit≤, List, [], ◌∷◌, ◌++◌, sym, ap, ◌∙◌, arith, append_assoc, append-nil, flat_map, length, get_or, take, drop, take_all, ne_eqb, eq-eqb}
 use Rattle.std.specs.Fmt.{digits, digit_glyph}
 use Rattle.std.proofs.lemmas.Bool.{cases_lt}
@@ -42,7 +42,7 @@ length-hex-le g fits = elim (cases_lt g 16) [
   ]
 ]
 
--- a text, after the digits of a group were pushed one at a time
+-- a text after the digits of a group are pushed one at a time
 pub pushed_one : {text one : List ℕ} (n : ℕ) → n < 16 → IsPushed text (glyph n) one → one ≡ text ++ hex n
 pushed_one n high h = h.is ∙ rw (hex_one_digit false n high)
 
@@ -57,7 +57,7 @@ pub pushed_four : {text one two three four : List ℕ} (n : ℕ) → 4096 ≤ n 
     → IsPushed two (glyph (n / 16 % 16)) three → IsPushed three (glyph (n % 16)) four → four ≡ text ++ hex n
 pushed_four n low high h k l m = m.is ∙ rw (l.is, k.is, h.is, hex_four n low high, append_assoc, append_assoc, append_assoc)
 
--- groups, each after a colon
+-- groups, each with a colon before it
 pub hex_groups-cons : (g : ℕ) (groups : List ℕ) → hex_groups (g ∷ groups) ≡ hex g ++ flat_map (λ x. colon ∷ hex x) groups
 hex_groups-cons g [] = sym (append-nil (hex g))
 hex_groups-cons g (next ∷ groups) = ap (λ t. hex g ++ colon ∷ t) (hex_groups-cons next groups)

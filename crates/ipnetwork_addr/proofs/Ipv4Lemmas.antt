@@ -10,7 +10,7 @@ use Rattle.ipnetwork_addr.specs.Ipv4Text.{IsOctet, NamesV4, canonical_v4}
 use Rattle.ipnetwork_addr.specs.Private.OctetFront.{NoDigit, BeginsWithOctet}
 use Rattle.ipnetwork_addr.proofs.Octets.{BeginsWithDottedOctet, octet_unique, dotted_octet_unique}
 
--- four octets, read one after the other, and nothing after them
+-- four octets, one after the other, and nothing after them
 pub record Chain (text : List ℕ) (a b c d : ℕ) : Type 0 where
   pub after_a : List ℕ
   pub after_b : List ℕ
@@ -20,7 +20,7 @@ pub record Chain (text : List ℕ) (a b c d : ℕ) : Type 0 where
   pub third : BeginsWithDottedOctet after_b c after_c
   pub fourth : BeginsWithDottedOctet after_c d []
 
--- the digits of an address, highest first
+-- the number with these octets, highest first
 abbrev pub number_of : ℕ → ℕ → ℕ → ℕ → ℕ
 number_of a b c d = number_from_digits 256 (a ∷ b ∷ c ∷ d ∷ [])
 
@@ -72,9 +72,9 @@ reading_of_parts text (p ∷ q ∷ r ∷ s ∷ t ∷ more) (a ∷ b ∷ c ∷ d 
 pub reading_of : (text : List ℕ) (address : ℕ) → NamesV4 text address → Reading text address
 reading_of text address h = reading_of_parts text h.joined.parts h.octets address h.joined.spelled h.joined.named h.four h.value
 
--- ---- the answers of the reader
+-- ---- the results of the reader
 
--- what a test for the end tells
+-- what a test for the end says
 pub is_nil : (b : Bool) (text : List ℕ) → b ≡ (length text == 0) → b ≡ true → text ≡ []
 is_nil b text e f = nil_from_length text (eqb-true (length text) 0 (sym e ∙ f))
 
@@ -100,7 +100,7 @@ names_four {text} {a} {b} {c} {d} {r} {s} {t} {u} first second third fourth empt
   value = refl;
 }
 
--- where the first octets were read, those of any name are they
+-- after the first octets are read, those of any address that the text names are the same
 pub same_after_a : {text : List ℕ} {a : ℕ} {r : List ℕ} {b' c' d' a' : ℕ} → BeginsWithOctet text a r → (k : Chain text a' b' c' d') → k.after_a ≡ r
 same_after_a {text} {a} {r} {b'} {c'} {d'} {a'} first k = (octet_unique text a' a k.after_a r k.first first).1
 
@@ -124,7 +124,7 @@ v4_unique text x y h k =
     let d = dotted_octet_unique _ i.d j.d _ _ (rw c.1 at i.chain.fourth) j.chain.fourth in
     i.value ∙ rw (a.0, b.0, c.0, d.0) (sym j.value)
 
--- the octets of an address are its digits in base 256
+-- an address is the number with its octets as digits in base 256
 number-octets_of : (address : ℕ) → address < 2 ^ 32 → address ≡ number_from_digits 256 (octets_of address)
 number-octets_of address fits = omega arith
 

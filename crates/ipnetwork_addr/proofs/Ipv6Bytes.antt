@@ -1,4 +1,4 @@
--- The bytes that an IPv6 text holds.
+-- The bytes of an IPv6 text.
 use Rattle.std.proofs.Common.{ℕ, ◌-◌, ◌<◌, List, [], ◌∷◌, ◌++◌, refl, sym, subst, inl, inr, arith}
 use Rattle.std.specs.Prelude.{nat_lt}
 use Rattle.std.proofs.lemmas.Bool.{cond_both, ltb-true, ltb-false}

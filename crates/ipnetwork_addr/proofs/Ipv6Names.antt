@@ -1,4 +1,4 @@
--- The texts of IPv6 addresses, as the parts to the left and to the right of a `::`.
+-- The texts of IPv6 addresses, as the parts before and after a `::`.
 use Rattle.std.proofs.Common.{◌≡◌, ℕ, ◌+◌, ◌-◌, ◌^◌, ◌<◌, ◌≤◌, List, [], ◌∷◌, ◌++◌, length, drop, replicate, Option, None, Some, refl, sym, ap, ◌∙◌, subst, inl, inr, arith, lit≤, append_assoc, append-nil, length-append}
 use Rattle.std.proofs.lemmas.Option.{none-some, same_Some}
 use Rattle.std.specs.List.{join_with_byte, AllZip}
@@ -10,7 +10,7 @@ use Rattle.ipnetwork_addr.specs.Private.GroupFront.{NoHex, BeginsWithGroup, Last
 use Rattle.ipnetwork_addr.proofs.Compressed.{room_of, value_of, compressed}
 use Rattle.ipnetwork_addr.proofs.Parts.{part_unique, no_part_at_colon, no_part_of_nothing}
 
--- the two forms of a text, in the words of the reader
+-- the two forms of a text, as the reader sees them
 pub data Shape (text : List ℕ) (address : ℕ) : Type 0 where
   Full : (groups : List ℕ) → IsTextPart groups text None → length groups ≡ 8 → address ≡ number_from_digits (2 ^ 16) groups → Shape text address
   Gapped : (left right next : List ℕ) → IsLeft left text (Some next) → IsRight right next → length left + length right ≤ 7 → address ≡ number_from_digits (2 ^ 16) (left ++ replicate (8 - length left - length right) 0 ++ right) → Shape text address
@@ -75,7 +75,7 @@ shape_of text address (inl h) = Full h.groups (ended_part text h.groups h.ended 
 shape_of text address (inr h) =
     Gapped h.high h.low h.behind (left_of text h.before h.high h.behind (h.split ∙ append_assoc h.before (colon ∷ colon ∷ []) h.behind) h.high_groups) (right_of h.behind h.low h.low_groups) (room_of text address h) (value_of text address h)
 
--- ---- and back
+-- ---- from the parts to the definitions
 
 join_more : (part : List ℕ) (parts : List (List ℕ)) → 0 < length parts → part ++ colon ∷ join_with_byte colon parts ≡ join_with_byte colon (part ∷ parts)
 join_more part [] some = absurd (omega arith)
@@ -166,7 +166,7 @@ names_of text address (Gapped left right next l r room value) =
     let front = left_text_of left text next l in
     inr (compressed text front.front next left right address (front.spelled ∙ sym (append_assoc front.front (colon ∷ colon ∷ []) next)) front.plain (right_ended right next r) room value)
 
--- ---- there is one left part, and one right part
+-- ---- the left and right parts are unique
 
 pub left_unique : (gs hs text : List ℕ) (e f : Option (List ℕ)) → IsLeft gs text e → IsLeft hs text f → (gs ≡ hs) × (e ≡ f)
 left_unique gs hs text e f (inl p) (inl q) = part_unique gs hs text e f p q

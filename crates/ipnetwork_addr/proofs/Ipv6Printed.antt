@@ -1,4 +1,4 @@
--- The canonical text of an IPv6 address names it, and is one.
+-- The canonical text of an IPv6 address names it and is unique.
 use Rattle.std.proofs.Common.{◌≡◌, ◌↔◌, subst, ℕ, suc, zero, ◌+◌, ◌%◌, ◌^◌, ◌<◌, ◌≤◌, false, List, [], ◌∷◌, ◌++◌, length, map, take, drop, replicate, refl, sym, ap, ◌∙◌, inl, inr, arith, lit≤, take-add, take-append-drop, length-take-le, length-drop}
 use Rattle.std.proofs.Common.{true≢false, eq-eqb, ◌/◌}
 use Rattle.std.proofs.lemmas.Bool.{cond_both, leb-true, leb-false, eqb-true}
@@ -28,7 +28,7 @@ named_hex (g ∷ groups) fit = (hex_is_group g fit.0, named_hex groups fit.1)
 hex_groups_are_plain : (groups : List ℕ) → AllBelowBase (2 ^ 16) groups → IsPlain (hex_groups groups) groups
 hex_groups_are_plain groups fit = record { parts = map hex groups; spelled = refl; named = named_hex groups fit }
 
--- groups stay groups where some are left out. `ipnetwork_witness` cites these too
+-- groups stay groups if some are left out. Also used by `ipnetwork_witness`
 pub fit_take : (n : ℕ) (groups : List ℕ) → AllBelowBase (2 ^ 16) groups → AllBelowBase (2 ^ 16) (take n groups)
 fit_take zero groups h = tt
 fit_take (suc n) [] h = tt
@@ -46,7 +46,7 @@ segments_fit address =
 pub number-segments_of : (address : ℕ) → address < 2 ^ 128 → address ≡ number_from_digits (2 ^ 16) (segments_of address)
 number-segments_of address fits = omega arith
 
--- groups with a run of zeros left out, and put back
+-- groups with a run of zeros left out and put back
 put_back : (groups : List ℕ) (i n : ℕ) → IsZeroRun groups i n → groups ≡ take i groups ++ replicate n 0 ++ drop (i + n) groups
 put_back groups i n run = rw (← run_is_zeros groups i n run, ← take-add i n groups) (sym (take-append-drop (i + n) groups))
 
@@ -69,7 +69,7 @@ gap_named address groups text i n eight fit value gap spelled =
       value = value ∙ ap (number_from_digits (2 ^ 16)) (put_back groups i n gap.zeros);
     })
 
--- the number of an address that has an IPv4 address in it
+-- the number of an IPv4-mapped address
 mapped_number : (address : ℕ) → IsMapped address → address ≡ number_from_digits (2 ^ 16) (0 ∷ 0 ∷ 0 ∷ 0 ∷ 0 ∷ 0xffff ∷ two_groups (address % 2 ^ 32))
 mapped_number address mapped = omega (arith, mapped)
 
@@ -108,7 +108,7 @@ canonical_v6_names text address fits (Whole other none spelled) = inl (record {
   value = number-segments_of address fits;
 })
 
--- there is one gap
+-- there is at most one gap
 same_gap : (groups : List ℕ) (i n j m : ℕ) → IsGap groups i n → IsGap groups j m → (i ≡ j) × (n ≡ m)
 same_gap groups i n j m g h =
     let up : n ≤ m = h.longest i n g.zeros in
@@ -131,7 +131,7 @@ canonical_v6_unique address text other (Whole not none e) (Mapped mapped e') = a
 canonical_v6_unique address text other (Whole not none e) (Gap not' i n gap e') = absurd (none i n gap)
 canonical_v6_unique address text other (Whole not none e) (Whole not' none' e') = e ∙ sym e'
 
--- the function gives the one text
+-- the function returns the canonical text
 pub canonical_v6_is : (address : ℕ) → IsCanonicalV6 (canonical_v6 address) address
 canonical_v6_is address =
     let groups = segments_of address in

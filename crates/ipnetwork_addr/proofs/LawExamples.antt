@@ -1,5 +1,5 @@
--- What the laws of texts let one conclude, where a weaker law would not. The addresses are those of RFC 5737, section
--- 3, and of RFC 5952.
+-- What follows from the laws of texts, and would not follow from weaker ones. The addresses are from RFC 5737, section
+-- 3, and from RFC 5952.
 use Rattle.std.proofs.Common.{◌≡◌, ℕ, ◌^◌, ◌-◌, ◌+◌, ◌*◌, ◌<◌, true, false, List, [], ◌∷◌, ◌++◌, Some, None, Option, Result, refl, ap, sym, arith, lit<, true≢false}
 use Rattle.std.specs.Prelude.{◌↔◌, codes, is_err, Ok, Err}
 use Rattle.std.specs.Fmt.{digits}
@@ -103,22 +103,22 @@ each_family_is_read law =
 abbrev OctetTexts : Type 0
 OctetTexts = (text : List ℕ) (n : ℕ) → IsOctet text n ↔ IsPlainOctet text n
 
--- no octet begins with a zero and has more digits
+-- no octet of several digits begins with a zero
 pub no_leading_zero : OctetTexts → (digit n : ℕ) → ¬ (IsOctet (48 ∷ digit ∷ []) n)
 no_leading_zero law digit n octet =
     let one : 2 ≡ 1 = ((law (48 ∷ digit ∷ []) n).0 octet).no_leading_zero refl in omega (arith, one)
 
--- nor has it four
+-- no octet has four digits
 pub no_four_digits : OctetTexts → (a b c d n : ℕ) → ¬ (IsOctet (a ∷ b ∷ c ∷ d ∷ []) n)
 no_four_digits law a b c d n octet =
     let short = ((law (a ∷ b ∷ c ∷ d ∷ []) n).0 octet).short in omega (arith, short)
 
--- ---- a text names at most one address, and no text one of each family
+-- ---- a text names at most one address, in at most one family
 
 abbrev OneIn : (List ℕ → ℕ → Type 0) → Type 0
 OneIn Names = (text : List ℕ) (a b : ℕ) → Names text a → Names text b → a ≡ b
 
--- 192.0.2.1 of the first text, and of no second
+-- a text that names 192.0.2.1 does not name 192.0.2.2
 pub no_second_v4 : OneIn NamesV4 → (text : List ℕ) → NamesV4 text 0xc0000201 → ¬ (NamesV4 text 0xc0000202)
 no_second_v4 law text one two =
     let same = law text 0xc0000201 0xc0000202 one two in omega (arith, same)
@@ -135,7 +135,7 @@ abbrev width : IpAddr → ℕ
 width (V4 address) = 32
 width (V6 address) = 128
 
--- of one number the text of one family is none of the other
+-- a text that names an IPv4 address does not name the IPv6 address of the same number
 pub no_other_family : ((text : List ℕ) (a b : IpAddr) → NamesIp text a → NamesIp text b → a ≡ b)
     → (text : List ℕ) → NamesIp text (V4 1) → ¬ (NamesIp text (V6 1))
 no_other_family law text one two =
@@ -148,7 +148,7 @@ pub last_v4_is_named : ((address : ℕ) → address < 2 ^ 32 → NamesV4 (canoni
 unfolding digits
 last_v4_is_named law = law (2 ^ 32 - 1) (lit< tt)
 
--- only the last address is printed as the last one is
+-- only the last IPv4 address is printed as 255.255.255.255
 pub last_v4_is_alone
     : ((a b : ℕ) → a < 2 ^ 32 → b < 2 ^ 32 → (a ≡ b) ↔ (canonical_v4 a ≡ canonical_v4 b))
     → (address : ℕ) → address < 2 ^ 32 → canonical_v4 address ≡ codes "255.255.255.255"
@@ -160,7 +160,7 @@ abbrev CanonicalIsOneText : Type 0
 CanonicalIsOneText = (text : List ℕ) (address : ℕ)
     → IsCanonicalV6 text address ↔ (text ≡ canonical_v6 address)
 
--- the first of two runs of zeros is the gap, and not the second
+-- the first of two equally long runs of zeros is the gap, not the second
 pub first_run_is_the_gap : CanonicalIsOneText
     → IsCanonicalV6 (codes "2001:db8::1:0:0:1") 0x20010db8000000000001000000000001
 unfolding digits
@@ -184,7 +184,7 @@ pub either_is_named : ((address : IpAddr) → FitsIp address → NamesIp (canoni
 unfolding digits
 either_is_named law = (law (V4 1) (lit< tt), law (V6 1) (lit< tt))
 
--- an IPv6 address is never printed as an IPv4 one
+-- an IPv6 address is never printed as an IPv4 address is
 pub families_are_printed_apart
     : ((a b : IpAddr) → FitsIp a → FitsIp b → (a ≡ b) ↔ (canonical_ip a ≡ canonical_ip b))
     → (four six : ℕ) → four < 2 ^ 32 → six < 2 ^ 128 → ¬ (canonical_v4 four ≡ canonical_v6 six)
@@ -196,7 +196,7 @@ families_are_printed_apart law four six fits six_fits printed =
 abbrev BytesOf : (List ℕ → ℕ → Type 0) → Type 0
 BytesOf Names = (text : List ℕ) (address : ℕ) → Names text address → AllByRecursion IsAddressByte text
 
--- a blank before an address is not part of it
+-- no address text begins with a blank
 pub no_blank_before_v4 : BytesOf NamesV4 → (text : List ℕ) (address : ℕ) → ¬ (NamesV4 (32 ∷ text) address)
 no_blank_before_v4 law text address named =
     none_before_the_dot 32 (lit< tt) (law (32 ∷ text) address named).0

@@ -1,4 +1,4 @@
--- Which groups are those of an address that holds an IPv4 address.
+-- The groups of an IPv4-mapped address.
 use Rattle.std.proofs.Common.{◌≡◌, ◌≢◌, ◌↔◌, ◌==◌, false, IsTrue, true≢false, ℕ, ◌+◌, ◌*◌, ◌/◌, ◌^◌, ◌<◌, List, [], ◌∷◌, get_or, ap, sym, arith}
 use Rattle.std.proofs.lemmas.Bool.{eqb-true, eq-eqb}
 use Rattle.std.proofs.lemmas.Int.Digits.{number_more}
@@ -6,7 +6,7 @@ use Rattle.std.proofs.lemmas.List.{take_all}
 use Rattle.ipnetwork_addr.specs.Ipv6Canonical.{IsMapped}
 use Rattle.ipnetwork_addr.specs.Segments.{number_of_segments, AreSegments}
 
--- the high half, the two groups behind it, and the last two
+-- the number of the groups, from the high half, the next two groups and the last two
 in_parts : (xs : List ℕ) (high : ℕ) → AreSegments xs → high ≡ number_of_segments (get_or xs 0 0 ∷ get_or xs 1 0 ∷ get_or xs 2 0 ∷ get_or xs 3 0 ∷ [])
     → number_of_segments xs ≡ high * 2 ^ 64 + (get_or xs 4 0 * 65536 + get_or xs 5 0) * 2 ^ 32 + (get_or xs 6 0 * 65536 + get_or xs 7 0)
 in_parts xs high h is =

@@ -1,4 +1,4 @@
--- An octet that is a whole text, and one before a dot.
+-- Octets that are whole texts, and octets before a dot.
 use Rattle.std.proofs.Common.{◌≡◌, ◌≢◌, ℕ, ◌+◌, ◌*◌, ◌<◌, ◌≤◌, ◌⊎◌, inl, inr, cond, nat_lt, List, [], ◌∷◌, ◌++◌, length, take, drop, get_or, decimal, refl, sym, ap, ◌∙◌, subst, arith, lit≤, append-nil, take-append-drop}
 use Rattle.std.proofs.lemmas.Bool.{cases_lt, lt-ltb, le-ltb}
 use Rattle.std.proofs.lemmas.Fmt.{decimal_is_IsNumeral, length-decimal-le}
@@ -14,13 +14,13 @@ use Rattle.ipnetwork_addr.proofs.Octets.{BeginsWithDottedOctet}
 use Rattle.ipnetwork_addr.proofs.Ipv4Lemmas.{number_of, names_four, reading_of, same_after_a, same_after_b, same_after_c}
 use Rattle.ipnetwork_addr.proofs.PlainOctet.{plain_from_octet, octet_from_plain}
 
--- ---- an octet by the values of its bytes, where a byte that is no digit has the value 256
+-- ---- an octet from the values of its bytes, 256 for a byte that is no digit
 
--- the value of a byte
+-- the value of a byte: 256 if it is no digit
 abbrev pub Value : ℕ → ℕ → Type 0
 Value byte value = value ≡ cond (nat_lt (digit_value byte) 10) (digit_value byte) 256
 
--- a value that is small is that of a digit
+-- a value below 256 is that of a digit
 is_digit : (a v : ℕ) → Value a v → v < 256 → (digit_value a < 10) × (v ≡ digit_value a)
 is_digit a v value small = elim (cases_lt (digit_value a) 10) [
   | inl digit ↦ (digit, value ∙ ap (λ b. cond b (digit_value a) 256) (lt-ltb (digit_value a) 10 digit))
@@ -31,7 +31,7 @@ is_digit a v value small = elim (cases_lt (digit_value a) 10) [
 of_digit : (a v : ℕ) → Value a v → digit_value a < 10 → v ≡ digit_value a
 of_digit a v value digit = value ∙ ap (λ b. cond b (digit_value a) 256) (lt-ltb (digit_value a) 10 digit)
 
--- the digit of value 0
+-- the digit with the value 0
 is_zero : (a : ℕ) → digit_value a < 10 → digit_value a ≡ 0 → a ≡ 48
 is_zero a digit zero = let range = digit_from_value a digit in omega (arith, digit_value_digit a range)
 
@@ -114,7 +114,7 @@ no_octet_of_four text long n h = let plain = plain_from_octet text n h in omega 
 
 -- ---- an octet before a dot
 
--- a text that begins with an octet and a dot: the dot stands behind the one to three digits of the octet
+-- a text that begins with an octet and a dot, which comes after one to three digits
 record Ending (text : List ℕ) (n : ℕ) (rest : List ℕ) (end : ℕ) : Type 0 where
   some : 1 ≤ end
   few : end ≤ 3
@@ -174,11 +174,11 @@ pub four_octets : {text : List ℕ} {a b c d : ℕ} {r s t : List ℕ} → Begin
 four_octets {text} {a} {b} {c} {d} {r} {s} {t} first second third fourth =
     names_four first (dotted r b (dot ∷ s) second) (dotted s c (dot ∷ t) third) (dotted t d [] (whole t d fourth)) refl
 
--- the octet behind a dot
+-- the octet after a dot
 behind : (before text : List ℕ) (n : ℕ) (after : List ℕ) → before ≡ dot ∷ text → BeginsWithDottedOctet before n after → BeginsWithOctet text n after
 behind before text n after e h = subst (λ t. BeginsWithOctet t n after) (ap (drop 1) (sym h.dotted ∙ e)) h.begins
 
--- the octet before a dot that stands at the front of the rest
+-- the octet before a dot at the front of the rest
 before : (text : List ℕ) (n : ℕ) (rest after : List ℕ) → rest ≡ dot ∷ after → BeginsWithOctet text n rest → BeginsWithOctet text n (dot ∷ after)
 before text n rest after e h = subst (BeginsWithOctet text n) e h
 

@@ -33,7 +33,7 @@ three_bytes xs p q r next last long =
 abbrev pub AreBytes : List ℕ → Type 0
 AreBytes xs = (k : ℕ) → k < 16 → get_or xs k 0 < 256
 
--- a byte that is up to 9 above `0`
+-- a byte that is 0 to 9 above `0` is a digit
 digit_of : (x v : ℕ) → x < 256 → v ≡ (x + 208) % 256 → v ≤ 9 → Value x v
 digit_of x v fits is small =
     let value : digit_value x + 48 ≡ x = digit_value_digit x (omega arith, omega arith) in
@@ -48,7 +48,7 @@ digit_in_at xs p size low =
 digit_at : (xs : List ℕ) (p v : ℕ) → AreBytes xs → length xs ≡ 16 → p < 16 → v ≡ digit_in xs p → v ≤ 9 → Value (get_or xs p 0) v
 digit_at xs p v bytes size low is small = digit_of (get_or xs p 0) v (bytes p low) (is ∙ digit_in_at xs p size low) small
 
--- the lanes of hundreds, tens and ones
+-- the hundreds, tens and ones of an octet
 abbrev hundreds : List ℕ → ℕ → ℕ → ℕ
 hundreds xs at count = digit_in xs (cond (nat_lt count 3) 128 at)
 
@@ -58,7 +58,7 @@ tens xs at count = digit_in xs (cond (nat_lt count 2) 128 (at + count - 2))
 abbrev ones : List ℕ → ℕ → ℕ → ℕ
 ones xs at count = digit_in xs (at + count - 1)
 
--- what is known of them: within bounds, and their number
+-- the bounds of these lanes, and their number
 record Lanes (xs : List ℕ) (at n count : ℕ) : Type 0 where
   within : at + count ≤ length xs
   first : cond (nat_lt count 3) 0 1 ≤ hundreds xs at count
@@ -116,14 +116,14 @@ octet_of_lanes xs at count n bytes size some few h = elim (cases_eq count 1) [
 dot_at : (xs : List ℕ) (p : ℕ) → AreBytes xs → length xs ≡ 16 → p < 16 → 254 ≤ digit_in xs p → digit_in xs p ≤ 254 → get_or xs p 0 ≡ dot
 dot_at xs p bytes size low least most = omega (arith, digit_in_at xs p size low, bytes p low)
 
--- the greatest of each lane
+-- the greatest value of each lane
 abbrev pub most_lanes : List ℕ
 most_lanes = 9 ∷ 9 ∷ 9 ∷ 254 ∷ 9 ∷ 9 ∷ 9 ∷ 254 ∷ 9 ∷ 9 ∷ 9 ∷ 254 ∷ 9 ∷ 9 ∷ 9 ∷ 0 ∷ []
 
 abbrev lanes : List ℕ → ℕ → List ℕ
 lanes xs row = map (digit_in xs) (row_positions row)
 
--- what an octet's lanes count for
+-- the number that an octet's lanes stand for
 abbrev worth : List ℕ → ℕ → ℕ
 worth ds i = get_or ds i 0 * 100 + get_or ds (i + 1) 0 * 10 + get_or ds (i + 2) 0
 
@@ -138,7 +138,7 @@ module _ (xs : List ℕ) (row : ℕ) (bytes : AreBytes xs) (size : length xs ≡
       octet_of_lanes xs at count n bytes size some few
       (record { within = omega (arith, size); first = first; second = second; high = high; middle = middle; low = low; number = number; bound = bound })
 
-  -- what is known of a lane
+  -- the bounds of a lane
   low : (k : ℕ) → T (ltb k 16) → get_or (row_least row) k 0 ≤ get_or (lanes xs row) k 0
   low k l = least k (lit< l)
 
@@ -159,9 +159,9 @@ module _ (xs : List ℕ) (row : ℕ) (bytes : AreBytes xs) (size : length xs ≡
         four = refl;
       }
 
--- ---- the text whose bytes they are
+-- ---- the text with these bytes
 
--- a part of the bytes is one of the text
+-- a part of the text's bytes is a part of all the bytes
 same_part : (xs : List ℕ) (n at count : ℕ) → at + count ≤ n → take count (drop at (take n xs)) ≡ take count (drop at xs)
 same_part xs n at count within =
     let left : n ≡ at + (n - at) = omega arith in
@@ -181,7 +181,7 @@ octet_and_dot text at count n next within here is h = record {
 
 -- ---- what the reader of a row does with vectors
 
--- each position is one of sixteen, or none
+-- each position is one of sixteen, or means that there is no byte
 abbrev is_position : ℕ → Bool
 is_position j = zeroes 16 w8 j || ltb j 16
 
@@ -223,7 +223,7 @@ lanes_at xs row js size is =
     ∙ ap (swz_l w8 16 (map (λ x. (x + 208) % 256) xs) 0) is
     ∙ swz_is (map (λ x. (x + 208) % 256) xs) 0 (row_positions row) (lit≤ tt)
 
--- the first eight bytes of a text, then the last eight, and of these those that were not among the first
+-- the first eight bytes of a text, followed by those of the last eight that are not among the first
 abbrev pub joined_lanes : List ℕ → List ℕ → List ℕ
 joined_lanes text js = swz_l w8 16 (pick_l 0 (take 8 text ++ take 8 (drop (length text - 8) text)) sixteen) 0 js
 
@@ -249,7 +249,7 @@ joined_is (a ∷ b ∷ c ∷ d ∷ e ∷ f ∷ g ∷ h ∷ i ∷ j ∷ k ∷ l �
 pub joined_text : (text js : List ℕ) → 8 ≤ length text → length text ≤ 15 → js ≡ joined_positions (length text) → take (length text) (joined_lanes text js) ≡ text
 joined_text text js long short is = ap (λ k. take (length text) (joined_lanes text k)) is ∙ joined_is text long short
 
--- where no lane of the comparison is set, no lane is less than the other
+-- if no lane of the comparison is set, no lane is less than the other
 pub none_less : (w : Width) (a b : List ℕ) (n : ℕ) → length a ≡ n → length b ≡ n → n ≤ 64
     → mask_l (map (top (hbits w)) (zip2 (λ x y. cond (ltb x y) (2 ^ bits w - 1) 0) a b)) % 2 ^ 64 ≡ 0
     → (k : ℕ) → k < n → get_or b k 0 ≤ get_or a k 0
@@ -289,7 +289,7 @@ products_below d few =
     ones_below : (i j : ℕ) → i < 16 → T (ltb (d i * 1 + d j * 0) 32768)
     ones_below i j a = below _ _ (omega (arith, few i a))
 
--- no lane is more than the greatest
+-- no lane exceeds 254
 few_lanes : (ds : List ℕ) → AreAtLeast most_lanes ds → (k : ℕ) → k < 16 → get_or ds k 0 ≤ 254
 few_lanes ds most k l = omega (arith, most k l, most_few k)
   where
@@ -304,7 +304,7 @@ weights_ok xs row ds is most =
     subst (λ (s : List ℕ). T (all_below 32768 (pair_sums (zip2 (λ x y. x * y) s weights)))) (sym is)
     (products_below (λ k. get_or (lanes xs row) k 0) (few_lanes (lanes xs row) (subst (AreAtLeast most_lanes) is most)))
 
--- the numbers that the lanes are worth
+-- the numbers that the lanes stand for
 abbrev numbers : List ℕ → List ℕ
 numbers ds = pair_sums (pair_sums (zip2 (λ x y. x * y) ds weights))
 
@@ -322,7 +322,7 @@ of_lanes xs row bytes size known least most none =
     (below_four (λ i. get_or (map (λ x. x) (numbers (lanes xs row))) i 0 ≡ worth (lanes xs row) (4 * i)) (sum_at 0) (sum_at 4) (sum_at 8) (sum_at 12))
     (below_four (λ i. get_or (map (λ x. x) (numbers (lanes xs row))) i 0 ≤ 255) (small 0 (lit≤ tt)) (small 1 (lit≤ tt)) (small 2 (lit≤ tt)) (small 3 (lit≤ tt)))
   where
-    -- an octet's number, as the sums of its neighbouring products
+    -- an octet's number, from the sums of neighbouring products
     sum_at : (i : ℕ) → get_or (lanes xs row) i 0 * 100 + get_or (lanes xs row) (i + 1) 0 * 10 + (get_or (lanes xs row) (i + 2) 0 * 1 + get_or (lanes xs row) (i + 3) 0 * 0) ≡ worth (lanes xs row) i
     sum_at i = omega arith
 

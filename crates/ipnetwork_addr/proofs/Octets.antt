@@ -7,7 +7,7 @@ use Rattle.ipnetwork_addr.specs.Private.OctetFront.{BeginsWithOctet}
 use Rattle.ipnetwork_addr.specs.Texts.{dot}
 use Rattle.ipnetwork_addr.proofs.Decimals.{decimal_two, decimal_three}
 
--- the text is a dot, an octet, and then the rest
+-- the text is a dot and an octet, followed by the rest
 pub record BeginsWithDottedOctet (text : List ℕ) (octet : ℕ) (rest : List ℕ) : Type 0 where
   pub after_dot : List ℕ
   pub dotted : text ≡ dot ∷ after_dot
@@ -19,7 +19,7 @@ NotDigit byte = (byte < 48) ⊎ (57 < byte)
 
 -- ---- the first bytes of a text that begins with an octet
 
--- the first bytes, of one, two or three digits, and that no digit follows them
+-- the text begins with the one, two or three digits of n, and no digit follows
 data Bytes (text : List ℕ) (n : ℕ) : Type 0 where
   One : n < 10 → get_or text 0 0 ≡ 48 + n → NotDigit (get_or text 1 0) → Bytes text n
   Two : 10 ≤ n → n < 100 → get_or text 0 0 ≡ 48 + n / 10 → get_or text 1 0 ≡ 48 + n % 10 → NotDigit (get_or text 2 0) → Bytes text n
@@ -40,12 +40,12 @@ bytes_of text n rest h = elim (cases_lt n 10) [
   ]
 ]
 
--- a digit does not stop an octet
+-- a digit does not end an octet
 not_both : (byte d : ℕ) → byte ≡ 48 + d → d < 10 → NotDigit byte → ⊥
 not_both byte d e below (inl h) = omega arith
 not_both byte d e below (inr h) = omega arith
 
--- ---- a text begins with one octet at most
+-- ---- a text begins with at most one octet
 
 same_octet : (text : List ℕ) (n m : ℕ) → Bytes text n → Bytes text m → n ≡ m
 same_octet text n m (One below e stops) (One below' e' stops') = omega arith

@@ -12,7 +12,7 @@ use Rattle.ipnetwork_addr.specs.Private.GroupFront.{BeginsWithGroup, NoGroup, La
 use Rattle.ipnetwork_addr.proofs.Groups.{group_fits}
 use Rattle.ipnetwork_addr.proofs.Parts.{IsLast, IsDot, IsGap, IsNext, kind_of, no_group_no_part, nil_cons, other_first}
 
--- the text begins with these groups, a colon after each, and this follows them
+-- the text is these groups, with a colon after each, followed by the rest
 abbrev pub Steps : List ℕ → List ℕ → List ℕ → Type 0
 Steps [] text rest = text ≡ rest
 Steps (g ∷ groups) text rest = (next : List ℕ) × BeginsWithGroup text g (colon ∷ next) × ((r : List ℕ) → next ≢ colon ∷ r) × Steps groups next rest
@@ -24,7 +24,7 @@ pub record PartSoFar (text rest : List ℕ) (count number : ℕ) : Type 0 where
   pub value : number ≡ number_from_digits (2 ^ 16) groups
   pub small : number < (2 ^ 16) ^ count
 
--- ---- the groups that were read are the first of any part
+-- ---- the groups read so far are the first of any part
 
 steps_push : (groups text rest : List ℕ) (g : ℕ) (next : List ℕ) → Steps groups text rest → BeginsWithGroup rest g (colon ∷ next) → ((r : List ℕ) → next ≢ colon ∷ r) → Steps (groups ++ g ∷ []) text next
 steps_push [] text rest g next e b other = (next, subst (λ (t : List ℕ). BeginsWithGroup t g (colon ∷ next)) (sym e) b, other, refl)
@@ -72,7 +72,7 @@ small_halves n count a h k =
     let e : (2 ^ 16) ^ (count + 2) ≡ p * 2 ^ 32 = pow-add (2 ^ 16) count 2 in
     rw e (omega (arith, h, k))
 
--- what is small enough for one more group, and for two
+-- the number is small enough for one more group, or for two
 pub fits_one : {text rest : List ℕ} {count number room : ℕ} → PartSoFar text rest count number → count < room → room ≤ 8 → number < 2 ^ 112
 fits_one {text} {rest} {count} {number} {room} s h k =
     let most : (2 ^ 16) ^ count ≤ (2 ^ 16) ^ 7 = pow-le-pow_right {n = 65536} (lit≤ tt) {j = 7} (omega arith) in
@@ -99,7 +99,7 @@ so_far_more {text} {rest} {after} {next} {count} {number} {g} s b at_colon other
 
 -- ---- the exits
 
--- a part of one more group, which ends as its own part does
+-- a part with one more group, which ends as that group does
 ended : {text rest : List ℕ} {count number g room : ℕ} {end : Option (List ℕ)} → PartSoFar text rest count number → IsTextPart (g ∷ []) rest end → count < room → g < 2 ^ 16 → BeginsWithPart room text (count + 1) (number * 2 ^ 16 + g) end
 ended {text} {rest} {count} {number} {g} {room} {end} s part h fits = record {
   groups = s.groups ++ g ∷ [];
@@ -130,7 +130,7 @@ ends_dotted {text} {rest} {count} {number} {address} {room} s named h fits = rec
 
 -- ---- no part
 
--- where the text goes on with no part, it begins with none
+-- if the rest begins with no part that fits, neither does the text
 none_on : {text rest : List ℕ} {count number room : ℕ} → PartSoFar text rest count number → ((more : List ℕ) (end : Option (List ℕ)) → IsTextPart more rest end → room < count + length more) → NoPart room text
 none_on {text} {rest} {count} {number} {room} s long part end p =
     let k = steps_back s.groups part text rest end s.steps p in
@@ -148,7 +148,7 @@ no_room {text} {rest} {count} {number} {room} s full = none_on s go
     go [] end p = absurd p
     go (g ∷ more) end p = omega arith
 
--- behind a group stands neither the end nor a colon, and no IPv4 text of which there is a part
+-- no part fits if neither the end nor a colon follows a group, and no IPv4 text fits
 no_part_at_dot : {text rest after : List ℕ} {count number g room : ℕ} → PartSoFar text rest count number → BeginsWithGroup rest g after → after ≢ [] → ((r : List ℕ) → after ≢ colon ∷ r)
     → ((more next : List ℕ) (address : ℕ) → after ≡ dot ∷ next → NamesV4 rest address → more ≡ two_groups address → room < count + length more)
     → NoPart room text
@@ -160,12 +160,12 @@ no_part_at_dot {text} {rest} {after} {count} {number} {g} {room} s b some no_col
       | IsNext m _ e _ _ ↦ absurd (no_colon m e)
     ]
 
--- behind a group stands neither the end, a colon nor a dot
+-- no part fits if neither the end, a colon nor a dot follows a group
 pub no_other_byte : {text rest after : List ℕ} {count number g room : ℕ} → PartSoFar text rest count number → BeginsWithGroup rest g after → after ≢ [] → ((r : List ℕ) → after ≢ colon ∷ r) → ((r : List ℕ) → after ≢ dot ∷ r) → NoPart room text
 no_other_byte s b some no_colon no_dot =
     no_part_at_dot s b some no_colon (λ more next address e named is_more. absurd (no_dot next e))
 
--- behind a group stands a dot, but there is no IPv4 text, or no room for one
+-- no part fits if a dot follows a group, but there is no IPv4 text or no room for one
 pub no_dotted : {text rest after : List ℕ} {count number g room : ℕ} → PartSoFar text rest count number → BeginsWithGroup rest g after → after ≢ [] → ((r : List ℕ) → after ≢ colon ∷ r) → NamesNoV4 rest → NoPart room text
 no_dotted s b some no_colon none =
     no_part_at_dot s b some no_colon (λ more next address e named is_more. absurd (none address named))

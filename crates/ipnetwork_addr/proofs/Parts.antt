@@ -41,7 +41,7 @@ v4_begins text address h =
       };
     }
 
--- ---- what follows the first group tells the kind of the part
+-- ---- what follows the first group determines the kind of the part
 
 pub data Kind (text : List ℕ) (group : ℕ) (after : List ℕ) (groups : List ℕ) (end : Option (List ℕ)) : Type 0 where
   IsLast : after ≡ [] → groups ≡ group ∷ [] → end ≡ None → Kind text group after groups end
@@ -73,7 +73,7 @@ no_group_no_part (g ∷ groups) text end none (Dotted address named e f) = let b
 no_group_no_part (g ∷ groups) text end none (Gap next b e f) = none g (colon ∷ colon ∷ next) b
 no_group_no_part (g ∷ groups) text end none (Next next b more) = none g (colon ∷ next) b
 
--- a group does not begin with such a byte
+-- a group does not begin with a byte that is no hex digit
 no_front : (text front rest : List ℕ) → 0 < length front → AllDigits 16 front → NoHex text → text ≡ front ++ rest → ⊥
 no_front text [] rest some digits none e = omega (arith, some)
 no_front text (x ∷ front) rest some digits none e =
@@ -89,12 +89,12 @@ no_part_at_colon groups text end = no_group_no_part groups (colon ∷ text) end 
 pub no_part_of_nothing : (groups : List ℕ) (end : Option (List ℕ)) → ¬ (IsTextPart groups [] end)
 no_part_of_nothing groups end = no_group_no_part groups [] end (no_hex_no_group [] (lit≤ tt))
 
--- ---- there is one part, and one end
+-- ---- the part and its end are unique
 
 first : List ℕ → ℕ
 first text = get_or text 0 0
 
--- no text has two of these in front
+-- an empty text does not begin with a byte
 pub nil_cons : (x : ℕ) (xs : List ℕ) → [] ≡ x ∷ xs → ⊥
 nil_cons x xs e = let n = ap length e in omega arith
 

@@ -9,7 +9,7 @@ use Rattle.ipnetwork_addr.specs.Private.LongestRun.{IsLongestRun}
 pub not_from_test : (b : Bool) (p : Type 0) → (IsTrue b ↔ p) → b ≡ false → ¬ p
 not_from_test b p h e x = true≢false (sym (h.1 x) ∙ e)
 
--- a longest run of several groups is the one that is printed as `::`
+-- a longest run of several groups is the run that is printed as `::`
 is_gap : (groups : List ℕ) (i n : ℕ) → IsLongestRun groups i n → 2 ≤ n → IsGap groups i n
 is_gap groups i n run several = record {
   several = several;

@@ -1,4 +1,4 @@
--- The octets of segments, by the address that they make up.
+-- The octets of segments, from the address that they make up.
 use Rattle.std.proofs.Common.{◌≡◌, ℕ, zero, suc, ◌+◌, ◌*◌, ◌/◌, ◌%◌, ◌^◌, ◌<◌, List, [], ◌∷◌, ◌++◌, take, get_or, refl, sym, ap, ◌∙◌, arith, lit<}
 use Rattle.std.specs.Hash.{le_bytes}
 use Rattle.std.specs.Int.{byte_at, bytes_low_first}
@@ -9,7 +9,7 @@ use Rattle.std.proofs.lemmas.Nat.{div-mul-add, pow-add}
 use Rattle.ipnetwork_addr.specs.Digits.{digits_in, octets_of_v6}
 use Rattle.ipnetwork_addr.specs.Segments.{number_of_segments, AreSegments}
 
--- the octets past a segment are those of what stands before it
+-- the octets above a segment are those of the number before it
 octet_before : (n d i : ℕ) → d < 65536 → byte_at (suc (suc i)) (n * 65536 + d) ≡ byte_at i n
 octet_before n d zero h = ap (λ q. q % 256) (div-mul-add n 65536 d h)
 octet_before n d (suc i) h =
@@ -22,7 +22,7 @@ octets_before n d i zero h = refl
 octets_before n d i (suc count) h =
     ap (λ b. b ∷ bytes_low_first (suc (suc (suc i))) count (n * 65536 + d)) (octet_before n d i h) ∙ ap (λ bs. byte_at i n ∷ bs) (octets_before n d (suc i) count h)
 
--- the octets of a segment, and those of what stands before it
+-- the octets of a number are those of its last segment and of the number before it
 segment_octets : (n d count : ℕ) → d < 65536 → bytes_low_first 0 (suc (suc count)) (n * 65536 + d) ≡ d % 256 ∷ d / 256 ∷ bytes_low_first 0 count n
 segment_octets n d count h =
     let low : (n * 65536 + d) % 256 ≡ d % 256 = omega arith in
@@ -31,7 +31,7 @@ segment_octets n d count h =
     ∙ ap (λ b. d % 256 ∷ b ∷ bytes_low_first 2 count (n * 65536 + d)) high
     ∙ ap (λ bs. d % 256 ∷ d / 256 ∷ bs) (octets_before n d 0 count h)
 
--- the octets of eight segments, by those of the last one and of what stands before it
+-- the octets of eight segments, one segment at a time from the last
 by_segments : (octets : ℕ → ℕ → List ℕ) (pair : ℕ → List ℕ → List ℕ) → ((n d count : ℕ) → d < 65536 → octets (suc (suc count)) (n * 65536 + d) ≡ pair d (octets count n))
     → (xs : List ℕ) → AreSegments xs
     → octets 16 (number_of_segments xs)
@@ -60,7 +60,7 @@ pub segments_octets : (xs : List ℕ) → AreSegments xs
 unfolding le_bytes
 segments_octets xs h = sym (by_segments (bytes_low_first 0) (λ d bs. d % 256 ∷ d / 256 ∷ bs) segment_octets xs h)
 
--- ---- the highest first
+-- ---- highest octet first
 
 -- the last two digits are the octets of the last segment
 digits_of_segment : (n d count : ℕ) → d < 65536 → digits_in 256 (suc (suc count)) (n * 65536 + d) ≡ (digits_in 256 count n ++ d / 256 ∷ []) ++ d % 256 ∷ []

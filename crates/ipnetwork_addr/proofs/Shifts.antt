@@ -1,4 +1,4 @@
--- The number of an address from the numbers of its groups to the left and to the right of a `::`.
+-- The number of an address from the numbers of its groups before and after a `::`.
 use Rattle.std.proofs.Common.{◌≡◌, ℕ, zero, suc, ◌+◌, ◌-◌, ◌*◌, ◌%◌, ◌^◌, ◌<◌, ◌≤◌, List, [], ◌∷◌, ◌++◌, length, replicate, refl, sym, ap, ◌∙◌, arith}
 use Rattle.std.proofs.Math.Nat.{mul_assoc, mul-lt-mul_of_pos_right}
 use Rattle.std.proofs.lemmas.Nat.{pow-add, pow_pos, mul-add-lt}
@@ -32,7 +32,7 @@ shifted n c most small =
     let inner : n * 2 ^ (112 - 16 * c) % 2 ^ 128 ≡ n * q = ap (λ p. n * p % 2 ^ 128) up ∙ omega (arith, under) in
     ap (λ m. m * 2 ^ 16 % 2 ^ 128) inner ∙ omega (arith, under) ∙ mul_assoc n q (2 ^ 16) ∙ ap (λ p. n * p) (sym last)
 
--- digits after a number
+-- the number with more digits after it
 number_after : (n : ℕ) (ds : List ℕ) → number_from_digits_after (2 ^ 16) n ds ≡ n * (2 ^ 16) ^ length ds + number_from_digits (2 ^ 16) ds
 number_after n [] = omega arith
 number_after n (d ∷ ds) =
@@ -52,7 +52,7 @@ number_zeros (suc k) n =
     let e : (n * 2 ^ 16 + 0) * p ≡ n * (p * 2 ^ 16) = omega arith in
     number_zeros k (n * 2 ^ 16 + 0) ∙ e ∙ ap (λ m. n * m) (sym up)
 
--- eight groups, with zeros where some are missing
+-- the number of eight groups, with zeros for the missing ones
 pub number_with_gap : (left right : List ℕ) → length left + length right ≤ 7 → number_from_digits (2 ^ 16) (left ++ replicate (8 - length left - length right) 0 ++ right) ≡ number_from_digits (2 ^ 16) left * (2 ^ 16) ^ (8 - length left) + number_from_digits (2 ^ 16) right
 number_with_gap left right room =
     let k : ℕ = 8 - length left - length right in
@@ -64,7 +64,7 @@ number_with_gap left right room =
     ∙ number_after (n * (2 ^ 16) ^ k) right
     ∙ ap (λ m. m + number_from_digits (2 ^ 16) right) (mul_assoc n ((2 ^ 16) ^ k) ((2 ^ 16) ^ length right) ∙ ap (λ p. n * p) (sym (pow-add (2 ^ 16) k (length right)) ∙ ap (λ m. (2 ^ 16) ^ m) e))
 
--- it fits 128 bits
+-- the number fits in 128 bits
 pub gap_fits : (n m c : ℕ) → c ≤ 7 → n < (2 ^ 16) ^ c → m < (2 ^ 16) ^ (7 - c) → n * (2 ^ 16) ^ (8 - c) + m < 2 ^ 128
 gap_fits n m c most left right =
     let j : ℕ = 7 - c in

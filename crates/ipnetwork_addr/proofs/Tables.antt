@@ -1,11 +1,11 @@
--- What tables have, by computing all of it.
+-- The contents of tables, checked by computing all of them.
 use Rattle.std.proofs.Common.{◌≡◌, ℕ, ◌<◌, ◌==◌, true, List, [], get_or, refl, ap, ◌∙◌}
 use Rattle.std.specs.Cmp.Lexicographic.{pointwise}
 use Rattle.std.proofs.lemmas.Bool.{agree_below, agree_below_at, eqb-true}
 use Rattle.std.proofs.lemmas.Bool.Decides.{Decides-eqb}
 use Rattle.std.proofs.lemmas.Slice.Eq.{slice_eq-Decides}
 
--- an entry
+-- an entry of a table
 pub entry : (table : List ℕ) (value : ℕ → ℕ) (size : ℕ) → agree_below (λ k. get_or table k 0 == value k) (λ _. true) size ≡ true
     → (k at : ℕ) → k < size → at ≡ k → get_or table at 0 ≡ value k
 entry table value size all k at below is =

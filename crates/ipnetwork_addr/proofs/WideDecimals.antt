@@ -1,4 +1,4 @@
--- Long decimals: their lengths, and how one is written in parts.
+-- Long decimals: their lengths, and writing them in parts.
 use Rattle.std.proofs.Common.{◌≡◌, ℕ, zero, suc, ◌+◌, ◌-◌, ◌*◌, ◌/◌, ◌%◌, ◌^◌, ◌<◌, ◌≤◌, List, [], ◌∷◌, ◌++◌, length, decimal, refl, sym, ap, ◌∙◌, arith, add-one, append_assoc, length-append, mul-le-mul_right}
 use Rattle.std.proofs.lemmas.Fmt.{decimal_digit, decimal_step, decimal_step_wide, decimal_by_steps, length-decimal-le}
 use Rattle.std.proofs.Math.Nat.{pow-succ'}
@@ -26,7 +26,7 @@ padded_step (suc count) n h =
     let e : suc count - 1 ≡ count = omega arith in
     rw e refl
 
--- a number in two parts: what stands above its last digits, and these
+-- a number in two parts: its last digits, and the number above them
 pub decimal-parts : (count high low : ℕ) → 0 < high → low < 10 ^ count → high * 10 ^ count + low < 10 ^ 64
     → decimal (high * 10 ^ count + low) ≡ decimal high ++ padded_decimal count low
 unfolding padded_decimal
@@ -45,7 +45,7 @@ decimal-parts (suc count) high low positive fits small =
     decimal_step_wide (high * 10 ^ suc count + low) more small
     ∙ rw (front, last, decimal-parts count high (low / 10) positive below rest, append_assoc)
 
--- a text, after the last digits of a number were pushed
+-- a text after the last digits of a number are pushed
 pub padded_none : (text : List ℕ) (count n : ℕ) → count ≡ 0 → text ≡ text ++ padded_decimal count n
 unfolding padded_decimal
 padded_none text count n none = rw none (sym (append-nil text))
@@ -65,7 +65,7 @@ padded_pushed text most one two count n d e some h is_d is_e k l =
     = padded_step (count - 1) (n / 10) (omega arith) ∙ rw (less, rest) refl in
     l ∙ rw (k, h, tens, ones, padded_step count n (omega arith), step, append_assoc, append_assoc, append_assoc) refl
 
--- a text, after as many digits were pushed as the shortest decimal has
+-- the last digits of a number, as many as its shortest decimal form has, are that form
 pub padded-shortest : (n : ℕ) → n < 2 ^ 64 → padded_decimal (length (decimal n)) n ≡ decimal n
 unfolding padded_decimal
 padded-shortest n small =
@@ -78,7 +78,7 @@ pub shortest_pushed : (text one : List ℕ) (n count : ℕ) → n < 2 ^ 64 → c
     → one ≡ text ++ decimal n
 shortest_pushed text one n count small counted h = h ∙ ap (λ d. text ++ d) (rw counted (padded-shortest n small))
 
--- the digits that were counted, and those that are left, of which one is not counted yet
+-- of the digits of a number, all but those of `rest` are counted, and one more
 abbrev pub CountsDigits : ℕ → ℕ → ℕ → Type 0
 CountsDigits n count rest = length (decimal n) + 1 ≡ count + length (decimal rest)
 
@@ -88,7 +88,7 @@ counted_step n count rest low fits all = omega (arith, all, length-decimal_step 
 pub counted_end : (n count rest : ℕ) → rest < 10 → CountsDigits n count rest → count ≡ length (decimal n)
 counted_end n count rest last all = omega (arith, all, length-decimal_digit rest last)
 
--- no number of 64 bits has more than 20 digits
+-- no 64-bit number has more than 20 digits
 pub counted_few : (n count rest : ℕ) → n < 2 ^ 64 → CountsDigits n count rest → count ≤ 21
 counted_few n count rest fits all = omega (arith, all, length-decimal-le 20 n (omega arith) (omega arith) fits)
 
@@ -98,7 +98,7 @@ count_few n count fits e = omega (arith, e, length-decimal-le 20 n (omega arith)
 pub digit_pushed : {text one : List ℕ} (n : ℕ) → n < 10 → IsPushed text (48 + n) one → one ≡ text ++ decimal n
 digit_pushed n small h = h.is ∙ rw (decimal_digit n small)
 
--- a number of up to 39 digits, written in two parts or in three: its last 19 digits, and the number above them
+-- a number of up to 39 digits, divided into its last 19 digits and the number above them
 pub record IsDivided (n high low : ℕ) : Type 0 where
   pub is_high : high ≡ n / 10 ^ 19
   pub is_low : low ≡ n % 10 ^ 19

@@ -1,11 +1,11 @@
--- The leftmost of the longest runs of zero groups is found.
+-- The leftmost of the longest runs of zero groups, computed.
 use Rattle.std.proofs.Common.{◌≡◌, ℕ, zero, suc, ◌+◌, ◌-◌, ◌<◌, ◌≤◌, ◌==◌, List, [], ◌∷◌, length, get_or, take, drop, replicate, length-drop, get_or-drop, refl, sym, ap, ap₂, ◌∙◌, arith, inl, inr}
 use Rattle.std.specs.Prelude.{nat_le}
 use Rattle.std.proofs.lemmas.Bool.{cond_both, leb-true, leb-false, eqb-true, cases_eq, cases_lt}
 use Rattle.ipnetwork_addr.specs.Ipv6Canonical.{IsZeroRun, IsGap}
 use Rattle.ipnetwork_addr.specs.Computed.Ipv6Canonical.{zeros_in_front, gap_among}
 
--- ---- the zeros before the first other group
+-- ---- the zeros before the first nonzero group
 
 pub zeros_fit : (groups : List ℕ) → zeros_in_front groups ≤ length groups
 zeros_fit [] = omega arith
@@ -107,7 +107,7 @@ longest_among groups (suc count) within =
       ];
     })
 
--- ---- of eight groups
+-- ---- the longest run of eight groups
 
 module _ (groups : List ℕ) (eight : length groups ≡ 8) where
   found : IsLongest groups 8 (gap_among groups 8)

@@ -4,8 +4,8 @@ use Rattle.std.proofs.lemmas.Bool.{cases_eq, cases_lt}
 use Rattle.ipnetwork_addr.specs.Ipv6Canonical.{IsZeroRun}
 use Rattle.ipnetwork_addr.specs.Private.LongestRun.{IsLongestRun}
 
--- the groups before this position were looked at: the run that ends there begins at start, and the longest has n groups
--- from i on
+-- after the groups before `position` are scanned: the run that ends there begins at `start`, and the longest run has n
+-- groups from index i on
 pub record Scanned (groups : List ℕ) (position start i n : ℕ) : Type 0 where
   pub within : start ≤ position
   pub last : (k : ℕ) → start ≤ k → k < position → get_or groups k 0 ≡ 0
@@ -26,7 +26,7 @@ nothing_yet groups = record {
   leftmost = λ j some run ends. absurd (omega (arith, some));
 }
 
--- without its last group
+-- a run without its last groups is a run
 shorter : (groups : List ℕ) (j m n : ℕ) → n ≤ m → IsZeroRun groups j m → IsZeroRun groups j n
 shorter groups j m n less run = record {
   there = omega (arith, less, run.there);
@@ -34,7 +34,7 @@ shorter groups j m n less run = record {
 }
 
 module _ (groups : List ℕ) (position start i n : ℕ) (so_far : Scanned groups position start i n) where
-  -- a group that is not zero ends each run
+  -- a nonzero group ends each run
   module _ (other : get_or groups position 0 ≢ 0) where
     not_through : (j m : ℕ) → IsZeroRun groups j m → j ≤ position → position < j + m → ⊥
     not_through j m run from past = other (run.zero_groups position from past)
@@ -62,7 +62,7 @@ module _ (groups : List ℕ) (position start i n : ℕ) (so_far : Scanned groups
       ];
     }
 
-  -- a zero makes the last run longer
+  -- a zero group extends the last run
   module _ (zero : get_or groups position 0 ≡ 0) where
     last_longer : (k : ℕ) → start ≤ k → k < position + 1 → get_or groups k 0 ≡ 0
     last_longer k from below = elim (cases_eq k position) [
@@ -74,7 +74,7 @@ module _ (groups : List ℕ) (position start i n : ℕ) (so_far : Scanned groups
     edge_longer j m run ends before =
         so_far.edge j (m - 1) (shorter groups j m (m - 1) (omega arith) run) (omega (arith, ends, before, so_far.within)) before
 
-    -- a run within the groups up to this position ends before it or begins no earlier than the last one
+    -- a run that ends with this group begins no earlier than the last one
     no_earlier : (j m : ℕ) → IsZeroRun groups j m → j + m ≡ position + 1 → start ≤ j
     no_earlier j m run ends = elim (cases_lt j start) [
       | inl before ↦ absurd (edge_longer j m run ends before)

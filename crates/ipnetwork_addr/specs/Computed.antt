@@ -1,4 +1,4 @@
--- Functions that compute what relations of the folder above say. The laws say that the two agree.
+-- Functions that compute what the relations in the folder above define. The laws state that the two agree.
 pub mod Either
 pub mod Ipv4Text
 pub mod Ipv6Canonical

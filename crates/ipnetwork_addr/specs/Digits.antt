@@ -1,8 +1,8 @@
--- An address as its digits. An address is a number: one of 32 bits for IPv4 (RFC 791, section 2.3), and one of
--- 128 bits for IPv6 (RFC 4291, section 2).
+-- An address as its digits. An address is a number: of 32 bits for IPv4 (RFC 791, section 2.3), and of 128 bits for
+-- IPv6 (RFC 4291, section 2).
 use Rattle.std.specs.Prelude.{ℕ, zero, suc, ◌/◌, ◌%◌, ◌^◌, List, [], ◌∷◌, ◌++◌}
 
--- the last digits of a number in the base, this many, highest first
+-- the last `count` digits of a number in the base, highest first
 abbrev pub digits_in : ℕ → ℕ → ℕ → List ℕ
 digits_in base zero n = []
 digits_in base (suc count) n = digits_in base count (n / base) ++ n % base ∷ []

@@ -12,15 +12,15 @@ pub record IsGroup (text : List ℕ) (group : ℕ) : Type 0 where
   pub short : length text ≤ 4
   pub value : group ≡ digits_value 16 text
 
--- groups joined by colons, or nothing
+-- groups joined by colons, or an empty text
 abbrev pub IsPlain : List ℕ → List ℕ → Type 0
 IsPlain text groups = IsJoined colon IsGroup text groups
 
--- the two groups that an IPv4 address stands for
+-- the two groups with the bits of an IPv4 address
 abbrev pub two_groups : ℕ → List ℕ
 two_groups address = address / 2 ^ 16 ∷ address % 2 ^ 16 ∷ []
 
--- groups and, after them, an IPv4 text, all joined by colons
+-- groups followed by an IPv4 text, all joined by colons
 pub record IsDotted (text groups : List ℕ) : Type 0 where
   pub parts : List (List ℕ)
   pub front : List ℕ
@@ -31,18 +31,18 @@ pub record IsDotted (text groups : List ℕ) : Type 0 where
   pub dotted : NamesV4 last address
   pub value : groups ≡ front ++ two_groups address
 
--- groups joined by colons, the last two of which may be written as an IPv4 text
+-- groups joined by colons, the last two possibly written as an IPv4 text
 abbrev pub IsEnded : List ℕ → List ℕ → Type 0
 IsEnded text groups = IsPlain text groups ⊎ IsDotted text groups
 
--- all eight groups
+-- an address with all eight groups written
 pub record IsFull (text : List ℕ) (address : ℕ) : Type 0 where
   pub groups : List ℕ
   pub ended : IsEnded text groups
   pub eight : length groups ≡ 8
   pub value : address ≡ number_from_digits (2 ^ 16) groups
 
--- an address of which some zero groups are not written: a `::` stands in their place, and with them there are eight
+-- an address with some zero groups left out: `::` replaces as many as are missing from eight
 pub record IsCompressed (text : List ℕ) (address : ℕ) : Type 0 where
   pub before : List ℕ
   pub behind : List ℕ
@@ -56,6 +56,6 @@ pub record IsCompressed (text : List ℕ) (address : ℕ) : Type 0 where
   pub eight : length high + missing + length low ≡ 8
   pub value : address ≡ number_from_digits (2 ^ 16) (high ++ replicate missing 0 ++ low)
 
--- the text names the address: by all eight groups, or by some of them and a `::`
+-- the text names the address: it has all eight groups, or some of them and a `::`
 abbrev pub NamesV6 : List ℕ → ℕ → Type 0
 NamesV6 text address = IsFull text address ⊎ IsCompressed text address

@@ -1,4 +1,4 @@
--- What the private functions promise each other.
+-- Definitions for the contracts of private functions.
 pub mod Decimals
 pub mod DigitLanes
 pub mod GroupFront

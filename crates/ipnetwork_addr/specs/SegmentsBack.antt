@@ -1,4 +1,4 @@
--- Why an IPv6 address is known by its number: eight segments are those of the number that they make up.
+-- Why an IPv6 address is determined by its number: eight segments are the segments of their number.
 use Rattle.std.specs.Prelude.{◌≡◌, ℕ, zero, suc, ◌+◌, ◌-◌, ◌*◌, ◌/◌, ◌%◌, ◌<◌, ◌≤◌, List, [], ◌∷◌, ◌++◌, length, take}
 use Rattle.std.specs.Prelude.{reverse}
 use Rattle.std.proofs.Common.{get_or, refl, sym, ap, subst, ◌∙◌, ⊎_elim, lit<}
@@ -11,7 +11,7 @@ use Rattle.std.proofs.lemmas.Nat.{div-mul-add, mod-mul-add}
 use Rattle.ipnetwork_addr.specs.Digits.{digits_in, segments_of}
 use Rattle.ipnetwork_addr.specs.Segments.{number_of_segments, AreSegments}
 
--- the first digits of a list are those of their number
+-- the first `count` digits of a list are the digits of the number that they make up
 first_back : (xs : List ℕ) (count : ℕ) → count ≤ length xs → ((i : ℕ) → get_or xs i 0 < 65536)
     → digits_in 65536 count (number_of_segments (take count xs)) ≡ take count xs
 first_back xs zero within fit = refl
@@ -36,7 +36,7 @@ segments_back xs are =
     sym (ap (λ segments. segments_of (number_of_segments segments)) all) ∙ first_back xs 8
     (le_of_eq (sym are.eight)) are.each ∙ all
 
--- ---- the lowest first
+-- ---- lowest segment first
 
 pub reversed_segments : (xs : List ℕ) → AreSegments xs → AreSegments (reverse xs)
 reversed_segments xs are = record {
@@ -49,6 +49,6 @@ reversed_segments xs are = record {
       (cases_lt i (length xs));
 }
 
--- segments that stand the lowest first are those of their address
+-- eight segments, lowest first, are the segments of their address
 pub low_first_back : (xs : List ℕ) → AreSegments xs → reverse (segments_of (number_of_segments (reverse xs))) ≡ xs
 low_first_back xs are = ap reverse (segments_back (reverse xs) (reversed_segments xs are)) ∙ reverse-reverse xs

@@ -1,4 +1,4 @@
--- Texts made of parts. A text is the list of its bytes.
+-- Texts made of parts. A text is a list of bytes.
 use Rattle.std.specs.Prelude.{◌≡◌, ℕ, ◌≤◌, List, [], ◌∷◌, ◌==◌, Bool, true, false, if◌then◌else◌}
 use Rattle.std.specs.List.{join_with_byte, AllZip}
 
@@ -10,7 +10,7 @@ dot = 46
 abbrev pub colon : ℕ
 colon = 58
 
--- the text is parts joined by the byte, and the parts name the values, one each, in order
+-- the text is parts joined by the byte, and each part names the value at its position
 pub record IsJoined (byte : ℕ) (Names : List ℕ → ℕ → Type 0) (text values : List ℕ) : Type 0 where
   pub parts : List (List ℕ)
   pub spelled : text ≡ join_with_byte byte parts
@@ -24,7 +24,7 @@ pub data IsAddressByte (byte : ℕ) : Type 0 where
   Dot : byte ≡ dot → IsAddressByte byte
   Colon : byte ≡ colon → IsAddressByte byte
 
--- the first dot or colon of a text is a colon
+-- whether the first dot or colon of a text is a colon
 abbrev pub colon_first : List ℕ → Bool
 colon_first [] = false
 colon_first (byte ∷ text) = if byte == colon then true else (if byte == dot then false else colon_first text)

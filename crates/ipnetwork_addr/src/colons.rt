@@ -1,4 +1,4 @@
-//! Reads an IPv6 text: the groups to the left of a `::` and those to the right of it.
+//! Reads an IPv6 text: the groups before a `::` and those after it.
 ghost use Rattle.std.specs.Prelude.{◌≡◌, ◌^◌, ◌+◌, ◌-◌, ◌*◌, ◌<◌, ◌≤◌, IfSome, MatchOption};
 ghost use Rattle.std.specs.Option.{option_copied};
 ghost use Rattle.ipnetwork_addr.specs.Ipv6Text.{NamesV6};
@@ -9,9 +9,9 @@ use crate::colons_at_once::read_at_once;
 use crate::group::read_part;
 use crate::segments::halves_of_number;
 
-/// The halves of the address that a text names, the high one first.
+/// Returns the halves of the address that a text names, high half first.
 ///
-/// Inlined, so that a short text pays for nothing of what long ones need.
+/// Inlined, so that short texts do not pay for what only long ones need.
 #[inline(always)]
 pub(crate) fn read_address(text: &[u8]) -> Option<(u64, u64)>
     ensures { MatchOption result (NamesNoV6 text.now)
@@ -26,7 +26,8 @@ pub(crate) fn read_address(text: &[u8]) -> Option<(u64, u64)>
     }
 }
 
-/// The same, with all colons known. `None` says nothing.
+/// Returns the same as `read_address` if it can, after locating all colons. `None` means that the
+/// text may still name an address.
 #[inline(never)]
 fn read_halves_at_once(text: &[u8]) -> Option<(u64, u64)>
     ensures { IfSome result (λ halves. NamesV6 text.now (halves.0 * 2 ^ 64 + halves.1)) }
@@ -35,7 +36,7 @@ fn read_halves_at_once(text: &[u8]) -> Option<(u64, u64)>
     Some(halves_of_number(number))
 }
 
-/// The same, one byte after the other.
+/// Returns the same as `read_address`, reading byte by byte.
 #[inline(never)]
 fn read_one_by_one(text: &[u8]) -> Option<(u64, u64)>
     ensures { MatchOption result (NamesNoV6 text.now)
@@ -45,7 +46,7 @@ fn read_one_by_one(text: &[u8]) -> Option<(u64, u64)>
     Some(halves_of_number(number))
 }
 
-/// The number of the address that a text names, which is read one byte after the other.
+/// Returns the number of the address that a text names, reading byte by byte.
 #[inline(always)]
 fn read_from_left(text: &[u8]) -> Option<u128>
     ensures { MatchOption result (NamesNoV6 text.now) (λ address. NamesV6 text.now address) }
@@ -61,8 +62,8 @@ fn read_from_left(text: &[u8]) -> Option<u128>
     Some(shift(left, count) + right)
 }
 
-/// The groups before the end of the text or before a `::`: how many, the number whose digits in base
-/// 2^16 they are, and what follows the `::`.
+/// Reads the groups up to the end of the text or a `::`. Returns how many there are, the number
+/// whose digits in base 2^16 they are, and what follows the `::`, if there is one.
 fn read_left(text: &[u8]) -> Option<(usize, u128, Option<&[u8]>)>
     ensures { MatchOption result (NoLeft text.now)
         (λ found. BeginsWithLeft text.now found.0 found.1 (option_copied found.2)) }
@@ -73,7 +74,7 @@ fn read_left(text: &[u8]) -> Option<(usize, u128, Option<&[u8]>)>
     }
 }
 
-/// The number of the groups that a text is, of which there are no more than there is room for.
+/// Returns the number of the groups that make up a text, at most `room` of them.
 fn read_right(text: &[u8], room: usize) -> Option<u128>
     requires { room ≤ 8 }
     ensures { MatchOption result (NoRight room text.now)
@@ -89,7 +90,7 @@ fn read_right(text: &[u8], room: usize) -> Option<u128>
     }
 }
 
-/// The number of this many groups, moved to the front of eight.
+/// Returns the number of `count` groups, moved to the front of eight.
 pub(crate) fn shift(number: u128, count: usize) -> u128
     requires counted { count ≤ 7 }
     requires small { number < (2 ^ 16) ^ count }

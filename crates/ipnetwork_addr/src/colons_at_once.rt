@@ -1,4 +1,4 @@
-//! Reads an IPv6 text with all its colons known, and the values of all its digits.
+//! Reads an IPv6 text after finding all its colons and the values of all its digits.
 ghost use Rattle.std.specs.Prelude.{◌≡◌, ◌≤◌, length, drop, IfSome};
 ghost use Rattle.std.specs.Option.{option_map};
 ghost use Rattle.ipnetwork_addr.specs.Ipv6Text.{NamesV6};
@@ -9,10 +9,10 @@ use crate::colons::shift;
 use crate::digit_lanes::{MOST, put_values};
 use crate::group::append;
 
-/// The number of the address that a text names. `None` says nothing: the text is then to be read
-/// from left to right.
+/// Returns the number of the address that a text names. `None` means that the text must be read
+/// from left to right instead.
 ///
-/// No branch asks how many digits a group has: that would be guessed wrongly too often.
+/// There is no branch on the number of digits of a group: it would be mispredicted too often.
 #[inline(always)]
 pub(crate) fn read_at_once(text: &[u8]) -> Option<u128>
     ensures { IfSome result (NamesV6 text.now) }
@@ -33,8 +33,8 @@ pub(crate) fn read_at_once(text: &[u8]) -> Option<u128>
     Some(shift(left, count) + right)
 }
 
-/// The groups before the end of the text or before a `::`: how many, the number whose digits in base
-/// 2^16 they are, and the position behind the `::`.
+/// Reads the groups up to the end of the text or a `::`. Returns how many there are, the number
+/// whose digits in base 2^16 they are, and the position after the `::`, if there is one.
 #[inline(always)]
 fn read_left(text: &[u8], values: &[u8; 48], ends: u64) -> Option<(usize, u128, Option<usize>)>
     requires short { length text.now ≤ 44 }
@@ -48,8 +48,7 @@ fn read_left(text: &[u8], values: &[u8; 48], ends: u64) -> Option<(usize, u128, 
     }
 }
 
-/// The number of the groups that a text is from the position `from` on, of which there are no more than
-/// there is room for.
+/// Returns the number of the groups that make up the text from `from` on, at most `room` of them.
 #[inline(always)]
 fn read_right(text: &[u8], values: &[u8; 48], ends: u64, from: usize, room: usize) -> Option<u128>
     requires short { length text.now ≤ 44 }
@@ -68,9 +67,10 @@ fn read_right(text: &[u8], values: &[u8; 48], ends: u64, from: usize, room: usiz
     }
 }
 
-/// Groups joined by colons from the position `from` on, up to the end of the text or to a `::`, and no
-/// more of them than there is room for: how many, the number whose digits in base 2^16 they are, and
-/// the position behind the `::`. The lowest of the ends is where the first group probably ends.
+/// Reads groups joined by colons from `from` on, up to the end of the text or a `::`, at most
+/// `room` of them. Returns how many there are, the number whose digits in base 2^16 they are, and
+/// the position after the `::`, if there is one. The lowest bit of `ends` is the likely end of the
+/// first group.
 #[inline(always)]
 fn read_part(
     text: &[u8],
@@ -104,7 +104,7 @@ fn read_part(
     None
 }
 
-/// The group that stands from the position `at` up to the position `end`, where the text ends or a colon stands.
+/// Returns the group from `at` to `end`, where there must be a colon or the end of the text.
 #[inline(always)]
 fn read_group(text: &[u8], values: &[u8; 48], at: usize, end: usize) -> Option<u16>
     requires short { length text.now ≤ 44 }
@@ -130,7 +130,7 @@ fn read_group(text: &[u8], values: &[u8; 48], at: usize, end: usize) -> Option<u
     Some(group_of(digits))
 }
 
-/// The group of four digits, each a byte of a number.
+/// Returns the group with these four digits, one in each byte of a number.
 #[inline(always)]
 fn group_of(digits: u32) -> u16
     requires { AreDigitsIn digits }

@@ -1,12 +1,12 @@
-//! Numbers, written in decimal at the end of a text.
+//! Writes numbers in decimal at the end of a text.
 ghost use Rattle.std.specs.Prelude.{◌≡◌, ◌+◌, ◌^◌, ◌<◌, ◌≤◌, ◌++◌, length, decimal};
 ghost use Rattle.arrayvec.specs.ArrayString.{array_string_len};
 ghost use Rattle.ipnetwork_addr.specs.Private.Decimals.{padded_decimal};
 
 use arrayvec::ArrayString;
 
-/// Writes the shortest decimal of a number at the end of a text: one to three bytes. There must be
-/// room for three.
+/// Appends the shortest decimal form of a number to a text: one to three bytes. There must be room
+/// for three.
 ///
 /// ```
 /// let mut text = arrayvec::ArrayString::<8>::new();
@@ -38,14 +38,14 @@ fn digit(value: u8) -> char
     char::from(b'0' + value)
 }
 
-/// Ten to the power of `CHUNK_DIGITS`: the greatest power of ten that fits 64 bits.
+/// Ten to the power of `CHUNK_DIGITS`: the greatest power of ten that fits in 64 bits.
 const CHUNK: u128 = 10_000_000_000_000_000_000;
 
-/// How many digits of a large number are written at a time.
+/// The number of digits of a large number that are written at a time.
 const CHUNK_DIGITS: u8 = 19;
 
-/// Writes the shortest decimal of a number at the end of a text: one to 39 bytes. There must be
-/// room for 39.
+/// Appends the shortest decimal form of a number to a text: one to 39 bytes. There must be room for
+/// 39.
 ///
 /// ```
 /// let mut text = arrayvec::ArrayString::<39>::new();
@@ -72,7 +72,7 @@ pub fn push_number<const N: usize>(text: &mut ArrayString<N>, number: u128)
     }
 }
 
-/// Writes the shortest decimal of a number: one to 20 bytes.
+/// Appends the shortest decimal form of a number: one to 20 bytes.
 fn push_shortest<const N: usize>(text: &mut ArrayString<N>, number: u64)
     requires { array_string_len text.old + 20 ≤ N }
     ensures bytes { text.new.bytes ≡ text.old.bytes ++ decimal number }
@@ -81,7 +81,7 @@ fn push_shortest<const N: usize>(text: &mut ArrayString<N>, number: u64)
     push_padded(text, number, digit_count(number));
 }
 
-/// The number of digits of a number's shortest decimal.
+/// Returns the number of digits of a number's shortest decimal form.
 fn digit_count(number: u64) -> u8
     ensures counted { result ≡ length (decimal number) }
     ensures few { result ≤ 20 }
@@ -95,7 +95,7 @@ fn digit_count(number: u64) -> u8
     count
 }
 
-/// Writes the last digits of a number, this many, zeros among them.
+/// Appends the last `count` decimal digits of a number, with leading zeros.
 #[tactic(auto, using(crate::proofs::Decimals::pushing))]
 fn push_padded<const N: usize>(text: &mut ArrayString<N>, number: u64, count: u8)
     requires { array_string_len text.old + count ≤ N }

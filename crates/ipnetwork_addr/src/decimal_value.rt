@@ -1,11 +1,11 @@
-//! What a byte is worth in an octet, by tables.
+//! The values of bytes as parts of an octet, by tables.
 ghost use Rattle.std.specs.Prelude.{◌≡◌, ◌≤◌, ◌==◌, nat_lt, if◌then◌else◌};
 ghost use Rattle.std.specs.Char.{digit_value};
 ghost use Rattle.ipnetwork_addr.specs.Private.OctetFront.{first_value};
 ghost use Rattle.ipnetwork_addr.specs.Texts.{dot};
 
-/// The value of a byte as a decimal digit, or 256 if it is not one, so that an octet with such a byte is greater than
-/// 255.
+/// Returns the value of a byte as a decimal digit, or 256 if it is none, so that an octet with such
+/// a byte exceeds 255.
 #[inline(always)]
 pub(crate) fn decimal_value(byte: u8) -> u32
     ensures value { result ≡ if nat_lt (digit_value byte) 10 then digit_value byte else 256 }
@@ -14,7 +14,8 @@ pub(crate) fn decimal_value(byte: u8) -> u32
     DIGITS[usize::from(byte)]
 }
 
-/// Ten times the value of a byte as the first of several decimal digits, or 2560 if it is `0` or no digit.
+/// Returns ten times the value of a byte as the first of several decimal digits, or 2560 if the
+/// byte is `0` or not a digit.
 #[inline(always)]
 pub(crate) fn first_value(byte: u8) -> u32
     ensures value { result ≡ first_value byte }
@@ -23,7 +24,7 @@ pub(crate) fn first_value(byte: u8) -> u32
     FIRST_DIGITS[usize::from(byte)]
 }
 
-/// 0 if the byte is a dot, else 1.
+/// Returns 0 if the byte is a dot, else 1.
 #[inline(always)]
 pub(crate) fn is_no_dot(byte: u8) -> u32
     ensures value { result ≡ if byte == dot then 0 else 1 }
@@ -32,7 +33,7 @@ pub(crate) fn is_no_dot(byte: u8) -> u32
     NO_DOTS[usize::from(byte)]
 }
 
-/// What two digits count for before this byte: 1 if it is a dot, else 10.
+/// Returns the factor of two digits before this byte: 1 if it is a dot, else 10.
 #[inline(always)]
 pub(crate) fn factor_before(byte: u8) -> u32
     ensures value { result ≡ if byte == dot then 1 else 10 }
@@ -41,7 +42,7 @@ pub(crate) fn factor_before(byte: u8) -> u32
     FACTORS[usize::from(byte)]
 }
 
-/// 0 if the byte is a dot, else its `decimal_value`.
+/// Returns 0 if the byte is a dot, else its `decimal_value`.
 #[inline(always)]
 pub(crate) fn value_unless_dot(byte: u8) -> u32
     ensures value { result
@@ -52,7 +53,7 @@ pub(crate) fn value_unless_dot(byte: u8) -> u32
     DIGITS_OR_DOT[usize::from(byte)]
 }
 
-/// A table of all bytes: this for the dot, these for the digits, and `$other` for each other byte.
+/// A table of all bytes: `$dot` for the dot, `$digits` for the digits, `$other` for all others.
 macro_rules! by_byte {
     ($other:tt, $dot:tt, $digits:tt) => {
         by_byte!(

@@ -5,19 +5,20 @@ ghost use Rattle.ipnetwork_addr.specs.Private.DigitLanes.{AreValuesOf, ShowsValu
 
 use std::simd::prelude::*;
 
-/// The position of the value of a text's first byte. Those of a group are read four at a time, also
-/// where fewer bytes come before its end.
+/// The position of the value of a text's first byte. A group's values are read four at a time, even
+/// if fewer bytes precede its end.
 const FIRST: usize = 4;
 
-/// The greatest length of a text whose values there is room for.
+/// The greatest length of a text whose values fit.
 pub(crate) const MOST: usize = 44;
 
-/// What stands for a byte that is not a hex digit, or another number above 15.
+/// The value of a byte that is not a hex digit; any number above 15 would do.
 const NO_DIGIT: u8 = 255;
 
-/// Puts the value of each byte of a text as a hex digit at its position. The colons are returned, as bits.
+/// Stores the value of each byte of a text as a hex digit at its position. Returns the positions of
+/// the colons as bits.
 ///
-/// The last vector overlaps the one before, unless the text has 32 bytes.
+/// The last vector overlaps the previous one, unless the text has 32 bytes.
 #[inline(always)]
 pub(crate) fn put_values(text: &[u8], values: &mut [u8; 48]) -> u64
     requires long { 16 ≤ length text.now }
@@ -32,7 +33,7 @@ pub(crate) fn put_values(text: &[u8], values: &mut [u8; 48]) -> u64
     colons | put_lanes(text, last, values) << last
 }
 
-/// Puts the values of the sixteen bytes from the position `at` on, of which the colons are returned, as bits.
+/// Stores the values of the sixteen bytes from `at` on. Returns the colons among them as bits.
 #[inline(always)]
 fn put_lanes(text: &[u8], at: usize, values: &mut [u8; 48]) -> u64
     requires within { at + 16 ≤ length text.now }
@@ -45,7 +46,7 @@ fn put_lanes(text: &[u8], at: usize, values: &mut [u8; 48]) -> u64
     colons_of(bytes)
 }
 
-/// Stores sixteen lanes from the position `at` on.
+/// Stores sixteen lanes from `at` on.
 #[inline(always)]
 fn store(values: &mut [u8; 48], at: usize, lanes: u8x16)
     requires { at ≤ 32 }
@@ -54,7 +55,7 @@ fn store(values: &mut [u8; 48], at: usize, lanes: u8x16)
     lanes.copy_to_slice(&mut values[at..]);
 }
 
-/// The value of each byte as a hex digit of either case: more than 15 if it is none.
+/// Returns the value of each byte as a hex digit of either case, or more than 15 if it is none.
 #[inline(always)]
 fn values_of(bytes: u8x16) -> u8x16
     ensures { AreValuesOf bytes result }
@@ -67,7 +68,7 @@ fn values_of(bytes: u8x16) -> u8x16
     decimals.simd_lt(u8x16::splat(10)).select(decimals, others)
 }
 
-/// The positions of the colons, as bits.
+/// Returns the positions of the colons as bits.
 #[inline(always)]
 fn colons_of(bytes: u8x16) -> u64 {
     bytes.simd_eq(u8x16::splat(b':')).to_bitmask()

@@ -4,7 +4,8 @@ ghost use Rattle.std.specs.Prelude.{Some};
 use std::error::Error;
 use std::fmt;
 
-/// The error for a text that names no address: what it was read as. It does not say where the text is wrong.
+/// The error for a text that names no address. It says which kind of address was expected, but not
+/// where the text is wrong.
 ///
 /// ```
 /// assert_eq!(rt; Ipv4Addr::read_bytes(b"192.0.2.01"), Err(AddrParseError::Ipv4));
@@ -17,7 +18,7 @@ pub enum AddrParseError {
     Ipv4,
     /// The text names no IPv6 address.
     Ipv6,
-    /// The text names an address of neither family.
+    /// The text names no address of either family.
     Ip,
 }
 

@@ -1,12 +1,12 @@
-//! The first dot or colon of a text, which tells the family that the text can be of.
+//! The first dot or colon of a text, which shows which family the text can belong to.
 ghost use Rattle.std.specs.Prelude.{◌≡◌, ◌==◌, not};
 ghost use Rattle.std.specs.List.{prefix_len};
 ghost use Rattle.ipnetwork_addr.specs.Texts.{colon_first};
 
 use std::simd::prelude::*;
 
-/// Whether the first dot or colon of a text is a colon, as in every IPv6 text; in an IPv4 text a dot
-/// comes first. So a text has to be read in one family only.
+/// Returns whether the first dot or colon of a text is a colon, as in every IPv6 text. In an IPv4
+/// text, a dot comes first, so that a text only has to be read as one family.
 ///
 /// ```
 /// assert!(rt; first_mark::has_colon_first(b"::ffff:192.0.2.1"));
@@ -18,7 +18,7 @@ pub fn has_colon_first(text: &[u8]) -> bool
     if text.len() < 8 {
         return has_colon_first_by_bytes(text);
     }
-    // No branch asks where the dot or colon is: that would be guessed wrongly too often.
+    // There is no branch on the position of the dot or colon: it would be mispredicted too often.
     let bytes = u8x8::from_slice(text);
     let colon = lanes_before(bytes, b':');
     let dot = lanes_before(bytes, b'.');
@@ -31,7 +31,7 @@ pub fn has_colon_first(text: &[u8]) -> bool
     has_colon_first_by_bytes(text)
 }
 
-/// How many lanes come before the first that is this byte: all of them if none is.
+/// Returns the number of lanes before the first one with this byte, or 8 if there is none.
 #[inline(always)]
 fn lanes_before(bytes: u8x8, byte: u8) -> u32
     ensures { result ≡ prefix_len (λ other. not (other == byte)) bytes }
@@ -44,7 +44,7 @@ fn lanes_before(bytes: u8x8, byte: u8) -> u32
     }
 }
 
-/// `has_colon_first`, a byte at a time.
+/// Returns the same as `has_colon_first`, byte by byte.
 fn has_colon_first_by_bytes(text: &[u8]) -> bool
     ensures { result ≡ colon_first text.now }
 {

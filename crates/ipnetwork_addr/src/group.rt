@@ -8,8 +8,9 @@ ghost use Rattle.ipnetwork_addr.specs.Private.GroupFront.{NoHex, BeginsWithHex, 
 use crate::hex_value::hex_value;
 use crate::octet::read_octets;
 
-/// Groups joined by colons, up to the end of the text or to a `::`, and no more of them than there is
-/// room for: how many, the number whose digits in base 2^16 they are, and what follows the `::`.
+/// Reads groups joined by colons, up to the end of the text or a `::`, at most `room` of them.
+/// Returns how many there are, the number whose digits in base 2^16 they are, and what follows the
+/// `::`, if there is one.
 #[inline(always)]
 pub(crate) fn read_part(text: &[u8], room: usize) -> Option<(usize, u128, Option<&[u8]>)>
     requires { room ≤ 8 }
@@ -42,7 +43,7 @@ pub(crate) fn read_part(text: &[u8], room: usize) -> Option<(usize, u128, Option
     None
 }
 
-/// The text without its first byte, if that is this one.
+/// Returns the text after its first byte, if that is `byte`.
 fn after_byte(text: &[u8], byte: u8) -> Option<&[u8]>
     ensures { MatchOption result ((rest : List ℕ)
         → text.now ≢ byte ∷ rest) (λ rest. text.now ≡ byte ∷ rest.now) }
@@ -53,7 +54,7 @@ fn after_byte(text: &[u8], byte: u8) -> Option<&[u8]>
     if *first == byte { Some(rest) } else { None }
 }
 
-/// The number with one more digit in base 2^16.
+/// Returns the number with one more digit in base 2^16 at its end.
 pub(crate) fn append(number: u128, group: u16) -> u128
     requires { number < 2 ^ 112 }
     ensures { result ≡ number * 2 ^ 16 + group }
@@ -61,7 +62,7 @@ pub(crate) fn append(number: u128, group: u16) -> u128
     number * 0x1_0000 + u128::from(group)
 }
 
-/// The number with two more digits in base 2^16.
+/// Returns the number with two more digits in base 2^16 at its end.
 fn append_v4(number: u128, address: u32) -> u128
     requires { number < 2 ^ 96 }
     ensures { result ≡ number * 2 ^ 32 + address }
@@ -69,7 +70,7 @@ fn append_v4(number: u128, address: u32) -> u128
     number * 0x1_0000_0000 + u128::from(address)
 }
 
-/// The number of an IPv4 text.
+/// Returns the number of the IPv4 address that a text names.
 fn read_v4(text: &[u8]) -> Option<u32>
     ensures { MatchOption result (NamesNoV4 text.now) (λ address. NamesV4 text.now address) }
 {
@@ -79,7 +80,7 @@ fn read_v4(text: &[u8]) -> Option<u32>
     }
 }
 
-/// The group that the text begins with, up to the first byte that is not a hex digit, and the text from there.
+/// Returns the group up to the first byte that is not a hex digit, and the text from there on.
 fn read_group(text: &[u8]) -> Option<(u16, &[u8])>
     ensures { MatchOption result (NoGroup text.now)
         (λ found. BeginsWithGroup text.now found.0 found.1.now) }
@@ -102,7 +103,7 @@ fn read_group(text: &[u8]) -> Option<(u16, &[u8])>
     }
 }
 
-/// The value of the first byte as a hex digit, and the text after it.
+/// Returns the value of the first byte as a hex digit, and the text after it.
 #[inline(always)]
 fn read_hex(text: &[u8]) -> Option<(u32, &[u8])>
     ensures { MatchOption result (NoHex text.now)

@@ -2,10 +2,10 @@
 ghost use Rattle.std.specs.Prelude.{◌≡◌, ◌<◌, ◌≤◌, MatchOption};
 ghost use Rattle.std.specs.Char.{digit_value};
 
-/// What stands in the table for a byte that is not a hex digit.
+/// The table's entry for a byte that is not a hex digit.
 const NO_DIGIT: u8 = 16;
 
-/// The value of a byte as a hex digit of either case, if it is one.
+/// Returns the value of a byte as a hex digit of either case, if it is one.
 #[inline(always)]
 pub(crate) fn hex_value(byte: u8) -> Option<u32>
     ensures { MatchOption result (16 ≤ digit_value byte) (λ value. (digit_value byte ≡ value)

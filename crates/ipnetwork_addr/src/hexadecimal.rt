@@ -1,4 +1,4 @@
-//! Groups of an IPv6 address, written in hex at the end of a text.
+//! Writes groups of an IPv6 address in hex at the end of a text.
 ghost use Rattle.std.specs.Prelude.{◌≡◌, false, ◌+◌, ◌-◌, ◌*◌, ◌<◌, ◌≤◌, ◌++◌, length};
 ghost use Rattle.std.specs.Fmt.{digit_glyph};
 ghost use Rattle.ipnetwork_addr.specs.Ipv6Canonical.{hex, hex_groups};
@@ -7,7 +7,7 @@ ghost use Rattle.arrayvec.specs.ArrayString.{array_string_len};
 use crate::ADDRESS_TEXT_CAPACITY;
 use arrayvec::ArrayString;
 
-/// Writes groups in shortest lower-case hex, with `:` between them.
+/// Appends groups in shortest lower-case hex, joined by `:`.
 pub(crate) fn push_groups(text: &mut ArrayString<ADDRESS_TEXT_CAPACITY>, groups: &[u16])
     requires { array_string_len text.old + (5 * length groups.now - 1) ≤ ADDRESS_TEXT_CAPACITY }
     ensures bytes { text.new.bytes ≡ text.old.bytes ++ hex_groups groups.now }
@@ -23,7 +23,7 @@ pub(crate) fn push_groups(text: &mut ArrayString<ADDRESS_TEXT_CAPACITY>, groups:
     }
 }
 
-/// Writes the shortest lower-case hex of a group: one to four bytes.
+/// Appends the shortest lower-case hex form of a group: one to four bytes.
 #[tactic(auto, using(crate::proofs::Decimals::pushing))]
 #[inline(always)]
 fn push_hex(text: &mut ArrayString<ADDRESS_TEXT_CAPACITY>, group: u16)

@@ -26,8 +26,9 @@ pub enum IpAddr {
 impl IpAddr {
     ghost use Rattle.ipnetwork_addr.specs.Either.{NamesIp, canonical_ip, unmapped};
 
-    /// The address that a text names, as `Ipv4Addr::read_bytes` or `Ipv6Addr::read_bytes` reads it: no text names one
-    /// of each family. Any other text is `AddrParseError::Ip`.
+    /// Reads the address that a text names, with `Ipv4Addr::read_bytes` or `Ipv6Addr::read_bytes`;
+    /// no text names an address of each family. For any other text the error is
+    /// `AddrParseError::Ip`.
     ///
     /// ```
     /// assert_eq!(rt; IpAddr::read_bytes(b"192.0.2.1"), Ok(IpAddr::V4(Ipv4Addr::new(192, 0, 2, 1))));
@@ -50,7 +51,7 @@ impl IpAddr {
         }
     }
 
-    /// The canonical text of the address, at most 39 bytes.
+    /// Returns the canonical text of the address, at most 39 bytes.
     ///
     /// ```
     /// let address: IpAddr = "2001:DB8:0:0:1:0:0:1".parse()?;
@@ -66,8 +67,8 @@ impl IpAddr {
         }
     }
 
-    /// The IPv4 address that an IPv4-mapped one, of `::ffff:0:0/96`, stands for (RFC 4291, section 2.5.5.2). Any other
-    /// address is returned as it is.
+    /// Returns the IPv4 address that an IPv4-mapped address, one in `::ffff:0:0/96`, stands for
+    /// (RFC 4291, section 2.5.5.2), and any other address unchanged.
     ///
     /// ```
     /// let mapped: IpAddr = "::ffff:10.1.1.1".parse()?;

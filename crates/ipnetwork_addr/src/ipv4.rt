@@ -24,7 +24,7 @@ pub struct Ipv4Addr {
     number: u32,
 }
 
-// A contract sees an address as its number.
+// In contracts, an address is its number.
 impl Model for Ipv4Addr {
     ghost Value = { ℕ };
 
@@ -34,7 +34,7 @@ impl Model for Ipv4Addr {
 }
 
 impl Ipv4Addr {
-    /// The address `a.b.c.d`.
+    /// Creates the address `a.b.c.d`.
     ///
     /// ```
     /// let address = Ipv4Addr::new(192, 0, 2, 1);
@@ -48,7 +48,7 @@ impl Ipv4Addr {
         }
     }
 
-    /// The four octets, highest first.
+    /// Returns the four octets, highest first.
     ///
     /// ```
     /// assert_eq!(rt; Ipv4Addr::from(0xc000_0201).octets(), [192, 0, 2, 1]);
@@ -60,8 +60,9 @@ impl Ipv4Addr {
         self.number.to_be_bytes()
     }
 
-    /// The address that a text names: four decimal octets joined by `.`, each at most 255 and without a leading zero,
-    /// with nothing before or after. Any other text is `AddrParseError::Ipv4`.
+    /// Reads the address that a text names: four decimal octets joined by `.`, each at most 255 and
+    /// without a leading zero. Nothing may come before or after. For any other text the error is
+    /// `AddrParseError::Ipv4`.
     ///
     /// ```
     /// assert_eq!(rt; Ipv4Addr::read_bytes(b"192.0.2.1"), Ok(Ipv4Addr::new(192, 0, 2, 1)));
@@ -76,7 +77,7 @@ impl Ipv4Addr {
         }
     }
 
-    /// The canonical text, at most 15 bytes: four shortest decimals joined by `.`.
+    /// Returns the canonical text, at most 15 bytes: four shortest decimals joined by `.`.
     ///
     /// ```
     /// let address = Ipv4Addr::new(192, 0, 2, 1);
@@ -102,7 +103,7 @@ impl Ipv4Addr {
 impl From<u32> for Ipv4Addr {
     ghost from_gives = { λ number address. address ≡ number };
 
-    /// The address of this number.
+    /// Creates the address with this number.
     fn from(number: u32) -> Self {
         Ipv4Addr { number }
     }
@@ -111,7 +112,7 @@ impl From<u32> for Ipv4Addr {
 impl From<[u8; 4]> for Ipv4Addr {
     ghost from_gives = { λ octets address. address ≡ number_from_digits 256 octets };
 
-    /// The address of these octets, highest first.
+    /// Creates the address with these octets, highest first.
     fn from(octets: [u8; 4]) -> Self {
         let [a, b, c, d] = octets;
         Ipv4Addr::new(a, b, c, d)
@@ -121,7 +122,7 @@ impl From<[u8; 4]> for Ipv4Addr {
 impl From<Ipv4Addr> for u32 {
     ghost from_gives = { λ address number. number ≡ address };
 
-    /// The number of the address.
+    /// Returns the number of the address.
     fn from(address: Ipv4Addr) -> Self {
         address.number
     }

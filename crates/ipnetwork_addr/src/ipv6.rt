@@ -26,12 +26,12 @@ use std::str::FromStr;
 /// ```
 #[derive(Clone, Copy, Debug)]
 pub struct Ipv6Addr {
-    // The eight segments, the lowest first. If the low octets of a number are stored first, as on most machines, each
-    // half of the address then lies in memory as one number of 64 bits: `order` compares by these.
+    // The eight segments, lowest first. On a little-endian machine each half of the address is thus
+    // stored as one number of 64 bits; `order` compares these.
     low_first: [u16; 8],
 }
 
-// A contract sees an address as its number.
+// In contracts, an address is its number.
 impl Model for Ipv6Addr {
     ghost use Rattle.std.specs.Prelude.{ℕ, reverse};
     ghost use Rattle.std.proofs.Common.{ap};
@@ -51,7 +51,7 @@ impl Model for Ipv6Addr {
 }
 
 impl Ipv6Addr {
-    /// The address `a:b:c:d:e:f:g:h`.
+    /// Creates the address `a:b:c:d:e:f:g:h`.
     ///
     /// ```
     /// let address = Ipv6Addr::new(0x2001, 0xdb8, 0, 0, 0, 0, 0, 1);
@@ -65,7 +65,7 @@ impl Ipv6Addr {
         }
     }
 
-    /// The eight groups, highest first.
+    /// Returns the eight groups, highest first.
     ///
     /// ```
     /// let address: Ipv6Addr = "2001:db8::1".parse()?;
@@ -78,7 +78,7 @@ impl Ipv6Addr {
         segments::reversed(&self.low_first)
     }
 
-    /// The sixteen octets, highest first.
+    /// Returns the sixteen octets, highest first.
     ///
     /// ```
     /// let address: Ipv6Addr = "2001:db8::1".parse()?;
@@ -90,9 +90,10 @@ impl Ipv6Addr {
         segments::octets_high_first(&self.segments())
     }
 
-    /// The address that a text names: eight groups of one to four hex digits of either case, joined by `:`, of which
-    /// the last two may be an IPv4 text, and of which `::` may stand once for all the zero groups that are missing
-    /// (RFC 4291, section 2.2), with nothing before or after. Any other text is `AddrParseError::Ipv6`.
+    /// Reads the address that a text names: eight groups of one to four hex digits of either case,
+    /// joined by `:`. The last two groups may be written as an IPv4 text, and `::` may once replace
+    /// one or more zero groups (RFC 4291, section 2.2). Nothing may come before or after. For any
+    /// other text the error is `AddrParseError::Ipv6`.
     ///
     /// ```
     /// let dotted = Ipv6Addr::read_bytes(b"64:ff9b::192.0.2.33");
@@ -109,9 +110,10 @@ impl Ipv6Addr {
         }
     }
 
-    /// The canonical text, at most 39 bytes (RFC 5952). An address of `::ffff:0:0/96` is `::ffff:` and an IPv4 text
-    /// (section 5). Any other is its groups in shortest lower-case hex, with `::` for the longest run of two or more
-    /// zero groups, and of two as long for the one on the left (section 4).
+    /// Returns the canonical text, at most 39 bytes (RFC 5952). For an address in `::ffff:0:0/96`
+    /// this is `::ffff:` and an IPv4 text (section 5). For any other it is the groups in shortest
+    /// lower-case hex, with `::` for the longest run of two or more zero groups, the leftmost if
+    /// several are equally long (section 4).
     ///
     /// ```
     /// let address: Ipv6Addr = "2001:0DB8:0:0:1:0:0:1".parse()?;
@@ -126,7 +128,7 @@ impl Ipv6Addr {
         canonical_text(&self.segments())
     }
 
-    /// The address of these halves.
+    /// Creates the address with these halves.
     #[inline(always)]
     fn from_halves(high: u64, low: u64) -> Self
         ensures { result ≡ high * 2 ^ 64 + low }
@@ -136,7 +138,7 @@ impl Ipv6Addr {
         }
     }
 
-    /// How the address compares with another: by the high half, then by the low one.
+    /// Compares the address with another: first the high halves, then the low ones.
     pub(crate) fn order(&self, other: &Ipv6Addr) -> Ordering
         ensures { result ≡ nat_cmp self.now other.now }
     {
@@ -148,7 +150,7 @@ impl Ipv6Addr {
         low.cmp(&other_low)
     }
 
-    /// The sixteen octets, lowest first.
+    /// Returns the sixteen octets, lowest first.
     pub(crate) fn octets_low_first(&self) -> [u8; 16]
         ensures { result ≡ le_bytes 16 self.now }
     {
@@ -156,9 +158,9 @@ impl Ipv6Addr {
     }
 }
 
-/// The high half of a number, and the low one.
-// Not inlined: to a compiler the halves are then two numbers that it knows nothing of, and it stores each at once. If it
-// sees how they are made, it cuts and stores every segment by itself.
+/// Returns the high half of a number and the low one.
+// Not inlined, so that the compiler knows nothing about the two halves and stores each at once. If
+// it sees how they are computed, it extracts and stores each segment separately.
 #[inline(never)]
 fn halves_of(number: u128) -> (u64, u64)
     ensures { number ≡ result.0 * 2 ^ 64 + result.1 }
@@ -169,7 +171,7 @@ fn halves_of(number: u128) -> (u64, u64)
 impl From<u128> for Ipv6Addr {
     ghost from_gives = { λ number address. address ≡ number };
 
-    /// The address of this number.
+    /// Creates the address with this number.
     fn from(number: u128) -> Self {
         let (high, low) = halves_of(number);
         Ipv6Addr::from_halves(high, low)
@@ -179,7 +181,7 @@ impl From<u128> for Ipv6Addr {
 impl From<[u16; 8]> for Ipv6Addr {
     ghost from_gives = { λ segments address. address ≡ number_from_digits (2 ^ 16) segments };
 
-    /// The address of these groups, highest first.
+    /// Creates the address with these groups, highest first.
     fn from(segments: [u16; 8]) -> Self {
         Ipv6Addr {
             low_first: segments::reversed(&segments),
@@ -190,7 +192,7 @@ impl From<[u16; 8]> for Ipv6Addr {
 impl From<Ipv6Addr> for u128 {
     ghost from_gives = { λ address number. number ≡ address };
 
-    /// The number of the address.
+    /// Returns the number of the address.
     fn from(address: Ipv6Addr) -> Self {
         let (high, low) = segments::halves(&address.low_first);
         segments::number_of_halves(high, low)

@@ -1,4 +1,4 @@
-//! IPv6 addresses compared and hashed, as their numbers are.
+//! Compares and hashes IPv6 addresses by their numbers.
 ghost use Rattle.std.specs.Hash as fed;
 ghost use Rattle.std.specs.Cmp.{partial_order_from_own_ties};
 ghost use Rattle.std.specs.Cmp.Rules.{comparing, hashing};

@@ -1,5 +1,5 @@
-//! The laws of addresses and of their texts. Each function's contract is a law. One of texts takes
-//! nothing and does nothing, and a proof that calls it may use the law.
+//! The laws of addresses and of their texts. Each function's contract is a law. The functions for
+//! laws of texts take nothing and do nothing; a proof that calls one may use its law.
 
 mod computed;
 mod texts;

@@ -1,6 +1,6 @@
-//! IPv4 and IPv6 addresses: their texts, read and printed, and their numbers.
+//! IPv4 and IPv6 addresses: reading and printing their texts, and their numbers.
 //!
-//! Nothing here allocates. A text is a slice of bytes, of any length and any bytes.
+//! Nothing here allocates. A text is a byte slice of any length and content.
 #![tactic(auto)]
 
 mod canonical;
@@ -29,7 +29,7 @@ pub use ip::IpAddr;
 pub use ipv4::Ipv4Addr;
 pub use ipv6::Ipv6Addr;
 
-/// The length in bytes of the longest canonical text of an address: eight groups of four hex digits.
+/// The length in bytes of the longest canonical address text: eight groups of four hex digits.
 ///
 /// ```
 /// let longest: Ipv6Addr = "ffff:ffff:ffff:ffff:ffff:ffff:ffff:ffff".parse()?;

@@ -1,4 +1,4 @@
-//! Reads the octets of an IPv4 text, from left to right.
+//! Reads the octets of an IPv4 text from left to right.
 ghost use Rattle.std.specs.Prelude.{◌≡◌, ◌+◌, ◌<◌, ◌≤◌, ◌↔◌, [], ◌∷◌, length, take, slice_index, IsTrue, MatchOption};
 ghost use Rattle.std.specs.Int.Digits.{number_from_digits};
 ghost use Rattle.ipnetwork_addr.specs.Ipv4Text.{IsOctet, NamesV4};
@@ -14,7 +14,7 @@ use crate::octet_lanes::read_at_once;
 /// The greatest octet.
 const OCTET_MAX: u32 = 255;
 
-/// The four octets of a text that is an IPv4 address.
+/// Returns the four octets of the IPv4 address that a text names.
 pub(crate) fn read_octets(text: &[u8]) -> Option<[u8; 4]>
     ensures { MatchOption result (NamesNoV4 text.now)
         (λ octets. NamesV4 text.now (number_from_digits 256 octets)) }
@@ -25,7 +25,7 @@ pub(crate) fn read_octets(text: &[u8]) -> Option<[u8; 4]>
     }
 }
 
-/// The same, one octet after the other.
+/// Returns the same as `read_octets`, reading one octet at a time.
 #[inline(never)]
 fn read_from_left(text: &[u8]) -> Option<[u8; 4]>
     ensures { MatchOption result (NamesNoV4 text.now)
@@ -38,7 +38,7 @@ fn read_from_left(text: &[u8]) -> Option<[u8; 4]>
     Some([first, second, third, fourth])
 }
 
-/// The octet before the first dot from the position `at` on, and the position after that dot.
+/// Returns the octet before the first dot from `at` on, and the position after that dot.
 #[inline(always)]
 fn read_octet_and_dot(text: &[u8], at: usize) -> Option<(u8, usize)>
     requires { at ≤ length text.now }
@@ -47,7 +47,8 @@ fn read_octet_and_dot(text: &[u8], at: usize) -> Option<(u8, usize)>
     if text.len() - at < 4 || text[at + 1] == b'.' {
         return read_by_positions(text, at);
     }
-    // No branch asks whether there are two digits or three: that would be guessed wrongly too often.
+    // There is no branch on whether there are two or three digits: it would be mispredicted too
+    // often.
     let last = text[at + 2];
     let end = at + 2 + is_no_dot(last) as usize;
     if text[end] != b'.' {
@@ -57,7 +58,7 @@ fn read_octet_and_dot(text: &[u8], at: usize) -> Option<(u8, usize)>
     Some((octet, end + 1))
 }
 
-/// The same, with one position tried after the other.
+/// Returns the same as `read_octet_and_dot`, trying one position after another.
 #[inline(always)]
 fn read_by_positions(text: &[u8], at: usize) -> Option<(u8, usize)>
     requires { at ≤ length text.now }
@@ -69,7 +70,7 @@ fn read_by_positions(text: &[u8], at: usize) -> Option<(u8, usize)>
     Some((octet, at + end + 1))
 }
 
-/// The position of the first dot that stands after one, two or three bytes.
+/// Returns the position of the first dot after one, two or three bytes.
 #[inline(always)]
 fn octet_end(text: &[u8]) -> Option<usize>
     ensures { MatchOption result (HasNoOctetEnd text.now) (IsOctetEnd text.now) }
@@ -86,7 +87,7 @@ fn octet_end(text: &[u8]) -> Option<usize>
     None
 }
 
-/// Whether a dot stands at this position.
+/// Returns whether there is a dot at this position.
 #[inline(always)]
 fn has_dot(text: &[u8], at: usize) -> bool
     ensures { IsTrue result ↔ ((at < length text.now) × (slice_index text.now at ≡ dot)) }
@@ -94,7 +95,7 @@ fn has_dot(text: &[u8], at: usize) -> bool
     at < text.len() && text[at] == b'.'
 }
 
-/// The octet that the whole text is.
+/// Returns the octet, if the whole text is one.
 #[inline(always)]
 fn read_octet(text: &[u8]) -> Option<u8>
     ensures { MatchOption result (IsNoOctet text.now) (IsOctet text.now) }
@@ -109,7 +110,7 @@ fn read_octet(text: &[u8]) -> Option<u8>
     octet_of_several(text[0], text[1], text[count - 1], (count - 2) as u32)
 }
 
-/// The octet of one digit.
+/// Returns the octet with this one digit.
 #[inline(always)]
 fn octet_of_one(a: u8) -> Option<u8>
     ensures { MatchOption result (IsNoOctet (a ∷ [])) (IsOctet (a ∷ [])) }
@@ -121,7 +122,8 @@ fn octet_of_one(a: u8) -> Option<u8>
     Some(value as u8)
 }
 
-/// The octet of two digits, or, if `more` is 1, of three, of which the first is not a zero.
+/// Returns the octet with the digits `a` and `b`, and also `c` if `more` is 1. The first digit must
+/// not be zero.
 #[inline(always)]
 fn octet_of_several(a: u8, b: u8, c: u8, more: u32) -> Option<u8>
     requires { more ≤ 1 }
@@ -136,7 +138,8 @@ fn octet_of_several(a: u8, b: u8, c: u8, more: u32) -> Option<u8>
     Some(value as u8)
 }
 
-/// The octet of the digits `a`, `b` and `c`, or of `a` and `b` if `c` is a dot. The first digit is not a zero.
+/// Returns the octet with the digits `a`, `b` and `c`, or `a` and `b` if `c` is a dot. The first
+/// digit must not be zero.
 #[inline(always)]
 fn octet_before_dot(a: u8, b: u8, c: u8) -> Option<u8>
     ensures { MatchOption result (IsNoOctet (before_dot a b c)) (IsOctet (before_dot a b c)) }

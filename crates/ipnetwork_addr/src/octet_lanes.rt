@@ -1,4 +1,4 @@
-//! Reads the four octets of an IPv4 text at once, as the lanes of a vector.
+//! Reads the four octets of an IPv4 text at once, in the lanes of a vector.
 ghost use Rattle.std.specs.Prelude.{◌≡◌, ℕ, ◌<◌, ◌≤◌, length, take, IfSome, IsTrue};
 ghost use Rattle.std.specs.Int.Digits.{number_from_digits};
 ghost use Rattle.ipnetwork_addr.specs.Ipv4Text.{NamesV4};
@@ -9,10 +9,10 @@ use crate::octet_tables::{
 };
 use std::simd::prelude::*;
 
-/// The four octets of a text that is an IPv4 address. `None` says nothing: the text is then to be
-/// read from left to right.
+/// Returns the four octets of the IPv4 address that a text names. `None` means that the text must
+/// be read from left to right instead.
 ///
-/// No branch asks how many digits an octet has: that would be guessed wrongly too often.
+/// There is no branch on the number of digits of an octet: it would be mispredicted too often.
 #[inline(always)]
 pub(crate) fn read_at_once(text: &[u8]) -> Option<[u8; 4]>
     ensures { IfSome result (λ octets. NamesV4 text.now (number_from_digits 256 octets)) }
@@ -29,7 +29,7 @@ pub(crate) fn read_at_once(text: &[u8]) -> Option<[u8; 4]>
     octets_of_row(bytes, row)
 }
 
-/// The bytes of a text, and others after them.
+/// Returns the bytes of a text, followed by other bytes.
 #[inline(always)]
 fn joined(text: &[u8]) -> u8x16
     requires long { 8 ≤ length text.now }
@@ -43,13 +43,13 @@ fn joined(text: &[u8]) -> u8x16
     both.swizzle_dyn(u8x16::from_array(*joined_positions(count)))
 }
 
-/// The positions of the dots, as bits.
+/// Returns the positions of the dots as bits.
 #[inline(always)]
 fn dots(bytes: u8x16) -> u64 {
     bytes.simd_eq(u8x16::splat(b'.')).to_bitmask()
 }
 
-/// The octets of a text, where the row tells how many digits each of them has.
+/// Returns the octets of a text that has the row's number of digits in each octet.
 #[inline(always)]
 fn octets_of_row(bytes: u8x16, row: usize) -> Option<[u8; 4]>
     requires { row < 81 }
@@ -69,8 +69,8 @@ fn octets_of_row(bytes: u8x16, row: usize) -> Option<[u8; 4]>
     Some(octets.cast::<u8>().to_array())
 }
 
-/// The digits of four octets and what stands after each of them, in the row's lanes: how far each
-/// byte is above `0`.
+/// Returns how far above `0` the digits of the four octets and the byte after each octet are, in
+/// the row's lanes.
 #[inline(always)]
 fn digits_of_row(bytes: u8x16, row: usize) -> u8x16
     requires { row < 81 }
@@ -80,7 +80,7 @@ fn digits_of_row(bytes: u8x16, row: usize) -> u8x16
     values.swizzle_dyn(u8x16::from_array(*positions_of_row(row)))
 }
 
-/// Whether each lane is at least this.
+/// Returns whether each lane is at least that of `least`.
 #[inline(always)]
 fn are_at_least(lanes: u8x16, least: u8x16) -> bool
     ensures { IsTrue result → AreAtLeast lanes least }
@@ -88,7 +88,7 @@ fn are_at_least(lanes: u8x16, least: u8x16) -> bool
     lanes.simd_lt(least).to_bitmask() == 0
 }
 
-/// What the digits of an octet count for.
+/// The factors of the digits of an octet.
 const WEIGHTS: [u8; 16] = [100, 10, 1, 0, 100, 10, 1, 0, 100, 10, 1, 0, 100, 10, 1, 0];
 
 /// The greatest digit, and how far a dot is above `0`.

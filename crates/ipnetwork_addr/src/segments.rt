@@ -1,10 +1,11 @@
-//! An address of 128 bits as eight segments of 16 bits: their order, and the numbers and octets that they make up.
+//! A 128-bit address as eight segments of 16 bits: their order, and the numbers and octets that
+//! they make up.
 ghost use Rattle.std.specs.Prelude.{◌≡◌, ℕ, ◌+◌, ◌*◌, ◌/◌, ◌%◌, ◌^◌, ◌<◌, reverse, [], ◌∷◌};
 ghost use Rattle.std.specs.Hash.{le_bytes};
 ghost use Rattle.ipnetwork_addr.specs.Digits.{digits_in, octets_of_v6, segments_of};
 ghost use Rattle.ipnetwork_addr.specs.Segments.{number_of_segments};
 
-/// The segments in the other order.
+/// Returns the segments in reverse order.
 pub(crate) fn reversed(segments: &[u16; 8]) -> [u16; 8]
     ensures { result ≡ reverse segments.now }
 {
@@ -12,8 +13,7 @@ pub(crate) fn reversed(segments: &[u16; 8]) -> [u16; 8]
     [h, g, f, e, d, c, b, a]
 }
 
-/// The two halves of an address whose segments stand the lowest first, as numbers of 64 bits: the high half, and
-/// the low one.
+/// Returns the high and the low half of an address, 64 bits each, from its segments, lowest first.
 pub(crate) fn halves(low_first: &[u16; 8]) -> (u64, u64)
     ensures { number_of_segments (reverse low_first.now) ≡ result.0 * 2 ^ 64 + result.1 }
 {
@@ -21,7 +21,7 @@ pub(crate) fn halves(low_first: &[u16; 8]) -> (u64, u64)
     (half(a, b, c, d), half(e, f, g, h))
 }
 
-/// The number that four segments make up, the highest first.
+/// Returns the number that four segments make up, highest first.
 pub(crate) fn half(a: u16, b: u16, c: u16, d: u16) -> u64
     ensures { result ≡ number_of_segments (a ∷ b ∷ c ∷ d ∷ []) }
 {
@@ -29,10 +29,10 @@ pub(crate) fn half(a: u16, b: u16, c: u16, d: u16) -> u64
     (two * 0x1_0000 + u64::from(c)) * 0x1_0000 + u64::from(d)
 }
 
-/// What one of the high half counts for in the number of an address.
+/// The factor of the high half in the number of an address.
 const HALF: u128 = 0x1_0000_0000_0000_0000;
 
-/// The high half of a number, and the low one.
+/// Returns the high half of a number and the low one.
 #[inline(always)]
 pub(crate) fn halves_of_number(number: u128) -> (u64, u64)
     ensures { number ≡ result.0 * 2 ^ 64 + result.1 }
@@ -40,14 +40,14 @@ pub(crate) fn halves_of_number(number: u128) -> (u64, u64)
     ((number / HALF) as u64, (number % HALF) as u64)
 }
 
-/// The number of these halves.
+/// Returns the number with these halves.
 pub(crate) fn number_of_halves(high: u64, low: u64) -> u128
     ensures { result ≡ high * 2 ^ 64 + low }
 {
     u128::from(high) * HALF + u128::from(low)
 }
 
-/// The segments of the address of these two halves, the lowest first.
+/// Returns the segments of the address with these halves, lowest first.
 pub(crate) fn low_first_of(high: u64, low: u64) -> [u16; 8]
     ensures { result ≡ reverse (segments_of (high * 2 ^ 64 + low)) }
 {
@@ -56,7 +56,7 @@ pub(crate) fn low_first_of(high: u64, low: u64) -> [u16; 8]
     [h, g, f, e, d, c, b, a]
 }
 
-/// The four segments of a half, the lowest first.
+/// Returns the four segments of a half, lowest first.
 fn half_low_first(half: u64) -> [u16; 4]
     ensures { result ≡ reverse (digits_in (2 ^ 16) 4 half) }
 {
@@ -68,7 +68,7 @@ fn half_low_first(half: u64) -> [u16; 4]
     ]
 }
 
-/// The sixteen octets of an address of these segments, which stand the highest first: the lowest octet first.
+/// Returns the sixteen octets, lowest first, of the address with these segments, highest first.
 pub(crate) fn octets_low_first(segments: &[u16; 8]) -> [u8; 16]
     ensures { result ≡ le_bytes 16 (number_of_segments segments.now) }
 {
@@ -93,7 +93,7 @@ pub(crate) fn octets_low_first(segments: &[u16; 8]) -> [u8; 16]
     ]
 }
 
-/// The sixteen octets of an address of these segments, which stand the highest first: the highest octet first.
+/// Returns the sixteen octets, highest first, of the address with these segments, highest first.
 pub(crate) fn octets_high_first(segments: &[u16; 8]) -> [u8; 16]
     ensures { result ≡ octets_of_v6 (number_of_segments segments.now) }
 {
@@ -118,14 +118,14 @@ pub(crate) fn octets_high_first(segments: &[u16; 8]) -> [u8; 16]
     ]
 }
 
-/// The octet of the low bits of a segment.
+/// Returns the octet of the low bits of a segment.
 fn low_octet(segment: u16) -> u8
     ensures { result ≡ segment % 256 }
 {
     (segment % 256) as u8
 }
 
-/// The octet of its high bits.
+/// Returns the octet of the high bits of a segment.
 fn high_octet(segment: u16) -> u8
     ensures { result ≡ segment / 256 }
 {

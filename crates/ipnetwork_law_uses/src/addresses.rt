@@ -1,4 +1,4 @@
-//! What the laws of addresses let one conclude.
+//! What follows from the laws of addresses.
 ghost use Rattle.std.specs.Prelude.{◌≡◌, ◌↔◌, IsTrue, IsFalse, Ok, fold};
 ghost use Rattle.std.specs.Hash as writes;
 ghost use Rattle.ipnetwork_addr.specs.Either.{IsAddrBefore, IsAddrAtMost, ip_cmp, ip_writes};

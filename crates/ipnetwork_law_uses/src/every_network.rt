@@ -1,5 +1,5 @@
-//! What the laws of every implementation of `CidrNetwork` let one conclude of networks of each
-//! family, with host bits and of any prefix length.
+//! What follows from the laws of every implementation of `CidrNetwork` for networks of each family,
+//! with host bits and of any prefix length.
 ghost use Rattle.std.specs.Prelude.{◌≡◌, ◌↔◌, IsTrue, IsFalse};
 ghost use Rattle.ipnetwork_family.specs.Network.{Member, Subnet, Overlap, HostBitsAreZero, high};
 
@@ -26,7 +26,8 @@ fn v6_lies_in_what_it_is_no_part_of(a: Ipv6Network, b: Ipv6Network)
     nested_networks(a, b);
 }
 
-// The tests of both laws are the same: each is true of a network and one that has its last address.
+// Both laws use the same four tests. One of them is true if a network contains the last address of
+// the other.
 fn v4_tests_agree(a: Ipv4Network, b: Ipv4Network) -> (bool, bool)
     requires { Member 32 a (high 32 b) }
     ensures is { IsTrue result.0 }
@@ -43,7 +44,7 @@ fn v6_tests_agree(a: Ipv6Network, b: Ipv6Network) -> (bool, bool)
     (overlaps_is_four_tests(a, b), overlaps_by_four_tests(a, b))
 }
 
-// What stands between a block and one that lies in it lies in it too.
+// A block ordered between a block and one inside it is inside the first too.
 fn stands_between<N: CidrNetwork>(a: N, b: N, c: N) -> bool
     requires first { HostBitsAreZero N.WIDTH (N.pair a) }
     requires second { HostBitsAreZero N.WIDTH (N.pair b) }
@@ -61,7 +62,7 @@ fn stands_between<N: CidrNetwork>(a: N, b: N, c: N) -> bool
     }
 }
 
-// And the one that lies in it does not come before it.
+// A block inside another is not ordered before it.
 fn comes_before<N: CidrNetwork>(a: N, c: N) -> bool
     requires first { HostBitsAreZero N.WIDTH (N.pair a) }
     requires second { HostBitsAreZero N.WIDTH (N.pair c) }
@@ -97,7 +98,7 @@ fn v6_lies_between(a: Ipv6Network, b: Ipv6Network, c: Ipv6Network) -> (bool, boo
     (stands_between(a, b, c), comes_before(a, c))
 }
 
-// Two blocks of one prefix length that differ share no address.
+// Two different blocks of the same prefix length have no address in common.
 fn v4_blocks_are_apart(a: Ipv4Network, b: Ipv4Network) -> bool
     requires first { HostBitsAreZero 32 a }
     requires second { HostBitsAreZero 32 b }

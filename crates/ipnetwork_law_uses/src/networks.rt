@@ -1,4 +1,4 @@
-//! What the laws of networks of one family, and of their faults, let one conclude.
+//! What follows from the laws of networks of one family and of their errors.
 ghost use Rattle.std.specs.Prelude.{◌≡◌, ◌↔◌, ◌++◌, Ok, IsTrue, IsFalse, fold};
 ghost use Rattle.std.specs.Hash as fed;
 ghost use Rattle.ipnetwork_family.specs.Network.{IsNetworkBefore, IsNetworkAtMost, network_cmp};

@@ -1,4 +1,4 @@
-//! What the laws of networks of either family, and of their sizes, let one conclude.
+//! What follows from the laws of networks of either family and of their sizes.
 ghost use Rattle.std.specs.Prelude.{◌≡◌, ◌↔◌, IsTrue, fold};
 ghost use Rattle.ipnetwork.specs.IpNetworks.{IsIpBefore, IsIpAtMost, ip_network_cmp, ip_network_writes};
 
@@ -50,7 +50,7 @@ fn ip_network_feeds_all<H: Hasher>(a: IpNetwork, first: &mut H, second: &mut H)
     ip_network_hash(a, same, first, second);
 }
 
-// The number alone is fed, so that sizes of two families feed the same.
+// Only the number is fed, so that sizes of different families with the same number feed the same.
 fn network_size_feeds_its_number<H: Hasher>(number: u32, first: &mut H, second: &mut H)
     ensures { first.old ≡ second.old → first.new ≡ second.new }
 {

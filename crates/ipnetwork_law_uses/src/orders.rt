@@ -1,11 +1,11 @@
-//! What an order of numbers lets one conclude.
+//! What follows from an order of numbers.
 ghost use Rattle.std.specs.Prelude.{◌≡◌, ◌↔◌, ◌<◌, ◌≤◌, IsTrue};
 ghost use Rattle.std.specs.Ordering.{nat_cmp};
 
 use std::cmp::Ordering;
 
-/// Whether exactly one of `<`, `==` and `>` is true of two numbers, and `<=` and `cmp` say the
-/// same: `order` is what `<`, `<=` and `cmp` say of the two.
+/// Returns whether exactly one of `<`, `==` and `>` is true of two numbers, and `<=` and `cmp`
+/// agree. `order` holds the results of `<`, `<=` and `cmp` for the two.
 pub(crate) fn is_one_order(
     a: u128,
     b: u128,

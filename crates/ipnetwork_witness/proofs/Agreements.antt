@@ -1,4 +1,4 @@
--- When the answers of two readers agree.
+-- When the results of two readers agree.
 use Rattle.std.proofs.Common.{◌≡◌, ◌↔◌, ℕ, ◌^◌, ◌<◌, Bool, List, bytes_eq, sym, ◌∙◌, subst}
 use Rattle.std.proofs.lemmas.Slice.Eq.{bytes_eq-Decides}
 use Rattle.std.specs.Prelude.{IsTrue, Result, Ok, Err}
@@ -11,7 +11,7 @@ use Rattle.ipnetwork_addr.specs.Reading.{Reads}
 use Rattle.ipnetwork_witness.specs.Agreement.{Agree, SameV4, SameV6}
 use Rattle.ipnetwork_witness.proofs.SameAddresses.{octets_are, same_octets, segments_are, same_segments}
 
--- both readers answer as their grammars say, and the texts of the grammars are the same
+-- both readers return what their grammars say, and the grammars have the same texts
 module _ {A B E F : Type 0} (Names : List ℕ → A → Type 0) (Spells : List ℕ → B → Type 0) (Same : A → B → Type 0)
     (names_one : (text : List ℕ) (a b : A) → Names text a → Names text b → a ≡ b)
     (from_ours : (text : List ℕ) (ours : A) → Names text ours → (theirs : B) × Same ours theirs × Spells text theirs)
@@ -28,7 +28,7 @@ module _ {A B E F : Type 0} (Names : List ℕ → A → Type 0) (Spells : List �
       absurd (read.1 n named)
   readers_agree error text (Err e) (Err other) read parsed = tt
 
--- ---- comparing octets and groups tells whether two addresses are the same
+-- ---- two addresses are the same if and only if their octets or groups are equal
 
 pub octets_decide : (answer : Bool) (ours : ℕ) (theirs : Ipv4Addr) (xs ys : List ℕ) → ours < 2 ^ 32 → answer ≡ bytes_eq xs ys → xs ≡ octets_of ours → ys ≡ ipv4_octets theirs → IsTrue answer ↔ SameV4 ours theirs
 octets_decide answer ours theirs xs ys fits compared is_ours is_theirs = (

@@ -1,12 +1,12 @@
--- Two grammars of one width, for addresses of either family: the one names numbers, the other spells their digits,
--- so many in a base. What follows of both.
+-- Two grammars for addresses of the same width, of either family: one names numbers, the other spells their digits in a
+-- base. What follows from both.
 use Rattle.std.proofs.Common.{◌≡◌, ◌↔◌, ℕ, ◌^◌, ◌<◌, List, length, sym, ap, ◌∙◌, subst}
 use Rattle.std.proofs.lemmas.Int.Digits.{number_lt}
 use Rattle.std.specs.Int.Digits.{number_from_digits, AllBelowBase}
 use Rattle.ipnetwork_addr.specs.Digits.{digits_in}
 use Rattle.ipnetwork_witness.proofs.Digits.{number-digits_in, digits_in-number}
 
--- each text of the one grammar is a text of the other, and its number has these digits
+-- each text of one grammar is a text of the other, and its number has these digits
 pub record Bridge (base count : ℕ) (Names : List ℕ → ℕ → Type 0) (Spells : List ℕ → List ℕ → Type 0) : Type 0 where
   pub some : 0 < base
   pub to_spelled : (text : List ℕ) (n : ℕ) → Names text n → (ds : List ℕ) × Spells text ds × (n ≡ number_from_digits base ds)

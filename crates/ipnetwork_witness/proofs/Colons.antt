@@ -28,7 +28,7 @@ halves-segments text octets h = rw h.value (two h.a h.b h.c h.d h.fit)
         let low : n % 2 ^ 16 ≡ c * 256 + d = omega (arith, fit.0, fit.1, fit.2, fit.3) in
         ap₂ (λ x y. x ∷ y ∷ []) high low
 
--- ---- parts with a colon between neighbours, or before each
+-- ---- parts with a colon between them, or before each
 
 abbrev after_colons : List (List ℕ) → List ℕ
 after_colons parts = flat_map (λ part. colon ∷ part) parts
@@ -79,7 +79,7 @@ ended_groups text groups (inl h) = plain_to_std between true text h.parts groups
 ended_groups text groups (inr h) =
     subst (IsGroups true text) (sym h.value) (dotted_to_std between text h.parts h.front h.last h.address h.spelled h.named h.dotted)
 
--- ---- and back
+-- ---- from std's grammar
 
 data Parts (ipv4 : Bool) (spell : List (List ℕ) → List ℕ) (text groups : List ℕ) : Type 0 where
   Plain : (parts : List (List ℕ)) → text ≡ spell parts → AllZip IsGroup parts groups → Parts ipv4 spell text groups

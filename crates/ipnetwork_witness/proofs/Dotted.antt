@@ -1,4 +1,4 @@
--- IPv4: this library's grammar and std's spell the same octets, and the same texts are printed.
+-- IPv4: this library's grammar and std's spell the same octets, and both print the same texts.
 use Rattle.std.proofs.Common.{◌≡◌, ℕ, List, [], ◌∷◌, length, decimal, refl, ◌∙◌, arith, lit≤, append_assoc}
 use Rattle.std.specs.List.{join_with_byte, AllZip}
 use Rattle.std.specs.Int.Digits.{number_from_digits}

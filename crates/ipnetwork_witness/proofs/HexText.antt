@@ -1,4 +1,4 @@
--- A group in shortest lower-case hex, and groups in it joined by colons: the same text in both libraries.
+-- A group in shortest lower-case hex, and such groups joined by colons: the same texts in both libraries.
 use Rattle.std.proofs.Common.{◌≡◌, false, ℕ, ◌/◌, ◌%◌, ◌^◌, ◌<◌, List, [], ◌∷◌, ◌++◌, map, flat_map, refl, ap, ap₂, ◌∙◌, arith, inl, inr, le-leb}
 use Rattle.std.proofs.lemmas.Bool.{cases_lt, lt-leb}
 use Rattle.std.proofs.lemmas.Fmt.{hex_one_digit, hex_two_digits}

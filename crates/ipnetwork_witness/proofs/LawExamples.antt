@@ -1,5 +1,5 @@
--- What the laws let one conclude, where a weaker law would not: of 192.0.2.1 (RFC 5737, section 3), of the last address,
--- and of texts that are refused.
+-- What follows from the laws, and would not follow from weaker ones: for 192.0.2.1 (RFC 5737, section 3), for the last
+-- address, and for texts that are refused.
 use Rattle.std.proofs.Common.{◌≡◌, ℕ, ◌^◌, ◌-◌, ◌<◌, List, [], ◌∷◌, Some, None, Option, Result, refl, ap, sym, ◌∙◌, arith, lit<}
 use Rattle.std.specs.Prelude.{◌↔◌, codes, Ok, Err}
 use Rattle.std.proofs.lemmas.Option.{none-some}
@@ -36,14 +36,14 @@ abbrev V4NamesAgree : Type 0
 V4NamesAgree = (text : List ℕ) (ours : ℕ) (theirs : Ipv4Addr) → SameV4 ours theirs
     → NamesV4 text ours ↔ IsIpv4Text text theirs
 
--- std reads 192.0.2.1 as the address of the same bits,
+-- std reads 192.0.2.1 as the address with the same bits
 pub std_reads_v4 : V4NamesAgree → (theirs : Ipv4Addr) → SameV4 0xc0000201 theirs
     → IsIpv4Text (codes "192.0.2.1") theirs
 unfolding digits
 std_reads_v4 law theirs same = (law (codes "192.0.2.1") 0xc0000201 theirs same).0
     ((v4_computed (codes "192.0.2.1") 0xc0000201).1 refl)
 
--- and not as the next one
+-- std does not read 192.0.2.1 as the next address
 pub std_reads_no_other_v4 : V4NamesAgree → (theirs : Ipv4Addr) → SameV4 0xc0000202 theirs
     → ¬ (IsIpv4Text (codes "192.0.2.1") theirs)
 unfolding digits
@@ -65,7 +65,7 @@ abbrev IpNamesAgree : Type 0
 IpNamesAgree = (text : List ℕ) (ours : IpAddr) (theirs : std.IpAddr) → SameIp ours theirs
     → NamesIp text ours ↔ IsIpText text theirs
 
--- of either family
+-- std reads a text of either family as the address with the same bits
 pub std_reads_either : IpNamesAgree → (four : Ipv4Addr) → SameV4 0xc0000201 four → (six : Ipv6Addr)
     → SameV6 0xc0000201 six
     → IsIpText (codes "192.0.2.1") (std_family.V4 four) × IsIpText (codes "::192.0.2.1") (std_family.V6 six)
@@ -77,7 +77,7 @@ std_reads_either law four same_four six same_six = (
       ((v6_computed (codes "::192.0.2.1") 0xc0000201).1 refl),
 )
 
--- std takes no text that names nothing here: an octet with a leading zero, and two gaps
+-- std accepts no text that names nothing here: an octet with a leading zero, or two gaps
 pub std_takes_no_leading_zero
     : ((text : List ℕ) (theirs : Ipv4Addr) → IsIpv4Text text theirs
     → (ours : ℕ) × SameV4 ours theirs × NamesV4 text ours)
@@ -94,7 +94,7 @@ unfolding digits v6_of gap_below
 std_takes_no_second_gap law theirs spelled =
     let shared = law (codes "1::2::3") theirs spelled in none-some shared.0 ((v6_computed (codes "1::2::3") shared.0).0 shared.2)
 
--- and each text that names an address here
+-- std accepts a text that names an address here
 pub std_has_the_address
     : ((text : List ℕ) (ours : ℕ) → NamesV4 text ours
     → (theirs : Ipv4Addr) × SameV4 ours theirs × IsIpv4Text text theirs)
@@ -109,7 +109,7 @@ pub no_text_of_33_bits : ((text : List ℕ) (address : IpAddr) → NamesIp text 
     → (text : List ℕ) → ¬ (NamesIp text (V4 (2 ^ 32)))
 no_text_of_33_bits law text named = let fits = law text (V4 (2 ^ 32)) named in omega (arith, fits)
 
--- ---- what is printed
+-- ---- printing
 
 pub std_prints_v4
     : ((ours : ℕ) (theirs : Ipv4Addr) → SameV4 ours theirs → canonical_v4 ours ≡ ipv4_text (ipv4_octets theirs))
@@ -136,7 +136,7 @@ std_prints_either law theirs same = law (V6 1) (std_family.V6 theirs) same
 abbrev read_by_std : {A : Type 0} → A → Result A std_error.AddrParseError
 read_by_std address = Ok address
 
--- std refuses what is refused here, whatever its error
+-- std refuses what is refused here, with whatever error
 pub std_refuses_v4
     : ((text : List ℕ) (ours : Result ℕ error.AddrParseError) (theirs : Result Ipv4Addr std_error.AddrParseError)
     → Reads NamesV4 kinds.Ipv4 text ours → Parses IsIpv4Text text theirs → Agree SameV4 ours theirs)
@@ -144,7 +144,7 @@ pub std_refuses_v4
     → ¬ (Reads NamesV4 kinds.Ipv4 text (Err kinds.Ipv4))
 std_refuses_v4 law text theirs parses reads = law text (Err kinds.Ipv4) (Ok theirs) reads parses
 
--- and reads the same number where both read one
+-- std reads the same number if both readers return one
 pub std_reads_the_same_v6
     : ((text : List ℕ) (ours : Result ℕ error.AddrParseError) (theirs : Result Ipv6Addr std_error.AddrParseError)
     → Reads NamesV6 kinds.Ipv6 text ours → Parses IsIpv6Text text theirs → Agree SameV6 ours theirs)

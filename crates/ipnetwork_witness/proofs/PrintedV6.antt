@@ -1,4 +1,4 @@
--- IPv6: what std prints of an address is its canonical text.
+-- IPv6: std prints an address as its canonical text.
 use Rattle.std.proofs.Common.{◌≡◌, ◌↔◌, ℕ, ◌+◌, ◌-◌, ◌/◌, ◌%◌, ◌^◌, ◌<◌, ◌≤◌, true≢false, List, [], ◌∷◌, ◌++◌, length, take, drop, replicate, get_or, refl, sym, ap, ap₂, ◌∙◌, arith, length-take-le, length-drop, get_or-drop}
 use Rattle.std.proofs.lemmas.Bool.{cond_both, ltb-true, ltb-false}
 use Rattle.std.proofs.lemmas.Grind.{same_number_lists}
@@ -17,7 +17,7 @@ use Rattle.ipnetwork_addr.proofs.Ipv6Printed.{fit_take, fit_drop, segments_fit}
 use Rattle.ipnetwork_witness.proofs.Dotted.{v4_prints}
 use Rattle.ipnetwork_witness.proofs.HexText.{same_groups}
 
--- ---- the run that `::` stands for
+-- ---- the run that is printed as `::`
 
 run_to_std : (groups : List ℕ) (i n : ℕ) → IsZeroRun groups i n → std_runs.IsZeroRun groups i n
 run_to_std groups i n run =
@@ -55,7 +55,7 @@ no_gap groups few i n gap = omega (arith, few, gap.several, (longest_zero_run_fi
 
 -- ---- the groups of an address
 
--- ---- the addresses that hold an IPv4 address
+-- ---- IPv4-mapped addresses
 
 abbrev mark : List ℕ
 mark = 0 ∷ 0 ∷ 0 ∷ 0 ∷ 0 ∷ 0xffff ∷ []
@@ -85,7 +85,7 @@ low_octets n =
     let d : m % 256 ≡ n % 2 ^ 16 % 256 = omega arith in
     rw (a, b, c, d)
 
--- ---- what std prints
+-- ---- std's text
 
 printed : (n : ℕ) → n < 2 ^ 128 → IsCanonicalV6 (ipv6_text (segments_of n)) n
 unfolding ipv6_text hex_groups_text

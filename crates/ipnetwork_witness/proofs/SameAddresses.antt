@@ -1,4 +1,4 @@
--- Addresses of this library and of std that are the same, and the texts of both.
+-- Equal addresses of this library and of std, and their texts in both.
 use Rattle.std.proofs.Common.{◌≡◌, ◌↔◌, ℕ, ◌^◌, ◌<◌, List, refl, sym, ap, ◌∙◌, subst}
 use Rattle.std.specs.declared.net.ipv4_addr.Ipv4Addr.{Ipv4Addr}
 use Rattle.std.specs.declared.net.ipv6_addr.Ipv6Addr.{Ipv6Addr}
@@ -48,7 +48,7 @@ pub v6_texts : (text : List ℕ) (ours : ℕ) (theirs : Ipv6Addr) → SameV6 our
 v6_texts text ours theirs same =
     subst (λ groups. NamesV6 text ours ↔ IsColonHex text groups) (sym (segments_are ours theirs same.1)) (same_texts (2 ^ 16) 8 NamesV6 IsColonHex v6_bridge text ours same.0)
 
--- ---- each address has the other
+-- ---- each address has its counterpart
 
 pub v4_ours : (text : List ℕ) (ours : ℕ) → NamesV4 text ours → (theirs : Ipv4Addr) × SameV4 ours theirs × IsIpv4Text text theirs
 v4_ours text ours h =

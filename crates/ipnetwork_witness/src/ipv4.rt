@@ -1,4 +1,4 @@
-//! Both readers of IPv4 addresses on one text, and whether they agree.
+//! Both readers of IPv4 addresses applied to one text, and whether they agree.
 ghost use Rattle.std.specs.Prelude.{◌↔◌, IsTrue};
 ghost use Rattle.std.specs.Net.Grammar.{Parses, IsIpv4Text};
 ghost use Rattle.ipnetwork_addr.specs.Ipv4Text.{NamesV4};
@@ -9,7 +9,8 @@ use crate::laws;
 use ipnetwork_addr::{AddrParseError, Ipv4Addr};
 use std::net;
 
-/// What the two readers of IPv4 addresses return for a text, this library's and std's, which agree.
+/// Returns what the two readers of IPv4 addresses, this library's and std's, return for a text.
+/// They agree.
 ///
 /// ```
 /// let (ours, theirs) = read_v4(b"192.0.2.1");
@@ -29,7 +30,7 @@ pub fn read_v4(
     (Ipv4Addr::read_bytes(text), net::Ipv4Addr::parse_ascii(text))
 }
 
-/// Whether two results agree: addresses of the same four octets, or two errors.
+/// Returns whether two results agree: they are addresses with the same four octets, or two errors.
 ///
 /// ```
 /// let (ours, _) = read_v4(b"192.0.2.1");

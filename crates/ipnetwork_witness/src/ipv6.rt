@@ -1,4 +1,4 @@
-//! Both readers of IPv6 addresses on one text, and whether they agree.
+//! Both readers of IPv6 addresses applied to one text, and whether they agree.
 ghost use Rattle.std.specs.Prelude.{◌↔◌, IsTrue};
 ghost use Rattle.std.specs.Net.Grammar.{Parses, IsIpv6Text};
 ghost use Rattle.ipnetwork_addr.specs.Ipv6Text.{NamesV6};
@@ -9,7 +9,8 @@ use crate::laws;
 use ipnetwork_addr::{AddrParseError, Ipv6Addr};
 use std::net;
 
-/// What the two readers of IPv6 addresses return for a text, this library's and std's, which agree.
+/// Returns what the two readers of IPv6 addresses, this library's and std's, return for a text.
+/// They agree.
 ///
 /// ```
 /// let (ours, theirs) = read_v6(b"2001:db8::1");
@@ -29,7 +30,7 @@ pub fn read_v6(
     (Ipv6Addr::read_bytes(text), net::Ipv6Addr::parse_ascii(text))
 }
 
-/// Whether two results agree: addresses of the same eight groups, or two errors.
+/// Returns whether two results agree: they are addresses with the same eight groups, or two errors.
 ///
 /// ```
 /// let (ours, _) = read_v6(b"2001:db8::1");

@@ -1,6 +1,5 @@
-//! The laws: what `ipnetwork_addr` says of the texts of addresses is what std says of them. Each
-//! function's contract is a law. It takes nothing and does nothing, and a proof that calls it may use
-//! the law.
+//! The laws: `ipnetwork_addr` and std agree on the texts of addresses. Each function's contract is
+//! a law. The functions take nothing and do nothing; a proof that calls one may use its law.
 
 mod names;
 mod prints;

@@ -1,11 +1,12 @@
-//! A second witness of the definitions of IP addresses.
+//! An independent check of the definitions of IP addresses.
 //!
-//! std's addresses are proved against a grammar that was written independently. Here the definitions of
-//! `ipnetwork_addr` are checked against it: the laws say that both name the same addresses and print the same texts,
-//! and that what the readers of both return for a text agrees. No other crate uses this one.
+//! std's addresses are proved against a grammar that was written independently. Here the
+//! definitions of `ipnetwork_addr` are checked against it: the laws state that both name the same
+//! addresses and print the same texts, and that both readers agree on every text. No other crate
+//! uses this one.
 //!
-//! Both sides take the text of a decimal number, the definition of a numeral and its value from std. An error in those
-//! would not be noticed here.
+//! Both sides take the text of a decimal number, the definition of a numeral and its value from
+//! std. An error in these would not be noticed here.
 //!
 //! Nothing here allocates.
 #![tactic(auto)]

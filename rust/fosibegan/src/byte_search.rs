@@ -6,8 +6,8 @@
 
 use crate::plain_std::simd::prelude::*;
 
-/// The index of the first byte equal to `byte` at or after the index `from`, or `None`. `from` must be at
-/// most the length of the text.
+/// Returns the index of the first byte equal to `byte` at or after the index `from`, or `None` if
+/// there is none. `from` must be at most the length of the text.
 #[inline(always)]
 #[doc(hidden)]
 pub fn find_from(text: &[u8], from: usize, byte: u8) -> Option<usize> {
@@ -20,8 +20,9 @@ pub fn find_from(text: &[u8], from: usize, byte: u8) -> Option<usize> {
     }
 }
 
-/// `find_from` for a byte that is likely to stand some way behind `from`, as a line feed does: 32
-/// bytes are compared at once, and then 64, so that seldom a branch depends on where it stands.
+/// Returns what `find_from` returns, for a byte that is likely to be far after `from`, such as a
+/// line feed. Compares 32 bytes at once and then 64 at a time, so that few branches depend on its
+/// position.
 #[inline(always)]
 #[doc(hidden)]
 pub fn find_far(text: &[u8], from: usize, byte: u8) -> Option<usize> {
@@ -41,8 +42,7 @@ pub fn find_far(text: &[u8], from: usize, byte: u8) -> Option<usize> {
     find_from(text, at, byte)
 }
 
-/// The index of the first of the `N` bytes from the index `at` on that is equal to `byte`, or
-/// `None`.
+/// Returns the index of the first of the `N` bytes from `at` on that equals `byte`, or `None`.
 #[inline(always)]
 fn find_within<const N: usize>(text: &[u8], at: usize, byte: u8) -> Option<usize> {
     let lanes = marks_of::<N>(text, at, byte);
@@ -52,8 +52,8 @@ fn find_within<const N: usize>(text: &[u8], at: usize, byte: u8) -> Option<usize
     Some(at + lanes.trailing_zeros() as usize)
 }
 
-/// `find_from` for a text of at least `N` bytes, in vectors of `N` bytes. The last vector ends at the end of the text,
-/// and may overlap the one before.
+/// Returns what `find_from` returns, for a text of at least `N` bytes, in vectors of `N` bytes. The
+/// last vector ends at the end of the text and may overlap the previous one.
 #[inline(always)]
 fn find_by<const N: usize>(text: &[u8], from: usize, byte: u8) -> Option<usize> {
     let last = text.len() - N;
@@ -72,14 +72,14 @@ fn find_by<const N: usize>(text: &[u8], from: usize, byte: u8) -> Option<usize> 
     Some(at + marks.trailing_zeros() as usize)
 }
 
-/// A bit for each of the `N` bytes from an index on, set if the byte has this value.
+/// Returns a bit for each of the `N` bytes from `at` on, which is set if the byte has this value.
 #[inline(always)]
 fn marks_of<const N: usize>(text: &[u8], at: usize, byte: u8) -> u64 {
     let bytes = Simd::<u8, N>::from_slice(&text[at..]);
     bytes.simd_eq(Simd::splat(byte)).to_bitmask()
 }
 
-/// `find_from`, a byte at a time.
+/// Returns what `find_from` returns, byte by byte.
 fn find_one_by_one(text: &[u8], from: usize, byte: u8) -> Option<usize> {
     for at in from..text.len() {
         if text[at] == byte {

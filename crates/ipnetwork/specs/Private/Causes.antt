@@ -1,8 +1,9 @@
--- The cause for both families, of the causes for each.
+-- The cause for both families, from the cause for each.
 use Rattle.ipnetwork_family.specs.declared.error.CidrFault.{CidrFault}
 use Rattle.ipnetwork_family.specs.declared.error.CidrFault.TheVariants.{Format, Addr, Prefix}
 
--- both count the same `/`, so the first cause decides on `Format`; an address of one family is enough
+-- the cause for both families: `Format` if it is the first cause, since both families count the same `/`; else `Addr`
+-- only if both causes are `Addr`, since an address of one family suffices; else `Prefix`
 abbrev pub first_cause : CidrFault → CidrFault → CidrFault
 first_cause Format v6 = Format
 first_cause Addr Addr = Addr

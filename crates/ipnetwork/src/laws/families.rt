@@ -1,4 +1,4 @@
-//! Laws of the families: each call returns what the call of the network's own family does.
+//! Laws on the two families: each call returns what the call of the network's own family returns.
 ghost use Rattle.std.specs.Prelude.{◌≡◌, ◌<◌, Result, Ok};
 ghost use Rattle.ipnetwork.specs.IpNetworks.{prefix_of, IsV4, IsV6, TakesV4, TakesV6};
 ghost use Rattle.ipnetwork.specs.IpNetworkText.{ReadsIpNetwork, ParsesIpNetwork};
@@ -16,16 +16,16 @@ ghost use Rattle.ipnetwork.specs.declared.ip_network.IpNetwork.TheVariants as ne
 use crate::{IpNetwork, IpNetworkError, ip_mask_to_prefix};
 use ipnetwork_family::laws as family_laws;
 
-/// Each call that asks about a network of either family returns what that of its own family does.
+/// Each call that asks about a network of either family returns what that of its own family
+/// returns.
 pub fn each_asks_its_family()
     ensures v4 { AsksItsFamily 32 networks.V4 ips.V4 sizes.V4 }
     ensures v6 { AsksItsFamily 128 networks.V6 ips.V6 sizes.V6 }
 {}
 
-/// Each call that makes a network of either family returns what that of its own family does. Making
-/// one with a mask is making it with the prefix length to which the mask converts, in whichever
-/// family. What converts to a network of one family is a network of that family, and converts to
-/// itself.
+/// Each call that makes a network of either family returns what that of its own family returns.
+/// Making one with a mask is making it with the mask's prefix length, whatever the mask's family. A
+/// network converts to a network of its own family, and the result is the network itself.
 pub fn each_is_made_in_its_family()
     ensures v4 { MakesInItsFamily 32 networks.V4 ips.V4 }
     ensures v6 { MakesInItsFamily 128 networks.V6 ips.V6 }
@@ -37,16 +37,16 @@ pub fn each_is_made_in_its_family()
     family_laws::masks();
 }
 
-/// The texts of a network of either family are those of its own family. Parsing returns what
-/// reading does: the same network, or the error for the cause `Addr` and the kind `Ip`, or
-/// `OutOfMemory` in its place.
+/// The texts of a network of either family are those of its own family. Parsing returns the network
+/// that reading returns, and otherwise the error for the cause `Addr` and the kind `Ip`, or
+/// `OutOfMemory` instead.
 pub fn each_is_read_in_its_family()
     ensures v4 { ReadsInItsFamily networks.V4 NamesV4Network canonical_v4 }
     ensures v6 { ReadsInItsFamily networks.V6 NamesV6Network canonical_v6 }
     ensures parsed { ParsesAsItReads ReadsIpNetwork kinds.Ip ParsesIpNetwork }
 {}
 
-/// What `ip_mask_to_prefix` returns for the mask of a network: the network's prefix length.
+/// `ip_mask_to_prefix` returns the network's prefix length for the mask of a network.
 pub fn ip_mask_converts_back(network: IpNetwork) -> Result<u8, IpNetworkError>
     ensures { result ≡ Ok (prefix_of network) }
 {

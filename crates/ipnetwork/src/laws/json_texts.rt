@@ -1,4 +1,4 @@
-//! Laws of networks as values of JSON.
+//! Laws on networks as JSON values.
 ghost use Rattle.std.specs.Prelude.{◌≡◌, ◌<◌, ◌↔◌, Some, Result, Ok, IfOk, IfErr, string_bytes};
 ghost use Rattle.serde_json.specs.Data.{string};
 ghost use Rattle.serde_json.specs.Errors.{IsMemory};
@@ -13,8 +13,8 @@ use crate::{IpNetwork, JsonFault};
 use serde_json::{Error, Value};
 use std::alloc::Global;
 
-/// The value of a network is written with no space as its canonical text in quotes: JSON escapes no
-/// byte of that text.
+/// The compact text of a network's value is the canonical text in quotes: JSON escapes no byte of
+/// it.
 pub fn ip_network_stands_in_quotes()
     ensures { (n : IpNetwork) → IsIpNetwork n
         → compact_text (string (ip_network_text n)) ≡ in_quotes (ip_network_text n) }
@@ -22,7 +22,7 @@ pub fn ip_network_stands_in_quotes()
     canonical_ip_network_bytes();
 }
 
-/// Reading the value of a network returns that network and nothing else.
+/// Reading the value of a network can only return that network.
 pub fn ip_network_value_reads_back()
     ensures { (n : IpNetwork) (result : Result IpNetwork JsonFault) → IsIpNetwork n
         → ReadsValue ParsesIpNetwork (Some (ip_network_text n)) result ↔ (result ≡ Ok n) }
@@ -31,8 +31,8 @@ pub fn ip_network_value_reads_back()
     canonical_ip_network_names_it();
 }
 
-/// The compact text of a network's value is the canonical text in quotes, and reading that text and
-/// the value that it is gives the network again. It fails only when out of memory.
+/// The compact text of a network's value is the canonical text in quotes, and parsing it and
+/// reading the resulting value returns the same network. It only fails if out of memory.
 pub fn ip_network_through_json(
     alloc: Global,
     network: &IpNetwork,

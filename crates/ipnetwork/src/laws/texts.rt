@@ -1,5 +1,5 @@
-//! Laws of texts: which network a text names, how it is printed, and which error a text gets that
-//! names none.
+//! Laws on texts: which network a text names, how a network is printed, and the error for a text
+//! that names none.
 ghost use Rattle.std.specs.Prelude.{◌≡◌, ◌↔◌, ℕ, List, Result, Ok};
 ghost use Rattle.std.specs.List.{AllByRecursion};
 ghost use Rattle.ipnetwork_family.specs.NetworkText.{IsNetworkByte};
@@ -43,8 +43,8 @@ pub fn canonical_ip_network_names_it()
     family_laws::canonical_network_names_it::<Ipv6Addr>();
 }
 
-/// Reading the canonical text of a network returns that network and nothing else, so printing it
-/// again changes nothing.
+/// Reading the canonical text of a network can only return that network, so printing the result
+/// gives the same text.
 pub fn canonical_ip_network_reads_back()
     ensures { (n : IpNetwork) (result : Result IpNetwork CidrFault) → IsIpNetwork n
         → ReadsIpNetwork (ip_network_text n) result ↔ (result ≡ Ok n) }
@@ -53,7 +53,7 @@ pub fn canonical_ip_network_reads_back()
     canonical_ip_network_names_it();
 }
 
-/// Two networks are equal exactly if their canonical texts are, across families too.
+/// Two networks are equal if and only if their canonical texts are, across families too.
 pub fn canonical_ip_network_is_one_to_one()
     ensures { (a b : IpNetwork) → IsIpNetwork a → IsIpNetwork b
         → (a ≡ b) ↔ (ip_network_text a ≡ ip_network_text b) }
@@ -62,7 +62,7 @@ pub fn canonical_ip_network_is_one_to_one()
     canonical_ip_network_names_it();
 }
 
-/// The bytes of a canonical text are hex digits, `.`, `:` and `/`.
+/// The canonical text of a network consists of hex digits, `.`, `:` and `/`.
 pub fn canonical_ip_network_bytes()
     ensures { (n : IpNetwork) → IsIpNetwork n → AllByRecursion IsNetworkByte (ip_network_text n) }
 {

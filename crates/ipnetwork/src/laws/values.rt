@@ -1,5 +1,5 @@
-//! Laws of the values: what `==`, the order, the hash and the copies of networks, sizes and errors
-//! say.
+//! Laws on values: the meaning of `==`, the order, the hash and the clones of networks, sizes and
+//! errors.
 ghost use Rattle.std.specs.Prelude.{◌≡◌, ◌<◌, ◌≤◌, ◌↔◌, fold, Result, Ok, IsTrue};
 ghost use Rattle.std.specs.Hash as fed;
 ghost use Rattle.std.specs.Ordering.{nat_cmp};
@@ -12,7 +12,8 @@ use std::alloc::AllocError;
 use std::cmp::Ordering;
 use std::hash::{Hash, Hasher};
 
-/// `==` of networks of either family is equality of what contracts see.
+/// `==` of networks is true if and only if they are of one family, with equal addresses and prefix
+/// lengths.
 pub fn ip_network_equality(a: IpNetwork, b: IpNetwork) -> bool
     ensures { IsTrue result ↔ (a ≡ b) }
 {
@@ -29,14 +30,14 @@ pub fn ip_network_order(a: IpNetwork, b: IpNetwork) -> (bool, bool, Ordering)
     (a < b, a <= b, a.cmp(&b))
 }
 
-/// `==` of sizes is equality of their numbers.
+/// `==` of sizes is true if and only if their numbers are equal.
 pub fn network_size_equality(a: NetworkSize, b: NetworkSize) -> bool
     ensures { IsTrue result ↔ (size_number a ≡ size_number b) }
 {
     a == b
 }
 
-/// Sizes are ordered by their numbers: `<`, `<=` and `cmp`.
+/// `<`, `<=` and `cmp` compare sizes by their numbers.
 pub fn network_size_order(a: NetworkSize, b: NetworkSize) -> (bool, bool, Ordering)
     ensures less { IsTrue result.0 ↔ (size_number a < size_number b) }
     ensures at_most { IsTrue result.1 ↔ (size_number a ≤ size_number b) }
@@ -45,8 +46,8 @@ pub fn network_size_order(a: NetworkSize, b: NetworkSize) -> (bool, bool, Orderi
     (a < b, a <= b, a.cmp(&b))
 }
 
-/// A size feeds a hasher its number as one of 128 bits, whatever its variant. So two hashers in the
-/// same state that are fed equal sizes are in the same state afterwards.
+/// A size feeds its number to a hasher as a 128-bit number, whatever its variant. So equal sizes
+/// take hashers in the same state to the same state.
 pub fn network_size_hash<H: Hasher>(size: NetworkSize, state: &mut H)
     ensures { state.new ≡ fold H.write state.old (fed.u128 (size_number size)) }
 {
@@ -60,8 +61,8 @@ pub fn network_size_clone(size: NetworkSize) -> Result<NetworkSize, AllocError>
     size.clone()
 }
 
-/// A network feeds a hasher its family, its address and its prefix length. So two hashers in the
-/// same state that are fed equal networks are in the same state afterwards.
+/// A network feeds its family, its address and its prefix length to a hasher. So equal networks
+/// take hashers in the same state to the same state.
 pub fn ip_network_hash<H: Hasher>(a: IpNetwork, b: IpNetwork, first: &mut H, second: &mut H)
     ensures first { first.new ≡ fold H.write first.old (ip_network_writes a) }
     ensures second { second.new ≡ fold H.write second.old (ip_network_writes b) }
@@ -85,7 +86,7 @@ pub fn wrong_family_equality(a: WrongFamily, b: WrongFamily) -> bool
     a == b
 }
 
-/// A clone of `WrongFamily` is that value.
+/// A clone of `WrongFamily` is `WrongFamily`.
 pub fn wrong_family_clone(a: WrongFamily) -> Result<WrongFamily, AllocError>
     ensures { result ≡ Ok a }
 {

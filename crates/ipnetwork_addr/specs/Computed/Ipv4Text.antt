@@ -6,8 +6,8 @@ use Rattle.std.specs.Str.Parse.{digits_value}
 use Rattle.ipnetwork_addr.specs.Ipv4Text.{canonical_v4}
 use Rattle.ipnetwork_addr.specs.Texts.{dot}
 
--- the address that a text names, if it names one, computed: cut it at its dots, read the decimals as the digits
--- of a number in base 256, and see that the canonical text of that number is the text
+-- the address that a text names, if it names one: split the text at its dots, take the decimals as the digits of a
+-- number in base 256, and check that the canonical text of that number is the text
 abbrev pub v4_of : List ℕ → Option ℕ
 v4_of text =
     let address = number_from_digits 256 (map (digits_value 10) (slice_split (λ byte. byte == dot) text)) in

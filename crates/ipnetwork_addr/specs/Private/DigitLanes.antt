@@ -2,19 +2,19 @@
 use Rattle.std.specs.Prelude.{◌≡◌, ℕ, ◌+◌, ◌*◌, ◌/◌, ◌%◌, ◌^◌, ◌<◌, List, length, slice_index}
 use Rattle.std.specs.Char.{digit_value}
 
--- a value below sixteen is that of the byte as a hex digit
+-- a value, if it is below sixteen, is the value of the byte as a hex digit
 abbrev pub IsValueOf : ℕ → ℕ → Type 0
 IsValueOf byte value = value < 16 → digit_value byte ≡ value
 
--- the values of sixteen bytes
+-- the values of sixteen bytes as hex digits
 abbrev pub AreValuesOf : List ℕ → List ℕ → Type 0
 AreValuesOf bytes values = (k : ℕ) → k < 16 → IsValueOf (slice_index bytes k) (slice_index values k)
 
--- those of the first bytes of a text, this many, after four others
+-- the values of the first `count` bytes of a text, after four other values
 abbrev pub ShowsValuesUpTo : ℕ → List ℕ → List ℕ → Type 0
 ShowsValuesUpTo count text values = (k : ℕ) → k < count → IsValueOf (slice_index text k) (slice_index values (k + 4))
 
--- those of the text
+-- the values of all bytes of a text, after four other values
 abbrev pub ShowsValues : List ℕ → List ℕ → Type 0
 ShowsValues text values = ShowsValuesUpTo (length text) text values
 
@@ -22,6 +22,6 @@ ShowsValues text values = ShowsValuesUpTo (length text) text values
 abbrev pub AreDigitsIn : ℕ → Type 0
 AreDigitsIn word = (word / 2 ^ 24 < 16) × (word / 2 ^ 16 % 256 < 16) × (word / 2 ^ 8 % 256 < 16) × (word % 256 < 16)
 
--- the number whose hex digits they are
+-- the number whose four hex digits are the four bytes of this one
 abbrev pub group_in : ℕ → ℕ
 group_in word = ((word / 2 ^ 24 * 16 + word / 2 ^ 16 % 256) * 16 + word / 2 ^ 8 % 256) * 16 + word % 256

@@ -11,33 +11,34 @@ use Rattle.ipnetwork_addr.specs.Texts.{colon}
 abbrev pub NoHex : List ℕ → Type 0
 NoHex text = 16 ≤ digit_value (slice_index text 0)
 
--- the text is a hex digit of this value, and then the rest
+-- the text is a hex digit of this value, followed by the rest
 pub record BeginsWithHex (text : List ℕ) (digit : ℕ) (rest : List ℕ) : Type 0 where
   pub byte : ℕ
   pub value : digit_value byte ≡ digit
   pub below_sixteen : digit < 16
   pub split : text ≡ byte ∷ rest
 
--- the text is a group, and then the rest, which does not begin with a hex digit
+-- the text is a group, followed by the rest, which does not begin with a hex digit
 pub record BeginsWithGroup (text : List ℕ) (group : ℕ) (rest : List ℕ) : Type 0 where
   pub front : List ℕ
   pub named : IsGroup front group
   pub split : text ≡ front ++ rest
   pub stops : NoHex rest
 
--- the text begins with no group
+-- the text does not begin with a group
 abbrev pub NoGroup : List ℕ → Type 0
 NoGroup text = (group : ℕ) (rest : List ℕ) → ¬ (BeginsWithGroup text group rest)
 
--- the text from one position up to another is a group, and then comes a colon or the end of the text
+-- the text from `at` to `end` is a group, and a colon or the end of the text follows
 pub record IsGroupUpTo (text : List ℕ) (at end group : ℕ) : Type 0 where
   pub begins : BeginsWithGroup (drop at text) group (drop end text)
   pub within : end ≤ length text
   pub colon_or_end : end < length text → slice_index text end ≡ colon
 
--- A part of an IPv6 text is one group or more, joined by colons, up to the end of the text, which may come after an
--- IPv4 text in place of the last two groups, or up to a `::`. The end is what follows the `::`, if there is one. Here:
--- the first group of a part; More says that the text after its colon is the rest of the part.
+-- The text begins with a part whose first group is `group`. A part of an IPv6 text is one or more groups joined by
+-- colons, up to a `::` or the end of the text; before the end of the text, an IPv4 text may replace the last two
+-- groups. `end` is what follows the `::`, if there is one. `More` holds for the text after the colon if the rest of the
+-- part begins there.
 pub data IsPartFrom (More : List ℕ → Type 0) (text : List ℕ) (group : ℕ) (groups : List ℕ)
     (end : Option (List ℕ)) : Type 0 where
   Last : BeginsWithGroup text group [] → groups ≡ [] → end ≡ None → IsPartFrom More text group groups end
@@ -47,12 +48,12 @@ pub data IsPartFrom (More : List ℕ → Type 0) (text : List ℕ) (group : ℕ)
       → IsPartFrom More text group groups end
   Next : (next : List ℕ) → BeginsWithGroup text group (colon ∷ next) → More next → IsPartFrom More text group groups end
 
--- the text begins with a part of these groups and this end
+-- the text begins with a part of these groups, with this end
 abbrev pub IsTextPart : List ℕ → List ℕ → Option (List ℕ) → Type 0
 IsTextPart [] text end = ⊥
 IsTextPart (group ∷ groups) text end = IsPartFrom (λ next. IsTextPart groups next end) text group groups end
 
--- the text begins with a part of this many groups, up to the room, of this number and this end
+-- the text begins with a part of `count` groups, at most `room`, which make up this number, with this end
 pub record BeginsWithPart (room : ℕ) (text : List ℕ) (count number : ℕ) (end : Option (List ℕ)) : Type 0 where
   pub groups : List ℕ
   pub part : IsTextPart groups text end
@@ -61,22 +62,22 @@ pub record BeginsWithPart (room : ℕ) (text : List ℕ) (count number : ℕ) (e
   pub value : number ≡ number_from_digits (2 ^ 16) groups
   pub small : number < (2 ^ 16) ^ count
 
--- it begins with none
+-- the text does not begin with a part of at most `room` groups
 abbrev pub NoPart : ℕ → List ℕ → Type 0
 NoPart room text = (groups : List ℕ) (end : Option (List ℕ)) → IsTextPart groups text end → room < length groups
 
--- the text begins with `::`, and there are no groups
+-- the text begins with `::`, so that no groups precede it
 pub record IsNoLeft (groups text : List ℕ) (end : Option (List ℕ)) : Type 0 where
   pub next : List ℕ
   pub none : groups ≡ []
   pub spelled : text ≡ colon ∷ colon ∷ next
   pub ends : end ≡ Some next
 
--- the text begins with groups up to an end, none of them if it begins with `::`
+-- the text begins with these groups up to a `::` or its end; there are none if it begins with `::`
 abbrev pub IsLeft : List ℕ → List ℕ → Option (List ℕ) → Type 0
 IsLeft groups text end = IsTextPart groups text end ⊎ IsNoLeft groups text end
 
--- this many, up to eight
+-- the text begins with `count` groups, at most eight, up to a `::` or its end, and they make up this number
 pub record BeginsWithLeft (text : List ℕ) (count number : ℕ) (end : Option (List ℕ)) : Type 0 where
   pub groups : List ℕ
   pub left : IsLeft groups text end
@@ -85,15 +86,15 @@ pub record BeginsWithLeft (text : List ℕ) (count number : ℕ) (end : Option (
   pub value : number ≡ number_from_digits (2 ^ 16) groups
   pub small : number < (2 ^ 16) ^ count
 
--- it begins with no such groups, or with more than eight
+-- the text does not begin with at most eight groups up to a `::` or its end
 abbrev pub NoLeft : List ℕ → Type 0
 NoLeft text = (groups : List ℕ) (end : Option (List ℕ)) → IsLeft groups text end → 8 < length groups
 
--- the text is groups up to its end, or empty
+-- the text is these groups, joined by colons and possibly ending in an IPv4 text, or is empty
 abbrev pub IsRight : List ℕ → List ℕ → Type 0
 IsRight groups text = IsTextPart groups text None ⊎ ((groups ≡ []) × (text ≡ []))
 
--- this many, up to the room
+-- the text is at most `room` groups, which make up this number
 pub record EndsWithRight (room : ℕ) (text : List ℕ) (number : ℕ) : Type 0 where
   pub groups : List ℕ
   pub right : IsRight groups text
@@ -101,6 +102,6 @@ pub record EndsWithRight (room : ℕ) (text : List ℕ) (number : ℕ) : Type 0 
   pub value : number ≡ number_from_digits (2 ^ 16) groups
   pub small : number < (2 ^ 16) ^ room
 
--- it is no such groups, or more of them than the room
+-- the text is not at most `room` groups
 abbrev pub NoRight : ℕ → List ℕ → Type 0
 NoRight room text = (groups : List ℕ) → IsRight groups text → room < length groups

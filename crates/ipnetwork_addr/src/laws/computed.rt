@@ -1,4 +1,4 @@
-//! Laws of what can be computed: the address that a text names, and the result of a reader.
+//! Laws on what can be computed: the address that a text names, and the result of a reader.
 ghost use Rattle.std.specs.Prelude.{◌≡◌, ◌↔◌, ℕ, List, Result, Some};
 ghost use Rattle.ipnetwork_addr.specs.Ipv4Text.{NamesV4};
 ghost use Rattle.ipnetwork_addr.specs.Computed.Ipv4Text.{v4_of};
@@ -11,7 +11,7 @@ ghost use Rattle.ipnetwork_addr.specs.Computed.Reading.{answer_from};
 
 use crate::{AddrParseError, IpAddr};
 
-/// The address that a text names can be computed from the text.
+/// The address that an IPv4 text names can be computed from the text.
 pub fn v4_text_is_computed()
     ensures { (text : List ℕ) (address : ℕ) → NamesV4 text address ↔ (v4_of text ≡ Some address) }
 {}

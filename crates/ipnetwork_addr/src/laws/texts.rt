@@ -11,7 +11,8 @@ ghost use Rattle.std.specs.List.{AllByRecursion};
 
 use crate::IpAddr;
 
-/// An octet text is one to three decimal digits of value at most 255, without a leading zero.
+/// The text of an octet is one to three decimal digits without a leading zero, with a value of at
+/// most 255.
 pub fn octet_texts()
     ensures { (text : List ℕ) (n : ℕ) → IsOctet text n ↔ IsPlainOctet text n }
 {}
@@ -26,12 +27,12 @@ pub fn canonical_v4_names_its_address()
     ensures { (address : ℕ) → address < 2 ^ 32 → NamesV4 (canonical_v4 address) address }
 {}
 
-/// Two IPv4 addresses are equal exactly if their canonical texts are.
+/// Two IPv4 addresses are equal if and only if their canonical texts are.
 pub fn canonical_v4_is_one_to_one()
     ensures { (a b : ℕ) → a < 2 ^ 32 → b < 2 ^ 32 → (a ≡ b) ↔ (canonical_v4 a ≡ canonical_v4 b) }
 {}
 
-/// Each byte of an IPv4 text is a byte of addresses: a hex digit, `.` or `:`.
+/// Each byte of an IPv4 text can occur in an address: it is a hex digit, `.` or `:`.
 pub fn v4_text_bytes()
     ensures { (text : List ℕ) (address : ℕ) → NamesV4 text address
         → AllByRecursion IsAddressByte text }
@@ -59,12 +60,12 @@ pub fn canonical_v6_is_one_text()
         ↔ (text ≡ canonical_v6 address) }
 {}
 
-/// Two IPv6 addresses are equal exactly if their canonical texts are.
+/// Two IPv6 addresses are equal if and only if their canonical texts are.
 pub fn canonical_v6_is_one_to_one()
     ensures { (a b : ℕ) → a < 2 ^ 128 → b < 2 ^ 128 → (a ≡ b) ↔ (canonical_v6 a ≡ canonical_v6 b) }
 {}
 
-/// Each byte of an IPv6 text is a byte of addresses: a hex digit, `.` or `:`.
+/// Each byte of an IPv6 text can occur in an address: it is a hex digit, `.` or `:`.
 pub fn v6_text_bytes()
     ensures { (text : List ℕ) (address : ℕ) → NamesV6 text address
         → AllByRecursion IsAddressByte text }
@@ -80,7 +81,7 @@ pub fn canonical_ip_names_its_address()
     ensures { (address : IpAddr) → FitsIp address → NamesIp (canonical_ip address) address }
 {}
 
-/// Two addresses of either family are equal exactly if their canonical texts are.
+/// Two addresses of either family are equal if and only if their canonical texts are.
 pub fn canonical_ip_is_one_to_one()
     ensures { (a b : IpAddr) → FitsIp a → FitsIp b → (a ≡ b) ↔ (canonical_ip a ≡ canonical_ip b) }
 {}
@@ -97,13 +98,14 @@ pub fn v6_text_has_a_colon_first()
         → colon_first (text ++ rest) ≡ true }
 {}
 
-/// What an IPv4-mapped address stands for is printed as what stands behind its `::ffff:`.
+/// The canonical text of an IPv4-mapped address is `::ffff:` and that of the IPv4 address that it
+/// stands for.
 pub fn mapped_text_ends_in_its_v4()
     ensures { (mapped address : ℕ) → unmapped (V6 mapped) ≡ V4 address
         → canonical_v6 mapped ≡ codes "::ffff:" ++ canonical_v4 address }
 {}
 
-/// Each IPv4 address has an IPv4-mapped one, of `::ffff:0:0/96`, that stands for it.
+/// For each IPv4 address, an IPv4-mapped address, one in `::ffff:0:0/96`, stands for it.
 pub fn each_v4_has_its_mapped()
     ensures { (address : ℕ) → address < 2 ^ 32
         → unmapped (V6 (0xffff * 2 ^ 32 + address)) ≡ V4 address }

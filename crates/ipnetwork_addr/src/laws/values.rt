@@ -1,4 +1,4 @@
-//! Laws of the values: what `==`, the order, the hash and the copies of addresses and errors say.
+//! Laws of values: the meaning of `==`, the order, the hash and the clones of addresses and errors.
 ghost use Rattle.std.specs.Prelude.{◌≡◌, ◌↔◌, ◌<◌, ◌≤◌, IsTrue, Ok, Result, fold};
 ghost use Rattle.std.specs.Hash as writes;
 ghost use Rattle.std.specs.Ordering.{nat_cmp};

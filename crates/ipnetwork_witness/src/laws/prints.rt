@@ -1,4 +1,4 @@
-//! Laws of printing: the canonical text of an address is what std prints.
+//! Laws on printing: std prints the canonical text of an address.
 ghost use Rattle.std.specs.Prelude.{◌≡◌, ℕ};
 ghost use Rattle.std.specs.Net.Addr.{ipv4_octets, ipv6_segments};
 ghost use Rattle.std.specs.Net.Text.{ipv4_text, ipv6_text, ip_text};
@@ -13,13 +13,13 @@ ghost use Rattle.ipnetwork_witness.specs.Agreement.{SameV4, SameV6, SameIp};
 
 use ipnetwork_addr::laws as address_laws;
 
-/// The canonical text of an IPv4 address is what std prints of the address of the same bits.
+/// The canonical text of an IPv4 address is what std prints for the address with the same bits.
 pub fn v4_prints_agree()
     ensures { (ours : ℕ) (theirs : std_v4.Ipv4Addr) → SameV4 ours theirs
         → canonical_v4 ours ≡ ipv4_text (ipv4_octets theirs) }
 {}
 
-/// The canonical text of an IPv6 address is what std prints of the address of the same bits.
+/// The canonical text of an IPv6 address is what std prints for the address with the same bits.
 pub fn v6_prints_agree()
     ensures { (ours : ℕ) (theirs : std_v6.Ipv6Addr) → SameV6 ours theirs
         → canonical_v6 ours ≡ ipv6_text (ipv6_segments theirs) }
@@ -27,8 +27,8 @@ pub fn v6_prints_agree()
     address_laws::canonical_v6_is_one_text();
 }
 
-/// The canonical text of an address of either family is what std prints of the address of that family
-/// with the same bits.
+/// The canonical text of an address of either family is what std prints for the address of that
+/// family with the same bits.
 pub fn ip_prints_agree()
     ensures { (ours : either.IpAddr) (theirs : std_ip.IpAddr) → SameIp ours theirs
         → canonical_ip ours ≡ ip_text theirs }

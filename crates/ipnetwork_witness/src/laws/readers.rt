@@ -1,4 +1,4 @@
-//! Laws of the readers: for every text, what this library's reader returns and what std's returns agree.
+//! Laws on the readers: for every text, this library's reader and std's return results that agree.
 ghost use Rattle.std.specs.Prelude.{ℕ, List, Result};
 ghost use Rattle.std.specs.Net.Grammar.{Parses, IsIpv4Text, IsIpv6Text};
 ghost use Rattle.std.specs.declared.net.ipv4_addr.Ipv4Addr as std_v4;
@@ -14,8 +14,8 @@ ghost use Rattle.ipnetwork_witness.specs.Agreement.{Agree, SameV4, SameV6};
 use super::{v4_texts_are_shared, v6_texts_are_shared};
 use ipnetwork_addr::laws as address_laws;
 
-/// What reading a text as an IPv4 address returns here, and what std returns for it, are addresses of
-/// the same bits or two errors.
+/// Reading any text as an IPv4 address, this library's reader and std's return addresses with the
+/// same bits, or both return an error.
 pub fn v4_readers_agree()
     ensures { (text : List ℕ)
         (ours : Result ℕ error.AddrParseError)
@@ -27,8 +27,8 @@ pub fn v4_readers_agree()
     address_laws::v4_text_names_one();
 }
 
-/// What reading a text as an IPv6 address returns here, and what std returns for it, are addresses of
-/// the same bits or two errors.
+/// Reading any text as an IPv6 address, this library's reader and std's return addresses with the
+/// same bits, or both return an error.
 pub fn v6_readers_agree()
     ensures { (text : List ℕ)
         (ours : Result ℕ error.AddrParseError)

@@ -29,14 +29,14 @@ enum Members {
 }
 
 impl IpNetworkIterator {
-    /// The members of an IPv4 network.
+    /// Creates an iterator over the members of an IPv4 network.
     pub(crate) fn of_v4(members: Ipv4NetworkIterator) -> Self {
         IpNetworkIterator {
             members: Members::V4(members),
         }
     }
 
-    /// The members of an IPv6 network.
+    /// Creates an iterator over the members of an IPv6 network.
     pub(crate) fn of_v6(members: Ipv6NetworkIterator) -> Self {
         IpNetworkIterator {
             members: Members::V6(members),

@@ -5,7 +5,8 @@
 use crate::ipnetwork_addr::IpAddr;
 use crate::ipnetwork_family::{IpNetworkError, ipv4_mask_to_prefix, ipv6_mask_to_prefix};
 
-/// The prefix length of a mask of either family; `InvalidPrefix` if the address is not one of its family's masks.
+/// Returns the prefix length of a mask of either family, or `InvalidPrefix` if the address is not a
+/// mask of its family.
 ///
 /// ```
 /// # use fosibegan::in_examples::*;

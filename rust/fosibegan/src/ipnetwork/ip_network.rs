@@ -17,8 +17,8 @@ use crate::plain_std::alloc::{AllocError, Global};
 use core::fmt;
 use core::str::FromStr;
 
-/// A network of either family. Its set has only addresses of its family. Every IPv4 network is ordered before every
-/// IPv6 network.
+/// A network of either family. Its set contains only addresses of its family. Every IPv4 network is
+/// ordered before every IPv6 network.
 ///
 /// ```
 /// # use fosibegan::in_examples::*;
@@ -36,11 +36,11 @@ pub enum IpNetwork {
     V6(Ipv6Network),
 }
 
-// The clause `network` tells a proof in another crate what is true of each network: its fields are private, so nothing
-// else says it.
+// The clause `network` tells proofs in other crates what holds for every network; they could not
+// know it otherwise, since its fields are private.
 impl IpNetwork {
-    /// The network of this address, host bits kept, and this prefix length; `InvalidPrefix` if that is greater than
-    /// the number of bits of the address, 32 or 128.
+    /// Creates a network from an address, whose host bits are kept, and a prefix length. Returns
+    /// `InvalidPrefix` if that exceeds the number of bits of the address, 32 or 128.
     ///
     /// ```
     /// # use fosibegan::in_examples::*;
@@ -57,9 +57,10 @@ impl IpNetwork {
         }
     }
 
-    /// The network of this address, host bits kept, and the prefix length of this mask; `InvalidPrefix` if the mask is
-    /// not one of its family's masks, or its prefix length is greater than the number of bits of the address. The two
-    /// need not be of one family: the mask only gives a prefix length.
+    /// Creates a network from an address, whose host bits are kept, and the prefix length of a
+    /// mask. Returns `InvalidPrefix` if `netmask` is not a mask of its family, or its prefix length
+    /// exceeds the number of bits of the address. The two may differ in family: the mask only gives
+    /// a prefix length.
     ///
     /// ```
     /// # use fosibegan::in_examples::*;
@@ -70,14 +71,14 @@ impl IpNetwork {
     /// # });
     /// ```
     pub fn with_netmask(netaddr: IpAddr, netmask: IpAddr) -> Result<Self, IpNetworkError> {
-        // Does nothing: the proof of this body needs the law.
+        // This call does nothing, but its law is needed to prove this body.
         match ip_mask_to_prefix(netmask) {
             Ok(prefix) => IpNetwork::new(netaddr, prefix),
             Err(fault) => Err(fault),
         }
     }
 
-    /// The address as made, host bits included.
+    /// Returns the address as given, with host bits.
     ///
     /// ```
     /// # use fosibegan::in_examples::*;
@@ -94,7 +95,7 @@ impl IpNetwork {
         }
     }
 
-    /// The prefix length, in bits.
+    /// Returns the prefix length, in bits.
     ///
     /// ```
     /// # use fosibegan::in_examples::*;
@@ -111,7 +112,7 @@ impl IpNetwork {
         }
     }
 
-    /// The mask of the prefix length, in the network's family.
+    /// Returns the mask of the prefix length, in the network's family.
     ///
     /// ```
     /// # use fosibegan::in_examples::*;
@@ -128,7 +129,7 @@ impl IpNetwork {
         }
     }
 
-    /// The least member: the address with its host bits cleared.
+    /// Returns the least member: the address with all host bits cleared.
     ///
     /// ```
     /// # use fosibegan::in_examples::*;
@@ -145,7 +146,7 @@ impl IpNetwork {
         }
     }
 
-    /// The greatest member: the address with its host bits set.
+    /// Returns the greatest member: the address with all host bits set.
     ///
     /// ```
     /// # use fosibegan::in_examples::*;
@@ -162,7 +163,7 @@ impl IpNetwork {
         }
     }
 
-    /// Whether the network is an IPv4 network.
+    /// Returns whether the network is an IPv4 network.
     ///
     /// ```
     /// # use fosibegan::in_examples::*;
@@ -178,7 +179,7 @@ impl IpNetwork {
         }
     }
 
-    /// Whether the network is an IPv6 network.
+    /// Returns whether the network is an IPv6 network.
     ///
     /// ```
     /// # use fosibegan::in_examples::*;
@@ -194,8 +195,8 @@ impl IpNetwork {
         }
     }
 
-    /// Whether an address lies in the network's set. No address of the other family does, not even an IPv4-mapped
-    /// IPv6 address in an IPv4 network.
+    /// Returns whether an address is in the network's set. No address of the other family is, not
+    /// even an IPv4-mapped IPv6 address in an IPv4 network.
     ///
     /// ```
     /// # use fosibegan::in_examples::*;
@@ -214,7 +215,8 @@ impl IpNetwork {
         }
     }
 
-    /// The number of members, in the variant of the network's family; at prefix length 0 it is one less.
+    /// Returns the number of members, in the variant of the network's family. At prefix length 0
+    /// the result is one less than that.
     ///
     /// ```
     /// # use fosibegan::in_examples::*;
@@ -231,7 +233,7 @@ impl IpNetwork {
         }
     }
 
-    /// The members, each once, in ascending order.
+    /// Returns the members, each once, in ascending order.
     ///
     /// ```
     /// # use fosibegan::in_examples::*;
@@ -248,8 +250,8 @@ impl IpNetwork {
         }
     }
 
-    /// Whether each member of this network is a member of `other`. Host bits are ignored. `false` if the two are of
-    /// different families.
+    /// Returns whether each member of this network is a member of `other`. Host bits are ignored.
+    /// The result is `false` if the two are of different families.
     ///
     /// ```
     /// # use fosibegan::in_examples::*;
@@ -261,8 +263,8 @@ impl IpNetwork {
     /// # });
     /// ```
     pub fn is_subnet_of(self, other: IpNetwork) -> bool {
-        // The clause `network` of `ip` says that the address fits its family, so it is a member and the set is not
-        // empty.
+        // The clause `network` of `ip` states that the address fits in its family, so that it is a
+        // member and the set is not empty.
         let _ = self.ip();
         match self {
             IpNetwork::V4(inner) => match other {
@@ -276,8 +278,8 @@ impl IpNetwork {
         }
     }
 
-    /// Whether each member of `other` is a member of this network. Host bits are ignored. `false` if the two are of
-    /// different families.
+    /// Returns whether each member of `other` is a member of this network. Host bits are ignored.
+    /// The result is `false` if the two are of different families.
     ///
     /// ```
     /// # use fosibegan::in_examples::*;
@@ -291,7 +293,7 @@ impl IpNetwork {
         other.is_subnet_of(self)
     }
 
-    /// Whether some address is a member of both.
+    /// Returns whether the two networks have a member in common.
     ///
     /// ```
     /// # use fosibegan::in_examples::*;
@@ -315,8 +317,9 @@ impl IpNetwork {
         }
     }
 
-    /// The network that a text names, as `Ipv4Network::read_bytes` or `Ipv6Network::read_bytes` reads it: no text
-    /// names one of each family. Any other text is `CidrFault::Addr`, whatever is wrong with it.
+    /// Reads the network that a text names, with `Ipv4Network::read_bytes` or
+    /// `Ipv6Network::read_bytes`; no text names a network of each family. For any other text the
+    /// error is `CidrFault::Addr`, whatever is wrong with it.
     ///
     /// ```
     /// # use fosibegan::in_examples::*;
@@ -328,7 +331,7 @@ impl IpNetwork {
     /// # });
     /// ```
     pub fn read_bytes(text: &[u8]) -> Result<Self, CidrFault> {
-        // Does nothing: the proof of this body needs the laws.
+        // These calls do nothing, but their laws are needed to prove this body.
         if has_colon_first(text) {
             match Ipv6Network::read_bytes(text) {
                 Ok(network) => Ok(IpNetwork::V6(network)),
@@ -342,8 +345,8 @@ impl IpNetwork {
         }
     }
 
-    /// The network that a text names, as `read_bytes` reads it; any other text is `InvalidAddr` with the
-    /// whole text, or `OutOfMemory`. Allocates at most once, for a refusal.
+    /// Reads the network that a text names, as `read_bytes` does. For any other text the error is
+    /// `InvalidAddr` with the whole text, or `OutOfMemory`. Allocates only for an error, once.
     ///
     /// ```
     /// # use fosibegan::in_examples::*;
@@ -360,7 +363,7 @@ impl IpNetwork {
         }
     }
 
-    /// The canonical text, at most 43 bytes: that of the network in its family.
+    /// Returns the canonical text, at most 43 bytes: that of the network in its family.
     ///
     /// ```
     /// # use fosibegan::in_examples::*;
@@ -377,7 +380,8 @@ impl IpNetwork {
         }
     }
 
-    /// The canonical text as a `String`. Allocates once.
+    /// Returns the canonical text as a `String`. Allocates once; returns `AllocError` if out of
+    /// memory.
     ///
     /// ```
     /// # use fosibegan::in_examples::*;
@@ -393,21 +397,21 @@ impl IpNetwork {
 }
 
 impl From<Ipv4Network> for IpNetwork {
-    /// The network itself, in the variant `V4`.
+    /// Returns the network in the variant `V4`.
     fn from(network: Ipv4Network) -> Self {
         IpNetwork::V4(network)
     }
 }
 
 impl From<Ipv6Network> for IpNetwork {
-    /// The network itself, in the variant `V6`.
+    /// Returns the network in the variant `V6`.
     fn from(network: Ipv6Network) -> Self {
         IpNetwork::V6(network)
     }
 }
 
 impl From<IpAddr> for IpNetwork {
-    /// The network that has only this address, of prefix length 32 or 128.
+    /// Returns the network with only this address, of prefix length 32 or 128.
     fn from(address: IpAddr) -> Self {
         match address {
             IpAddr::V4(address) => IpNetwork::V4(Ipv4Network::from(address)),
@@ -419,7 +423,7 @@ impl From<IpAddr> for IpNetwork {
 impl TryFrom<IpNetwork> for Ipv4Network {
     type Error = WrongFamily;
 
-    /// The network itself, or `WrongFamily` if it is an IPv6 network.
+    /// Returns the network itself, or `WrongFamily` if it is an IPv6 network.
     fn try_from(network: IpNetwork) -> Result<Self, WrongFamily> {
         match network {
             IpNetwork::V4(network) => Ok(network),
@@ -431,7 +435,7 @@ impl TryFrom<IpNetwork> for Ipv4Network {
 impl TryFrom<IpNetwork> for Ipv6Network {
     type Error = WrongFamily;
 
-    /// The network itself, or `WrongFamily` if it is an IPv4 network.
+    /// Returns the network itself, or `WrongFamily` if it is an IPv4 network.
     fn try_from(network: IpNetwork) -> Result<Self, WrongFamily> {
         match network {
             IpNetwork::V4(_) => Err(WrongFamily),

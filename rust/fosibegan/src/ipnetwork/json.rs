@@ -1,7 +1,7 @@
 // Written by scripts/plain out of crates/ipnetwork/src/json.rt
 
-//! Networks of either family to and from values of JSON (RFC 8259): a network is the string of its canonical
-//! text.
+//! Converts networks of either family to and from JSON values (RFC 8259): a network is the string
+//! of its canonical text.
 
 use crate::plain_std::serde_json::OfKit;
 use crate::ipnetwork::IpNetwork;
@@ -11,7 +11,8 @@ use crate::plain_std::serde_json::Value;
 use crate::plain_std::alloc::{AllocError, Global};
 
 impl IpNetwork {
-    /// The string value of the canonical text. Allocates once; `AllocError` when out of memory.
+    /// Returns the canonical text as a string value. Allocates once; returns `AllocError` if out of
+    /// memory.
     ///
     /// ```
     /// # use fosibegan::in_examples::*;
@@ -26,10 +27,10 @@ impl IpNetwork {
         Value::try_from_str(alloc, self.canonical().as_str())
     }
 
-    /// The network of either family that a string value names. A string is read as `parse` reads it, and one that it
-    /// refuses is `Refused` with its error; any other value is `NotAString`. Allocates at most once, only for a
-    /// refusal whose error carries a text: if that is out of memory, the result is
-    /// `Refused(IpNetworkError::OutOfMemory)`.
+    /// Reads the network of either family that a string value names, as `parse` does. If `parse`
+    /// returns an error, this returns `Refused` with it; for a value that is not a string it
+    /// returns `NotAString`. Allocates at most once, only for an error that carries a text; if that
+    /// allocation fails, the error is `Refused(IpNetworkError::OutOfMemory)`.
     ///
     /// ```
     /// # use fosibegan::in_examples::*;

@@ -9,12 +9,13 @@ use core::cmp::Ordering;
 use core::fmt;
 use core::hash::{Hash, Hasher};
 
-/// The most bytes that a size is printed as.
+/// The greatest number of bytes that a size is printed as.
 const DECIMAL_MAX: usize = 39;
 
-/// The number of addresses of an IPv4 network or of an IPv6 network.
+/// The number of addresses of an IPv4 or IPv6 network.
 ///
-/// Sizes are compared and hashed only by their numbers: an IPv4 and an IPv6 size of one number are equal.
+/// Sizes are compared and hashed only by their numbers: an IPv4 and an IPv6 size of the same number
+/// are equal.
 ///
 /// ```
 /// # use fosibegan::in_examples::*;
@@ -34,21 +35,21 @@ pub enum NetworkSize {
 }
 
 impl From<u32> for NetworkSize {
-    /// The size of this number, in the variant `V4`.
+    /// Returns the size of this number, in the variant `V4`.
     fn from(number: u32) -> Self {
         NetworkSize::V4(number)
     }
 }
 
 impl From<u128> for NetworkSize {
-    /// The size of this number, in the variant `V6`.
+    /// Returns the size of this number, in the variant `V6`.
     fn from(number: u128) -> Self {
         NetworkSize::V6(number)
     }
 }
 
 impl From<NetworkSize> for u128 {
-    /// The number of either size.
+    /// Returns the number of a size of either family.
     fn from(size: NetworkSize) -> Self {
         match size {
             NetworkSize::V4(number) => u128::from(number),
@@ -60,7 +61,8 @@ impl From<NetworkSize> for u128 {
 impl TryFrom<NetworkSize> for u32 {
     type Error = NetworkSizeError;
 
-    /// The number of an IPv4 size. An IPv6 size is `NetworkIsTooLarge`, however small it is.
+    /// Returns the number of an IPv4 size, or `NetworkIsTooLarge` for an IPv6 size, however small
+    /// it is.
     fn try_from(size: NetworkSize) -> Result<Self, NetworkSizeError> {
         match size {
             NetworkSize::V4(number) => Ok(number),

@@ -7,14 +7,14 @@ use crate::ipnetwork_addr::segments::half;
 use crate::ipnetwork_addr::{ADDRESS_TEXT_CAPACITY, Ipv4Addr};
 use crate::plain_std::arrayvec::ArrayString;
 
-/// The fewest zero groups that are written as `::`.
+/// The least number of zero groups that are written as `::`.
 const SHORTEST_GAP: usize = 2;
 
-/// The fifth and the sixth group of an address that holds an IPv4 address, `::ffff:0:0/96`, as one number; those
-/// before them are 0.
+/// The fifth and sixth groups of an IPv4-mapped address (`::ffff:0:0/96`), as one number. The
+/// groups before them are 0.
 const MAPPED_GROUPS: u32 = 0xffff;
 
-/// The canonical text of the address of these groups, highest first.
+/// Returns the canonical text of the address with these groups, highest first.
 pub(crate) fn canonical_text(groups: &[u16; 8]) -> ArrayString<ADDRESS_TEXT_CAPACITY> {
     let mut text = ArrayString::new();
     if is_mapped(groups) {
@@ -34,7 +34,7 @@ pub(crate) fn canonical_text(groups: &[u16; 8]) -> ArrayString<ADDRESS_TEXT_CAPA
     text
 }
 
-/// Whether the address of these groups holds an IPv4 address.
+/// Returns whether the address with these groups is IPv4-mapped.
 fn is_mapped(groups: &[u16; 8]) -> bool {
     let [a, b, c, d, e, f, _, _] = *groups;
     if half(a, b, c, d) != 0 {
@@ -43,14 +43,14 @@ fn is_mapped(groups: &[u16; 8]) -> bool {
     u32::from(e) * 0x1_0000 + u32::from(f) == MAPPED_GROUPS
 }
 
-/// The IPv4 address that the last two groups hold.
+/// Returns the last two groups as an IPv4 address.
 fn last_two(groups: &[u16; 8]) -> u32 {
     let [_, _, _, _, _, _, g, h] = *groups;
     u32::from(g) * 0x1_0000 + u32::from(h)
 }
 
-/// The longest run of zero groups: its first group and its length, 0 if no group is zero. Of two runs of one length,
-/// the one on the left.
+/// Returns the first group and the length of the longest run of zero groups; the leftmost if
+/// several are equally long. The length is 0 if no group is zero.
 fn longest_run(groups: &[u16; 8]) -> (usize, usize) {
     let mut longest = (0, 0);
     let mut start = 0;

@@ -1,15 +1,15 @@
 // Written by scripts/plain out of crates/ipnetwork_addr/src/colons_at_once.rt
 
-//! Reads an IPv6 text with all its colons known, and the values of all its digits.
+//! Reads an IPv6 text after finding all its colons and the values of all its digits.
 
 use crate::ipnetwork_addr::colons::shift;
 use crate::ipnetwork_addr::digit_lanes::{MOST, put_values};
 use crate::ipnetwork_addr::group::append;
 
-/// The number of the address that a text names. `None` says nothing: the text is then to be read
-/// from left to right.
+/// Returns the number of the address that a text names. `None` means that the text must be read
+/// from left to right instead.
 ///
-/// No branch asks how many digits a group has: that would be guessed wrongly too often.
+/// There is no branch on the number of digits of a group: it would be mispredicted too often.
 #[inline(always)]
 pub(crate) fn read_at_once(text: &[u8]) -> Option<u128> {
     if text.len() < 16 || text.len() > MOST {
@@ -28,8 +28,8 @@ pub(crate) fn read_at_once(text: &[u8]) -> Option<u128> {
     Some(shift(left, count) + right)
 }
 
-/// The groups before the end of the text or before a `::`: how many, the number whose digits in base
-/// 2^16 they are, and the position behind the `::`.
+/// Reads the groups up to the end of the text or a `::`. Returns how many there are, the number
+/// whose digits in base 2^16 they are, and the position after the `::`, if there is one.
 #[inline(always)]
 fn read_left(text: &[u8], values: &[u8; 48], ends: u64) -> Option<(usize, u128, Option<usize>)> {
     match text {
@@ -38,8 +38,7 @@ fn read_left(text: &[u8], values: &[u8; 48], ends: u64) -> Option<(usize, u128, 
     }
 }
 
-/// The number of the groups that a text is from the position `from` on, of which there are no more than
-/// there is room for.
+/// Returns the number of the groups that make up the text from `from` on, at most `room` of them.
 #[inline(always)]
 fn read_right(text: &[u8], values: &[u8; 48], ends: u64, from: usize, room: usize) -> Option<u128> {
     if text.len() <= from {
@@ -53,9 +52,10 @@ fn read_right(text: &[u8], values: &[u8; 48], ends: u64, from: usize, room: usiz
     }
 }
 
-/// Groups joined by colons from the position `from` on, up to the end of the text or to a `::`, and no
-/// more of them than there is room for: how many, the number whose digits in base 2^16 they are, and
-/// the position behind the `::`. The lowest of the ends is where the first group probably ends.
+/// Reads groups joined by colons from `from` on, up to the end of the text or a `::`, at most
+/// `room` of them. Returns how many there are, the number whose digits in base 2^16 they are, and
+/// the position after the `::`, if there is one. The lowest bit of `ends` is the likely end of the
+/// first group.
 #[inline(always)]
 fn read_part(
     text: &[u8],
@@ -83,7 +83,7 @@ fn read_part(
     None
 }
 
-/// The group that stands from the position `at` up to the position `end`, where the text ends or a colon stands.
+/// Returns the group from `at` to `end`, where there must be a colon or the end of the text.
 #[inline(always)]
 fn read_group(text: &[u8], values: &[u8; 48], at: usize, end: usize) -> Option<u16> {
     if text.len() < end || end <= at || end - at > 4 {
@@ -105,7 +105,7 @@ fn read_group(text: &[u8], values: &[u8; 48], at: usize, end: usize) -> Option<u
     Some(group_of(digits))
 }
 
-/// The group of four digits, each a byte of a number.
+/// Returns the group with these four digits, one in each byte of a number.
 #[inline(always)]
 fn group_of(digits: u32) -> u16 {
     let pairs = digits + digits / 16;

@@ -1,11 +1,11 @@
 // Written by scripts/plain out of crates/ipnetwork_addr/src/decimal.rt
 
-//! Numbers, written in decimal at the end of a text.
+//! Writes numbers in decimal at the end of a text.
 
 use crate::plain_std::arrayvec::ArrayString;
 
-/// Writes the shortest decimal of a number at the end of a text: one to three bytes. There must be
-/// room for three.
+/// Appends the shortest decimal form of a number to a text: one to three bytes. There must be room
+/// for three.
 #[inline]
 #[doc(hidden)]
 pub fn push_decimal<const N: usize>(text: &mut ArrayString<N>, number: u8) {
@@ -22,14 +22,14 @@ fn digit(value: u8) -> char {
     char::from(b'0' + value)
 }
 
-/// Ten to the power of `CHUNK_DIGITS`: the greatest power of ten that fits 64 bits.
+/// Ten to the power of `CHUNK_DIGITS`: the greatest power of ten that fits in 64 bits.
 const CHUNK: u128 = 10_000_000_000_000_000_000;
 
-/// How many digits of a large number are written at a time.
+/// The number of digits of a large number that are written at a time.
 const CHUNK_DIGITS: u8 = 19;
 
-/// Writes the shortest decimal of a number at the end of a text: one to 39 bytes. There must be
-/// room for 39.
+/// Appends the shortest decimal form of a number to a text: one to 39 bytes. There must be room for
+/// 39.
 #[inline(always)]
 #[doc(hidden)]
 pub fn push_number<const N: usize>(text: &mut ArrayString<N>, number: u128) {
@@ -47,13 +47,13 @@ pub fn push_number<const N: usize>(text: &mut ArrayString<N>, number: u128) {
     }
 }
 
-/// Writes the shortest decimal of a number: one to 20 bytes.
+/// Appends the shortest decimal form of a number: one to 20 bytes.
 #[inline]
 fn push_shortest<const N: usize>(text: &mut ArrayString<N>, number: u64) {
     push_padded(text, number, digit_count(number));
 }
 
-/// The number of digits of a number's shortest decimal.
+/// Returns the number of digits of a number's shortest decimal form.
 fn digit_count(number: u64) -> u8 {
     let mut count = 1;
     let mut rest = number;
@@ -64,7 +64,7 @@ fn digit_count(number: u64) -> u8 {
     count
 }
 
-/// Writes the last digits of a number, this many, zeros among them.
+/// Appends the last `count` decimal digits of a number, with leading zeros.
 #[inline]
 fn push_padded<const N: usize>(text: &mut ArrayString<N>, number: u64, count: u8) {
     if count == 0 {

@@ -1,39 +1,40 @@
 // Written by scripts/plain out of crates/ipnetwork_addr/src/decimal_value.rt
 
-//! What a byte is worth in an octet, by tables.
+//! The values of bytes as parts of an octet, by tables.
 
-/// The value of a byte as a decimal digit, or 256 if it is not one, so that an octet with such a byte is greater than
-/// 255.
+/// Returns the value of a byte as a decimal digit, or 256 if it is none, so that an octet with such
+/// a byte exceeds 255.
 #[inline(always)]
 pub(crate) fn decimal_value(byte: u8) -> u32 {
     DIGITS[usize::from(byte)]
 }
 
-/// Ten times the value of a byte as the first of several decimal digits, or 2560 if it is `0` or no digit.
+/// Returns ten times the value of a byte as the first of several decimal digits, or 2560 if the
+/// byte is `0` or not a digit.
 #[inline(always)]
 pub(crate) fn first_value(byte: u8) -> u32 {
     FIRST_DIGITS[usize::from(byte)]
 }
 
-/// 0 if the byte is a dot, else 1.
+/// Returns 0 if the byte is a dot, else 1.
 #[inline(always)]
 pub(crate) fn is_no_dot(byte: u8) -> u32 {
     NO_DOTS[usize::from(byte)]
 }
 
-/// What two digits count for before this byte: 1 if it is a dot, else 10.
+/// Returns the factor of two digits before this byte: 1 if it is a dot, else 10.
 #[inline(always)]
 pub(crate) fn factor_before(byte: u8) -> u32 {
     FACTORS[usize::from(byte)]
 }
 
-/// 0 if the byte is a dot, else its `decimal_value`.
+/// Returns 0 if the byte is a dot, else its `decimal_value`.
 #[inline(always)]
 pub(crate) fn value_unless_dot(byte: u8) -> u32 {
     DIGITS_OR_DOT[usize::from(byte)]
 }
 
-/// A table of all bytes: this for the dot, these for the digits, and `$other` for each other byte.
+/// A table of all bytes: `$dot` for the dot, `$digits` for the digits, `$other` for all others.
 macro_rules! by_byte {
     ($other:tt, $dot:tt, $digits:tt) => {
         by_byte!(

@@ -5,7 +5,8 @@
 use core::error::Error;
 use core::fmt;
 
-/// The error for a text that names no address: what it was read as. It does not say where the text is wrong.
+/// The error for a text that names no address. It says which kind of address was expected, but not
+/// where the text is wrong.
 ///
 /// ```
 /// # use fosibegan::in_examples::*;
@@ -22,7 +23,7 @@ pub enum AddrParseError {
     Ipv4,
     /// The text names no IPv6 address.
     Ipv6,
-    /// The text names an address of neither family.
+    /// The text names no address of either family.
     Ip,
 }
 

@@ -1,11 +1,11 @@
 // Written by scripts/plain out of crates/ipnetwork_addr/src/first_mark.rt
 
-//! The first dot or colon of a text, which tells the family that the text can be of.
+//! The first dot or colon of a text, which shows which family the text can belong to.
 
 use crate::plain_std::simd::prelude::*;
 
-/// Whether the first dot or colon of a text is a colon, as in every IPv6 text; in an IPv4 text a dot
-/// comes first. So a text has to be read in one family only.
+/// Returns whether the first dot or colon of a text is a colon, as in every IPv6 text. In an IPv4
+/// text, a dot comes first, so that a text only has to be read as one family.
 ///
 /// ```
 /// # use fosibegan::in_examples::*;
@@ -16,7 +16,7 @@ pub fn has_colon_first(text: &[u8]) -> bool {
     if text.len() < 8 {
         return has_colon_first_by_bytes(text);
     }
-    // No branch asks where the dot or colon is: that would be guessed wrongly too often.
+    // There is no branch on the position of the dot or colon: it would be mispredicted too often.
     let bytes = u8x8::from_slice(text);
     let colon = lanes_before(bytes, b':');
     let dot = lanes_before(bytes, b'.');
@@ -29,7 +29,7 @@ pub fn has_colon_first(text: &[u8]) -> bool {
     has_colon_first_by_bytes(text)
 }
 
-/// How many lanes come before the first that is this byte: all of them if none is.
+/// Returns the number of lanes before the first one with this byte, or 8 if there is none.
 #[inline(always)]
 fn lanes_before(bytes: u8x8, byte: u8) -> u32 {
     let lanes = bytes.simd_eq(u8x8::splat(byte)).to_bitmask();
@@ -40,7 +40,7 @@ fn lanes_before(bytes: u8x8, byte: u8) -> u32 {
     }
 }
 
-/// `has_colon_first`, a byte at a time.
+/// Returns the same as `has_colon_first`, byte by byte.
 fn has_colon_first_by_bytes(text: &[u8]) -> bool {
     for byte in text {
         if *byte == b':' {

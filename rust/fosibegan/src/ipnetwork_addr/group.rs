@@ -5,8 +5,9 @@
 use crate::ipnetwork_addr::hex_value::hex_value;
 use crate::ipnetwork_addr::octet::read_octets;
 
-/// Groups joined by colons, up to the end of the text or to a `::`, and no more of them than there is
-/// room for: how many, the number whose digits in base 2^16 they are, and what follows the `::`.
+/// Reads groups joined by colons, up to the end of the text or a `::`, at most `room` of them.
+/// Returns how many there are, the number whose digits in base 2^16 they are, and what follows the
+/// `::`, if there is one.
 #[inline(always)]
 pub(crate) fn read_part(text: &[u8], room: usize) -> Option<(usize, u128, Option<&[u8]>)> {
     let mut rest = text;
@@ -35,7 +36,7 @@ pub(crate) fn read_part(text: &[u8], room: usize) -> Option<(usize, u128, Option
     None
 }
 
-/// The text without its first byte, if that is this one.
+/// Returns the text after its first byte, if that is `byte`.
 fn after_byte(text: &[u8], byte: u8) -> Option<&[u8]> {
     let [first, rest @ ..] = text else {
         return None;
@@ -43,17 +44,17 @@ fn after_byte(text: &[u8], byte: u8) -> Option<&[u8]> {
     if *first == byte { Some(rest) } else { None }
 }
 
-/// The number with one more digit in base 2^16.
+/// Returns the number with one more digit in base 2^16 at its end.
 pub(crate) fn append(number: u128, group: u16) -> u128 {
     number * 0x1_0000 + u128::from(group)
 }
 
-/// The number with two more digits in base 2^16.
+/// Returns the number with two more digits in base 2^16 at its end.
 fn append_v4(number: u128, address: u32) -> u128 {
     number * 0x1_0000_0000 + u128::from(address)
 }
 
-/// The number of an IPv4 text.
+/// Returns the number of the IPv4 address that a text names.
 fn read_v4(text: &[u8]) -> Option<u32> {
     match read_octets(text) {
         Some(octets) => Some(u32::from_be_bytes(octets)),
@@ -61,7 +62,7 @@ fn read_v4(text: &[u8]) -> Option<u32> {
     }
 }
 
-/// The group that the text begins with, up to the first byte that is not a hex digit, and the text from there.
+/// Returns the group up to the first byte that is not a hex digit, and the text from there on.
 fn read_group(text: &[u8]) -> Option<(u16, &[u8])> {
     let (first, after_first) = read_hex(text)?;
     let Some((second, after_second)) = read_hex(after_first) else {
@@ -81,7 +82,7 @@ fn read_group(text: &[u8]) -> Option<(u16, &[u8])> {
     }
 }
 
-/// The value of the first byte as a hex digit, and the text after it.
+/// Returns the value of the first byte as a hex digit, and the text after it.
 #[inline(always)]
 fn read_hex(text: &[u8]) -> Option<(u32, &[u8])> {
     let [byte, rest @ ..] = text else {

@@ -1,11 +1,11 @@
 // Written by scripts/plain out of crates/ipnetwork_addr/src/hexadecimal.rt
 
-//! Groups of an IPv6 address, written in hex at the end of a text.
+//! Writes groups of an IPv6 address in hex at the end of a text.
 
 use crate::ipnetwork_addr::ADDRESS_TEXT_CAPACITY;
 use crate::plain_std::arrayvec::ArrayString;
 
-/// Writes groups in shortest lower-case hex, with `:` between them.
+/// Appends groups in shortest lower-case hex, joined by `:`.
 #[inline]
 pub(crate) fn push_groups(text: &mut ArrayString<ADDRESS_TEXT_CAPACITY>, groups: &[u16]) {
     if let [first, rest @ ..] = groups {
@@ -17,7 +17,7 @@ pub(crate) fn push_groups(text: &mut ArrayString<ADDRESS_TEXT_CAPACITY>, groups:
     }
 }
 
-/// Writes the shortest lower-case hex of a group: one to four bytes.
+/// Appends the shortest lower-case hex form of a group: one to four bytes.
 #[inline(always)]
 fn push_hex(text: &mut ArrayString<ADDRESS_TEXT_CAPACITY>, group: u16) {
     if group >= 0x1000 {

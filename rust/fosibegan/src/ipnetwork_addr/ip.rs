@@ -28,8 +28,9 @@ pub enum IpAddr {
 }
 
 impl IpAddr {
-    /// The address that a text names, as `Ipv4Addr::read_bytes` or `Ipv6Addr::read_bytes` reads it: no text names one
-    /// of each family. Any other text is `AddrParseError::Ip`.
+    /// Reads the address that a text names, with `Ipv4Addr::read_bytes` or `Ipv6Addr::read_bytes`;
+    /// no text names an address of each family. For any other text the error is
+    /// `AddrParseError::Ip`.
     ///
     /// ```
     /// # use fosibegan::in_examples::*;
@@ -51,7 +52,7 @@ impl IpAddr {
         }
     }
 
-    /// The canonical text of the address, at most 39 bytes.
+    /// Returns the canonical text of the address, at most 39 bytes.
     ///
     /// ```
     /// # use fosibegan::in_examples::*;
@@ -68,8 +69,8 @@ impl IpAddr {
         }
     }
 
-    /// The IPv4 address that an IPv4-mapped one, of `::ffff:0:0/96`, stands for (RFC 4291, section 2.5.5.2). Any other
-    /// address is returned as it is.
+    /// Returns the IPv4 address that an IPv4-mapped address, one in `::ffff:0:0/96`, stands for
+    /// (RFC 4291, section 2.5.5.2), and any other address unchanged.
     ///
     /// ```
     /// # use fosibegan::in_examples::*;

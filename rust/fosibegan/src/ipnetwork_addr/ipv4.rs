@@ -25,7 +25,7 @@ pub struct Ipv4Addr {
 }
 
 impl Ipv4Addr {
-    /// The address `a.b.c.d`.
+    /// Creates the address `a.b.c.d`.
     ///
     /// ```
     /// # use fosibegan::in_examples::*;
@@ -38,7 +38,7 @@ impl Ipv4Addr {
         }
     }
 
-    /// The four octets, highest first.
+    /// Returns the four octets, highest first.
     ///
     /// ```
     /// # use fosibegan::in_examples::*;
@@ -48,8 +48,9 @@ impl Ipv4Addr {
         self.number.to_be_bytes()
     }
 
-    /// The address that a text names: four decimal octets joined by `.`, each at most 255 and without a leading zero,
-    /// with nothing before or after. Any other text is `AddrParseError::Ipv4`.
+    /// Reads the address that a text names: four decimal octets joined by `.`, each at most 255 and
+    /// without a leading zero. Nothing may come before or after. For any other text the error is
+    /// `AddrParseError::Ipv4`.
     ///
     /// ```
     /// # use fosibegan::in_examples::*;
@@ -63,7 +64,7 @@ impl Ipv4Addr {
         }
     }
 
-    /// The canonical text, at most 15 bytes: four shortest decimals joined by `.`.
+    /// Returns the canonical text, at most 15 bytes: four shortest decimals joined by `.`.
     ///
     /// ```
     /// # use fosibegan::in_examples::*;
@@ -85,14 +86,14 @@ impl Ipv4Addr {
 }
 
 impl From<u32> for Ipv4Addr {
-    /// The address of this number.
+    /// Creates the address with this number.
     fn from(number: u32) -> Self {
         Ipv4Addr { number }
     }
 }
 
 impl From<[u8; 4]> for Ipv4Addr {
-    /// The address of these octets, highest first.
+    /// Creates the address with these octets, highest first.
     fn from(octets: [u8; 4]) -> Self {
         let [a, b, c, d] = octets;
         Ipv4Addr::new(a, b, c, d)
@@ -100,7 +101,7 @@ impl From<[u8; 4]> for Ipv4Addr {
 }
 
 impl From<Ipv4Addr> for u32 {
-    /// The number of the address.
+    /// Returns the number of the address.
     fn from(address: Ipv4Addr) -> Self {
         address.number
     }

@@ -22,13 +22,13 @@ use core::str::FromStr;
 /// ```
 #[derive(Clone, Copy, Debug)]
 pub struct Ipv6Addr {
-    // The eight segments, the lowest first. If the low octets of a number are stored first, as on most machines, each
-    // half of the address then lies in memory as one number of 64 bits: `order` compares by these.
+    // The eight segments, lowest first. On a little-endian machine each half of the address is thus
+    // stored as one number of 64 bits; `order` compares these.
     low_first: [u16; 8],
 }
 
 impl Ipv6Addr {
-    /// The address `a:b:c:d:e:f:g:h`.
+    /// Creates the address `a:b:c:d:e:f:g:h`.
     ///
     /// ```
     /// # use fosibegan::in_examples::*;
@@ -41,7 +41,7 @@ impl Ipv6Addr {
         }
     }
 
-    /// The eight groups, highest first.
+    /// Returns the eight groups, highest first.
     ///
     /// ```
     /// # use fosibegan::in_examples::*;
@@ -55,7 +55,7 @@ impl Ipv6Addr {
         segments::reversed(&self.low_first)
     }
 
-    /// The sixteen octets, highest first.
+    /// Returns the sixteen octets, highest first.
     ///
     /// ```
     /// # use fosibegan::in_examples::*;
@@ -69,9 +69,10 @@ impl Ipv6Addr {
         segments::octets_high_first(&self.segments())
     }
 
-    /// The address that a text names: eight groups of one to four hex digits of either case, joined by `:`, of which
-    /// the last two may be an IPv4 text, and of which `::` may stand once for all the zero groups that are missing
-    /// (RFC 4291, section 2.2), with nothing before or after. Any other text is `AddrParseError::Ipv6`.
+    /// Reads the address that a text names: eight groups of one to four hex digits of either case,
+    /// joined by `:`. The last two groups may be written as an IPv4 text, and `::` may once replace
+    /// one or more zero groups (RFC 4291, section 2.2). Nothing may come before or after. For any
+    /// other text the error is `AddrParseError::Ipv6`.
     ///
     /// ```
     /// # use fosibegan::in_examples::*;
@@ -87,9 +88,10 @@ impl Ipv6Addr {
         }
     }
 
-    /// The canonical text, at most 39 bytes (RFC 5952). An address of `::ffff:0:0/96` is `::ffff:` and an IPv4 text
-    /// (section 5). Any other is its groups in shortest lower-case hex, with `::` for the longest run of two or more
-    /// zero groups, and of two as long for the one on the left (section 4).
+    /// Returns the canonical text, at most 39 bytes (RFC 5952). For an address in `::ffff:0:0/96`
+    /// this is `::ffff:` and an IPv4 text (section 5). For any other it is the groups in shortest
+    /// lower-case hex, with `::` for the longest run of two or more zero groups, the leftmost if
+    /// several are equally long (section 4).
     ///
     /// ```
     /// # use fosibegan::in_examples::*;
@@ -104,7 +106,7 @@ impl Ipv6Addr {
         canonical_text(&self.segments())
     }
 
-    /// The address of these halves.
+    /// Creates the address with these halves.
     #[inline(always)]
     fn from_halves(high: u64, low: u64) -> Self {
         Ipv6Addr {
@@ -112,7 +114,7 @@ impl Ipv6Addr {
         }
     }
 
-    /// How the address compares with another: by the high half, then by the low one.
+    /// Compares the address with another: first the high halves, then the low ones.
     pub(crate) fn order(&self, other: &Ipv6Addr) -> Ordering {
         let (high, low) = segments::halves(&self.low_first);
         let (other_high, other_low) = segments::halves(&other.low_first);
@@ -122,22 +124,22 @@ impl Ipv6Addr {
         low.cmp(&other_low)
     }
 
-    /// The sixteen octets, lowest first.
+    /// Returns the sixteen octets, lowest first.
     pub(crate) fn octets_low_first(&self) -> [u8; 16] {
         segments::octets_low_first(&self.segments())
     }
 }
 
-/// The high half of a number, and the low one.
-// Not inlined: to a compiler the halves are then two numbers that it knows nothing of, and it stores each at once. If it
-// sees how they are made, it cuts and stores every segment by itself.
+/// Returns the high half of a number and the low one.
+// Not inlined, so that the compiler knows nothing about the two halves and stores each at once. If
+// it sees how they are computed, it extracts and stores each segment separately.
 #[inline(never)]
 fn halves_of(number: u128) -> (u64, u64) {
     segments::halves_of_number(number)
 }
 
 impl From<u128> for Ipv6Addr {
-    /// The address of this number.
+    /// Creates the address with this number.
     fn from(number: u128) -> Self {
         let (high, low) = halves_of(number);
         Ipv6Addr::from_halves(high, low)
@@ -145,7 +147,7 @@ impl From<u128> for Ipv6Addr {
 }
 
 impl From<[u16; 8]> for Ipv6Addr {
-    /// The address of these groups, highest first.
+    /// Creates the address with these groups, highest first.
     fn from(segments: [u16; 8]) -> Self {
         Ipv6Addr {
             low_first: segments::reversed(&segments),
@@ -154,7 +156,7 @@ impl From<[u16; 8]> for Ipv6Addr {
 }
 
 impl From<Ipv6Addr> for u128 {
-    /// The number of the address.
+    /// Returns the number of the address.
     fn from(address: Ipv6Addr) -> Self {
         let (high, low) = segments::halves(&address.low_first);
         segments::number_of_halves(high, low)

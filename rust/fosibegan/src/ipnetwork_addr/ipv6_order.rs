@@ -1,6 +1,6 @@
 // Written by scripts/plain out of crates/ipnetwork_addr/src/ipv6_order.rt
 
-//! IPv6 addresses compared and hashed, as their numbers are.
+//! Compares and hashes IPv6 addresses by their numbers.
 
 use crate::ipnetwork_addr::Ipv6Addr;
 use core::cmp::Ordering;

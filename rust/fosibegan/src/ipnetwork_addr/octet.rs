@@ -1,6 +1,6 @@
 // Written by scripts/plain out of crates/ipnetwork_addr/src/octet.rt
 
-//! Reads the octets of an IPv4 text, from left to right.
+//! Reads the octets of an IPv4 text from left to right.
 
 use crate::ipnetwork_addr::decimal_value::{
     decimal_value, factor_before, first_value, is_no_dot, value_unless_dot,
@@ -10,7 +10,7 @@ use crate::ipnetwork_addr::octet_lanes::read_at_once;
 /// The greatest octet.
 const OCTET_MAX: u32 = 255;
 
-/// The four octets of a text that is an IPv4 address.
+/// Returns the four octets of the IPv4 address that a text names.
 pub(crate) fn read_octets(text: &[u8]) -> Option<[u8; 4]> {
     match read_at_once(text) {
         Some(octets) => Some(octets),
@@ -18,7 +18,7 @@ pub(crate) fn read_octets(text: &[u8]) -> Option<[u8; 4]> {
     }
 }
 
-/// The same, one octet after the other.
+/// Returns the same as `read_octets`, reading one octet at a time.
 #[inline(never)]
 fn read_from_left(text: &[u8]) -> Option<[u8; 4]> {
     let (first, second_at) = read_octet_and_dot(text, 0)?;
@@ -28,13 +28,14 @@ fn read_from_left(text: &[u8]) -> Option<[u8; 4]> {
     Some([first, second, third, fourth])
 }
 
-/// The octet before the first dot from the position `at` on, and the position after that dot.
+/// Returns the octet before the first dot from `at` on, and the position after that dot.
 #[inline(always)]
 fn read_octet_and_dot(text: &[u8], at: usize) -> Option<(u8, usize)> {
     if text.len() - at < 4 || text[at + 1] == b'.' {
         return read_by_positions(text, at);
     }
-    // No branch asks whether there are two digits or three: that would be guessed wrongly too often.
+    // There is no branch on whether there are two or three digits: it would be mispredicted too
+    // often.
     let last = text[at + 2];
     let end = at + 2 + is_no_dot(last) as usize;
     if text[end] != b'.' {
@@ -44,7 +45,7 @@ fn read_octet_and_dot(text: &[u8], at: usize) -> Option<(u8, usize)> {
     Some((octet, end + 1))
 }
 
-/// The same, with one position tried after the other.
+/// Returns the same as `read_octet_and_dot`, trying one position after another.
 #[inline(always)]
 fn read_by_positions(text: &[u8], at: usize) -> Option<(u8, usize)> {
     let rest = &text[at..];
@@ -53,7 +54,7 @@ fn read_by_positions(text: &[u8], at: usize) -> Option<(u8, usize)> {
     Some((octet, at + end + 1))
 }
 
-/// The position of the first dot that stands after one, two or three bytes.
+/// Returns the position of the first dot after one, two or three bytes.
 #[inline(always)]
 fn octet_end(text: &[u8]) -> Option<usize> {
     if has_dot(text, 1) {
@@ -68,13 +69,13 @@ fn octet_end(text: &[u8]) -> Option<usize> {
     None
 }
 
-/// Whether a dot stands at this position.
+/// Returns whether there is a dot at this position.
 #[inline(always)]
 fn has_dot(text: &[u8], at: usize) -> bool {
     at < text.len() && text[at] == b'.'
 }
 
-/// The octet that the whole text is.
+/// Returns the octet, if the whole text is one.
 #[inline(always)]
 fn read_octet(text: &[u8]) -> Option<u8> {
     let count = text.len();
@@ -87,7 +88,7 @@ fn read_octet(text: &[u8]) -> Option<u8> {
     octet_of_several(text[0], text[1], text[count - 1], (count - 2) as u32)
 }
 
-/// The octet of one digit.
+/// Returns the octet with this one digit.
 #[inline(always)]
 fn octet_of_one(a: u8) -> Option<u8> {
     let value = decimal_value(a);
@@ -97,7 +98,8 @@ fn octet_of_one(a: u8) -> Option<u8> {
     Some(value as u8)
 }
 
-/// The octet of two digits, or, if `more` is 1, of three, of which the first is not a zero.
+/// Returns the octet with the digits `a` and `b`, and also `c` if `more` is 1. The first digit must
+/// not be zero.
 #[inline(always)]
 fn octet_of_several(a: u8, b: u8, c: u8, more: u32) -> Option<u8> {
     let two = first_value(a) + decimal_value(b);
@@ -108,7 +110,8 @@ fn octet_of_several(a: u8, b: u8, c: u8, more: u32) -> Option<u8> {
     Some(value as u8)
 }
 
-/// The octet of the digits `a`, `b` and `c`, or of `a` and `b` if `c` is a dot. The first digit is not a zero.
+/// Returns the octet with the digits `a`, `b` and `c`, or `a` and `b` if `c` is a dot. The first
+/// digit must not be zero.
 #[inline(always)]
 fn octet_before_dot(a: u8, b: u8, c: u8) -> Option<u8> {
     let value = (first_value(a) + decimal_value(b)) * factor_before(c) + value_unless_dot(c);

@@ -1,51 +1,52 @@
 // Written by scripts/plain out of crates/ipnetwork_addr/src/octet_tables.rt
 
-//! What is known of the IPv4 texts that have the same number of digits in each octet. There are 81
-//! such rows: first comes that of one digit in each, last that of three in each.
+//! Tables for IPv4 texts by the number of digits of each octet. There are 81 combinations, called
+//! rows: the first has one digit in each octet, the last has three in each.
 
-/// Where the bytes of a text of eight bytes up to fifteen stand after its first eight bytes are
-/// followed by its last eight.
+/// Returns, for a text of eight to fifteen bytes, the positions of its bytes in its first eight
+/// bytes followed by its last eight.
 #[inline(always)]
 pub(crate) fn joined_positions(count: usize) -> &'static [u8; 16] {
     &JOINED[count - 8]
 }
 
-/// The row of a text, if it is an IPv4 address, by the positions of its dots and its end as bits.
+/// Returns the row of a text, if it is an IPv4 address, by the positions of its dots and of its end
+/// as bits.
 #[inline(always)]
 pub(crate) fn likely_row(ends: u64) -> usize {
     row_at((ends.wrapping_mul(MULTIPLIER) >> 56) as usize)
 }
 
-/// The row of these eight bits of a product.
+/// Returns the row for these eight bits of a product.
 #[inline(always)]
 fn row_at(hash: usize) -> usize {
     usize::from(ROWS[hash])
 }
 
-/// The length of the texts of a row.
+/// Returns the length of a row's texts.
 #[inline(always)]
 pub(crate) fn length_of_row(row: usize) -> usize {
     usize::from(LENGTHS[row])
 }
 
-/// The positions of the bytes of each octet in the texts of a row: of its hundreds, its tens, its ones
-/// and what stands after it, or 128 where there is none.
+/// Returns, for each octet in a row's texts, the positions of its hundreds, tens and ones, and of
+/// the byte after it, or 128 if there is none.
 #[inline(always)]
 pub(crate) fn positions_of_row(row: usize) -> &'static [u8; 16] {
     &PLACES[row]
 }
 
-/// How far above `0` these bytes are at least: a first digit of several is not a zero, and a dot
-/// stands after each octet but the last.
+/// Returns how far above `0` these bytes are at least: the first of several digits is not zero, and
+/// there is a dot after each octet but the last.
 #[inline(always)]
 pub(crate) fn least_of_row(row: usize) -> &'static [u8; 16] {
     &LEAST[row]
 }
 
-/// The first eight bits of the product of `ends` and this number differ for all rows.
+/// The high eight bits of the product of `ends` and this number are different for all rows.
 const MULTIPLIER: u64 = 0xe3cb_bbca_7780_e851;
 
-/// The row of each of these products, and 0 for what is none.
+/// The row for each of these products, or 0 if there is none.
 static ROWS: [u8; 256] = [
     0, 0, 0, 39, 0, 0, 66, 5, 0, 47, 0, 63, 0, 0, 0, 32, 0, 0, 0, 74, 0, 54, 0, 44, 0, 13, 0, 0, 0,
     37, 0, 59, 68, 0, 77, 0, 0, 0, 11, 0, 52, 8, 0, 1, 0, 16, 0, 71, 0, 0, 40, 0, 0, 0, 24, 0, 0,
@@ -58,7 +59,7 @@ static ROWS: [u8; 256] = [
     0, 0, 0, 61, 0, 29, 75, 0, 0, 0, 0, 0, 0, 34, 2, 0, 0, 72, 7, 69, 0, 42, 15, 0,
 ];
 
-/// The `joined_positions` of each length, from eight on.
+/// The `joined_positions` of each length from eight on.
 static JOINED: [[u8; 16]; 8] = [
     [
         0, 1, 2, 3, 4, 5, 6, 7, 255, 255, 255, 255, 255, 255, 255, 255,
@@ -74,7 +75,7 @@ static JOINED: [[u8; 16]; 8] = [
     [0, 1, 2, 3, 4, 5, 6, 7, 9, 10, 11, 12, 13, 14, 15, 255],
 ];
 
-/// What `$row` makes of the numbers of digits of each row.
+/// The list of what `$row` makes of each row's numbers of digits.
 macro_rules! rows {
     ($row:ident) => {
         rows!($row: 1 1, 1 2, 1 3, 2 1, 2 2, 2 3, 3 1, 3 2, 3 3)
@@ -88,14 +89,14 @@ macro_rules! rows {
     };
 }
 
-/// The length of four octets of so many digits, with the dots between.
+/// The length of four octets with these numbers of digits, and the dots between them.
 macro_rules! length {
     ($a:tt $b:tt $c:tt $d:tt) => {
         $a + $b + $c + $d + 3
     };
 }
 
-/// The position of the hundreds of an octet that begins here, if it has three digits.
+/// The position of the hundreds of an octet that begins at `$at`: 128 unless it has three digits.
 macro_rules! hundreds {
     (3, $at:expr) => {
         $at
@@ -105,7 +106,7 @@ macro_rules! hundreds {
     };
 }
 
-/// The position of its tens, if it has two or three.
+/// The position of the tens of an octet that begins at `$at`: 128 if it has one digit.
 macro_rules! tens {
     (1, $at:expr) => {
         128
@@ -128,7 +129,7 @@ macro_rules! positions {
     };
 }
 
-/// 1 if an octet has this number of digits.
+/// 1 if both numbers of digits are equal, else 0.
 macro_rules! one_of {
     (2 2) => {
         1

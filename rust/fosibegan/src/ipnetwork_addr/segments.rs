@@ -1,48 +1,48 @@
 // Written by scripts/plain out of crates/ipnetwork_addr/src/segments.rt
 
-//! An address of 128 bits as eight segments of 16 bits: their order, and the numbers and octets that they make up.
+//! A 128-bit address as eight segments of 16 bits: their order, and the numbers and octets that
+//! they make up.
 
-/// The segments in the other order.
+/// Returns the segments in reverse order.
 pub(crate) fn reversed(segments: &[u16; 8]) -> [u16; 8] {
     let [a, b, c, d, e, f, g, h] = *segments;
     [h, g, f, e, d, c, b, a]
 }
 
-/// The two halves of an address whose segments stand the lowest first, as numbers of 64 bits: the high half, and
-/// the low one.
+/// Returns the high and the low half of an address, 64 bits each, from its segments, lowest first.
 pub(crate) fn halves(low_first: &[u16; 8]) -> (u64, u64) {
     let [h, g, f, e, d, c, b, a] = *low_first;
     (half(a, b, c, d), half(e, f, g, h))
 }
 
-/// The number that four segments make up, the highest first.
+/// Returns the number that four segments make up, highest first.
 pub(crate) fn half(a: u16, b: u16, c: u16, d: u16) -> u64 {
     let two = u64::from(a) * 0x1_0000 + u64::from(b);
     (two * 0x1_0000 + u64::from(c)) * 0x1_0000 + u64::from(d)
 }
 
-/// What one of the high half counts for in the number of an address.
+/// The factor of the high half in the number of an address.
 const HALF: u128 = 0x1_0000_0000_0000_0000;
 
-/// The high half of a number, and the low one.
+/// Returns the high half of a number and the low one.
 #[inline(always)]
 pub(crate) fn halves_of_number(number: u128) -> (u64, u64) {
     ((number / HALF) as u64, (number % HALF) as u64)
 }
 
-/// The number of these halves.
+/// Returns the number with these halves.
 pub(crate) fn number_of_halves(high: u64, low: u64) -> u128 {
     u128::from(high) * HALF + u128::from(low)
 }
 
-/// The segments of the address of these two halves, the lowest first.
+/// Returns the segments of the address with these halves, lowest first.
 pub(crate) fn low_first_of(high: u64, low: u64) -> [u16; 8] {
     let [h, g, f, e] = half_low_first(low);
     let [d, c, b, a] = half_low_first(high);
     [h, g, f, e, d, c, b, a]
 }
 
-/// The four segments of a half, the lowest first.
+/// Returns the four segments of a half, lowest first.
 fn half_low_first(half: u64) -> [u16; 4] {
     [
         (half % 0x1_0000) as u16,
@@ -52,7 +52,7 @@ fn half_low_first(half: u64) -> [u16; 4] {
     ]
 }
 
-/// The sixteen octets of an address of these segments, which stand the highest first: the lowest octet first.
+/// Returns the sixteen octets, lowest first, of the address with these segments, highest first.
 pub(crate) fn octets_low_first(segments: &[u16; 8]) -> [u8; 16] {
     let [a, b, c, d, e, f, g, h] = *segments;
     [
@@ -75,7 +75,7 @@ pub(crate) fn octets_low_first(segments: &[u16; 8]) -> [u8; 16] {
     ]
 }
 
-/// The sixteen octets of an address of these segments, which stand the highest first: the highest octet first.
+/// Returns the sixteen octets, highest first, of the address with these segments, highest first.
 pub(crate) fn octets_high_first(segments: &[u16; 8]) -> [u8; 16] {
     let [a, b, c, d, e, f, g, h] = *segments;
     [
@@ -98,12 +98,12 @@ pub(crate) fn octets_high_first(segments: &[u16; 8]) -> [u8; 16] {
     ]
 }
 
-/// The octet of the low bits of a segment.
+/// Returns the octet of the low bits of a segment.
 fn low_octet(segment: u16) -> u8 {
     (segment % 256) as u8
 }
 
-/// The octet of its high bits.
+/// Returns the octet of the high bits of a segment.
 fn high_octet(segment: u16) -> u8 {
     (segment / 256) as u8
 }

@@ -5,7 +5,7 @@ use Rattle.ipnetwork_addr.proofs.FirstDigits.{digit_bound}
 use Rattle.ipnetwork_addr.proofs.Tables.{entry}
 use Rattle.ipnetwork_addr.proofs.decimal_value.decimal_value.Goals as goal
 
--- what the table has for a byte
+-- the table's entry for a byte
 abbrev value : ℕ → ℕ
 value byte = cond (nat_lt (digit_value byte) 10) (digit_value byte) 256
 

@@ -6,7 +6,7 @@ use Rattle.ipnetwork_addr.proofs.FirstDigits.{last_bound}
 use Rattle.ipnetwork_addr.proofs.Tables.{entry}
 use Rattle.ipnetwork_addr.proofs.decimal_value.value_unless_dot.Goals as goal
 
--- what the table has for a byte
+-- the table's entry for a byte
 abbrev value : ℕ → ℕ
 value byte = cond (byte == dot) 0 (cond (nat_lt (digit_value byte) 10) (digit_value byte) 256)
 

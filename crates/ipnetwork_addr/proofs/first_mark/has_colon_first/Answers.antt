@@ -3,7 +3,7 @@ use Rattle.ipnetwork_addr.specs.Texts.{colon_first}
 use Rattle.ipnetwork_addr.proofs.FirstLanes.{first_is}
 use Rattle.ipnetwork_addr.proofs.first_mark.has_colon_first.Goals as goal
 
--- less than another, by what both are
+-- one number is less than another if numbers equal to them are
 less_by : {a b x y : ℕ} → a ≡ x → b ≡ y → a < b → x < y
 less_by left right less = omega (arith, left, right, less)
 

@@ -4,7 +4,7 @@ use Rattle.std.proofs.lemmas.List.{get_or_past}
 use Rattle.ipnetwork_addr.specs.declared.octet_tables.TheConstants.{ROWS}
 use Rattle.ipnetwork_addr.proofs.octet_tables.row_at.Goals as goal
 
--- each entry of the table, by computing all of them
+-- each entry of the table, checked by computing all of them
 entry : (at : ℕ) → get_or ROWS at 0 < 81
 entry at = elim (cases_lt at 256) [
   | inl within ↦ ltb-true (get_or ROWS at 0) 81 (agree_below_at (λ b. ltb (get_or ROWS b 0) 81) (λ _. true) 256 at refl within)

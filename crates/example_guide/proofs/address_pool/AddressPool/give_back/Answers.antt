@@ -3,12 +3,12 @@ use Rattle.ipnetwork_family.specs.Network.{Network}
 use Rattle.ipnetwork_blocks.specs.Aggregate.{InUnion}
 use Rattle.example_guide.proofs.address_pool.AddressPool.give_back.Goals as goal
 
--- where memory ran out, what is taken is as it was
+-- out of memory, the set of taken addresses is unchanged
 pub invariant_of-self : goal.invariant_of-self
 invariant_of-self c = λ x held.
     c.self.invariant x (subst (λ (l : List Network). InUnion 32 l x) c.in_err-remove.ensures.unchanged held)
 
--- else what is taken still was taken: so says the law
+-- if the network was removed, each address still taken was taken before, by the law
 pub invariant_of-self-2 : goal.invariant_of-self-2
 invariant_of-self-2 c = λ x held.
     let law = c.changes.ensures.removed 32 c.self.inside.taken c.args.network c.remove.new.self in

@@ -2,7 +2,7 @@ use Rattle.std.proofs.Common.{[]}
 use Rattle.ipnetwork_blocks.specs.Aggregate.{IsAggregate}
 use Rattle.example_guide.proofs.address_pool.AddressPool.new.Goals as goal
 
--- the set of no networks has no address
+-- the set of no networks is empty
 pub invariant_of-result : goal.invariant_of-result
 invariant_of-result c = λ x held.
     let of_none : IsAggregate 32 [] c.from_networks.result = rw c.new.ensures.items at c.from_networks.ensures in

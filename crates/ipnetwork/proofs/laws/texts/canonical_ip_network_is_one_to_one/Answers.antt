@@ -10,7 +10,7 @@ use Rattle.ipnetwork.proofs.laws.texts.canonical_ip_network_is_one_to_one.Goals 
 pub returns : goal.returns
 returns c a b h k = one_to_one c.ip_network_text_names_one.ensures a b (c.canonical_ip_network_names_it.ensures a h) (c.canonical_ip_network_names_it.ensures b k)
 
--- uses at two families, and at two prefix lengths of one set
+-- examples: different families, and the same set with two prefix lengths
 pub families_print_apart : goal.returns → goal.After-canonical_ip_network_names_it
     → ¬ (ip_network_text (V4 (record { address = 1; prefix = 32 })) ≡ ip_network_text (V6 (record { address = 1; prefix = 32 })))
 families_print_apart law c same =

@@ -11,7 +11,7 @@ use Rattle.ipnetwork.proofs.laws.texts.canonical_ip_network_reads_back.Goals as 
 pub returns : goal.returns
 returns c n result h = reads_back c.ip_network_text_names_one.ensures (ip_network_text n) n result (c.canonical_ip_network_names_it.ensures n h)
 
--- uses in either family, with host bits
+-- examples in either family, with host bits
 pub v4_is_read : goal.returns → goal.After-canonical_ip_network_names_it → (result : Result IpNetwork CidrFault)
     → ReadsIpNetwork (codes "10.1.9.32/16") result → result ≡ Ok (V4 (record { address = 167840032; prefix = 16 }))
 unfolding digits

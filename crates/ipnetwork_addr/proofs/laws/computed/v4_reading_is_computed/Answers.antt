@@ -12,7 +12,7 @@ use Rattle.ipnetwork_addr.proofs.laws.computed.v4_reading_is_computed.Goals as g
 pub returns : goal.returns
 returns c text result = reading_is_computed NamesV4 v4_of v4_computed _ text result
 
--- uses at a text that names an address, and at one that names none
+-- examples: a text that names an address, and one that does not
 pub address_is_read : goal.returns → goal.Start → (result : Result ℕ AddrParseError) → Reads NamesV4 kinds.Ipv4 (codes "192.0.2.1") result → result ≡ Ok 3221225985
 unfolding digits
 address_is_read law c result = (law c (codes "192.0.2.1") result).0

@@ -12,7 +12,7 @@ use Rattle.ipnetwork_addr.proofs.laws.computed.v6_reading_is_computed.Goals as g
 pub returns : goal.returns
 returns c text result = reading_is_computed NamesV6 v6_of v6_computed _ text result
 
--- uses at a text that names an address, and at one that names none
+-- examples: a text that names an address, and one that does not
 pub address_is_read : goal.returns → goal.Start → (result : Result ℕ AddrParseError) → Reads NamesV6 kinds.Ipv6 (codes "2001:db8::") result → result ≡ Ok 42540766411282592856903984951653826560
 unfolding digits v6_of gap_below
 address_is_read law c result = (law c (codes "2001:db8::") result).0

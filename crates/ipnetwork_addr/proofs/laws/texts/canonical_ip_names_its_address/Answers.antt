@@ -10,7 +10,7 @@ use Rattle.ipnetwork_addr.proofs.laws.texts.canonical_ip_names_its_address.Goals
 pub returns : goal.returns
 returns c = canonical_ip_names
 
--- uses in either family
+-- examples in either family
 pub v4_is_named : goal.returns → goal.Start → NamesV4 (codes "255.255.255.255") 4294967295
 unfolding digits
 v4_is_named law c = law c (V4 4294967295) (lit≤ tt)

@@ -8,7 +8,7 @@ use Rattle.ipnetwork_addr.proofs.laws.texts.octet_texts.Goals as goal
 pub returns : goal.returns
 returns c text n = (plain_from_octet text n, octet_from_plain text n)
 
--- uses at the greatest value, and at a leading zero
+-- examples: the greatest value, and a leading zero
 pub greatest_octet : goal.returns → goal.Start → IsPlainOctet (codes "255") 255
 unfolding digits
 greatest_octet law c = (law c (codes "255") 255).0 (lit≤ tt, refl)

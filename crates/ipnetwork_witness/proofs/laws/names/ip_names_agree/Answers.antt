@@ -21,7 +21,7 @@ returns c = go
     go text (V6 a) (std_family.V4 b) same = absurd same
     go text (V6 a) (std_family.V6 b) same = c.v6_names_agree.ensures text a b same
 
--- uses in either family and direction
+-- examples in either family and direction
 pub v6_is_spelled : goal.returns → goal.After-v6_names_agree → (text : List ℕ) (a : ℕ) (b : Ipv6Addr) → SameV6 a b → NamesV6 text a → IsIpText text (std_family.V6 b)
 v6_is_spelled law c text a b same = (law c text (V6 a) (std_family.V6 b) same).0
 

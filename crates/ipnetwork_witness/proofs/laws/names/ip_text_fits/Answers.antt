@@ -12,7 +12,7 @@ returns c = go
     go text (V4 a) h = (v4_ours text a h).1.0
     go text (V6 a) h = (v6_ours text a h).1.0
 
--- uses at the least numbers that do not fit
+-- examples at the least numbers that do not fit
 pub no_text_of_33_bits : goal.returns → goal.Start → (text : List ℕ) → ¬ (NamesIp text (V4 4294967296))
 no_text_of_33_bits law c text named = omega (arith, law c text (V4 4294967296) named)
 

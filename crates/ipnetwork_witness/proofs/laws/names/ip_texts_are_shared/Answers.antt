@@ -24,7 +24,7 @@ returns-clause-theirs c = go
     go text (std_family.V4 b) h = let (a, same, named) = c.v4_texts_are_shared.ensures.theirs text b h in (V4 a, same, named)
     go text (std_family.V6 b) h = let (a, same, named) = c.v6_texts_are_shared.ensures.theirs text b h in (V6 a, same, named)
 
--- uses in either family
+-- examples in either family
 pub v6_is_spelled : goal.returns-clause-ours → goal.After-v6_texts_are_shared → (text : List ℕ) (a : ℕ) → NamesV6 text a → (theirs : std.IpAddr) × SameIp (V6 a) theirs × IsIpText text theirs
 v6_is_spelled law c text a = law c text (V6 a)
 

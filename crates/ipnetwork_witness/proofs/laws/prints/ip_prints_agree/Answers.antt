@@ -21,7 +21,7 @@ returns c = go
     go (V6 a) (std_family.V4 b) same = absurd same
     go (V6 a) (std_family.V6 b) same = c.v6_prints_agree.ensures a b same
 
--- uses in either family
+-- examples in either family
 pub v4_is_printed : goal.returns → goal.After-v6_prints_agree → (a : ℕ) (b : Ipv4Addr) → SameV4 a b → canonical_v4 a ≡ ip_text (std_family.V4 b)
 v4_is_printed law c a b = law c (V4 a) (std_family.V4 b)
 
