@@ -34,7 +34,7 @@ waits held = drop held.start (take held.end held.bytes)
 abbrev pub HasNoFeed : List ℕ → Type 0
 HasNoFeed bytes = IsAbsent 10 bytes 0 (length bytes)
 
--- the bytes that were dropped: none, or so many bytes without a line feed that their line is too long
+-- the bytes that were dropped: none, or enough bytes without a line feed that their line is too long
 abbrev pub IsDropped : Bool → ℕ → List ℕ → Type 0
 IsDropped false limit bytes = bytes ≡ []
 IsDropped true limit bytes = HasNoFeed bytes × (limit + 2 ≤ length bytes)
