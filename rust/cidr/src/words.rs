@@ -4,10 +4,11 @@
 
 use fosibegan::byte_search::find_from;
 
-/// The word of a line that begins at the place `from`, and the place where the next word begins, after a blank; `None`
-/// if the rest of the line is one word.
+/// Returns the word of a line that begins at the position `from`, and the position after the blank
+/// that follows it, where the next word begins. Returns `None` if the rest of the line is one word.
 #[inline(always)]
-pub(crate) fn cut_word(line: &[u8], from: usize) -> Option<(&[u8], usize)> {
+pub(crate) fn cut_word(line: &[u8], from: usize) -> Option<(&[u8], usize)>
+{
     match find_from(line, from, b' ') {
         None => None,
         Some(end) => Some((&line[from..end], end + 1)),
