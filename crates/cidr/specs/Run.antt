@@ -14,7 +14,7 @@ use Rattle.cidr.specs.Output.{IsOutput}
 abbrev pub BeginsOutput : List ℕ → List ℕ → Type 0
 BeginsOutput read written = (output : List ℕ) × IsOutput read output × IsBeginning written output
 
--- an output for exactly the lines that some first bytes complete, at most as many as the limit
+-- an output for exactly the lines that some beginning of what was read, not longer than the limit, completes
 abbrev pub AnswersPart : ℕ → List ℕ → List ℕ → Type 0
 AnswersPart limit read written = (front : List ℕ) × IsBeginning front read × (length front ≤ limit)
     × IsOutput (complete_part front) written
@@ -25,7 +25,7 @@ abbrev pub EndsAs : ℕ → Option (List ℕ) → Result (Unit {0}) RunFault →
 EndsAs limit unread_after (Ok done) read written = IsAtEnd unread_after × (length read ≤ limit) × IsOutput read written
 -- an output for exactly the lines whose line feed was read
 EndsAs limit unread_after (Err Read) read written = (length read ≤ limit) × IsOutput (complete_part read) written
--- an output for exactly the lines that some first bytes complete, at most as many as the limit
+-- an output for exactly the lines that some beginning of what was read, not longer than the limit, completes
 EndsAs limit unread_after (Err InputTooLong) read written = (limit < length read) × AnswersPart limit read written
 -- a beginning of an output for what was read
 EndsAs limit unread_after (Err Write) read written = (length read ≤ limit) × BeginsOutput read written

@@ -99,9 +99,9 @@ impl<'b, R: Read> LineReader<'b, R> {
         self.buffer.whole_line()
     }
 
-    /// Returns whether the pending line is too long however it continues: whether it has more bytes
-    /// than the limit plus one for a carriage return. No line feed may wait, as is the case after
-    /// `next` returned `Ask`.
+    /// Returns whether the pending line is too long however it continues: whether it has at least
+    /// two bytes more than the limit, one of which may be a carriage return. No line feed may wait,
+    /// as is the case after `next` returned `Ask`.
     ///
     /// ```
     /// use lines::line_reader::LineReader;

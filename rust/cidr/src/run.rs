@@ -34,8 +34,8 @@ pub fn run<R: Read, W: Write>(
 /// - `RunFault::Read`: a read failed. Exactly the lines that were complete before were answered.
 /// - `RunFault::Write`: a write or the flush failed, or a write took no bytes. A beginning of the
 ///   output was written.
-/// - `RunFault::InputTooLong`: a read passed the limit. Exactly the lines were answered that the
-///   first bytes of the input complete, for some number of bytes up to the limit.
+/// - `RunFault::InputTooLong`: a read passed the limit. For some beginning of the input, not longer
+///   than the limit, exactly the lines that it completes were answered.
 ///
 /// If the reader had failed before the run, the result is `Read`; otherwise, if the writer had, it
 /// is `Write`. In both cases neither is called.

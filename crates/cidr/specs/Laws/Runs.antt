@@ -28,8 +28,8 @@ AfterWriteFault = (limit : ℕ) (read unread_after written_before written_after 
     → (length read ≤ limit) × (written : List ℕ) × BeginsOutput read written
     × (written_after ≡ written_before ++ written)
 
--- if the input is too long, more bytes than the limit were read, and exactly the lines were answered that its first
--- bytes complete, for some number of bytes up to the limit
+-- if the input is too long, more bytes than the limit were read, and there is a beginning of them, not longer than the
+-- limit, such that exactly the lines that it completes were answered
 abbrev pub AfterTooLong : Type 0
 AfterTooLong = (limit : ℕ) (read unread_after written_before written_after : List ℕ)
     → Ran limit (Some (read ++ unread_after)) (Some unread_after) (Some written_before) (Some written_after)

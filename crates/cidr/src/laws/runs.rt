@@ -21,8 +21,8 @@ pub fn after_a_write_fault()
     ensures { AfterWriteFault }
 {}
 
-/// If the input is too long, exactly the lines were answered that its first bytes complete, for
-/// some number of bytes up to the limit.
+/// If the input is too long, there is a beginning of it, not longer than the limit, such that
+/// exactly the lines that it completes were answered.
 pub fn after_too_long_an_input()
     ensures { AfterTooLong }
 {}

@@ -132,9 +132,9 @@ impl<'b> LineBuffer<'b> {
         &self.buffer[self.line_start..self.start]
     }
 
-    /// Returns whether the pending line is too long however it continues: whether it has more bytes
-    /// than the limit plus one for a carriage return. No line feed may wait, as is the case after
-    /// `next` returned `Ask`.
+    /// Returns whether the pending line is too long however it continues: whether it has at least
+    /// two bytes more than the limit, one of which may be a carriage return. No line feed may wait,
+    /// as is the case after `next` returned `Ask`.
     pub(crate) fn is_too_long(&self) -> bool {
         self.dropped || self.end - self.start >= self.limit + 2
     }

@@ -76,9 +76,9 @@ impl<'b, R: Read> LineReader<'b, R> {
         self.buffer.whole_line()
     }
 
-    /// Returns whether the pending line is too long however it continues: whether it has more bytes
-    /// than the limit plus one for a carriage return. No line feed may wait, as is the case after
-    /// `next` returned `Ask`.
+    /// Returns whether the pending line is too long however it continues: whether it has at least
+    /// two bytes more than the limit, one of which may be a carriage return. No line feed may wait,
+    /// as is the case after `next` returned `Ask`.
     pub(crate) fn is_too_long(&self) -> bool {
         self.buffer.is_too_long()
     }
