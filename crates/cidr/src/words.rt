@@ -4,8 +4,8 @@ ghost use Rattle.cidr.specs.Private.Words.{IsLastWord, IsCut};
 
 use byte_search::find_from;
 
-/// Returns the word of a line that begins at the position `from`, and the position after the blank
-/// that follows it, where the next word begins. Returns `None` if the rest of the line is one word.
+/// Returns the word of a line that begins at the position `from`, and the position of the next
+/// word, after a blank. Returns `None` if the rest of the line is one word.
 #[inline(always)]
 pub(crate) fn cut_word(line: &[u8], from: usize) -> Option<(&[u8], usize)>
     requires { from ≤ length line.now }

@@ -236,7 +236,7 @@ impl<'b> LineBuffer<'b> {
         NextLine::Line(cut.end)
     }
 
-    // Returns where the first waiting line ends, if its line feed waits.
+    // Returns the end of the first waiting line, if its line feed waits.
     fn first_cut(&self) -> Option<Cut>
         ensures { MatchOption result (HasNoFeed (waits self.now)) (IsCut (waits self.now)) }
     {

@@ -36,7 +36,7 @@ pub(crate) struct Cut {
     pub(crate) end: LineEnd,
 }
 
-/// Returns where a line ends if these bytes come before its line feed.
+/// Returns the end of a line that has these bytes before its line feed.
 pub(crate) fn cut_before(raw: &[u8]) -> Cut
     ensures before { result.before ≡ length raw.now }
     ensures content { take result.content raw.now ≡ strip_carriage_return raw.now }

@@ -172,9 +172,8 @@ impl<'b> LineBuffer<'b> {
         NextLine::Line(cut.end)
     }
 
-    // Returns where the first waiting line ends, if its line feed waits.
-    fn first_cut(&self) -> Option<Cut>
-    {
+    // Returns the end of the first waiting line, if its line feed waits.
+    fn first_cut(&self) -> Option<Cut> {
         let (start, searched, end) = (self.start, self.searched, self.end);
         let window = &self.buffer[..end];
         let at = find_far(window, searched, b'\n')?;

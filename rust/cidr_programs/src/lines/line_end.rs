@@ -35,9 +35,8 @@ pub(crate) struct Cut {
     pub(crate) end: LineEnd,
 }
 
-/// Returns where a line ends if these bytes come before its line feed.
-pub(crate) fn cut_before(raw: &[u8]) -> Cut
-{
+/// Returns the end of a line that has these bytes before its line feed.
+pub(crate) fn cut_before(raw: &[u8]) -> Cut {
     let before = raw.len();
     match raw.split_last() {
         Some((last, front)) if *last == b'\r' => Cut {
