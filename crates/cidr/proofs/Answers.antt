@@ -1,4 +1,4 @@
--- The answer to a line, by its words.
+-- The answer to a line, depending on its words.
 use Rattle.std.proofs.Common.{◌≡◌, ℕ, List, ◌∷◌, Option, None, Some, refl, ap, ◌∙◌, subst}
 use Rattle.lines.specs.Buffers.{Filled}
 use Rattle.cidr.specs.Private.Replies.{Adds}
@@ -20,7 +20,7 @@ pub three_word_line : (line command rest first second : List ℕ) → IsWordBefo
 unfolding request_in
 three_word_line line command rest first second e f g = ap request_in (e ∙ ap (λ ws. command ∷ ws) (f ∙ ap (λ ws. first ∷ ws) g))
 
--- a line of more words
+-- a line of more than three words
 pub longer_line : (line command rest first more second last : List ℕ) → IsWordBefore line command rest → IsWordBefore rest first more → IsWordBefore more second last
     → request_in (words line) ≡ unknown
 unfolding request_in
@@ -28,11 +28,11 @@ longer_line line command rest first more second last e f g =
     let (word, later, h) = words_cons last in
     ap request_in (e ∙ ap (λ ws. command ∷ ws) (f ∙ ap (λ ws. first ∷ ws) (g ∙ ap (λ ws. second ∷ ws) h)))
 
--- a function gives nothing where each of its values is ruled out
+-- an option is `None` if each of its values is ruled out
 pub gives_none : {A : Type 0} (o : Option A) → ((x : A) → ¬ (o ≡ Some x)) → o ≡ None
 gives_none None h = refl
 gives_none (Some x) h = absurd (h x refl)
 
--- an answer that was added, by another name
+-- an answer that was added is an equal answer that was added
 pub adds : (old new : Filled) (x y : List ℕ) → Adds old new x → x ≡ y → Adds old new y
 adds old new x y added same = subst (λ (answer : List ℕ). Adds old new answer) same added

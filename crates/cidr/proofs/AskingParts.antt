@@ -1,4 +1,4 @@
--- Parts of an input that ask the routes, and leave them.
+-- Parts of an input that do not change the routes.
 use Rattle.std.proofs.Common.{◌≡◌, ◌≢◌, ℕ, Bool, true, false, cond, List, [], ◌∷◌, ◌++◌, length, drop, codes, refl, sym, ap, ap₂, ◌∙◌, subst, append_assoc}
 use Rattle.std.specs.List.{AllByRecursion}
 use Rattle.std.specs.Prelude.{bytes_eq, nat_lt, Option, None, Some}
@@ -19,7 +19,7 @@ use Rattle.cidr.proofs.PlainLines.{differs}
 use Rattle.cidr.proofs.Splits.{lines_of_both}
 use Rattle.cidr.proofs.Turns.{replies-append}
 
--- the request leaves the routes
+-- the request does not change the routes
 abbrev Leaves : Request → Type 0
 Leaves request = (routes : Routes) → next_routes routes request ≡ routes
 
@@ -27,7 +27,7 @@ one_of : (test : Bool) (x y : Request) → Leaves x → Leaves y → Leaves (con
 one_of true x y first second = first
 one_of false x y first second = second
 
--- the second, where a test fails
+-- if a test fails, the second request is chosen
 second_of : (test : Bool) (x y : Request) → test ≡ false → Leaves y → Leaves (cond test x y)
 second_of test x y fails leaves = subst (λ (b : Bool). Leaves (cond b x y)) (sym fails) leaves
 
@@ -66,7 +66,7 @@ asking_leaves line h =
     one_of (nat_lt 1024 (length line)) too_long (request_in (words line)) (λ routes. refl)
     (subst (λ (these : List (List ℕ)). Leaves (request_in these)) (sym h.cut) (asking_words h.command h.others h.no_add h.no_drop))
 
--- ---- what lines leave
+-- ---- the routes that lines leave
 
 asking_after : (routes : Routes) (ls : List (List ℕ)) → AllByRecursion IsAskingLine ls → routes_after routes ls ≡ routes
 asking_after routes [] asking = refl

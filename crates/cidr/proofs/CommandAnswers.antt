@@ -1,4 +1,4 @@
--- What each command answers, or asks of the routes.
+-- What each command answers, or requests from the routes.
 use Rattle.std.proofs.Common.{◌≡◌, ◌≢◌, ◌↔◌, ℕ, ◌+◌, ◌-◌, ◌*◌, ◌<◌, ◌≤◌, ◌^◌, Bool, true, false, cond, IsTrue, inl, inr, List, Option, Some, Result, Ok, Err, length, codes, refl, sym, ap, ap₂, ◌∙◌, arith}
 use Rattle.std.specs.Prelude.{nat_le}
 use Rattle.std.proofs.Math.Pow.{pow_mono, pow-add}
@@ -30,7 +30,7 @@ use Rattle.cidr.proofs.Answers.{gives_none}
 use Rattle.cidr.proofs.CommandLines.{answered}
 use Rattle.cidr.proofs.EitherAnswers.{value_from}
 
--- reading refuses a text that names nothing
+-- reading rejects a text that names nothing
 pub refuses : {N E : Type 0} (r : Result N E) → ((n : N) → ¬ (Ok n ≡ r)) → (fault : E) × (r ≡ Err fault)
 refuses (Ok n) none = absurd (none n refl)
 refuses (Err fault) none = (fault, refl)
@@ -70,7 +70,7 @@ length-count_up : (start n : ℕ) → length (count_up start n) ≡ n
 unfolding count_up
 length-count_up start n = length-range_with_len start n
 
--- the number of members, and one less where it is the most
+-- the size of a network is its number of members, or one less at prefix length 0
 some_members : (w : ℕ) (n : Network) → IsNetwork w n → n.prefix ≢ 0 → length (members w n) ≡ size_of w n
 some_members w n fits some =
     let half = 2 ^ (w - 1) in
@@ -144,6 +144,6 @@ module _ {N A : Type 0} (Names : List ℕ → N → Type 0) (NamesAddress : List
         asks ∙ ap₂ (λ x y. Plain (membership test x y)) (sym ((reading n).0 network)) (gives_none o (λ a is. none a ((addresses a).1 is))));
   }
 
--- the address that a text names, by what reading answers
+-- the address that a text names, from what reading returns
 pub address_named : {A E : Type 0} (P : Type 0) (error : E) (o : Option A) (a : A) → (P ↔ (Ok a ≡ answer_from error o)) → P ↔ (o ≡ Some a)
 address_named P error o a reading = (λ names. value_from error o a (reading.0 names), λ is. reading.1 (ap (answer_from error) (sym is)))

@@ -1,4 +1,4 @@
--- What the laws of commands let one conclude, where weaker laws would not. Each law is cited by its name.
+-- What can be concluded from the laws of commands, but not from weaker laws. Each law is cited by its name.
 use Rattle.std.proofs.Common.{◌≡◌, ◌≢◌, ℕ, ◌+◌, ◌≤◌, List, [], ◌∷◌, ◌++◌, replicate, length, codes, refl, subst, arith, lit≤, lit<}
 use Rattle.std.specs.Prelude.{decimal}
 use Rattle.ipnetwork_addr.specs.Either.{NamesIp, canonical_ip, IsAddrAtMost}
@@ -22,11 +22,11 @@ use Rattle.cidr.specs.Requests.{Add, Drop, Find, request_of}
 use Rattle.cidr.specs.Routes.{Routes}
 use Rattle.cidr.specs.Words.{blank}
 
--- so many bytes `x`
+-- count bytes `x`
 abbrev xs : ℕ → List ℕ
 xs count = replicate count 120
 
--- ---- `read4` and `read6`: prefix length 0, the last address, and each cause; a line of 1,024 bytes
+-- ---- `read4` and `read6`: prefix length 0, the last address, and each cause of a refusal; a line of 1,024 bytes
 
 abbrev no_v4 : List ℕ → Type 0
 no_v4 text = (a : ℕ) → ¬ (NamesV4 text a)
@@ -71,7 +71,7 @@ read6_causes law a named prefix four none = (
   (law (codes "read6 " ++ xs 1018) (xs 1018) (refl, lit≤ tt)).address (lit≤ tt) none,
 )
 
--- ---- `read` and `ends`: networks of either family, prefix length 0, and a refused text of a line of 1,024 bytes
+-- ---- `read` and `ends`: networks of either family, prefix length 0, and a refused text in a line of 1,024 bytes
 
 abbrev no_network : List ℕ → Type 0
 no_network text = (n : IpNetwork) → ¬ (NamesIpNetwork text n)
@@ -86,7 +86,8 @@ read_of_either_family law four six a b named also none =
       (law (codes "read " ++ xs 1019) (xs 1019) (refl, lit≤ tt)).none none,
     )
 
--- the line gets the ends, the mask and the number of all members, or one less of all addresses of a family
+-- the line gets the lowest and highest address, the mask and the number of members, or one less for all addresses of a
+-- family
 abbrev ends_are_told : List ℕ → IpNetwork → Type 0
 ends_are_told line n = (least : IpAddr) × (greatest : IpAddr) × (mask : IpAddr) × (number : ℕ)
     × IsAnswered line (canonical_ip least ++ blank ∷ canonical_ip greatest ++ blank ∷ canonical_ip mask ++ blank ∷ decimal number)
@@ -138,7 +139,7 @@ has_answers law four six a b all every last first is also other none = (
   (law (codes "has ::/0 " ++ xs 1015) (codes "::/0") (xs 1015) (refl, lit≤ tt)).no_address (V6 six) every none,
 )
 
--- `rel` by the sets, whichever of the four it is
+-- `rel` by the sets, for each of the four answers
 relates : RelLaw → (line text other : List ℕ) (a b : IpNetwork) → HasWords line (codes "rel" ∷ text ∷ other ∷ []) → IsIpNetwork a → IsIpNetwork b → NamesIpNetwork text a → NamesIpNetwork other b
     → (IpSubnet a b → IpSubnet b a → IsAnswered line (codes "same")) × (IpSubnet a b → ¬ (IpSubnet b a) → IsAnswered line (codes "inside"))
     × (¬ (IpSubnet a b) → IpSubnet b a → IsAnswered line (codes "around")) × (¬ (IpSubnet a b) → ¬ (IpSubnet b a) → IsAnswered line (codes "apart"))
@@ -161,7 +162,7 @@ rel_answers law four six a b all every less more same none nothing = (
   (law (codes "rel ::/0 " ++ xs 1015) (codes "::/0") (xs 1015) (refl, lit≤ tt)).no_second nothing,
 )
 
--- ---- `add`, `drop` and `find`: either family, the least and the greatest number
+-- ---- `add`, `drop` and `find`: either family, the lowest and the greatest number
 
 pub add_asks : AddLaw → (four six : Network) → NamesIpNetwork (codes "0.0.0.0/0") (V4 four) → NamesIpNetwork (codes "::/0") (V6 six) → IsPrefixNumber (codes "+0") 0 → IsPrefixNumber (codes "4294967295") 4294967295
     → IsNoPrefixNumber (codes "4294967296") 4294967295 → no_network (xs 1018)
@@ -190,13 +191,13 @@ find_asks law a b last first none = (
   (law (codes "find " ++ xs 1019) (xs 1019) (refl, lit≤ tt)).no_address none,
 )
 
--- ---- other lines: no word, a name without a word, too many words; one byte more than 1,024
+-- ---- other lines: no words, a name without a word, too many words; one byte more than 1,024
 
 pub unknown_commands : UnknownLaw → IsAnswered [] (codes "unknown command") × IsAnswered (codes "read") (codes "unknown command")
     × IsAnswered (codes "add ::/0 1 ") (codes "unknown command") × IsAnswered (xs 1024) (codes "unknown command")
 unknown_commands law = (law [] (lit≤ tt) (λ h. h), law (codes "read") (lit≤ tt) (λ h. h), law (codes "add ::/0 1 ") (lit≤ tt) (λ h. h), law (xs 1024) (lit≤ tt) (λ h. h))
 
--- whatever the routes are, it gets that answer, no other, and leaves them
+-- whatever the routes are, the line gets exactly that answer and does not change them
 pub too_long_a_line : LongLaw → (before after : Routes) (answer : List ℕ) → let line = codes "read " ++ xs 1020 in
     MayGet before (request_of line) (codes "line too long") before × (MayGet before (request_of line) answer after → (answer ≡ codes "line too long") × (after ≡ before))
 too_long_a_line law before after answer =

@@ -1,4 +1,4 @@
--- What the words of a line make of it.
+-- What the words of a line request.
 use Rattle.std.proofs.Common.{◌≡◌, ℕ, Bool, false, cond, List, [], ◌∷◌, codes, refl, sym, ap, ◌∙◌, subst, arith, inl}
 use Rattle.cidr.specs.Laws.Commands.{HasWords, IsAnswered, IsCommand, UnknownLaw, LongLaw}
 use Rattle.cidr.specs.Output.{MayGet}
@@ -7,20 +7,20 @@ use Rattle.cidr.specs.Words.{words}
 use Rattle.cidr.proofs.LongLines.{request_long, request_short}
 use Rattle.cidr.proofs.PlainLines.{differs, plain_gets}
 
--- a line that asks nothing of the routes has one answer
+-- a line that does not use the routes has one answer
 pub answered : (line text : List ℕ) → request_of line ≡ Plain text → IsAnswered line text
 answered line text asks before after answer = (
   λ gets. plain_gets text answer before after (subst (λ (q : Request). MayGet before q answer after) asks gets),
   λ is. subst (λ (q : Request). MayGet before q answer after) (sym asks) (inl is),
 )
 
--- what it asks computes from its words
+-- what a line requests is computed from its words
 pub asks : (line : List ℕ) (these : List (List ℕ)) → HasWords line these → request_of line ≡ request_in these
 asks line these h = request_short line h.1 ∙ ap request_in h.0
 
 -- ---- all other lines
 
--- a test that fails, and what is left
+-- a test that fails, and the rest after it
 passed : (test : Bool) (x y z : Request) → test ≡ false → y ≡ z → cond test x y ≡ z
 passed test x y z fails rest = ap (λ b. cond b x y) fails ∙ rest
 

@@ -1,4 +1,4 @@
--- What `rel` answers, and what `add`, `drop` and `find` ask.
+-- What `rel` answers, and what `add`, `drop` and `find` request.
 use Rattle.std.proofs.Common.{◌≡◌, ◌↔◌, ℕ, List, None, Some, Result, Ok, Err, refl, sym, ap, ap₂, ◌∙◌}
 use Rattle.ipnetwork_addr.specs.Either.{NamesIp}
 use Rattle.ipnetwork_addr.specs.Computed.Either.{ip_of}
@@ -20,7 +20,7 @@ use Rattle.cidr.proofs.Requests.{NumberIsComputed, number_is, number_is_none}
 abbrev pub IsRead : List ℕ → Type 0
 IsRead text = (n : IpNetwork) → NamesIpNetwork text n ↔ (Ok n ≡ ip_network_of text)
 
--- a text that names none is refused
+-- a text that names no network is refused
 unread : (text : List ℕ) → IsRead text → ((n : IpNetwork) → ¬ (NamesIpNetwork text n)) → (fault : CidrFault) × (ip_network_of text ≡ Err fault)
 unread text reading none = refuses (ip_network_of text) (λ n is. none n ((reading n).1 is))
 

@@ -1,4 +1,4 @@
--- The output that is computed may be written, and any other has an answer `out of memory`.
+-- The computed output is allowed, and any other allowed output has an answer `out of memory`.
 use Rattle.std.proofs.Common.{◌≡◌, ◌≢◌, ℕ, inl, inr, List, [], ◌∷◌, ◌++◌, refl, ap, ap₂, ◌∙◌, subst}
 use Rattle.std.specs.List.{AllByRecursion}
 use Rattle.std.specs.Str.Lines.{lines}
@@ -25,19 +25,19 @@ suffices : (r s : Routes) (q : Request) (x : List ℕ) → MayGet r q x s → x 
 suffices r s q x (inl gets) other = gets
 suffices r s q x (inr out) other = absurd (other (says_so r s q x out))
 
--- what it leaves, whatever it gets
+-- the routes that a request leaves, whatever answer it gets
 pub leaves : (r s : Routes) (q : Request) (x : List ℕ) → Gets r q x s → s ≡ next_routes r q
 leaves r s (Add n v) x gets = gets.1
 leaves r s (Drop n) x gets = gets.1
 leaves r s (Find a) x gets = gets.1
 leaves r s (Plain y) x gets = gets.1
 
--- what lines leave
+-- the routes that lines leave
 abbrev pub routes_after : Routes → List (List ℕ) → Routes
 routes_after r [] = r
 routes_after r (l ∷ ls) = routes_after (next_routes r (request_of l)) ls
 
--- ---- what is computed may be written
+-- ---- the computed output is allowed
 
 module _ (computed : AnswerIsComputed ℕ) where
   gets_computed : (r : Routes) (q : Request) → Gets r q (request_answer r q) (next_routes r q)
@@ -54,7 +54,7 @@ module _ (computed : AnswerIsComputed ℕ) where
   compute r [] = refl
   compute r (l ∷ ls) = (next_routes r (request_of l), gets_computed r (request_of l), compute (next_routes r (request_of l)) ls)
 
-  -- answers to the first lines go on to answers to all
+  -- answers to the first lines can be extended to answers to all lines
   pub goes_on_to_all : (r : Routes) (ls xs : List (List ℕ)) → FirstInTurn LineMayGet r ls xs → (ys : List (List ℕ)) × (s : Routes) × MayAnswer r ls (xs ++ ys) s
   goes_on_to_all r ls [] some = (answers_from r ls, routes_after r ls, may_compute r ls)
   goes_on_to_all r [] (x ∷ xs) some = absurd some
@@ -64,7 +64,7 @@ module _ (computed : AnswerIsComputed ℕ) where
   pub computed_allowed : ComputedIsAllowed
   computed_allowed input = (routes_after no_routes (lines input), (answers_from no_routes (lines input), may_compute no_routes (lines input), refl))
 
--- ---- keys without host bits stay so
+-- ---- keys without host bits remain so
 
 module _ (laws : KeyLaws) where
   pub next_keys : (r : Routes) (q : Request) → HasClearKeys r → HasClearKeys (next_routes r q)
@@ -73,7 +73,7 @@ module _ (laws : KeyLaws) where
   next_keys r (Find a) keys = keys
   next_keys r (Plain x) keys = keys
 
--- ---- and nothing else may, without an answer `out of memory`
+-- ---- nothing else is allowed without an answer `out of memory`
 
 module _ (computed : AnswerIsComputed ℕ) (one : AnswerIsOne ℕ) (laws : KeyLaws) where
   one_way : (r s : Routes) (q : Request) (x : List ℕ) → HasClearKeys r → Gets r q x s → (x ≡ request_answer r q) × (s ≡ next_routes r q)

@@ -1,4 +1,4 @@
--- What follows from how a run went, where the reader and the writer tell their bytes.
+-- What follows from how a run ended, if the contracts of the reader and the writer tell their bytes.
 use Rattle.std.proofs.Common.{◌≡◌, ℕ, ◌<◌, ◌≤◌, List, ◌++◌, length, take, sym, ap, ◌∙◌, subst, append-nil}
 use Rattle.std.proofs.lemmas.List.{append_cancel_right}
 use Rattle.std.proofs.Math.Seq.{take-append_seam}
@@ -10,7 +10,7 @@ use Rattle.cidr.specs.Output.{IsOutput}
 use Rattle.cidr.specs.Run.{Ran, BeginsOutput}
 use Rattle.cidr.specs.Laws.Runs.{AfterOk, AfterReadFault, AfterWriteFault, AfterTooLong}
 
--- the run read what the reader lost
+-- the run read the bytes that the reader lost
 was_read : (limit : ℕ) (read rest : List ℕ) (held holds : Option (List ℕ)) (result : Result (Unit {0}) RunFault)
     → (ran : Ran limit (Some (read ++ rest)) (Some rest) held holds result) → ran.read ≡ read
 was_read limit read rest held holds result ran = sym (append_cancel_right read ran.read rest ran.reads)
@@ -39,7 +39,7 @@ after_write_fault limit read rest held holds ran =
       ran.writes,
     )
 
--- a beginning is so many of the first bytes
+-- a beginning is some number of the first bytes
 first_bytes : (front whole : List ℕ) → IsBeginning front whole → front ≡ take (length front) whole
 first_bytes front whole h = sym (ap (take (length front)) h.1 ∙ take-append_seam front h.0)
 

@@ -1,9 +1,9 @@
--- The answers of the commands over both families.
+-- The answers of the commands that work on both families.
 use Rattle.std.proofs.Common.{◌≡◌, ◌↔◌, Bool, true, false, Option, None, Some, Ok, IsTrue, refl, sym, ap, ◌∙◌}
 use Rattle.std.specs.Result.{result_ok}
 use Rattle.ipnetwork_addr.specs.Computed.Reading.{answer_from}
 
--- the value behind an answer
+-- the value in a result
 pub value_of : {A E : Type 0} (error : E) (o : Option A) → result_ok (answer_from error o) ≡ o
 value_of error None = refl
 value_of error (Some value) = refl
@@ -14,7 +14,7 @@ value_from error o value e = sym (ap result_ok e ∙ value_of error o)
 no_truth : false ≡ true → ⊥
 no_truth e = cc
 
--- two tests of one fact have one answer
+-- two tests of the same fact have the same result
 pub same_test : (s t : Bool) (P : Type 0) → (IsTrue s ↔ P) → (IsTrue t ↔ P) → s ≡ t
 same_test true true P h k = refl
 same_test true false P h k = absurd (no_truth (k.1 (h.0 refl)))

@@ -1,4 +1,4 @@
--- Lines at which a misreading of the definitions would show. Each of these computes.
+-- Lines that would reveal a misreading of the definitions. Each of these facts is computed.
 use Rattle.std.proofs.Common.{◌≡◌, [], ◌∷◌, ◌++◌, refl}
 use Rattle.std.specs.Prelude.{codes}
 use Rattle.std.specs.Fmt.{digits}
@@ -9,13 +9,13 @@ use Rattle.ipnetwork.specs.declared.ip_network.IpNetwork.TheVariants.{V4}
 use Rattle.ipnetwork_addr.specs.Computed.Ipv6Text.{v6_of, gap_below}
 use Rattle.cidr.specs.Requests.{Add, Plain, route_number_of, one_word_request, two_words_request, request_in, request_of}
 
--- a return before a line feed is part of the end, one at the end of the input is part of the word
+-- a carriage return before a line feed is part of the line ending; one at the end of the input is part of the word
 pub returns : (output_of (codes "has4 10.0.0.0/8 10.255.255.255" ++ (13 ∷ 10 ∷ [])) ≡ codes "yes" ++ (10 ∷ []))
     × (output_of (codes "has4 10.0.0.0/8 10.255.255.255" ++ (13 ∷ [])) ≡ codes "refused address" ++ (10 ∷ []))
 unfolding digits request_of request_in two_words_request
 returns = (refl, refl)
 
--- an empty line, and no line
+-- an empty line, and an input without lines
 pub no_words : (output_of (10 ∷ []) ≡ codes "unknown command" ++ (10 ∷ [])) × (output_of [] ≡ [])
 unfolding request_of request_in
 no_words = (refl, refl)
@@ -24,8 +24,8 @@ pub unfinished_line : complete_part (codes "ab" ++ (10 ∷ codes "cd")) ≡ code
 unfolding complete_part
 unfinished_line = refl
 
--- a slash behind the suffix; two blanks; the network is judged first; an address below the network's own is a member
--- all the same
+-- a slash after the suffix; two blanks; the network is checked first; an address below the network's own is still a
+-- member
 pub of_ipv4 : (answer_of (codes "read4 1.2.3.4/24/") ≡ codes "refused format")
     × (answer_of (codes "read4  1.2.3.4/24") ≡ codes "unknown command")
     × (answer_of (codes "has4 x y") ≡ codes "refused network")
@@ -35,20 +35,20 @@ of_ipv4 = (refl, refl, refl, refl)
 
 -- ---- networks of either family
 
--- one refusal; the ends in order; the size of all addresses has its cap
+-- one refusal; the ends in order; the number of all addresses is capped
 pub of_a_network : (answer_of (codes "read 10.0.0.0/99") ≡ codes "refused")
     × (answer_of (codes "ends 10.1.9.32/16") ≡ codes "10.1.0.0 10.1.255.255 255.255.0.0 65536")
     × (answer_of (codes "ends 10.0.0.0/0") ≡ codes "0.0.0.0 255.255.255.255 0.0.0.0 4294967295")
 unfolding digits v6_of gap_below request_of request_in one_word_request read_answer ends_answer
 of_a_network = (refl, refl, refl)
 
--- no IPv4 address is one of IPv6; an address below the network's own is a member
+-- no IPv4 address is a member of an IPv6 network; an address below the network's own is a member
 pub memberships : (answer_of (codes "has ::/0 1.2.3.4") ≡ codes "no")
     × (answer_of (codes "has 10.0.0.5/8 10.0.0.1") ≡ codes "yes")
 unfolding digits v6_of gap_below request_of request_in two_words_request has_answer
 memberships = (refl, refl)
 
--- host bits do not count; the families are apart
+-- host bits are ignored; networks of different families are apart
 pub relations : (answer_of (codes "rel 10.0.0.1/24 10.0.0.0/24") ≡ codes "same")
     × (answer_of (codes "rel 10.0.0.0/30 10.0.0.5/24") ≡ codes "inside")
     × (answer_of (codes "rel 10.0.0.0/8 10.0.0.5/24") ≡ codes "around")
@@ -56,7 +56,7 @@ pub relations : (answer_of (codes "rel 10.0.0.1/24 10.0.0.0/24") ≡ codes "same
 unfolding digits v6_of gap_below request_of request_in two_words_request rel_answer
 relations = (refl, refl, refl, refl)
 
--- ---- what lines ask of the routes
+-- ---- what lines request from the routes
 
 -- an `add` keeps the network, and its number has at most 32 bits
 pub asked_to_add : (request_of (codes "add 10.0.0.1/8 +05") ≡ Add (V4 (record { address = 167772161; prefix = 8 })) 5)

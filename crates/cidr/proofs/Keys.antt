@@ -1,4 +1,4 @@
--- Routes whose keys have no host bits, and get none.
+-- Routes whose keys have no host bits, and never get any.
 use Rattle.std.proofs.Common.{ℕ}
 use Rattle.ipnetwork.specs.declared.ip_network.IpNetwork.{IpNetwork}
 use Rattle.ipnetwork.specs.declared.ip_network.IpNetwork.TheVariants.{V4, V6}
@@ -7,7 +7,7 @@ use Rattle.ipnetwork_table.specs.Laws.{EmptyHasNoHostBits, InsertAddsNoHostBits,
 use Rattle.ipnetwork_table.specs.Table.{HasNoHostBits}
 use Rattle.cidr.specs.Routes.{Routes, no_routes, with_number, without}
 
--- what the table says of keys without host bits
+-- what the table promises about keys without host bits
 pub record KeyLaws : Type 0 where
   pub empty : EmptyHasNoHostBits ℕ
   pub insert : InsertAddsNoHostBits ℕ

@@ -1,4 +1,4 @@
--- What the laws of outputs, routes, runs and sets let one conclude, where weaker laws would not. Each law is cited by
+-- What can be concluded from the laws of outputs, routes, runs and sets, but not from weaker laws. Each law is cited by
 -- its name.
 use Rattle.std.proofs.Common.{◌≡◌, ◌≢◌, ℕ, ◌≤◌, false, true≢false, List, [], ◌∷◌, ◌++◌, length, drop, take, codes, refl, sym, ap, ◌∙◌, inl, inr, ⊎_elim, arith, lit≤}
 use Rattle.std.specs.Prelude.{◌⊎◌, ◌↔◌, decimal, Option, None, Some, IsSome, Ok, Err, bytes_eq}
@@ -34,23 +34,23 @@ use Rattle.cidr.specs.Words.{words, blank}
 
 -- ---- runs
 
--- an input past the limit does not end in Ok
+-- a run with an input past the limit does not end in Ok
 pub ok_is_within_the_limit : AfterOk → (held holds : List ℕ) (left : Option (List ℕ)) → ¬ (Ran 3 (Some (codes "read")) left (Some held) (Some holds) (Ok tt))
 ok_is_within_the_limit law held holds left ran = absurd (omega (arith, (law 3 (codes "read") held holds left tt ran).0))
 
--- nor is so much read where a device fails
+-- no more than the limit is read if a device fails
 pub read_fault_is_within_the_limit : AfterReadFault → (held holds : List ℕ) → ¬ (Ran 3 (Some (codes "read" ++ [])) (Some []) (Some held) (Some holds) (Err Read))
 read_fault_is_within_the_limit law held holds ran = absurd (omega (arith, (law 3 (codes "read") [] held holds ran).0))
 
 pub write_fault_is_within_the_limit : AfterWriteFault → (held holds : List ℕ) → ¬ (Ran 3 (Some (codes "read" ++ [])) (Some []) (Some held) (Some holds) (Err Write))
 write_fault_is_within_the_limit law held holds ran = absurd (omega (arith, (law 3 (codes "read") [] held holds ran).0))
 
--- and an input within the limit is not too long
+-- an input within the limit is not too long
 pub within_the_limit_is_not_too_long : AfterTooLong → (held holds : List ℕ) → ¬ (Ran 4 (Some (codes "read" ++ [])) (Some []) (Some held) (Some holds) (Err InputTooLong))
 within_the_limit_is_not_too_long law held holds ran = absurd (omega (arith, (law 4 (codes "read") [] held holds ran).0))
 
--- what is written is behind what the writer held: an output of the input, of the lines that were read whole, a beginning
--- of one, or an output of no more lines than are within the limit
+-- what is written comes after what the writer held: an output for the input, an output for the lines that were read
+-- completely, a beginning of an output, or an output for no more lines than are within the limit
 abbrev behind : List ℕ → List ℕ → (List ℕ → Type 0) → Type 0
 behind held holds IsWritten = (written : List ℕ) × IsWritten written × (holds ≡ held ++ written)
 
@@ -90,7 +90,7 @@ has_by_sets law four six a b all every last first = (
   (law (codes "::/0") (codes "255.255.255.255") six a every last).1.0 refl,
 )
 
--- and from the sets to the answer
+-- from the sets to the answer
 pub sets_have : Has4AnswersMembership → HasAnswersMembership → (text word : List ℕ) (n : Network) (a : ℕ) (k : IpNetwork) (c : IpAddr) → NamesV4Network text n → NamesV4 word a → NamesIpNetwork text k → NamesIp word c
     → (Member 32 n a → has4_answer text word ≡ codes "yes") × (¬ (Member 32 n a) → has4_answer text word ≡ codes "no") × (IpMember k c → has_answer text word ≡ codes "yes") × (¬ (IpMember k c) → has_answer text word ≡ codes "no")
 sets_have has4 has text word n a k c network address either also =
@@ -108,7 +108,7 @@ rel_by_sets law all ten six a b c every named also = (
 
 -- ---- routes
 
--- an `add` of a block that has a number is never out of memory; one that is leaves the routes
+-- an `add` of a block that has a number never runs out of memory, and an `add` that does leaves the routes unchanged
 changed : (before after : Routes) (n : IpNetwork) (number old : ℕ) (answer : List ℕ) → number_at before n ≡ Some old → GetsAdd before n number answer after → (answer ≡ codes "changed") × Renumbers before n (Some number) after
 changed before after n number old answer had (New none is put) = absurd (none-some old (sym none ∙ had))
 changed before after n number old answer had (Changed other found is put) = (is, put)
@@ -120,7 +120,7 @@ added before after n number answer none (New had is put) = inl (is, put)
 added before after n number answer none (Changed old had is put) = absurd (none-some old (sym none ∙ had))
 added before after n number answer none (OutOfMemory had is same) = inr (is, same)
 
--- the numbers of the same set and of another one, whatever the families are
+-- the numbers of networks with the same set and of others, whatever the families are
 abbrev are_renumbered : Routes → IpNetwork → Option ℕ → Routes → Type 0
 are_renumbered before n number after = (m k : IpNetwork) → IsIpNetwork m → IsIpNetwork k → IpSubnet m n → IpSubnet n m → ¬ (IpSubnet k n × IpSubnet n k)
     → (number_at after m ≡ number) × (number_at after k ≡ number_at before k)
@@ -154,7 +154,8 @@ drops law before after n old answer good gets =
       λ none. let is = absent before after n answer none got in (is.0, renumbered before after n None is.1),
     )
 
--- what is found is at least as long as any block that holds the address; nothing is found if none does
+-- the block found is at least as long as any block that contains the address, and nothing is found if no block contains
+-- it
 longest : (routes : Routes) (m : IpNetwork) (a : IpAddr) (answer : List ℕ) → IsSome (number_at routes m) → IpMember m a → GetsFind routes a answer
     → (n : IpNetwork) × (number : ℕ) × (number_at routes n ≡ Some number) × (address_of n ≡ ip_low n) × IpMember n a × (prefix_of m ≤ prefix_of n) × (answer ≡ ip_network_text n ++ blank ∷ decimal number)
 longest routes m a answer has holds (Longest n number had block member best is) = (n, number, had, block, member, best m has holds, is)
@@ -183,7 +184,7 @@ first_lines find drop_ add one two three a n m finding dropping adding last all 
 
 -- ---- outputs
 
--- two full outputs are the same, and each input has one, which may be written
+-- each input has exactly one full output, which is allowed
 pub one_full_output : FullIsComputed → ComputedIsAllowed → (input one other : List ℕ) → (IsFullOutput input one → IsFullOutput input other → one ≡ other) × IsFullOutput input (output_of input) × IsOutput input (output_of input)
 one_full_output full allowed input one other = (λ a b. (full input one).0 a ∙ sym ((full input other).0 b), (full input (output_of input)).1 refl, allowed input)
 
@@ -199,18 +200,18 @@ unrefused_lines law input is = law input (codes "new" ++ 10 ∷ codes "none" ++ 
 abbrev routing : List (List ℕ)
 routing = codes "add" ∷ codes "drop" ∷ codes "find" ∷ []
 
--- a line whose first word is `rel` is a plain one
+-- a line whose first word is `rel` is a plain line
 pub rel_is_plain : OthersAreRouting → (line : List ℕ) (others : List (List ℕ)) → words line ≡ codes "rel" ∷ others → ¬ (¬ (IsPlainLine line))
 rel_is_plain law line others cut not =
     let found = law line not in
     let unlike : All (λ command. command ≢ codes "rel") routing = All-from_recursion (λ command. command ≢ codes "rel") routing (apart (codes "add") (codes "rel") refl, (apart (codes "drop") (codes "rel") refl, (apart (codes "find") (codes "rel") refl, tt))) in
     All-contains (λ command. command ≢ codes "rel") routing found.0 unlike found.3 (cc (found.2, cut))
 
--- over any routes
+-- plain lines, whatever the routes are
 pub plain_lines : PlainLinesAskNothing → (line answer : List ℕ) (before after : Routes) → IsPlainLine line → MayGet before (request_of line) (answer_of line) before × (MayGet before (request_of line) answer after → (answer ≡ answer_of line) × (after ≡ before))
 plain_lines law line answer before after plain = ((law line (answer_of line) before before plain).1 (refl, refl), (law line answer before after plain).0)
 
--- two lines, of which the last has no line feed
+-- two lines, the last of which has no line feed
 plain : (line command : List ℕ) (others : List (List ℕ)) → words line ≡ command ∷ others → bytes_eq command (codes "add") ≡ false → bytes_eq command (codes "drop") ≡ false → bytes_eq command (codes "find") ≡ false → IsPlainLine line
 plain line command others cut add drop_ find =
     record { asking = record { command = command; others = others; cut = cut; no_add = apart command _ add; no_drop = apart command _ drop_ }; no_find = apart command _ find }

@@ -1,4 +1,4 @@
--- What is asked by a line that is too long, and by one that is not.
+-- What a line requests if it is too long, and if it is not.
 use Rattle.std.proofs.Common.{◌≡◌, ℕ, ◌<◌, ◌≤◌, List, length, cond, ap}
 use Rattle.std.proofs.lemmas.Bool.{lt-ltb, le-ltb}
 use Rattle.cidr.specs.Requests.{too_long, request_in, request_of}

@@ -1,4 +1,4 @@
--- The answers by membership and by sets, of texts that name networks and addresses.
+-- The answers about membership and about sets, for texts that name networks and addresses.
 use Rattle.std.proofs.Common.{◌≡◌, ◌↔◌, ℕ, List, length, Bool, true, false, cond, IsTrue, codes, get_or, refl, ap, arith}
 use Rattle.std.specs.Prelude.{Ok, Some}
 use Rattle.ipnetwork_addr.specs.Computed.Ipv4Text.{v4_of}
@@ -18,7 +18,7 @@ use Rattle.cidr.specs.Laws.Sets.{Relates}
 no_truth : false ≡ true → ⊥
 no_truth e = cc
 
--- the answer tells whether the test held, and so whether the fact does
+-- the answer says whether the test succeeded, and therefore whether the fact holds
 told_by : (t : Bool) (P : Type 0) → (IsTrue t ↔ P)
     → ((cond t (codes "yes") (codes "no") ≡ codes "yes") ↔ P) × ((cond t (codes "yes") (codes "no") ≡ codes "no") ↔ ¬ P)
 told_by true P h = ((λ e. h.0 refl, λ p. refl), (λ e. absurd (omega (arith, ap length e)), λ np. absurd (np (h.0 refl))))
@@ -38,7 +38,7 @@ has_ip_members text word n a test network address = rw (← network, address) (t
 abbrev first : List ℕ → ℕ
 first text = get_or text 0 0
 
--- `rel`: the word tells which of the two tests held
+-- `rel`: the word says which of the two tests succeeded
 relates : (s t : Bool) (a b : IpNetwork) → (IsTrue s ↔ IpSubnet a b) → (IsTrue t ↔ IpSubnet b a)
     → Relates (cond s (cond t (codes "same") (codes "inside")) (cond t (codes "around") (codes "apart"))) a b
 relates true true a b h k = record {

@@ -1,4 +1,4 @@
--- A line that asks nothing of the routes.
+-- Lines that do not use the routes.
 use Rattle.std.proofs.Common.{◌≡◌, ◌≢◌, ℕ, Bool, inl, inr, true, false, cond, List, [], ◌∷◌, ◌++◌, length, codes, refl, sym, ap, ap₂, ◌∙◌, subst, ◌<◌, arith}
 use Rattle.std.specs.List.{flat_map, AllByRecursion}
 use Rattle.std.specs.Prelude.{bytes_eq, nat_lt, Contains, slice_index_or}
@@ -19,7 +19,7 @@ use Rattle.cidr.proofs.Cuts.{words_cons}
 no_truth : false ≡ true → ⊥
 no_truth e = cc
 
--- bytes that a test tells apart
+-- bytes that a test shows to differ
 apart : (xs ys : List ℕ) → bytes_eq xs ys ≡ false → xs ≢ ys
 apart xs ys differ same = no_truth (sym differ ∙ (bytes_eq-Decides xs ys).1 same)
 
@@ -30,16 +30,16 @@ Named line = (command : List ℕ) × (others : List (List ℕ)) × (words line �
 pub differs : (xs ys : List ℕ) → xs ≢ ys → bytes_eq xs ys ≡ false
 differs xs ys apart = false_from_ne_true (bytes_eq xs ys) (λ e. apart ((bytes_eq-Decides xs ys).0 e))
 
--- the request asks nothing of the routes
+-- the request does not use the routes
 abbrev IsPlain : Request → Type 0
 IsPlain request = request ≡ Plain (request_answer no_routes request)
 
--- one that is chosen among two such requests
+-- a request chosen from two such requests
 one_of_plain : (test : Bool) (x y : Request) → IsPlain x → IsPlain y → IsPlain (cond test x y)
 one_of_plain true x y first second = first
 one_of_plain false x y first second = second
 
--- the second, where a test fails
+-- if a test fails, the second request is chosen
 second_plain : (test : Bool) (x y : Request) → test ≡ false → IsPlain y → IsPlain (cond test x y)
 second_plain test x y fails plain = subst (λ (b : Bool). IsPlain (cond b x y)) (sym fails) plain
 
@@ -84,7 +84,7 @@ asks_nothing line answer before after plain = (
   λ is. subst (λ (q : Request). MayGet before q answer after) (sym (plain_request line plain)) (inl is),
 )
 
--- each other line begins with one of the three commands
+-- every other line begins with one of the three commands
 pub others_routing : OthersAreRouting
 others_routing line routing =
     let (command, others, cut) = words_cons line in
@@ -103,7 +103,7 @@ others_routing line routing =
       ] refl
     ] refl
 
--- ---- such lines alone
+-- ---- inputs of such lines only
 
 abbrev answers_of : List (List ℕ) → List ℕ
 answers_of ls = flat_map (λ line. reply (answer_of line)) ls

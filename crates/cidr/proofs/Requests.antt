@@ -1,4 +1,4 @@
--- What requests get, by the words that ask for them.
+-- What requests get, depending on the words of the line.
 use Rattle.std.proofs.Common.{◌≡◌, ◌↔◌, ℕ, ◌≤◌, cond, List, Option, None, Some, inl, inr, refl, sym, ap, subst, ◌∙◌}
 use Rattle.std.proofs.lemmas.Bool.{le-leb}
 use Rattle.std.proofs.lemmas.Bool.Decides.{leb_tells}
@@ -18,13 +18,13 @@ plain_reply r old new text adds = (text, inl (refl, refl), adds)
 pub reply_with : (r s : Routes) (q : Request) (old new : Filled) (answer : List ℕ) → MayGet r q answer s → Adds old new answer → RepliesTo r q old new s
 reply_with r s q old new answer gets adds = (answer, gets, adds)
 
--- a request by another name
+-- a reply to a request is a reply to an equal request
 pub replies_as : (r s : Routes) (p q : Request) (old new : Filled) → p ≡ q → RepliesTo r q old new s → RepliesTo r p old new s
 replies_as r s p q old new same replies = subst (λ (x : Request). RepliesTo r x old new s) (sym same) replies
 
 -- ---- numbers
 
--- what the library says of numbers
+-- what the library promises about numbers
 abbrev pub NumberIsComputed : Type 0
 NumberIsComputed = (text : List ℕ) (value : ℕ) → IsPrefixNumber text value ↔ (prefix_number_of text ≡ Some value)
 

@@ -1,4 +1,4 @@
--- What `add`, `drop` and `find` get, by networks and sets.
+-- What `add`, `drop` and `find` do, in terms of networks and sets.
 use Rattle.std.proofs.Common.{◌≡◌, ◌≢◌, ℕ, ◌⊎◌, inl, inr, List, [], ◌∷◌, Option, None, Some, codes, is_some, refl, sym, ap, ◌∙◌, subst, arith}
 use Rattle.std.specs.Prelude.{IsSome}
 use Rattle.std.specs.FinMap.{FinMap, get, get-empty}
@@ -23,9 +23,9 @@ use Rattle.cidr.specs.Routes.{Routes, no_routes, number_at, with_number, without
 use Rattle.cidr.proofs.Computed.{leaves, next_keys}
 use Rattle.cidr.proofs.Keys.{KeyLaws, HasClearKeys, no_keys}
 
--- ---- one block gets a number, or none
+-- ---- one block gets a number or loses it
 
--- the block of n has this number from before to after, and all else is the same
+-- from before to after, the block of n gets this number, or loses its number, and all else stays the same
 abbrev IsPut : ℕ → FinMap network_cmp ℕ → Network → Option ℕ → FinMap network_cmp ℕ → Type 0
 IsPut w before n number after = (get after (block_of w n) ≡ number) × ((q : Network) → q ≢ block_of w n → get after q ≡ get before q)
 
@@ -41,7 +41,7 @@ module _ (one_set : SameSet) (w : ℕ) (before after : FinMap network_cmp ℕ) (
   put_other apart =
       put.1 (block_of w m) (λ block. apart ((one_set w m n fits_too fits).1 (ap (λ k. k.prefix) block, ap (λ k. k.address) block)))
 
--- of networks of both families
+-- networks of different families are apart
 abbrev pub FamiliesApart : Type 0
 FamiliesApart = (a b : Network) → IsNetwork 32 a → IsNetwork 128 b → AreApart (V4 a) (V6 b)
 
@@ -138,7 +138,7 @@ own_block : (w : ℕ) (n : Network) → HostBitsAreZero w n → block_of w n ≡
 own_block w n block = λ i. record { address = sym block i; prefix = n.prefix }
 
 module _ (one_set : BlockHasSameSet) (routes : Routes) (a : ℕ) where
-  -- a network with a number that has the address, as its family's table has it: by its block
+  -- a network that has a number and contains the address, given by its block in its family's table
   abbrev IsHeld : ℕ → FinMap network_cmp ℕ → IpNetwork → Type 0
   IsHeld w table m = (n : Network) × IsSome (get table n) × Member w n a × (prefix_of m ≡ n.prefix)
 
@@ -180,7 +180,7 @@ finds_get one_set laws before after a answer left (inr out) = absurd out
 
 -- ---- the first line
 
--- it gets its answer over no routes, and the output begins with that
+-- the first line gets its answer with no routes, and the output begins with it
 abbrev First : List ℕ → List ℕ → Type 0
 First line output = (x : List ℕ) × (after : Routes) × MayGet no_routes (request_of line) x after × IsBeginning (reply x) output
 
@@ -192,7 +192,7 @@ first_line : (input output line : List ℕ) (others : List (List ℕ)) → IsOut
 first_line input output line others h cut =
     first_turn line others h.1.0 output h.0 (subst (λ (ls : List (List ℕ)). MayAnswer no_routes ls h.1.0 h.0) cut h.1.1) h.1.2
 
--- so where it asks this request, and the request gets one answer, the output begins with that
+-- if the first line makes this request, and the request has only one answer, the output begins with that answer
 begins : (line output text : List ℕ) (q : Request) → First line output → request_of line ≡ q → ((x : List ℕ) (after : Routes) → MayGet no_routes q x after → x ≡ text) → IsBeginning (reply text) output
 begins line output text q first asks one =
     subst (λ (x : List ℕ). IsBeginning (reply x) output) (one first.0 first.1 (subst (λ (p : Request). MayGet no_routes p first.0 first.1) asks first.2)) first.3

@@ -1,4 +1,4 @@
--- How a run goes on from line to line, and how it ends.
+-- How a run proceeds from line to line, and how it ends.
 use Rattle.std.proofs.Common.{◌≡◌, ℕ, ◌+◌, ◌-◌, ◌*◌, ◌<◌, ◌≤◌, ◌==◌, inl, inr, true, false, if◌then◌else◌, List, [], ◌∷◌, ◌++◌, length, take, refl, sym, ap, ◌∙◌, subst, true≢false, arith, append-nil, append_assoc, length-append, length-take, length-drop}
 use Rattle.std.proofs.KnownBytes.{Appends-nil, Appends-trans, Appends-kept, Consumes-nil, Consumes-trans, Consumes-kept}
 use Rattle.std.proofs.lemmas.Bool.Decides.{eqb_tells}
@@ -30,11 +30,11 @@ use Rattle.cidr.proofs.Turns.{LineMayGet, replies-append, answers-append, first_
 pub no_answers : (a : Standing) → Answered a a []
 no_answers a = record { answers = []; turns = refl; puts = puts_nothing a.holds a.waits }
 
--- what waits is written
+-- the replies that wait are written
 pub written : (a : Standing) (holds : Option (List ℕ)) (waits : List ℕ) → Appends a.holds holds a.waits → waits ≡ [] → Answered a (record { holds = holds; waits = waits; routes = a.routes }) []
 written a holds waits took none = record { answers = []; turns = refl; puts = puts_out a.holds holds a.waits waits none took }
 
--- these lines, and then those
+-- the first lines, followed by the others
 answers_more : (a b c : Standing) (ls ms : List (List ℕ)) → Answered a b ls → Answered b c ms → Answered a c (ls ++ ms)
 answers_more a b c ls ms f g = record {
   answers = f.answers ++ g.answers;
@@ -46,7 +46,7 @@ answers_more a b c ls ms f g = record {
 written_after : (a b c : Standing) (ls : List (List ℕ)) → Answered a b ls → Answered b c [] → Answered a c ls
 written_after a b c ls f g = subst (Answered a c) (append-nil ls) (answers_more a b c ls [] f g)
 
--- an answer behind what waits, some of which may have been written
+-- an answer after the replies that wait, some of which may have been written
 pub one_answer : (a b : Standing) (waits line answer : List ℕ) (routes : Routes) → Answered a b [] → MayGet b.routes (request_of line) answer routes → waits ≡ b.waits ++ reply answer
     → Answered a (record { holds = b.holds; waits = waits; routes = routes }) (line ∷ [])
 one_answer a b waits line answer routes f gets adds =
@@ -78,7 +78,7 @@ fails_later a b holds ls ms f g =
       );
     }
 
--- a flush that fails behind answers to all
+-- a flush that fails after the answers to all lines
 fails_behind : (a b : Standing) (holds : Option (List ℕ)) (ls : List (List ℕ)) → Answered a b ls → Keeps b.holds holds → FailsWithin a holds ls
 fails_behind a b holds ls f keeps = record {
   answers = f.answers;
@@ -92,7 +92,7 @@ nothing_read count e = elim (eqb_tells count 0) [
   | inr apart ↦ absurd (true≢false (sym e ∙ apart.0))
 ]
 
--- ---- how far a run has come
+-- ---- the progress of a run
 
 pub begins : (limit room : ℕ) (held : Buffered) (left holds : Option (List ℕ)) (now : Standing) → room ≡ limit → IsPending held [] → held.ended ≡ false → now ≡ begun holds
     → RunSoFar limit room held left left (begun holds) now
@@ -108,7 +108,7 @@ begins limit room held left holds now all h going same = record {
   answers = subst (λ (a : Standing). Answered (begun holds) a []) (sym same) (no_answers (begun holds));
 }
 
--- one line more was handed out, and got an answer
+-- one more line was handed out and answered
 one_more : (limit room : ℕ) (old new : Buffered) (left rest : Option (List ℕ)) (start a b : Standing) (end : LineEnd) (line : List ℕ) → (s : RunSoFar limit room old left rest start a)
     → HandsOut new s.pending line end → new.ended ≡ old.ended → Answered a b (line ∷ []) → RunSoFar limit room new left rest start b
 one_more limit room old new left rest start a b end line s hands same f = record {
@@ -135,7 +135,7 @@ after_long limit room max old new left rest start a b s gives same is f =
     let given = gives s.pending s.holds in
     one_more limit room old new left rest start a b given.1 given.0 s given.2 same (f given.0 (omega (arith, given.3, is)))
 
--- what was read before a device is asked: nothing waits, no line is whole
+-- what was read, just before a device is asked: no reply waits, and no line is complete
 pub record Idle (limit room : ℕ) (held : Buffered) (left rest : Option (List ℕ)) (start now : Standing) : Type 0 where
   pub sofar : RunSoFar limit room held left rest start now
   pub going : held.ended ≡ false
@@ -204,7 +204,7 @@ less_to_read old new room count going ended fits size =
 
 -- ---- how a run ends
 
--- where nothing waits, all answers were written
+-- if no reply waits, all answers were written
 all_written : (holds : Option (List ℕ)) (b : Standing) (asks : List (List ℕ)) → (f : Answered (begun holds) b asks) → b.waits ≡ [] → Appends holds b.holds (replies f.answers)
 all_written holds b asks f none = subst (Appends holds b.holds) (sym (f.puts.2 ∙ ap (λ l. f.puts.0 ++ l) none ∙ append-nil f.puts.0)) f.puts.1
 
@@ -238,7 +238,7 @@ too_long limit room count old new left mid rest holds now idle r over =
       );
     }
 
--- a failure among the lines of what was read
+-- a failure at one of the lines that were read
 stopped : AnswerIsComputed ℕ → (limit : ℕ) (left rest held holds : Option (List ℕ)) (read : List ℕ) (asks others : List (List ℕ)) → Consumes left rest read → length read ≤ limit
     → lines read ≡ asks ++ others → FailsWithin (begun held) holds asks → Ran limit left rest held holds (Err Write)
 stopped computed limit left rest held holds read asks others consumed within same f =
@@ -261,7 +261,7 @@ stopped computed limit left rest held holds read asks others consumed within sam
       );
     }
 
--- while a line is answered
+-- a failure while a line is answered
 pub line_failed : AnswerIsComputed ℕ → (limit room : ℕ) (old new : Buffered) (left rest held holds : Option (List ℕ)) (a : Standing) (end : LineEnd) (line : List ℕ)
     → RunSoFar limit room old left rest (begun held) a → ((pending : List ℕ) → IsPending old pending → Gives new pending (Line end)) → new.ended ≡ old.ended → line ≡ new.line
     → FailsWithin a holds (line ∷ []) → Ran limit left rest held holds (Err Write)
@@ -282,7 +282,7 @@ long_failed computed limit room old new left rest held holds a s gives same f =
     (are_all new.ended s.read (s.asks ++ line ∷ []) hands.after (handed old new s.read s.asks s.pending line given.1 s.first same hands))
     (fails_later (begun held) a holds s.asks (line ∷ []) s.answers (f line))
 
--- while what waits is written
+-- a failure while the replies that wait are written
 pub writing_failed : AnswerIsComputed ℕ → (limit room : ℕ) (held_now : Buffered) (left rest held holds : Option (List ℕ)) (a : Standing)
     → RunSoFar limit room held_now left rest (begun held) a → AppendsBeginning a.holds holds a.waits → Ran limit left rest held holds (Err Write)
 writing_failed computed limit room held_now left rest held holds a s took =
@@ -290,7 +290,7 @@ writing_failed computed limit room held_now left rest held holds a s took =
     (are_all held_now.ended s.read s.asks s.pending s.first ∙ ap (λ l. l ++ lines s.pending) (sym (append-nil s.asks)))
     (fails_later (begun held) a holds s.asks [] s.answers (fails_at_once a holds [] took))
 
--- at the end of the input
+-- the end of the input
 pub finished : AnswerIsComputed ℕ → (limit room : ℕ) (old new : Buffered) (left rest held holds : Option (List ℕ)) (a b : Standing) (result : Result (Unit {0}) RunFault)
     → RunSoFar limit room old left rest (begun held) a → ((pending : List ℕ) → IsPending old pending → Gives new pending End) → new.ended ≡ old.ended
     → Answered a b [] → b.waits ≡ [] → Keeps b.holds holds → IsOkUnless result Write → Ran limit left rest held holds result

@@ -1,4 +1,4 @@
--- An input that is cut behind a line feed.
+-- An input that is cut after a line feed.
 use Rattle.std.proofs.Common.{◌≡◌, ℕ, List, [], ◌∷◌, ◌++◌, sym, ap, ap₂, ◌∙◌, subst, refl, append-nil, append_assoc}
 use Rattle.std.specs.Str.Lines.{lines}
 use Rattle.cidr.specs.Output.{MayAnswer, IsOutputFrom, replies}
@@ -12,7 +12,7 @@ feed_alone : (p : List ℕ) → pending_from p (10 ∷ []) ≡ []
 unfolding pending_from
 feed_alone p = refl
 
--- nothing is pending behind a line feed
+-- nothing is pending after a line feed
 nothing_pending : (front : List ℕ) → EndsALine front → pending_from [] front ≡ []
 nothing_pending front ends = ap (pending_from []) ends.1 ∙ pending-append [] ends.0 (10 ∷ []) ∙ feed_alone (pending_from [] ends.0)
 
@@ -24,7 +24,7 @@ front_lines : (front : List ℕ) → EndsALine front → lines front ≡ lines_f
 front_lines front ends =
     lines_split [] front tt ∙ ap (λ ls. lines_from [] front ++ ls) (no_last_line _ (nothing_pending front ends)) ∙ append-nil (lines_from [] front)
 
--- the lines of both parts are those of the first and then those of the second
+-- the lines of both parts are the lines of the first followed by the lines of the second
 pub lines_of_both : (front back : List ℕ) → EndsALine front → lines (front ++ back) ≡ lines front ++ lines back
 lines_of_both front back ends =
     let none = nothing_pending front ends in
@@ -35,7 +35,7 @@ lines_of_both front back ends =
     ∙ append_assoc (lines_from [] front) (lines_from [] back) (last_line (pending_from [] back))
     ∙ ap₂ (λ ls ms. ls ++ ms) (sym (front_lines front ends)) (sym (lines_split [] back tt))
 
--- answers to these lines and those, cut between the two
+-- answers to the lines of both parts, cut between the two
 abbrev InTwo : Routes → List (List ℕ) → List (List ℕ) → List (List ℕ) → Routes → Type 0
 InTwo r ls ms xs t = (s : Routes) × (ys : List (List ℕ)) × (zs : List (List ℕ)) × MayAnswer r ls ys s × MayAnswer s ms zs t × (xs ≡ ys ++ zs)
 

@@ -1,4 +1,4 @@
--- A run that is Ok wrote an output of the whole input, and a run over devices that do not fail is Ok.
+-- A run that ends with Ok wrote an output for the whole input, and a run over devices that do not fail ends with Ok.
 use Rattle.std.proofs.Common.{◌≡◌, ℕ, ◌≤◌, List, ◌++◌, length, refl, sym, ap, ◌∙◌, subst, arith, append-nil, length-append}
 use Rattle.std.proofs.Math.Bool.{or-true}
 use Rattle.std.specs.Io.KnownBytes.{Appends, Consumes}
@@ -9,7 +9,7 @@ use Rattle.lines.specs.declared.fault.RunFault.TheVariants.{Read, Write, InputTo
 use Rattle.cidr.specs.Output.{IsOutput}
 use Rattle.cidr.specs.Run.{Ran}
 
--- where a run is Ok, an output of all that the reader had was written
+-- if a run ends with Ok, an output for all that the reader had was written
 pub ran_output : (limit : ℕ) (left rest held holds : Option (List ℕ)) (result : Result (Unit {0}) RunFault)
     → Ran limit left rest held holds result → OnOk result (IfSome left (λ input. (output : List ℕ) × IsOutput input output × Appends held holds output))
 ran_output limit left rest held holds (Err fault) ran = tt
@@ -19,7 +19,7 @@ ran_output limit (Some xs) (Some ys) held holds (Ok done) ran =
     let read : ran.read ≡ xs = sym (ran.reads ∙ ap (λ l. ran.read ++ l) ran.ends.0 ∙ append-nil ran.read) in
     (ran.written, subst (λ (input : List ℕ). IsOutput input ran.written) read ran.ends.2, ran.writes)
 
--- no more is read than there is
+-- a run reads at most the whole input
 read_fits : (input read : List ℕ) (rest : Option (List ℕ)) → Consumes (Some input) rest read → length read ≤ length input
 read_fits input read None took = absurd took
 read_fits input read (Some ys) took = omega (arith, ap length took, length-append read ys)
@@ -27,7 +27,7 @@ read_fits input read (Some ys) took = omega (arith, ap length took, length-appen
 or_true_not_false : (b : Bool) → (b || true) ≡ false → ⊥
 or_true_not_false b e = let t = or-true b in cc
 
--- where no device failed and the input fits, a run is Ok
+-- if no device failed and the input is within the limit, a run ends with Ok
 pub ran_succeeds : (limit : ℕ) (left rest held holds : Option (List ℕ)) (result : Result (Unit {0}) RunFault) (reader_was writer_was : Bool)
     → Ran limit left rest held holds result → (input : List ℕ) → left ≡ Some input → length input ≤ limit
     → (reader_was || ended_by_read result) ≡ false → (writer_was || ended_by_write result) ≡ false → is_ok result ≡ true

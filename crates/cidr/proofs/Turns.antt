@@ -1,4 +1,4 @@
--- Answers to lines, one after the other.
+-- Answers to lines, in turn.
 use Rattle.std.proofs.Common.{◌≡◌, ℕ, List, [], ◌∷◌, ◌++◌, subst}
 use Rattle.std.proofs.lemmas.Grind.{flat_map-append}
 use Rattle.cidr.specs.Output.{MayGet, MayAnswer, reply, replies}
@@ -7,14 +7,14 @@ use Rattle.cidr.specs.Routes.{Routes}
 use Rattle.cidr.specs.Turns.{InTurn, FirstInTurn}
 
 module _ {S Q A : Type 0} (Gets : S → Q → A → S → Type 0) where
-  -- these questions, and then those
+  -- the first questions, followed by the others
   pub turns-append : (r s t : S) (ls ms : List Q) (xs ys : List A) → InTurn Gets r ls xs s → InTurn Gets s ms ys t → InTurn Gets r (ls ++ ms) (xs ++ ys) t
   turns-append r s t [] ms [] ys these those = subst (λ (q : S). InTurn Gets q ms ys t) these those
   turns-append r s t [] ms (x ∷ xs) ys these those = absurd these
   turns-append r s t (l ∷ ls) ms [] ys these those = absurd these
   turns-append r s t (l ∷ ls) ms (x ∷ xs) ys these those = (these.0, these.1, turns-append these.0 s t ls ms xs ys these.2 those)
 
-  -- answers to all questions are answers to the first
+  -- answers to all questions include answers to the first
   pub first_of_all : (r s : S) (ls : List Q) (xs : List A) → InTurn Gets r ls xs s → FirstInTurn Gets r ls xs
   first_of_all r s [] [] all = tt
   first_of_all r s [] (x ∷ xs) all = absurd all
@@ -27,20 +27,20 @@ module _ {S Q A : Type 0} (Gets : S → Q → A → S → Type 0) where
   first_of_more r (l ∷ ls) ms [] some = tt
   first_of_more r (l ∷ ls) ms (x ∷ xs) some = (some.0, some.1, first_of_more some.0 ls ms xs some.2)
 
-  -- all of these questions, and then the first of those
+  -- all of the first questions, followed by some of the others
   pub first-append : (r s : S) (ls ms : List Q) (xs ys : List A) → InTurn Gets r ls xs s → FirstInTurn Gets s ms ys → FirstInTurn Gets r (ls ++ ms) (xs ++ ys)
   first-append r s [] ms [] ys these some = subst (λ (q : S). FirstInTurn Gets q ms ys) these some
   first-append r s [] ms (x ∷ xs) ys these some = absurd these
   first-append r s (l ∷ ls) ms [] ys these some = absurd these
   first-append r s (l ∷ ls) ms (x ∷ xs) ys these some = (these.0, these.1, first-append these.0 s ls ms xs ys these.2 some)
 
--- what a line may get
+-- the answers that a line may get, and the routes that it then leaves
 abbrev pub LineMayGet : Routes → List ℕ → List ℕ → Routes → Type 0
 LineMayGet before line answer after = MayGet before (request_of line) answer after
 
 pub replies-append : (xs ys : List (List ℕ)) → replies (xs ++ ys) ≡ replies xs ++ replies ys
 replies-append xs ys = flat_map-append reply xs ys
 
--- these lines, and then those
+-- the first lines, followed by the others
 pub answers-append : (r s t : Routes) (ls ms xs ys : List (List ℕ)) → MayAnswer r ls xs s → MayAnswer s ms ys t → MayAnswer r (ls ++ ms) (xs ++ ys) t
 answers-append r s t ls ms xs ys these those = turns-append LineMayGet r s t ls ms xs ys these those

@@ -1,4 +1,4 @@
--- An answer `out of memory` is a line of what is written.
+-- An answer `out of memory` is a line of the output.
 use Rattle.std.proofs.Common.{◌≡◌, ◌≢◌, ℕ, List, [], ◌∷◌, ◌++◌, refl, ap, ◌∙◌, subst}
 use Rattle.std.specs.List.{AllByRecursion}
 use Rattle.std.specs.Str.Lines.{lines}
@@ -9,7 +9,7 @@ use Rattle.cidr.proofs.Splits.{lines_of_both}
 abbrev AreOther : List (List ℕ) → Type 0
 AreOther ls = AllByRecursion (λ line. line ≢ out_of_memory) ls
 
--- of these and those lines, those
+-- what holds for all lines holds for the later ones
 those_other : (these those : List (List ℕ)) → AreOther (these ++ those) → AreOther those
 those_other [] those all = all
 those_other (line ∷ these) those all = those_other these those all.1
@@ -17,7 +17,7 @@ those_other (line ∷ these) those all = those_other these those all.1
 one_line : lines (reply out_of_memory) ≡ out_of_memory ∷ []
 one_line = refl
 
--- the first line of a reply `out of memory` is that
+-- the first line of a reply `out of memory` is `out of memory`
 no_first : (answer : List ℕ) (more : List (List ℕ)) → AreOther (lines (reply answer) ++ more) → answer ≢ out_of_memory
 no_first answer more all same = (subst (λ (ls : List (List ℕ)). AreOther (ls ++ more)) (ap (λ a. lines (reply a)) same ∙ one_line) all).0 refl
 

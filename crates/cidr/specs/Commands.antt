@@ -1,4 +1,4 @@
--- What each command replies, computed. A word is the list of its bytes.
+-- The answer of each command, computed. A word is the list of its bytes.
 use Rattle.std.specs.Prelude.{ℕ, Bool, if◌then◌else◌, List, ◌∷◌, ◌++◌, Option, None, Some, Result, Ok, Err, codes}
 use Rattle.std.specs.Prelude.{decimal}
 use Rattle.ipnetwork_addr.specs.Either.{canonical_ip}
@@ -21,7 +21,7 @@ use Rattle.ipnetwork.specs.Sizes.{size_number}
 use Rattle.ipnetwork.specs.declared.ip_network.IpNetwork.{IpNetwork}
 use Rattle.cidr.specs.Words.{blank}
 
--- the answer if a text names no network or no address, and no cause is given
+-- the answer to a text that names no network or no address, if no cause is given
 abbrev pub refused : List ℕ
 refused = codes "refused"
 
@@ -42,7 +42,7 @@ refusal Format = codes "refused format"
 refusal Addr = codes "refused address"
 refusal Prefix = codes "refused prefix"
 
--- the canonical text of the network that was read, or why none was
+-- the canonical text of the network that was read, or why there is none
 abbrev pub text_or_cause : (ℕ → List ℕ) → Result Network CidrFault → List ℕ
 text_or_cause canonical (Ok network) = network_text canonical network
 text_or_cause canonical (Err fault) = refusal fault
@@ -57,20 +57,20 @@ read6_answer text = text_or_cause canonical_v6 (v6_network_of text)
 
 -- ---- `ends`
 
--- the least address of the set, the greatest, the mask and the number of addresses (at prefix length 0 one less), with
--- blanks between
+-- the lowest address of the network, the highest, the mask and the number of addresses (one less at prefix length 0),
+-- separated by blanks
 abbrev pub ends_text : IpNetwork → List ℕ
 ends_text network =
     canonical_ip (ip_low network) ++ blank ∷ canonical_ip (ip_high network) ++ blank ∷ canonical_ip (ip_mask_of network)
     ++ blank ∷ decimal (size_number (ip_size network))
 
--- `ends T`: these of the network that T names
+-- `ends T`: these values of the network that T names
 unfoldable pub ends_answer : List ℕ → List ℕ
 ends_answer text = text_or_refused ends_text (ip_network_of text)
 
 -- ---- `has` and `has4`
 
--- whether the network that was read has the address that was read as a member; the network is checked first
+-- whether the network that was read has the address that was read as a member. The network is checked first
 abbrev pub membership : {N A : Type 0} → (N → A → Bool) → Result N CidrFault → Option A → List ℕ
 membership is_in (Err fault) address = codes "refused network"
 membership is_in (Ok network) None = codes "refused address"
@@ -86,8 +86,8 @@ has4_answer network address = membership (is_member 32) (v4_network_of network) 
 
 -- ---- `rel`
 
--- whether the sets are the same, the first is a smaller part of the second, the second is one of the first, or neither
--- is part of the other
+-- whether the sets are the same, the first is a proper subset of the second, the second is a proper subset of the
+-- first, or neither is a subset of the other
 abbrev pub relation : IpNetwork → IpNetwork → List ℕ
 relation a b =
     if is_ip_subnet a b
@@ -99,6 +99,6 @@ related (Err fault) other = refused
 related (Ok a) (Err fault) = refused
 related (Ok a) (Ok b) = relation a b
 
--- `rel T U`: how the sets of the networks that T and U name relate to each other
+-- `rel T U`: how the sets of the networks that T and U name are related
 unfoldable pub rel_answer : List ℕ → List ℕ → List ℕ
 rel_answer first second = related (ip_network_of first) (ip_network_of second)

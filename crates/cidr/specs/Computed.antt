@@ -1,2 +1,2 @@
--- Functions that compute what relations say.
+-- Functions that compute what relations specify.
 pub mod Output

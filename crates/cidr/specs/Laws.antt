@@ -1,4 +1,4 @@
--- The laws, each a statement of its own.
+-- The laws, each stated separately.
 pub mod Commands
 pub mod Outputs
 pub mod Routes

@@ -1,4 +1,4 @@
--- Words of the private functions, and of how contracts look into private fields.
+-- The definitions used in the contracts of private functions and for private fields.
 pub mod Progress
 pub mod Replies
 pub mod Routes

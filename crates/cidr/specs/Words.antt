@@ -1,4 +1,4 @@
--- The words of a line, cut at each blank: two blanks in a row have an empty word between them.
+-- The words of a line, which is cut at each blank. Two adjacent blanks have an empty word between them.
 use Rattle.std.specs.Prelude.{ℕ, ◌==◌, List}
 use Rattle.std.specs.List.{slice_split}
 

@@ -1,4 +1,4 @@
-//! Lines are answered: what they get waits to be written, until there is no room for more.
+//! Answers lines. The replies wait to be written until there is no room for more.
 ghost use Rattle.std.specs.Prelude.{◌≡◌, ◌||◌, ◌<◌, ◌≤◌, ◌∷◌, ℕ, List, [], Option, length, is_err, IsOkUnless, OnErr, OnOk};
 ghost use Rattle.lines.specs.Outputs.{AppendsBeginning};
 ghost use Rattle.lines.specs.Watched.{device_of, has_failed};
@@ -12,7 +12,7 @@ use lines::watched::Watched;
 use std::alloc::Global;
 use std::io::Write;
 
-/// The most bytes of a line, not counting its line end. A longer line is too long.
+/// The greatest number of bytes in a line, not counting its line ending. A longer line is too long.
 pub(crate) const LINE_MAX: usize = 1024;
 
 /// What a run keeps from line to line: the routes, and the replies that wait to be written.
@@ -28,7 +28,7 @@ impl<'a> Answering<'a> {
     ghost use Rattle.cidr.specs.declared.replies.TheConstants.{ANSWER_MAX};
     ghost use Rattle.cidr.specs.declared.answering.TheConstants.{LINE_MAX};
 
-    /// No routes, and no replies, which will wait in this slice.
+    /// Starts with no routes and no replies. Replies will wait in the slice.
     pub(crate) fn new(alloc: Global, slice: &'a mut [u8]) -> Answering<'a>
         requires { ANSWER_MAX ≤ length slice.old }
         ensures begins { (holds : Option (List ℕ)) → standing holds result ≡ begun holds }
@@ -83,7 +83,7 @@ impl<'a> Answering<'a> {
         Ok(())
     }
 
-    // Writes the replies that wait if there might be no room for one more.
+    // Writes the replies that wait if there may be no room for one more.
     fn make_room<W: Write>(&mut self, writer: &mut Watched<W>) -> Result<(), RunFault>
         requires fits { ANSWER_MAX ≤ self.old.waiting.capacity }
         ensures ok { OnOk result (Answered (standing (W.contents (device_of writer.old)) self.old)

@@ -1,4 +1,4 @@
-//! The command that a line asks, by its name and the number of its words.
+//! Finds the command of a line, by its name and the number of its words.
 ghost use Rattle.cidr.specs.Private.Replies.{HasRoom, RepliesTo};
 ghost use Rattle.cidr.specs.Private.Routes.{routes_of};
 ghost use Rattle.cidr.specs.Requests.{request_in, one_word_request, two_words_request};
@@ -18,8 +18,8 @@ use lines::buffer::Buffer;
 /// The answer to a line that is not a command.
 const UNKNOWN: &str = "unknown command";
 
-/// Adds the answer to a line, whatever its length: its words are split at each blank, the first names the command, and
-/// the others are its arguments.
+/// Adds the answer to a line of any length. Its words are split at each blank; the first names the
+/// command, and the others are its arguments.
 pub(crate) fn answer(line: &[u8], routes: &mut RouteTables, replies: &mut Buffer<'_>)
     requires { HasRoom replies.old }
     ensures { RepliesTo (routes_of routes.old)
@@ -39,7 +39,7 @@ pub(crate) fn answer(line: &[u8], routes: &mut RouteTables, replies: &mut Buffer
     }
 }
 
-/// The answer of a command with one argument.
+/// Adds the answer of a command with one argument.
 #[tactic(auto, unfolding(crate::specs::Requests::one_word_request))]
 fn answer_one(command: &[u8], word: &[u8], routes: &mut RouteTables, replies: &mut Buffer<'_>)
     requires { HasRoom replies.old }
@@ -63,7 +63,7 @@ fn answer_one(command: &[u8], word: &[u8], routes: &mut RouteTables, replies: &m
     }
 }
 
-/// The answer of a command with two arguments.
+/// Adds the answer of a command with two arguments.
 #[tactic(auto, unfolding(crate::specs::Requests::two_words_request))]
 fn answer_two(
     command: &[u8],

@@ -1,4 +1,4 @@
-//! What follows from the promises of a run and of the commands. Each function's contract is a law.
+//! What follows from the contracts of a run and of the commands. Each function's contract is a law.
 
 mod commands;
 mod outputs;

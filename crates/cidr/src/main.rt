@@ -29,7 +29,8 @@ fn main(rt: HostRuntime) -> ExitCode {
     status(end)
 }
 
-/// The exit status of the program: 0 after a run that answered its whole input, and 1 otherwise.
+/// Returns the exit status of the program: 0 after a run that answered all of its input, and 1
+/// otherwise.
 fn status(end: Result<(), RunFault>) -> ExitCode
     ensures { exit_status result ≡ if is_ok end then 0 else 1 }
 {

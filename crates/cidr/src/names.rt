@@ -1,70 +1,70 @@
 //! The names of the ten commands.
 ghost use Rattle.std.specs.Prelude.{◌≡◌, bytes_eq, codes};
 
-/// Whether a word is `read`.
+/// Returns whether a word is `read`.
 pub(crate) fn is_read(word: &[u8]) -> bool
     ensures { result ≡ bytes_eq word.now (codes "read") }
 {
     matches!(word, b"read")
 }
 
-/// Whether a word is `ends`.
+/// Returns whether a word is `ends`.
 pub(crate) fn is_ends(word: &[u8]) -> bool
     ensures { result ≡ bytes_eq word.now (codes "ends") }
 {
     matches!(word, b"ends")
 }
 
-/// Whether a word is `read4`.
+/// Returns whether a word is `read4`.
 pub(crate) fn is_read4(word: &[u8]) -> bool
     ensures { result ≡ bytes_eq word.now (codes "read4") }
 {
     matches!(word, b"read4")
 }
 
-/// Whether a word is `read6`.
+/// Returns whether a word is `read6`.
 pub(crate) fn is_read6(word: &[u8]) -> bool
     ensures { result ≡ bytes_eq word.now (codes "read6") }
 {
     matches!(word, b"read6")
 }
 
-/// Whether a word is `drop`.
+/// Returns whether a word is `drop`.
 pub(crate) fn is_drop(word: &[u8]) -> bool
     ensures { result ≡ bytes_eq word.now (codes "drop") }
 {
     matches!(word, b"drop")
 }
 
-/// Whether a word is `find`.
+/// Returns whether a word is `find`.
 pub(crate) fn is_find(word: &[u8]) -> bool
     ensures { result ≡ bytes_eq word.now (codes "find") }
 {
     matches!(word, b"find")
 }
 
-/// Whether a word is `has`.
+/// Returns whether a word is `has`.
 pub(crate) fn is_has(word: &[u8]) -> bool
     ensures { result ≡ bytes_eq word.now (codes "has") }
 {
     matches!(word, b"has")
 }
 
-/// Whether a word is `rel`.
+/// Returns whether a word is `rel`.
 pub(crate) fn is_rel(word: &[u8]) -> bool
     ensures { result ≡ bytes_eq word.now (codes "rel") }
 {
     matches!(word, b"rel")
 }
 
-/// Whether a word is `has4`.
+/// Returns whether a word is `has4`.
 pub(crate) fn is_has4(word: &[u8]) -> bool
     ensures { result ≡ bytes_eq word.now (codes "has4") }
 {
     matches!(word, b"has4")
 }
 
-/// Whether a word is `add`.
+/// Returns whether a word is `add`.
 pub(crate) fn is_add(word: &[u8]) -> bool
     ensures { result ≡ bytes_eq word.now (codes "add") }
 {

@@ -1,4 +1,4 @@
-//! Answers are added to the replies that wait.
+//! Adds answers to the replies that wait.
 ghost use Rattle.std.specs.Prelude.{◌<◌, length};
 ghost use Rattle.cidr.specs.Private.Replies.{HasRoom, Adds};
 ghost use Rattle.cidr.specs.declared.replies.TheConstants.{ANSWER_MAX};
@@ -6,13 +6,13 @@ ghost use Rattle.cidr.specs.declared.replies.TheConstants.{ANSWER_MAX};
 use arrayvec::ArrayString;
 use lines::buffer::Buffer;
 
-/// The most bytes of an answer and its line feed.
+/// The greatest number of bytes in an answer with its line feed.
 pub(crate) const ANSWER_MAX: usize = 160;
 
 /// An answer of several parts, before it is added.
 pub(crate) type Answer = ArrayString<ANSWER_MAX>;
 
-/// Adds an answer, and a line feed.
+/// Adds an answer and a line feed.
 #[inline(always)]
 pub(crate) fn reply(replies: &mut Buffer<'_>, answer: &str)
     requires room { HasRoom replies.old }

@@ -8,7 +8,7 @@ use ipnetwork::{IpAddr, IpNetwork, Ipv4Network, Ipv6Network};
 use ipnetwork_table::PrefixTable;
 use std::alloc::{AllocError, Global};
 
-/// Numbers under blocks, in a table for each family.
+/// The numbers of blocks, in a table for each family.
 #[derive(Drop)]
 pub(crate) struct RouteTables {
     v4: PrefixTable<Ipv4Network, u32>,
@@ -16,7 +16,7 @@ pub(crate) struct RouteTables {
 }
 
 impl RouteTables {
-    /// No routes. Does not allocate.
+    /// Creates tables without routes. Does not allocate.
     pub(crate) fn new(alloc: Global) -> RouteTables
         ensures { routes_of result ≡ no_routes }
     {
@@ -26,9 +26,9 @@ impl RouteTables {
         }
     }
 
-    /// Gives the block of a network a number, and returns the one that it had.
+    /// Gives the block of a network a number, and returns the number that it had.
     ///
-    /// Allocates only for a new block. If memory runs out, the routes are unchanged.
+    /// Allocates only for a new block. If memory runs out, the routes do not change.
     pub(crate) fn insert(
         &mut self,
         network: IpNetwork,
@@ -56,7 +56,8 @@ impl RouteTables {
         }
     }
 
-    /// The longest block that holds an address, and its number: of the blocks of the address's family.
+    /// Returns the longest block of the address's family that contains the address, with its
+    /// number.
     pub(crate) fn find(&self, address: IpAddr) -> Option<(IpNetwork, u32)>
         ensures { IsFound (routes_of self.now) address result }
     {

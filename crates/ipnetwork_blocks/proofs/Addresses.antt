@@ -1,4 +1,4 @@
--- Addresses of a family are compared as their numbers.
+-- Addresses of a family are compared by their numbers.
 use Rattle.std.proofs.Common.{◌≡◌, ◌≢◌, ◌↔◌, ℕ, ◌-◌, ◌^◌, ◌<◌, ◌≤◌, Bool, true, false, not, ◌==◌, ◌&&◌, IsTrue, Option, Some, ap, sym, refl, subst, ◌∙◌, arith}
 use Rattle.std.proofs.lemmas.Bool.{iff_false, eqb-true, eq-eqb, and_parts, true≢false}
 use Rattle.std.proofs.lemmas.Cmp.{ranked}
@@ -13,7 +13,7 @@ module _ {A : Type 0} (eq : A → A → Bool) (cmp : A → A → Ordering) (numb
       → eq x y ≡ (number x == number y)
   same_test matches order x y = matches x y ∙ ap is_eq (order x y) ∙ unsigned_tied (number x) (number y)
 
-  -- what `!=` answers
+  -- what `!=` returns
   pub differ_not : ((x y : A) → eq x y ≡ eq_by_cmp cmp x y) → ((x y : A) → cmp x y ≡ nat_cmp (number x) (number y)) → (x y : A) (answer : Bool)
       → answer ≡ not (eq x y) → answer ≡ false → number x ≡ number y
   differ_not matches order x y answer is told =
@@ -86,7 +86,7 @@ module _ {A : Type 0} (eq : A → A → Bool) (cmp : A → A → Ordering) (pair
       matches x y ∙ ap is_eq (order x y) ∙ both_equal a b
       ∙ ap (λ k. k && is_eq b) (unsigned_tied (pair x).address (pair y).address) ∙ ap (λ k. ((pair x).address == (pair y).address) && k) (unsigned_tied (pair x).prefix (pair y).prefix)
 
-  -- what `==` answers
+  -- what `==` returns
   pub same_network : ((x y : A) → eq x y ≡ eq_by_cmp cmp x y) → ((x y : A) → cmp x y ≡ network_cmp (pair x) (pair y)) → (x y : A) (answer : Bool)
       → answer ≡ eq x y → answer ≡ true → pair x ≡ pair y
   same_network matches order x y answer is told =
@@ -96,7 +96,7 @@ module _ {A : Type 0} (eq : A → A → Bool) (cmp : A → A → Ordering) (pair
       let of : ℕ → ℕ → Network = λ address prefix. record { address = address; prefix = prefix } in
       ap (λ k. of k (pair x).prefix) (eqb-true (pair x).address (pair y).address both.0) ∙ ap (of (pair y).address) (eqb-true (pair x).prefix (pair y).prefix both.1)
 
-  -- and of networks of one prefix length
+  -- what `==` returns for networks with the same prefix length
   pub other_network : ((x y : A) → eq x y ≡ eq_by_cmp cmp x y) → ((x y : A) → cmp x y ≡ network_cmp (pair x) (pair y)) → (x y : A) (answer : Bool)
       → answer ≡ eq x y → answer ≡ false → (pair x).prefix ≡ (pair y).prefix → (pair x).address ≢ (pair y).address
   other_network matches order x y answer is told length at =
@@ -105,7 +105,7 @@ module _ {A : Type 0} (eq : A → A → Bool) (cmp : A → A → Ordering) (pair
       let u = eq-eqb (pair x).prefix (pair y).prefix length in
       true≢false (sym (ap (λ k. k && ((pair x).prefix == (pair y).prefix)) t ∙ u) ∙ sym same ∙ sym is ∙ told)
 
--- the greatest mask and the least
+-- the longest mask and the shortest
 pub full_mask : (w : ℕ) → mask_of w w ≡ 2 ^ w - 1
 full_mask w = let none : w - w ≡ 0 = omega arith in ap (λ k. 2 ^ w - 2 ^ k) none
 

@@ -1,4 +1,4 @@
--- Before the pass: host bits are cleared, and blocks sorted.
+-- Before the pass, host bits are cleared and the blocks are sorted.
 use Rattle.std.proofs.Common.{◌≡◌, ℕ, ◌+◌, ◌<◌, ◌≤◌, refl, ap, ◌∙◌, arith, List, ◌++◌, length, get_or, take, drop, set, map}
 use Rattle.std.specs.List.{All, AllWithin}
 use Rattle.std.specs.List.Sorted.{IsPermutation}
@@ -31,7 +31,7 @@ cleared w xs ys i h l size = (
   λ k d m. h.blocks k d (omega arith) (omega arith),
 )
 
--- host bits cleared, sorted and joined, networks have become their aggregate
+-- networks whose host bits are cleared, sorted and joined, become their aggregate
 pub aggregate_of_sorted : (w : ℕ) (ns zs r : List Network) → IsPermutation (map (block_of w) ns) zs → AreJoined w r → SameUnion w r zs → IsAggregate w ns r
 aggregate_of_sorted w ns zs r p h u =
     joined_is_aggregate w ns r h

@@ -1,4 +1,4 @@
--- Aggregates at which a misreading of the definitions would show, over addresses of 4 bits.
+-- Aggregates that would reveal a misreading of the definitions, over 4-bit addresses.
 use Rattle.std.proofs.Common.{◌≡◌, ℕ, zero, suc, ◌-◌, ◌*◌, ◌/◌, ◌^◌, ◌<◌, refl, ap, arith, ⊎_elim, [], ◌∷◌, length, get_or}
 use Rattle.std.specs.List.{Contains, filter_map}
 use Rattle.ipnetwork_family.specs.Network.{Network, IsCidrBlock, high}
@@ -34,13 +34,13 @@ first_half = is_block 0 1 (omega arith) (omega arith) refl
 single : (b : Network) → IsCidrBlock 4 b → AreJoined 4 (b ∷ [])
 single b block = joined_push 4 [] b (joined_nil 4) block (λ i d l. absurd (omega arith)) (λ d l. absurd (omega arith))
 
--- two halves become their block,
+-- the aggregate of two halves is the block that they make up
 pub halves : IsAggregate 4 (net 0 2 ∷ net 4 2 ∷ []) (net 0 1 ∷ [])
 halves =
     joined_is_aggregate 4 (net 0 2 ∷ net 4 2 ∷ []) (net 0 1 ∷ []) (single (net 0 1) first_half)
     (union_join 4 [] (net 0 2) (net 4 2) first_quarter second_quarter (omega arith) (refl, omega arith, (omega arith, refl)))
 
--- and neither is maximal
+-- neither half is maximal
 pub half_is_not_maximal : ¬ (IsMaximalIn 4 (InUnion 4 (net 0 2 ∷ net 4 2 ∷ [])) (net 0 2))
 half_is_not_maximal m =
     ⊎_elim
@@ -48,7 +48,7 @@ half_is_not_maximal m =
     (λ (c : Contains [] (net 0 2)). contains_nil (net 0 2) c)
     (contains_cons (net 0 1) [] (net 0 2) ((halves.maximal (net 0 2)).1 m))
 
--- blocks that touch and are no halves of one block stay
+-- adjacent blocks that are not the halves of one block remain
 before_the_third : (i : ℕ) (d : Network) → i < length (net 4 2 ∷ []) → high 4 (get_or (net 4 2 ∷ []) i d) < 8
 before_the_third zero d l = omega arith
 before_the_third (suc i) d l = absurd (omega arith)
@@ -64,18 +64,18 @@ no_halves =
 pub host_bits : IsAggregate 4 (net 5 2 ∷ []) (net 4 2 ∷ [])
 host_bits = joined_is_aggregate 4 (net 5 2 ∷ []) (net 4 2 ∷ []) (single (net 4 2) second_quarter) (union_cleared 4 (net 5 2 ∷ []))
 
--- what lies in another goes
+-- a network that lies in another is dropped
 pub nested_network : IsAggregate 4 (net 0 1 ∷ net 4 2 ∷ []) (net 0 1 ∷ [])
 nested_network =
     joined_is_aggregate 4 (net 0 1 ∷ net 4 2 ∷ []) (net 0 1 ∷ []) (single (net 0 1) first_half)
     (union_skip 4 (net 0 1 ∷ []) (net 4 2) (net 0 1) (contains_head (net 0 1) [])
     (subnet_from 4 (net 4 2) (net 0 1) second_quarter.network (omega arith) (omega arith, refl)))
 
--- nothing comes of nothing
+-- no networks have an empty aggregate
 pub no_networks : IsAggregate 4 [] []
 no_networks = joined_is_aggregate 4 [] [] (joined_nil 4) (union_same 4 [])
 
--- each family keeps its order
+-- the networks of each family keep their order
 pub v4_alone : filter_map as_v4 (V6 (net 1 128) ∷ V4 (net 2 32) ∷ V6 (net 3 128) ∷ V4 (net 1 32) ∷ []) ≡ net 2 32 ∷ net 1 32 ∷ []
 v4_alone = refl
 

@@ -1,4 +1,4 @@
--- The blocks in front, joined as far as they go, and one more that is joined with those at their end.
+-- The blocks in front, in which no two can be joined, and one more that is joined with those at their end.
 use Rattle.std.proofs.Common.{◌≡◌, ℕ, ◌+◌, ◌-◌, ◌<◌, ◌≤◌, inl, inr, sym, refl, ap, subst, ◌∙◌, arith, ⊎_elim, List, [], ◌∷◌, ◌++◌, length, get_or, take}
 use Rattle.std.proofs.lemmas.Bool.{cases_lt}
 use Rattle.std.specs.List.{All}
@@ -21,7 +21,7 @@ joined_nil w = record { blocks = λ k d l. absurd (omega arith); pairs = λ i j 
 pub joined_take : (w k : ℕ) (r : List Network) → AreJoined w r → AreJoined w (take k r)
 joined_take w k r h = record { blocks = All-take (IsCidrBlock w) k r h.blocks; pairs = pairs_take (Follows w) r k h.pairs }
 
--- what begins behind the end of the last block begins behind the end of each
+-- a block that begins after the end of the last block begins after the end of every block
 pub after_all : (w : ℕ) (r : List Network) (t b : Network) → AreJoined w r → 0 < length r → get_or r (length r - 1) t ≡ t → high w t < b.address
     → All (λ a. high w a < b.address) r
 after_all w r t b h some is l i d m =
@@ -38,7 +38,7 @@ after_all w r t b h some is l i d m =
     subst (λ (n : Network). high w n < b.address) here l)
     (cases_lt i (length r - 1))
 
--- one block more behind the others, where it is no half of a block together with the last
+-- one more block after the others, if it and the last one are not the halves of one block
 pub joined_push : (w : ℕ) (r : List Network) (b : Network) → AreJoined w r → IsCidrBlock w b → All (λ a. high w a < b.address) r
     → ((d : Network) → 0 < length r → ¬ (AreHalves w (get_or r (length r - 1) d) b)) → AreJoined w (r ++ b ∷ [])
 joined_push w r b h bb after last = record {
@@ -56,7 +56,7 @@ joined_push w r b h bb after last = record {
   ));
 }
 
--- ---- the loop of `join_back`: of the blocks r in front so many are left, and whole stands for the others and b
+-- ---- the loop of `join_back`: the first `left` blocks of r remain in front, and `whole` replaces the others and b
 
 pub record IsJoining (w : ℕ) (r : List Network) (b : Network) (left : ℕ) (whole : Network) : Type 0 where
   pub bound : left ≤ length r
@@ -110,7 +110,7 @@ joining_more {w} {r} {b} {left} {whole} t h j some is s =
           (λ (o : (whole.address ≡ b.address) × (whole.prefix ≤ b.prefix)). omega (arith, address, o.0, l, bt.block, size_pos w t.prefix)) j.order);
     }
 
--- where it stops, whole goes behind those that are left
+-- when the loop stops, `whole` goes after the blocks that remain
 pub joining_stops : (w : ℕ) (r : List Network) (b : Network) (left : ℕ) (whole : Network) → AreJoined w r → IsJoining w r b left whole
     → ((t : Network) → 0 < left → t ≡ get_or r (left - 1) t → ¬ (AreHalves w t whole)) → AreJoined w (take left r ++ whole ∷ [])
 joining_stops w r b left whole h j apart =

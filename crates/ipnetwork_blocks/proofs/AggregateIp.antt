@@ -1,4 +1,4 @@
--- Lists of networks of both families: the families put apart, and each aggregated by itself.
+-- Lists of networks of both families: the families are separated, and each is aggregated.
 use Rattle.std.proofs.Common.{◌≡◌, ◌≢◌, ℕ, suc, zero, ◌+◌, ◌-◌, ◌<◌, ◌≤◌, sym, refl, ap, subst, ◌∙◌, arith, ⊎_elim, List, [], ◌∷◌, ◌++◌, length, get_or, take, drop, map, Option, None, Some}
 use Rattle.std.specs.List.{All, AllWithin, Contains, SwappedAt, filter_map, cons_option, copy_within}
 use Rattle.std.specs.List.Sorted.{IsPermutation}
@@ -23,7 +23,7 @@ either_family : (x : IpNetwork) → ¬ (IsV4 x) → IsV6 x
 either_family (V4 n) h = absurd (h tt)
 either_family (V6 n) h = tt
 
--- an IPv4 network more, put behind those in front
+-- one more IPv4 network, moved after those in front
 pub one_first : (xs ys : List IpNetwork) (count next : ℕ) → count ≤ next → AllWithin IsV4 xs 0 count → AllWithin IsV6 xs count next
     → ((d : IpNetwork) → IsV4 (get_or xs next d)) → SwappedAt xs ys count next → AllWithin IsV4 ys 0 (count + 1) × AllWithin IsV6 ys (count + 1) (next + 1)
 one_first xs ys count next le front back one swapped = (
@@ -37,7 +37,7 @@ one_first xs ys count next le front back one swapped = (
       (cases_eq k next)),
 )
 
--- an IPv6 network more, left where it stands
+-- one more IPv6 network, left in its place
 pub one_behind : (xs : List IpNetwork) (count next : ℕ) → AllWithin IsV6 xs count next → ((d : IpNetwork) → ¬ (IsV4 (get_or xs next d))) → AllWithin IsV6 xs count (next + 1)
 one_behind xs count next back one k d l m =
     ⊎_elim
@@ -47,7 +47,7 @@ one_behind xs count next back one k d l m =
 
 -- ---- the networks of one family
 
--- what h gives of the elements of a list it gives of one of them,
+-- every network that h gives for a list comes from one of its elements
 given_first : (h : IpNetwork → Option Network) (o : Option Network) (x : IpNetwork) (n : Network) (ms : List Network) (xs : List IpNetwork) → h x ≡ o
     → (Contains ms n → (y : IpNetwork) × Contains xs y × (h y ≡ Some n)) → Contains (cons_option o ms) n → (y : IpNetwork) × Contains (x ∷ xs) y × (h y ≡ Some n)
 given_first h None x n ms xs e more c = let m = more c in (m.0, (suc m.1.0, omega (arith, m.1.1), m.1.2), m.2)
@@ -58,7 +58,7 @@ pub given : (h : IpNetwork → Option Network) (xs : List IpNetwork) (n : Networ
 given h [] n c = absurd (let l = c.1 in omega arith)
 given h (x ∷ xs) n c = given_first h (h x) x n (filter_map h xs) xs refl (given h xs n) c
 
--- and gives it of each
+-- a network that h gives for the rest of a list is also one that it gives for the whole list
 kept_behind : (o : Option Network) (ms : List Network) (n : Network) → Contains ms n → Contains (cons_option o ms) n
 kept_behind None ms n c = c
 kept_behind (Some m) ms n c = (suc c.0, (let l = c.1 in omega arith), c.2)
@@ -68,14 +68,14 @@ gives h [] y n c e = absurd (let l = c.1 in omega arith)
 gives h (x ∷ xs) y n (zero, l, is) e = subst (λ (o : Option Network). Contains (cons_option o (filter_map h xs)) n) (sym (ap h is ∙ e)) (zero, omega arith, refl)
 gives h (x ∷ xs) y n (suc i, l, is) e = kept_behind (h x) (filter_map h xs) n (gives h xs y n (i, omega arith, is) e)
 
--- so it has the same union where the elements stand in another order
+-- the union does not depend on the order of the elements
 reordered : (h : IpNetwork → Option Network) (w : ℕ) (xs ys : List IpNetwork) → IsPermutation xs ys → SameUnion w (filter_map h xs) (filter_map h ys)
 reordered h w xs ys p x = (one h w xs ys p x, one h w ys xs (IsPermutation-sym xs ys p) x)
   where
     one : (h : IpNetwork → Option Network) (w : ℕ) (xs ys : List IpNetwork) → IsPermutation xs ys → (x : ℕ) → InUnion w (filter_map h xs) x → InUnion w (filter_map h ys) x
     one h w xs ys p x c = let y = given h xs c.0 c.1 in (c.0, gives h ys y.0 c.0 (Contains-permutation xs ys y.0 p y.1) y.2, c.2)
 
--- where it gives something of each element, and where it gives nothing
+-- if h gives a network for every element of a list, and if it gives none for any element
 gives_all : (h : IpNetwork → Option Network) (f : IpNetwork → Network) (Is : IpNetwork → Type 0) → ((x : IpNetwork) → Is x → h x ≡ Some (f x))
     → (xs : List IpNetwork) → All Is xs → filter_map h xs ≡ map f xs
 gives_all h f Is e [] all = refl
@@ -87,7 +87,7 @@ gives_none h Is e [] all = refl
 gives_none h Is e (x ∷ xs) all =
     ap (λ o. cons_option o (filter_map h xs)) (e x (all zero x (omega arith))) ∙ gives_none h Is e xs (λ k d l. all (suc k) d (omega arith))
 
--- values that are known by their networks
+-- values that are determined by their networks
 known : (f : IpNetwork → Network) (c : Network → IpNetwork) (Is : IpNetwork → Type 0) → ((x : IpNetwork) → Is x → x ≡ c (f x)) → (xs : List IpNetwork) → All Is xs → xs ≡ map c (map f xs)
 known f c Is e [] all = refl
 known f c Is e (x ∷ xs) all =
@@ -119,14 +119,14 @@ v6_not_given (V6 n) h = absurd h
 
 -- ---- the aggregate of either family
 
--- of the whole list, where its networks of one family are those of a part
+-- the aggregate of the whole list, if its networks of one family are those of a part
 of_part : (h : IpNetwork → Option Network) (w : ℕ) (old parted part : List IpNetwork) (r : List Network) → IsPermutation old parted
     → filter_map h parted ≡ map the_network part → IsAggregate w (map the_network part) r → IsAggregate w (filter_map h old) r
 of_part h w old parted part r p e a =
     least_of_same w (InUnion w (map the_network part)) (InUnion w (filter_map h old)) r
     (subst (λ (ns : List Network). SameUnion w ns (filter_map h old)) e (reordered h w parted old (IsPermutation-sym old parted p))) a
 
--- networks of one family, and what was kept where they stood: their aggregate, so many, comes first
+-- networks of one family, and the values kept in their place: the first `count` of these are the aggregate
 pub record IsAggregated (w : ℕ) (IsOfFamily : IpNetwork → Type 0) (networks kept : List IpNetwork) (count : ℕ) : Type 0 where
   pub given : All IsOfFamily networks
   pub left : All IsOfFamily kept

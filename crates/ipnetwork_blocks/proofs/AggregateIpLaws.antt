@@ -1,4 +1,4 @@
--- The laws of aggregation of networks of either family, from those of one family.
+-- The laws of aggregation for networks of either family, derived from those for one family.
 use Rattle.std.proofs.Common.{◌≡◌, ◌↔◌, ℕ, ◌+◌, ◌<◌, sym, refl, ap, subst, ◌∙◌, arith, List, [], ◌∷◌, ◌++◌, length, get_or, map, Option}
 use Rattle.std.specs.List.{AllPairs, Contains, filter_map}
 use Rattle.std.proofs.lemmas.List.{get_or-map, length-map}
@@ -23,7 +23,7 @@ use Rattle.ipnetwork_blocks.proofs.LeastLists.{pairs_append}
 
 -- ---- the networks of one family in a list of both
 
--- each network is of one family
+-- each network is of exactly one family
 two_families : (xs : List IpNetwork) → length xs ≡ length (filter_map as_v4 xs) + length (filter_map as_v6 xs)
 two_families [] = refl
 two_families (V4 n ∷ xs) = omega (arith, two_families xs)

@@ -1,4 +1,4 @@
--- Blocks that are joined as far as they go are the maximal blocks of their union.
+-- If no two blocks of a list can be joined, they are the maximal blocks of their union.
 use Rattle.std.proofs.Common.{◌≡◌, ℕ, zero, suc, ◌+◌, ◌-◌, ◌*◌, ◌/◌, ◌^◌, ◌<◌, ◌≤◌, ◌⊎◌, sym, refl, ap, subst, ◌∙◌, arith, ⊎_elim, List, get_or}
 use Rattle.std.proofs.lemmas.Bool.{cases_lt}
 use Rattle.std.specs.List.{Contains}
@@ -28,8 +28,8 @@ joined_apart w r h a b ca cb x ma mb =
     (λ (f : Follows w b a). let r : Goal = absurd (omega (arith, f.0, ib.1, ia.0, ba.block)) in r) o)
     (pairs_contains (Follows w) r a b h.pairs ca cb)
 
--- where the halves of a block lie in two blocks of the list, the whole lies in one of the two: otherwise they would be
--- these halves
+-- if the halves of a block lie in two blocks of the list, the whole block lies in one of the two: otherwise these two
+-- would be the halves
 halves_joined : (w : ℕ) (r : List Network) → AreJoined w r → (x p : ℕ) → p < w → x < 2 ^ w → (a b : Network) → Contains r a → Contains r b
     → Subnet w (block_at w (x / block_size w p * block_size w p) (p + 1)) a
     → Subnet w (block_at w (x / block_size w p * block_size w p + block_size w (p + 1)) (p + 1)) b
@@ -86,7 +86,8 @@ halves_joined w r h x p lt l a b ca cb sa sb =
         (λ (f : Follows w b a). absurd (omega (arith, f.0, bb.block, l, size_pos w b.prefix))) o)
         (pairs_contains (Follows w) r a b h.pairs ca cb)
 
--- a block that lies in the union lies in one block of the list: an address does, and halves hand it on to the whole
+-- a block that lies in the union lies in one block of the list: this holds for one address, and for a block if it holds
+-- for its halves
 pub block_in_one : (w : ℕ) (r : List Network) → AreJoined w r → (k x p : ℕ) → p + k ≡ w → x < 2 ^ w → LiesInUnion w (block_at w x p) r
     → (n : Network) × Contains r n × Subnet w (block_at w x p) n
 block_in_one w r h zero x p e l within =
@@ -110,7 +111,7 @@ block_in_one w r h (suc k) x p e l within =
     (λ y m. within y (block_at_subnet w (d.address + s) (p + 1) d (omega arith) (omega arith) m1 y m)) in
     halves_joined w r h x p (omega arith) l c0.0 c1.0 c0.1 c1.1 c0.2 c1.2
 
--- the same of any network
+-- the same for any network
 pub network_in_one : (w : ℕ) (r : List Network) → AreJoined w r → (c : Network) → IsNetwork w c → LiesInUnion w c r → (n : Network) × Contains r n × Subnet w c n
 network_in_one w r h c cn within =
     let own : Member w c c.address = (cn.address_fits, refl) in
@@ -119,7 +120,7 @@ network_in_one w r h c cn within =
     (λ y m. within y (block_at_subnet w c.address c.prefix c (omega arith) fits own y m)) in
     (o.0, o.1, λ y m. o.2 y ((block_same_set w c y).1 m))
 
--- the blocks of a joined list are the maximal ones of its union
+-- the blocks of a joined list are the maximal blocks of its union
 joined_is_maximal : (w : ℕ) (r : List Network) → AreJoined w r → (b : Network) → Contains r b → IsMaximalIn w (InUnion w r) b
 joined_is_maximal w r h b cb =
     let bb : IsCidrBlock w b = All-contains (IsCidrBlock w) r b h.blocks cb in
@@ -149,7 +150,7 @@ maximal_is_joined w r h b m =
     subst (λ k. Contains r k) same o.1)
     (cases_lt n.prefix b.prefix)
 
--- a joined list with the union of the networks is their aggregate
+-- a joined list with the same union as the networks is their aggregate
 pub joined_is_aggregate : (w : ℕ) (ns r : List Network) → AreJoined w r → SameUnion w r ns → IsAggregate w ns r
 joined_is_aggregate w ns r h same =
     least_of_same w (InUnion w r) (InUnion w ns) r same (record {

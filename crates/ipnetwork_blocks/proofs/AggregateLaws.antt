@@ -1,4 +1,4 @@
--- The laws of aggregation: most are those of least lists, at the union of the networks.
+-- The laws of aggregation. Most are those of least lists, for the union of the networks.
 use Rattle.std.proofs.Common.{◌≡◌, ℕ, ◌<◌, ◌≤◌, ◌⊎◌, inl, inr, sym, refl, subst, ⊎_elim, List, [], ◌∷◌}
 use Rattle.std.proofs.lemmas.Bool.{cases_lt}
 use Rattle.std.specs.List.{Contains}
@@ -11,7 +11,7 @@ use Rattle.ipnetwork_blocks.specs.AggregateLaws.{AggregateHasUnion, AggregateIsA
 use Rattle.ipnetwork_blocks.proofs.LeastLists.{contains_cons, contains_head, contains_tail, contains_nil, maximal_apart, least_of_same, least_unique}
 use Rattle.ipnetwork_blocks.proofs.MaximalBlocks.{in_a_maximal, holds_one, is_shortest, member_or_not}
 
--- an address lies in a union or does not
+-- every address either lies in a union or does not
 in_union_or_not : (w : ℕ) (ns : List Network) (x : ℕ) → InUnion w ns x ⊎ ¬ (InUnion w ns x)
 in_union_or_not w [] x = inr (λ c. contains_nil c.0 c.1)
 in_union_or_not w (n ∷ ns) x =

@@ -1,4 +1,4 @@
--- Lists of values, each seen as the network that it means.
+-- Lists of values, each seen as the network that it holds.
 use Rattle.std.proofs.Common.{◌≡◌, ◌↔◌, ℕ, ◌+◌, ◌-◌, ◌<◌, ◌≤◌, inl, inr, sym, refl, ap, subst, ◌∙◌, arith, List, [], ◌∷◌, length, get_or, map, Bool, false, IsTrue, true≢false}
 use Rattle.std.specs.Ordering.{nat_cmp, ordering_then, is_lt, MatchOrdering}
 use Rattle.std.specs.declared.cmp.Ordering.{Ordering}
@@ -10,11 +10,11 @@ use Rattle.std.proofs.lemmas.List.{get_or-map, get_or_default, length-map}
 use Rattle.ipnetwork_family.specs.Network.{Network, Subnet, IsNetworkAtMost, network_cmp}
 use Rattle.ipnetwork_blocks.specs.Private.Joining.{AreInOrder, LiesInLast}
 
--- an element that was read, and what it means
+-- an element that was read, and the network that it holds
 pub read_map : {X : Type 0} (f : X → Network) (xs : List X) (i : ℕ) (x : X) → i < length xs → x ≡ get_or xs i x → f x ≡ get_or (map f xs) i (f x)
 read_map f xs i x l is = ap f is ∙ sym (get_or-map f xs i x (f x) l)
 
--- and a network that is what it means
+-- a network that is the one held by the element that was read
 pub read_held : {X : Type 0} (f : X → Network) (xs : List X) (i : ℕ) (x : X) (n : Network) → i < length xs → x ≡ get_or xs i x → n ≡ f x → n ≡ get_or (map f xs) i n
 read_held f xs i x n l is e = subst (λ (m : Network). m ≡ get_or (map f xs) i m) (sym e) (read_map f xs i x l is)
 
@@ -26,7 +26,7 @@ at_most_from a b Equal Equal h k e = inr (sym h, omega arith)
 at_most_from a b Equal Greater h k e = inr (sym h, omega arith)
 at_most_from a b Greater p h k e = inl h
 
--- what is sorted is in the order of networks
+-- a sorted list is in the order of networks
 pub in_order_from_sort : {X : Type 0} (f : X → Network) (Is : X → Type 0) (R : X → X → Ordering) (xs : List X)
     → ((x y : X) → Is x → Is y → R x y ≡ network_cmp (f x) (f y)) → All Is xs → IsSorted R xs → AreInOrder (map f xs)
 in_order_from_sort f Is R [] law all h k d l = absurd (omega arith)
@@ -42,7 +42,7 @@ in_order_from_sort {X} f Is R (e ∷ es) law all h k d l =
     subst (λ (n : Network). IsNetworkAtMost n (get_or (map f xs) (k + 1) d)) (sym (get_or-map f xs k e d (omega arith)))
     (subst (λ (n : Network). IsNetworkAtMost (f x) n) (sym (get_or-map f xs (k + 1) e d m)) order)
 
--- whether a network lies in the last of those that values hold
+-- whether a network lies in the last of the networks that values hold
 pub lies_in_none : {X : Type 0} (f : X → Network) (w : ℕ) (xs : List X) (n : Network) → length xs ≤ 0 → IsTrue false ↔ LiesInLast w (map f xs) n
 lies_in_none f w xs n none =
     let size = length-map xs f in

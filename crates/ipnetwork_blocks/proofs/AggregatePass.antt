@@ -1,4 +1,4 @@
--- The pass over blocks in order.
+-- The pass over sorted blocks.
 use Rattle.std.proofs.Common.{◌≡◌, ℕ, ◌+◌, ◌-◌, ◌<◌, ◌≤◌, inl, inr, sym, refl, ap, subst, ◌∙◌, arith, ⊎_elim, List, [], ◌∷◌, ◌++◌, length, get_or, take, set, ◌≢◌}
 use Rattle.std.proofs.lemmas.Bool.{cases_lt}
 use Rattle.std.specs.List.{All, Contains}
@@ -24,14 +24,14 @@ at_most_trans a b c h k =
     (λ (f : (b.address ≡ c.address) × (b.prefix ≤ c.prefix)). inr (omega (arith, e.0, f.0), omega (arith, e.1, f.1))) k)
     h
 
--- what is at most a block in order is at most the next one
+-- a network that is at most a block in order is at most the next one
 next_in_order : (z : List Network) (next : ℕ) (a d : Network) → AreInOrder z → IsNetworkAtMost a (get_or z next d) → next + 1 < length z → IsNetworkAtMost a (get_or z (next + 1) d)
 next_in_order z next a d o h l = at_most_trans a (get_or z next d) (get_or z (next + 1) d) h (o next d l)
 
 -- ---- the loop of `join_sorted`
 
--- of the blocks z in order, the first `next` have the union of the first `kept` of xs, which are joined; the others
--- stand in xs as they stood in z
+-- the first `next` of the sorted blocks z have the union of the first `kept` of xs, which are joined; the others are in
+-- xs as they were in z
 pub record IsPassing (w : ℕ) (z xs : List Network) (next kept : ℕ) : Type 0 where
   pub bound : kept ≤ next
   pub within : next ≤ length z
@@ -74,7 +74,7 @@ passing_skips w z xs next kept b o h l is some sub =
       order = λ d m k. next_in_order z next (get_or xs (kept - 1) d) d o (h.order d m l) k;
     }
 
--- a block that does not lie in the last one in front begins behind the end of each in front
+-- a block that does not lie in the last block in front begins after the end of each block in front
 pub passing_after : (w : ℕ) (z xs : List Network) (next kept : ℕ) (b : Network) → All (IsCidrBlock w) z → IsPassing w z xs next kept → next < length z
     → b ≡ get_or xs next b → (0 < kept → ¬ (Subnet w b (get_or xs (kept - 1) b))) → All (λ a. high w a < b.address) (take kept xs)
 passing_after w z xs next kept b blocks h l is out =

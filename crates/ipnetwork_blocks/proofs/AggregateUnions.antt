@@ -1,4 +1,4 @@
--- Unions: of a list with one network more, of two halves and their block, of networks without their host bits.
+-- Unions of a list with one more network, of two halves and their block, and of networks without their host bits.
 use Rattle.std.proofs.Common.{◌≡◌, ◌↔◌, ℕ, ◌<◌, ◌⊎◌, inl, inr, sym, ap, subst, ◌∙◌, arith, ⊎_elim, List, [], ◌∷◌, ◌++◌, length, get_or, map}
 use Rattle.std.specs.List.{Contains}
 use Rattle.std.specs.List.Sorted.{IsPermutation}
@@ -37,14 +37,14 @@ union_push w r s b h x = (one w r s b h x, one w s r b (λ y. ((h y).1, (h y).0)
         (λ (d : InUnion w r x). inl ((h x).0 d))
         (λ (m : Member w b x). inr m) ((in_union_push w r b x).0 c))
 
--- a network that lies in one of the list adds no address
+-- a network that lies in a network of the list adds no address
 pub union_skip : (w : ℕ) (r : List Network) (b n : Network) → Contains r n → Subnet w b n → SameUnion w r (r ++ b ∷ [])
 union_skip w r b n c s x = (
   (λ d. (in_union_push w r b x).1 (inl d)),
   (λ d. ⊎_elim (λ (e : InUnion w r x). e) (λ (m : Member w b x). (n, c, s x m)) ((in_union_push w r b x).0 d)),
 )
 
--- two halves at the end of a list, and their block in their place
+-- two halves at the end of a list can be replaced by their block
 pub union_join : (w : ℕ) (r : List Network) (t b : Network) → IsCidrBlock w t → IsCidrBlock w b → high w t < b.address → AreHalves w t b
     → SameUnion w (r ++ parent w t ∷ []) ((r ++ t ∷ []) ++ b ∷ [])
 union_join w r t b ht hb l s x =

@@ -1,4 +1,4 @@
--- Hosts, subnets, siblings and blocks that follow and precede at which a misreading of the definitions would show.
+-- Hosts, subnets, siblings, and following and preceding blocks that would reveal a misreading of the definitions.
 use Rattle.std.proofs.Common.{◌≡◌, ◌↔◌, ℕ, ◌^◌, ◌<◌, ◌≤◌, sym, refl, ◌∙◌, ap, subst, arith, inl, inr, List, [], ◌∷◌}
 use Rattle.std.proofs.lemmas.List.{append_cancel_right}
 use Rattle.ipnetwork_family.specs.Network.{Network, IsNetwork, count_up, members}
@@ -13,7 +13,7 @@ use Rattle.ipnetwork_blocks.proofs.LeastLists.{own_address}
 abbrev net : ℕ → ℕ → Network
 net address prefix = record { address = address; prefix = prefix }
 
--- ---- hosts: this list, and no other, such as one with an end too many or too few
+-- ---- hosts: this list and no other, such as one that includes an end too many or too few
 
 one_list : (Are : List ℕ → Type 0) (hosts : List ℕ) → Are hosts → ((xs : List ℕ) → Are xs → xs ≡ hosts) → (xs : List ℕ) → Are xs ↔ (xs ≡ hosts)
 one_list Are hosts are alone xs = (alone xs, λ e. subst Are (sym e) are)
@@ -44,19 +44,19 @@ all_of_v6 : (p : ℕ) (hosts : List ℕ) → 126 < p → members 128 (net 5 p) �
 all_of_v6 p hosts long is =
     one_list (AreIpv6Hosts (net 5 p)) hosts (record { inner = λ short. absurd (omega arith); whole = λ _. is }) (λ xs h. sym (h.whole (omega arith)) ∙ is)
 
--- 0.0.0.5/31, and ::5/127
+-- 0.0.0.5/31 and ::5/127
 pub both_of_two : (hosts : List ℕ) → (AreIpv4Hosts (net 5 31) hosts ↔ (hosts ≡ 4 ∷ 5 ∷ [])) × (AreIpv6Hosts (net 5 127) hosts ↔ (hosts ≡ 4 ∷ 5 ∷ []))
 unfolding count_up
 both_of_two hosts = (all_of_v4 31 (4 ∷ 5 ∷ []) (omega arith) refl hosts, all_of_v6 127 (4 ∷ 5 ∷ []) (omega arith) refl hosts)
 
--- 0.0.0.5/32, and ::5/128
+-- 0.0.0.5/32 and ::5/128
 pub the_one : (hosts : List ℕ) → (AreIpv4Hosts (net 5 32) hosts ↔ (hosts ≡ 5 ∷ [])) × (AreIpv6Hosts (net 5 128) hosts ↔ (hosts ≡ 5 ∷ []))
 unfolding count_up
 the_one hosts = (all_of_v4 32 (5 ∷ []) (omega arith) refl hosts, all_of_v6 128 (5 ∷ []) (omega arith) refl hosts)
 
--- ---- subnets: 192.0.2.0 is 3221225984, and host bits change nothing
+-- ---- subnets: 192.0.2.0 is 3221225984, and host bits make no difference
 
--- the four of 192.0.2.77/24
+-- the four blocks of prefix length 26 in 192.0.2.77/24
 pub four_subnets : subnets_of 32 (net 3221226061 24) 26 ≡ net 3221225984 26 ∷ net 3221226048 26 ∷ net 3221226112 26 ∷ net 3221226176 26 ∷ []
 unfolding count_up
 four_subnets = refl
@@ -65,7 +65,7 @@ pub own_length : subnets_of 32 (net 3221226061 24) 24 ≡ net 3221225984 24 ∷ 
 unfolding count_up
 own_length = refl
 
--- number 2 of them, and the only one of their own length
+-- block number 2 of these, and the only block of the network's own prefix length
 pub third_quarter : subnet_number 32 (net 3221226061 24) 26 2 ≡ net 3221226112 26
 third_quarter = refl
 
@@ -74,21 +74,21 @@ number_zero = refl
 
 -- ---- the block that follows
 
--- behind 192.0.2.77/26
+-- the block after 192.0.2.77/26
 pub next_quarter : following_block 32 (net 3221226061 26) ≡ net 3221226112 26
 next_quarter = refl
 
--- behind 255.255.255.255 there is no address
+-- there is no address after 255.255.255.255
 pub past_the_last : ¬ (IsNetwork 32 (following_block 32 (net 4294967295 32)))
 past_the_last h = omega (arith, h.address_fits)
 
 -- ---- the block that precedes
 
--- before 192.0.2.77/26
+-- the block before 192.0.2.77/26
 pub quarter_before : preceding_block 32 (net 3221226061 26) ≡ net 3221225984 26
 quarter_before = refl
 
--- and before ::1
+-- the block before ::1
 pub before_one : preceding_block 128 (net 1 128) ≡ net 0 128
 before_one = refl
 
@@ -97,7 +97,7 @@ before_one = refl
 fits : (address prefix : ℕ) → address < 2 ^ 32 → prefix ≤ 32 → IsNetwork 32 (net address prefix)
 fits address prefix below short = record { address_fits = below; prefix_fits = short }
 
--- at the first bit
+-- siblings that differ in the first bit
 pub upper_half : IsSibling 32 (net 5 1) (net 2147483648 1)
 upper_half =
     sibling_from 32 (net 5 1) (net 2147483648 1) (fits 5 1 (omega arith) (omega arith)) (fits 2147483648 1 (omega arith) (omega arith)) (omega arith) refl refl (inl (refl, refl))
@@ -106,15 +106,15 @@ pub lower_half : IsSibling 32 (net 4294967295 1) (net 0 1)
 lower_half =
     sibling_from 32 (net 4294967295 1) (net 0 1) (fits 4294967295 1 (omega arith) (omega arith)) (fits 0 1 (omega arith) (omega arith)) (omega arith) refl refl (inr (refl, refl))
 
--- and at the last
+-- siblings that differ in the last bit
 pub even_and_odd : IsSibling 32 (net 4 32) (net 5 32)
 even_and_odd =
     sibling_from 32 (net 4 32) (net 5 32) (fits 4 32 (omega arith) (omega arith)) (fits 5 32 (omega arith) (omega arith)) (omega arith) refl refl (inl (refl, refl))
 
--- the block that follows is not always the sibling
+-- the following block is not always the sibling
 pub odd_and_even : ¬ (IsSibling 32 (net 5 32) (net 6 32))
 odd_and_even h = omega (arith, ((h.whole 6).1 (inr (own_address 32 (net 6 32) h.block.network))).1)
 
--- the whole address space has none
+-- the whole address space has no sibling
 pub none_at_prefix_0 : (b : Network) → ¬ (IsSibling 32 (net 0 0) b)
 none_at_prefix_0 b h = h.apart (b.address, (h.block.network.address_fits, omega (arith, h.block.network.address_fits)), own_address 32 b h.block.network)

@@ -1,4 +1,4 @@
--- Runs of neighbouring blocks of one prefix length: the steps of an iterator over them, and where it starts.
+-- Runs of adjacent blocks of one prefix length: the steps of an iterator over them, and where it starts.
 use Rattle.std.proofs.Common.{◌≡◌, ◌≢◌, Option, None, Some, MatchOption, option_map, ℕ, suc, ◌+◌, ◌-◌, ◌*◌, ◌/◌, ◌^◌, ◌<◌, ◌≤◌, sym, refl, ap, subst, ◌∙◌, arith, ⊎_elim, List, [], ◌∷◌, length, map}
 use Rattle.std.proofs.lemmas.Nat.{pow_pos, mul-le}
 use Rattle.std.proofs.lemmas.Bool.{cases_lt}
@@ -11,13 +11,13 @@ use Rattle.ipnetwork_blocks.specs.Private.BlockRuns.{blocks_left, IsRun, AreEnds
 use Rattle.ipnetwork_blocks.specs.Subnets.{block_number, subnets_of}
 use Rattle.ipnetwork_blocks.proofs.FollowingBlock.{high_after}
 
--- of two multiples, the greater is of the greater number
+-- the greater of two multiples is the multiple by the greater number
 pub multiple_order : (i j s : ℕ) → 0 < s → i * s ≤ j * s → i ≤ j
 multiple_order i j s pos h =
     ⊎_elim (λ (l : j < i). let m : (j + 1) * s ≤ i * s = mul-le (j + 1) s i s (omega arith) (omega arith) in absurd (omega (arith, m)))
     (λ (ge : i ≤ j). ge) (cases_lt j i)
 
--- the numbers of the first and the last
+-- the numbers of the first and the last block
 pub record AreNumbers (w : ℕ) (f l : Network) (i j : ℕ) : Type 0 where
   pub first : f.address ≡ i * block_size w f.prefix
   pub last : l.address ≡ j * block_size w f.prefix
@@ -44,14 +44,14 @@ block_numbered w f begins =
     let at : ℕ → Network = λ address. record { address = address; prefix = f.prefix } in
     ap at (sym begins)
 
--- where the first is the last, it alone is left
+-- if the first block is the last, it is the only one left
 pub run_ends : (w : ℕ) (f l : Network) → IsRun w f l → f.address ≡ l.address → blocks_left w (Some f) l ≡ f ∷ []
 run_ends w f l run same =
     let s : ℕ = block_size w f.prefix in
     let number : ℕ → Network = block_number w f.prefix in
     ap (map number) (count_up-one (f.address / s) (l.address / s) (ap (λ k. k / s) same)) ∙ ap (λ b. b ∷ []) (block_numbered w f run.first_begins)
 
--- where it comes before the last, the next one follows it
+-- if the first block comes before the last, so does the one that follows it
 pub run_before : (w : ℕ) (f l : Network) → IsRun w f l → f.address ≢ l.address → high w f + 1 ≤ l.address
 run_before w f l run differ =
     let s : ℕ = block_size w f.prefix in
@@ -90,7 +90,7 @@ run_goes_on w f l g run differ is begins =
       ap (map number) (count_up-next i j less) ∙ ap (λ b. b ∷ from (i + 1)) (block_numbered w f run.first_begins) ∙ ap (λ k. f ∷ from k) (sym next),
     )
 
--- the steps, by what is kept as the next block
+-- the steps, given what is kept as the next block
 module _ (w : ℕ) {X : Type 0} (pair : X → Network) where
   pub record Steps (f l : Network) (left : Option X) : Type 0 where
     pub ends : AreEnds w (option_map pair left) l
@@ -110,7 +110,7 @@ module _ (w : ℕ) {X : Type 0} (pair : X → Network) where
       go None h = absurd (omega (arith, h, run_before w f l run differ, run.network.address_fits))
       go (Some m) h = let goes = run_goes_on w f l (pair m) run differ h.1 h.2 in record { ends = goes.0; list = goes.1 }
 
-  -- what is known of the run before a step
+  -- what is known about the run before a step
   pub run_of : (next : Option X) (item : X) (l : Network) → next ≡ Some item → AreEnds w (option_map pair next) l → IsRun w (pair item) l
   run_of next item l is ends = subst (λ (o : Option X). AreEnds w (option_map pair o) l) is ends
 
@@ -118,7 +118,7 @@ module _ (w : ℕ) {X : Type 0} (pair : X → Network) where
       → blocks_left w (option_map pair next) l ≡ pair item ∷ blocks_left w (option_map pair left) l
   list_of next left item l is steps = ap (λ o. blocks_left w (option_map pair o) l) is ∙ steps.list
 
--- the list falls by one
+-- the list gets one item shorter
 pub list_falls : {X : Type 0} (s t : List Network) (x : Network) (item : X) → s ≡ x ∷ t → MakesProgress (λ _. Unit {0}) (item_count (λ (left : List Network). left)) s (Some item) t
 list_falls s t x item e =
     let l : length s ≡ suc (length t) = ap length e in

@@ -1,4 +1,4 @@
--- The block with some host bits that begins at an address.
+-- The block with a given number of host bits that begins at a given address.
 use Rattle.std.proofs.Common.{◌≡◌, ℕ, suc, ◌+◌, ◌-◌, ◌*◌, ◌/◌, ◌^◌, ◌<◌, ◌≤◌, sym, ap, ◌∙◌, arith}
 use Rattle.std.proofs.lemmas.Nat.{pow_pos, pow-add}
 use Rattle.ipnetwork_family.specs.Network.{Network, IsNetwork, Member, block_size, HostBitsAreZero}
@@ -9,7 +9,7 @@ use Rattle.ipnetwork_family.proofs.Blocks.{size_pos, within_member, member_withi
 abbrev pub block_from : ℕ → ℕ → ℕ → Network
 block_from w k base = record { address = base; prefix = w - k }
 
--- base is a multiple of its size, and it ends within the addresses
+-- base is a multiple of the block's size, and the block ends within the address space
 pub record Begins (w k base : ℕ) : Type 0 where
   pub times : ℕ
   pub multiple : base ≡ times * 2 ^ k
@@ -41,7 +41,7 @@ from_in w k base x h l m =
     let e = size_of_bits w k h.bits in
     member_within w (block_from w k base) (from_network w k base h) x (omega (arith, b, l)) (omega (arith, b, e, m))
 
--- two halves
+-- the size is twice that of a half
 pub twice : (k : ℕ) → 2 ^ suc k ≡ 2 ^ k + 2 ^ k
 twice k = let e : suc k ≡ k + 1 = omega arith in ap (λ j. 2 ^ j) e ∙ pow-add 2 k 1 ∙ (omega arith)
 

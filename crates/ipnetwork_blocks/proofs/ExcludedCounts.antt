@@ -1,4 +1,4 @@
--- How many blocks have what a network has beside a part of it.
+-- The number of blocks that make up a network without a part of it.
 use Rattle.std.proofs.Common.{◌≡◌, ℕ, zero, suc, ◌+◌, ◌-◌, ◌/◌, ◌^◌, ◌<◌, ◌≤◌, ◌⊎◌, inl, inr, sym, refl, ap, subst, ◌∙◌, arith, ⊎_elim, List, [], ◌∷◌, ◌++◌, length}
 use Rattle.std.proofs.lemmas.Bool.{cases_lt}
 use Rattle.std.proofs.lemmas.List.{length-append}
@@ -14,11 +14,11 @@ use Rattle.ipnetwork_blocks.proofs.LeastLists.{own_address, least_of_same, least
 abbrev In : ℕ → ℕ → ℕ → Type 0
 In m base x = (base ≤ x) × (x < base + 2 ^ m)
 
--- those of them that are not in the block with k host bits that begins at hole
+-- the addresses of that block that are not in the block with k host bits that begins at hole
 abbrev Rest : ℕ → ℕ → ℕ → ℕ → ℕ → Type 0
 Rest m base k hole x = In m base x × ¬ (In k hole x)
 
--- a block of k host bits that begins in one of m and no fewer lies in it
+-- a block of k host bits that begins within a block of at least as many host bits lies in it
 inside : (w m base k hole : ℕ) → Begins w m base → Begins w k hole → k ≤ m → In m base hole → hole + 2 ^ k ≤ base + 2 ^ m
 inside w m base k hole h j le at =
     let inner : Network = block_from w k hole in
@@ -31,14 +31,14 @@ inside w m base k hole h j le at =
     let to = last.1 in
     omega arith
 
--- two blocks of one size that share an address begin together
+-- two blocks of the same size that share an address begin at the same address
 same_begin : (w k base hole : ℕ) → Begins w k base → Begins w k hole → In k base hole → base ≡ hole
 same_begin w k base hole h j at =
     let le = inside w k base k hole h j (omega arith) at in
     let from = at.0 in
     omega arith
 
--- a network of the rest of a block lies in one of its halves
+-- a network within the rest of a block lies in one of the block's halves
 in_half : (w m base k hole : ℕ) → Begins w (suc m) base → In (suc m) base hole → (n : Network) → IsNetwork w n → LiesIn w (Rest (suc m) base k hole) n
     → LiesIn w (In m base) n ⊎ LiesIn w (In m (base + 2 ^ m)) n
 in_half w m base k hole h at n nn lies =
@@ -76,7 +76,7 @@ least_of_block w m base h =
     (λ x. ((λ k. in_from w m base x h k), (λ p. from_in w m base x h p.0 p.1)))
     (least_of_one w (block_from w m base) (from_network w m base h) (from_block w m base h))
 
--- as many blocks as there are halvings from the block to the part
+-- there are as many blocks as there are halvings from the block down to the part
 rest_list : (w k hole d m base : ℕ) → Begins w k hole → m ≡ k + d → Begins w m base → In m base hole
     → (r : List Network) × IsLeastList w (Rest m base k hole) r × (length r ≡ d)
 rest_list w k hole zero m base j e h at =
@@ -145,7 +145,7 @@ rest_list w k hole (suc d) (suc m) base j e h at =
     let r : Goal = (half ∷ rest.0, list, let s = rest.2 in omega arith) in r)
     (cases_lt hole (base + 2 ^ m))
 
--- a network begins a block
+-- a network begins at a multiple of its size
 network_begins : (w : ℕ) (n : Network) → IsNetwork w n → Begins w (w - n.prefix) (low w n)
 network_begins w n h = record { times = n.address / block_size w n.prefix; multiple = refl; bits = omega arith; fits = high_fits w n h }
 

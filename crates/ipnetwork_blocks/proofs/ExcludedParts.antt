@@ -1,4 +1,4 @@
--- What one network has and another has not: the addresses before the other, and those behind it.
+-- The addresses of one network that are not in another: those before the other network, and those after it.
 use Rattle.std.proofs.Common.{◌≡◌, ◌↔◌, ℕ, ◌+◌, ◌^◌, ◌<◌, ◌≤◌, ◌⊎◌, inl, inr, arith, ⊎_elim, List, [], ◌++◌}
 use Rattle.std.proofs.lemmas.Bool.{cases_lt}
 use Rattle.ipnetwork_family.specs.Network.{Network, IsNetwork, Member, Overlap, low, high}
@@ -25,7 +25,7 @@ least_apart w first last n i r nn apart from to h =
     ))
     h
 
--- networks that share one
+-- networks that share an address
 pub least_around : {w : ℕ} {n i : Network} {r s : List Network} (first last : ℕ) → IsNetwork w n → IsNetwork w i → Overlap w n i → first ≡ low w n → last ≡ high w n
     → IsLeastList w (Before w first i) r → IsLeastList w (Behind w i last) s → IsLeastList w (InDifference w n i) (r ++ s)
 least_around {w} {n} {i} {r} {s} first last nn ni o from to h k =
@@ -95,7 +95,7 @@ least_before w first last n r e h =
 pub none_before : (w first : ℕ) (n : Network) → low w n ≡ 0 → IsLeastList w (Before w first n) []
 none_before w first n e = least_of_none w (Before w first n) (λ x p. let a = p.1 in omega arith)
 
--- and those behind it
+-- the addresses after a network
 pub least_behind : (w first last : ℕ) (n : Network) (r : List Network) → first ≡ high w n + 1 → IsLeastList w (FromTo first last) r → IsLeastList w (Behind w n last) r
 least_behind w first last n r e h =
     least_of_same w (FromTo first last) (Behind w n last) r

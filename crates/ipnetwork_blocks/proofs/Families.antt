@@ -1,4 +1,4 @@
--- Lists of networks of either family, and those of each family in them.
+-- Lists of networks of either family, and the networks of each family in them.
 use Rattle.std.proofs.Common.{◌≡◌, ◌↔◌, ℕ, sym, refl, ap, subst, ◌∙◌, List, [], ◌∷◌, ◌++◌, map, get_or, Option, Some}
 use Rattle.std.specs.List.{All, Contains, filter_map}
 use Rattle.std.proofs.lemmas.List.Elements.{Contains-get_or}
@@ -28,21 +28,21 @@ v6_of_both [] [] = refl
 v6_of_both [] (n ∷ v6) = ap (λ ns. n ∷ ns) (v6_of_both [] v6)
 v6_of_both (n ∷ v4) v6 = v6_of_both v4 v6
 
--- so those of each family in a list that is put together are the lists that it is made of
+-- the networks of each family in a concatenation of two lists, one for each family, are those two lists
 pub v4_own : (r : List IpNetwork) (v4 v6 : List Network) → r ≡ map V4 v4 ++ map V6 v6 → v4 ≡ filter_map as_v4 r
 v4_own r v4 v6 e = sym (ap (filter_map as_v4) e ∙ v4_of_both v4 v6)
 
 pub v6_own : (r : List IpNetwork) (v4 v6 : List Network) → r ≡ map V4 v4 ++ map V6 v6 → v6 ≡ filter_map as_v6 r
 v6_own r v4 v6 e = sym (ap (filter_map as_v6) e ∙ v6_of_both v4 v6)
 
--- and the list is that of its networks of each family
+-- such a list is the concatenation of its networks of each family
 pub own_parts : (r : List IpNetwork) (v4 v6 : List Network) → r ≡ map V4 v4 ++ map V6 v6 → r ≡ map V4 (filter_map as_v4 r) ++ map V6 (filter_map as_v6 r)
 own_parts r v4 v6 e = e ∙ ap (λ l. map V4 l ++ map V6 v6) (v4_own r v4 v6 e) ∙ ap (λ l. map V4 (filter_map as_v4 r) ++ map V6 l) (v6_own r v4 v6 e)
 
 -- ---- the addresses of each family
 
--- of a family of addresses of w bits, which stand among those of either as `address` says: its networks are those that
--- `own` gives
+-- a family of w-bit addresses. `address` gives the address of either family with a given number, and `own` the networks
+-- of the family
 pub record IsFamily (w : ℕ) (own : IpNetwork → Option Network) (put : Network → IpNetwork) (address : ℕ → IpAddr) : Type 0 where
   pub kept : (y : IpNetwork) (n : Network) → own y ≡ Some n → y ≡ put n
   pub given_back : (n : Network) → own (put n) ≡ Some n
@@ -82,7 +82,7 @@ pub v6_family : IsFamily 128 as_v6 V6 addresses.V6
 v6_family = record { kept = v6_kept; given_back = λ n. refl; fits = λ n h. h; one = v6_one; member = λ n x m. m; only = v6_only }
 
 module _ {w : ℕ} {own : IpNetwork → Option Network} {put : Network → IpNetwork} {address : ℕ → IpAddr} (family : IsFamily w own put address) where
-  -- a list has the networks of the family that stand in it
+  -- the networks of the family in a list are those that the list contains
   pub listed : (ns : List IpNetwork) (n : Network) → Contains (filter_map own ns) n ↔ Contains ns (put n)
   listed ns n = (
     (λ c. let g = given own ns n c in subst (λ (y : IpNetwork). Contains ns y) (family.kept g.0 n g.2) g.1),
@@ -95,25 +95,25 @@ module _ {w : ℕ} {own : IpNetwork → Option Network} {put : Network → IpNet
       let c = (listed ns n).0 (Contains-get_or (filter_map own ns) k d l) in
       family.fits n (subst IsIpNetwork c.2 (all c.0 (put n) c.1))
 
-  -- an address lies in the union exactly if it lies in that of its family's networks
+  -- an address lies in the union exactly if it lies in the union of its family's networks
   pub in_family : (ns : List IpNetwork) (x : ℕ) → InUnion w (filter_map own ns) x ↔ InIpUnion ns (address x)
   in_family ns x = (
     (λ c. (put c.0, (listed ns c.0).0 c.1, family.member c.0 x c.2)),
     (λ c. let o = family.one c.0 x c.2 in (o.0, gives own ns c.0 o.0 c.1 o.1, o.2)),
   )
 
-  -- so it is with all addresses of a network of the family
+  -- a network of the family lies in the union exactly if it lies in the union of its family's networks
   pub lies_in_family : (ns : List IpNetwork) (n : Network) → LiesInUnion w n (filter_map own ns) ↔ LiesInIpUnion (put n) ns
   lies_in_family ns n = (
     (λ h x m. let o = family.only n x m in subst (λ (y : IpAddr). InIpUnion ns y) (sym o.1) ((in_family ns o.0).0 (h o.0 o.2))),
     (λ h x m. (in_family ns x).1 (h (address x) (family.member n x m))),
   )
 
-  -- lists with the same union have that of each family
+  -- if two lists have the same union, so do their networks of each family
   pub same_in_family : (ns ms : List IpNetwork) → SameIpUnion ns ms → SameUnion w (filter_map own ns) (filter_map own ms)
   same_in_family ns ms h x = through (in_family ns x) (through (h (address x)) ((in_family ms x).1, (in_family ms x).0))
 
--- and lists that have that of both families have the same union
+-- if the networks of each family in two lists have the same union, so do the two lists
 pub same_by_family : (ns ms : List IpNetwork) → SameUnion 32 (filter_map as_v4 ns) (filter_map as_v4 ms) → SameUnion 128 (filter_map as_v6 ns) (filter_map as_v6 ms) → SameIpUnion ns ms
 same_by_family ns ms h k (addresses.V4 x) = through ((in_family v4_family ns x).1, (in_family v4_family ns x).0) (through (h x) (in_family v4_family ms x))
 same_by_family ns ms h k (addresses.V6 x) = through ((in_family v6_family ns x).1, (in_family v6_family ns x).0) (through (k x) (in_family v6_family ms x))

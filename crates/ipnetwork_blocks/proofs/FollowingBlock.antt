@@ -4,7 +4,7 @@ use Rattle.ipnetwork_family.specs.Network.{Network, HostBitsAreZero, low, high, 
 use Rattle.ipnetwork_family.proofs.Blocks.{size_pos, multiple_begins}
 use Rattle.ipnetwork_blocks.specs.FollowingBlock.{following_block}
 
--- the network without host bits begins and ends where the network does
+-- a network's block begins and ends where the network does
 pub block_low : (w : ℕ) (n : Network) → low w (block_of w n) ≡ low w n
 block_low w n = multiple_begins (block_size w n.prefix) (n.address / block_size w n.prefix) (size_pos w n.prefix)
 
@@ -14,7 +14,7 @@ block_high w n = ap (λ l. l + block_size w n.prefix - 1) (block_low w n)
 pub high_after : (w : ℕ) (n : Network) → high w n + 1 ≡ low w n + block_size w n.prefix
 high_after w n = omega (arith, size_pos w n.prefix)
 
--- the block of that prefix length at the address behind a network is the one that follows it
+-- the block of the same prefix length at the address after a network is the block that follows it
 pub following_is : (w x : ℕ) (n : Network) → x ≡ high w n + 1 → block_of w (record { address = x; prefix = n.prefix }) ≡ following_block w n
 following_is w x n e =
     let s : ℕ = block_size w n.prefix in

@@ -1,4 +1,4 @@
--- The halves of a block, and two blocks of which one stands behind the other.
+-- The halves of a block, and two blocks one of which comes after the other.
 use Rattle.std.proofs.Common.{◌≡◌, ℕ, ◌+◌, ◌-◌, ◌*◌, ◌^◌, ◌<◌, ◌≤◌, ◌⊎◌, inl, inr, sym, refl, ap, ◌∙◌, arith, ⊎_elim, ◌↔◌}
 use Rattle.std.proofs.Math.Nat.{div-mul-le_self}
 use Rattle.std.proofs.lemmas.Bool.{cases_lt}
@@ -15,7 +15,7 @@ size_half w p h =
     let twice : block_size w p ≡ block_size w (p + 1) * 2 ^ (p + 1 - p) = size_divides w p (p + 1) (omega arith) (omega arith) in
     twice ∙ ap (λ j. block_size w (p + 1) * 2 ^ j) one ∙ (omega arith)
 
--- where two halves lie in their block, and how large all three are
+-- where two halves lie in their block, and the sizes of all three
 halves_stand : (w : ℕ) (t b : Network) → IsCidrBlock w t → IsCidrBlock w b → AreHalves w t b
     → (low w (parent w t) ≤ t.address) × (b.address + block_size w t.prefix ≤ low w (parent w t) + (block_size w t.prefix + block_size w t.prefix))
     × (block_size w (parent w t).prefix ≡ block_size w t.prefix + block_size w t.prefix) × (block_size w b.prefix ≡ block_size w t.prefix)
@@ -42,7 +42,7 @@ nothing_between w e t b he ht hb l m s =
     let p = halves_stand w e b he hb s in
     omega (arith, p.0, p.1, he.block, ht.block, size_pos w e.prefix, size_pos w t.prefix)
 
--- two halves in order: their block begins with the first, and its members are those of both
+-- for two halves in order, their block begins with the first, and its members are those of both
 pub halves_join : (w : ℕ) (t b : Network) → IsCidrBlock w t → IsCidrBlock w b → high w t < b.address → AreHalves w t b
     → ((parent w t).address ≡ t.address) × ((x : ℕ) → Member w (parent w t) x ↔ (Member w t x ⊎ Member w b x))
 halves_join w t b ht hb l s =
@@ -70,7 +70,7 @@ halves_join w t b ht hb l s =
       ),
     )
 
--- of two blocks in order, the second lies in the first or begins behind its end
+-- for two blocks in order, the second lies in the first or begins after its end
 pub past_top : (w : ℕ) (t b : Network) → IsCidrBlock w t → IsCidrBlock w b → IsNetworkAtMost t b → ¬ (Subnet w b t) → high w t < b.address
 past_top w t b ht hb order out =
     let Goal : Type 0 = high w t < b.address in

@@ -1,4 +1,4 @@
--- The part of a set of addresses that lies in a block, and the parts that lie in its halves.
+-- The part of a set of addresses that lies in a block, and the parts that lie in the block's halves.
 use Rattle.std.proofs.Common.{◌≡◌, ◌↔◌, ℕ, suc, ◌+◌, ◌-◌, ◌^◌, ◌<◌, ◌≤◌, ◌⊎◌, inl, inr, subst, arith, ⊎_elim, List, [], ◌∷◌, ◌++◌}
 use Rattle.std.proofs.lemmas.Bool.{cases_lt}
 use Rattle.std.proofs.lemmas.Nat.{pow_pos}
@@ -12,7 +12,7 @@ use Rattle.ipnetwork_blocks.proofs.LeastLists.{own_address, least_of_same, least
 abbrev pub PartOf : (ℕ → Type 0) → ℕ → ℕ → ℕ → Type 0
 PartOf S k base x = S x × ((base ≤ x) × (x < base + 2 ^ k))
 
--- each address of the block is one of the set
+-- every address of the block is in the set
 abbrev pub HasAll : (ℕ → Type 0) → ℕ → ℕ → Type 0
 HasAll S k base = (x : ℕ) → base ≤ x → x < base + 2 ^ k → S x
 
@@ -35,7 +35,7 @@ no_part S w base none =
     let e : x ≡ base = omega arith in
     none (subst S e p.0))
 
--- a network of the set within a block of which an address is missing: it lies in one of the halves
+-- a network of the set within a block that is not all in the set lies in one of the halves
 in_a_half : (S : ℕ → Type 0) (w k base : ℕ) → Begins w (suc k) base → ¬ (HasAll S (suc k) base) → (n : Network) → IsNetwork w n → LiesIn w (PartOf S (suc k) base) n
     → LiesIn w (PartOf S k base) n ⊎ LiesIn w (PartOf S k (base + 2 ^ k)) n
 in_a_half S w k base h missing n nn lies =
@@ -82,7 +82,7 @@ halves S k base x =
           o),
     )
 
--- the blocks of such a set are those of the lower half, and then those of the upper half
+-- the blocks of such a set are those of the lower half followed by those of the upper half
 pub least_of_halves : (S : ℕ → Type 0) (w k base : ℕ) (below above : List Network) → Begins w (suc k) base → ¬ (HasAll S (suc k) base)
     → IsLeastList w (PartOf S k base) below → IsLeastList w (PartOf S k (base + 2 ^ k)) above → IsLeastList w (PartOf S (suc k) base) (below ++ above)
 least_of_halves S w k base below above h missing =

@@ -1,4 +1,4 @@
--- What the lists of hosts have in them.
+-- What the lists of hosts contain.
 use Rattle.std.proofs.Common.{◌≡◌, ◌≢◌, ℕ, ◌+◌, ◌-◌, ◌<◌, ◌≤◌, sym, ap, ◌∙◌, arith, ⊎_elim, List, [], ◌∷◌, ◌++◌, length, get_or}
 use Rattle.std.proofs.lemmas.Bool.{cases_lt}
 use Rattle.std.proofs.lemmas.List.{get_or_append_left, get_or-append-add, length-append, append-nil}
@@ -10,7 +10,7 @@ use Rattle.ipnetwork_family.proofs.Members.{length-count_up, get_or-count_up}
 use Rattle.ipnetwork_blocks.specs.Hosts.{AreIpv4Hosts, AreIpv6Hosts, ListsThose}
 use Rattle.ipnetwork_blocks.proofs.HostLists.{two_members}
 
--- a list that stands in a run of numbers, after so many and before so many others
+-- a list within a run of numbers, with `before` numbers before it and `after` numbers after it
 record StandsWithin (start count before after : ℕ) (hosts : List ℕ) : Type 0 where
   pub size : before + length hosts + after ≡ count
   pub item : (i d : ℕ) → i < length hosts → get_or hosts i d ≡ start + before + i
@@ -27,7 +27,7 @@ stands start count front hosts back is =
           ∙ get_or-count_up start count (length front + i) d (omega (arith, size, below)) ∙ (omega arith);
     }
 
--- such a list is ascending, and has the numbers between
+-- such a list is ascending and contains the numbers in between
 record ListsBetween (from count : ℕ) (hosts : List ℕ) : Type 0 where
   pub ascending : IsStrictlyIncreasing hosts
   pub each : (x : ℕ) → Contains hosts x → (from ≤ x) × (x < from + count)

@@ -6,7 +6,7 @@ use Rattle.ipnetwork_family.proofs.Blocks.{size_pos}
 use Rattle.ipnetwork_family.proofs.Members.{count_up-more, count_up-none}
 use Rattle.ipnetwork_blocks.specs.Hosts.{AreIpv4Hosts, AreIpv6Hosts}
 
--- none are left, and one is taken off the front
+-- no hosts are left, and one host is taken off the front
 pub none_left : (last count : ℕ) (left : List ℕ) → count_up (last + 1 - count) count ≡ left → count ≡ 0 → left ≡ []
 none_left last count left is none = sym is ∙ ap (λ k. count_up (last + 1 - k) k) none ∙ count_up-none (last + 1 - 0)
 
@@ -18,7 +18,7 @@ one_taken last count item left is fits some at =
     let after : start + 1 ≡ last + 1 - (count - 1) = omega arith in
     sym is ∙ count_up-more start count some ∙ ap (λ k. k ∷ count_up (start + 1) (count - 1)) same ∙ ap (λ k. item ∷ count_up k (count - 1)) after
 
--- the last of a run
+-- the last number of a run
 count_up-last : (a k : ℕ) → count_up a (k + 1) ≡ count_up a k ++ (a + k) ∷ []
 count_up-last a zero =
     let one : count_up a 1 ≡ a ∷ [] = count_up-more a 1 (omega arith) ∙ ap (λ xs. a ∷ xs) (count_up-none (a + 1)) in
@@ -32,7 +32,7 @@ count_up-last a (suc k) =
     ∙ ap (λ j. a ∷ (count_up (a + 1) k ++ j ∷ [])) at ∙ ap (λ j. a ∷ (count_up (a + 1) j ++ (a + suc k) ∷ [])) (sym back)
     ∙ ap (λ xs. xs ++ (a + suc k) ∷ []) (sym (count_up-more a (suc k) (omega arith)))
 
--- a network with host bits has two members or more
+-- a network with host bits has at least two members
 pub two_members : (w : ℕ) (n : Network) → n.prefix < w → low w n + 1 ≤ high w n
 two_members w n h =
     let more : 2 ^ 0 < 2 ^ (w - n.prefix) = pow_below 0 (w - n.prefix) (omega arith) in
@@ -60,7 +60,7 @@ ipv4_between n first last short first_is last_is =
     subst (λ (k : ℕ). Hosts k last) (sym first_is) (subst (λ (k : ℕ). Hosts (low 32 n) k) (sym last_is)
     (record { inner = λ _. between_ends 32 n (omega arith); whole = λ long. absurd (omega arith) }))
 
--- after the first is taken off
+-- after the first member is taken off
 pub ipv6_rest : (n : Network) (first : Option ℕ) (list rest : List ℕ) → n.prefix ≤ 126 → list ≡ members 128 n
     → MatchOption first ((list ≡ []) × (rest ≡ [])) (λ x. list ≡ x ∷ rest) → AreIpv6Hosts n rest
 ipv6_rest n first list rest short is steps = record { inner = λ _. go first steps; whole = λ long. absurd (omega arith) }

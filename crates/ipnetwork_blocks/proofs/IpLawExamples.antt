@@ -1,4 +1,4 @@
--- What the laws of networks of either family let one conclude, where a weaker law would not.
+-- What can be concluded from the laws of networks of either family, but not from weaker laws.
 use Rattle.std.proofs.Common.{◌≡◌, ◌-◌, ◌^◌, ◌<◌, ◌≤◌, refl, ap, arith, inl, inr, ⊎_elim, List, [], ◌∷◌, length}
 use Rattle.std.specs.List.{All, Contains}
 use Rattle.ipnetwork_addr.specs.declared.ip.IpAddr.TheVariants as addresses
@@ -18,7 +18,7 @@ last4 = net (2 ^ 32 - 4) 30
 abbrev last6 : Network
 last6 = net (2 ^ 128 - 4) 126
 
--- those of IPv6 and of IPv4, each from an address with host bits
+-- the last four addresses of IPv6 and of IPv4, each given by an address with host bits
 abbrev both : List IpNetwork
 both = V6 (net (2 ^ 128 - 3) 126) ∷ V4 (net (2 ^ 32 - 2) 30) ∷ []
 
@@ -45,11 +45,11 @@ all_in_the_aggregate law blocks h = (law both blocks h (addresses.V4 (2 ^ 32 - 1
 pub no_others_in_the_aggregate : IpUnionOfNone → IpUnionOfList → IpAggregateHasUnion → (blocks : List IpNetwork) → IsIpAggregate both blocks → ¬ (InIpUnion blocks (addresses.V4 (2 ^ 32 - 8)))
 no_others_in_the_aggregate none list law blocks h c = in_neither none list ((law both blocks h (addresses.V4 (2 ^ 32 - 8))).0 c)
 
--- IPv4 comes first
+-- IPv4 blocks come first
 pub ipv6_first : IpAggregateIsApart → (networks : List IpNetwork) → ¬ (IsIpAggregate networks (V6 last6 ∷ V4 last4 ∷ []))
 ipv6_first law networks h = law networks (V6 last6 ∷ V4 last4 ∷ []) h 0 1 (V4 (net 0 0)) (omega arith) (omega arith)
 
--- the last begins at the last address of the first of its family
+-- the last block begins at the last address of the first block of its family
 pub not_apart : IpAggregateIsApart → (networks : List IpNetwork) → ¬ (IsIpAggregate networks (V4 last4 ∷ V6 last6 ∷ V4 (net (2 ^ 32 - 1) 32) ∷ []))
 not_apart law networks h =
     let apart : 2 ^ 32 - 1 < 2 ^ 32 - 1 = law networks (V4 last4 ∷ V6 last6 ∷ V4 (net (2 ^ 32 - 1) 32) ∷ []) h 0 2 (V4 (net 0 0)) (omega arith) (omega arith) in
@@ -59,7 +59,7 @@ pub in_one_block : IpAggregateHasOneBlock → (networks blocks : List IpNetwork)
     → IpMember a (addresses.V6 (2 ^ 128 - 3)) → IpMember b (addresses.V6 (2 ^ 128 - 3)) → a ≡ b
 in_one_block law networks blocks a b = law networks blocks a b (addresses.V6 (2 ^ 128 - 3))
 
--- a network with host bits lies in a block if it lies in the union, and only then
+-- a network with host bits lies in a block exactly if it lies in the union
 pub lies_in_a_block : IpAggregateHasNetworks → (networks blocks : List IpNetwork) → IsIpAggregate networks blocks → LiesInIpUnion (V6 (net (2 ^ 128 - 5) 125)) networks
     → (b : IpNetwork) × Contains blocks b × IpSubnet (V6 (net (2 ^ 128 - 5) 125)) b
 lies_in_a_block law networks blocks h = (law networks blocks h (V6 (net (2 ^ 128 - 5) 125)) (record { address_fits = omega arith; prefix_fits = omega arith })).0

@@ -1,4 +1,4 @@
--- What the laws let one conclude, where a weaker law would not: of lists of several networks, with host bits, over
+-- What can be concluded from the laws, but not from weaker ones: for lists of several networks, with host bits, over
 -- addresses of few bits and of 128.
 use Rattle.std.proofs.Common.{◌≡◌, ◌↔◌, ℕ, ◌+◌, ◌-◌, ◌^◌, ◌<◌, ◌≤◌, ◌⊎◌, refl, ap, arith, inl, inr, ⊎_elim, List, [], ◌∷◌, length}
 use Rattle.std.specs.List.{All, AllPairs, Contains}
@@ -23,11 +23,11 @@ use Rattle.ipnetwork_blocks.proofs.RangeExamples.{six_of_eight, all_but_one}
 fits : (w address prefix : ℕ) → address < 2 ^ w → prefix ≤ w → IsNetwork w (net address prefix)
 fits w address prefix below short = record { address_fits = below; prefix_fits = short }
 
--- two networks are one only if they have the same prefix length
+-- two networks are equal only if they have the same prefix length
 differ : (a b p q : ℕ) → p < q → ¬ (net a p ≡ net b q)
 differ a b p q l e = let same : p ≡ q = ap (λ n. n.prefix) e in omega (arith, l, same)
 
--- ---- unions: 4 to 7 and 12 to 15, each from a network with host bits
+-- ---- unions: 4 to 7 and 12 to 15, each given by a network with host bits
 
 abbrev two : List Network
 two = net 5 2 ∷ net 15 2 ∷ []
@@ -51,7 +51,7 @@ all_in_the_aggregate law blocks h = (law 4 two blocks h 12).1 (net 15 2, contain
 pub no_others_in_the_aggregate : UnionOfNone → UnionOfList → AggregateHasUnion → (blocks : List Network) → IsAggregate 4 two blocks → ¬ (InUnion 4 blocks 8)
 no_others_in_the_aggregate none list law blocks h c = in_neither none list ((law 4 two blocks h 8).0 c)
 
--- the third begins at the last address of the first
+-- the third block begins at the last address of the first
 pub not_apart : AggregateIsApart → (networks : List Network) → ¬ (IsAggregate 4 networks (net 0 2 ∷ net 8 2 ∷ net 3 4 ∷ []))
 not_apart law networks h =
     let apart : 3 < 3 = law 4 networks (net 0 2 ∷ net 8 2 ∷ net 3 4 ∷ []) h 0 2 (net 0 0) (omega arith) (omega arith) in
@@ -63,7 +63,8 @@ in_two_blocks law networks h =
     (law 4 networks (net 0 2 ∷ net 3 4 ∷ []) (net 0 2) (net 3 4) 3 h (contains_head (net 0 2) (net 3 4 ∷ []))
     (contains_tail (net 0 2) (net 3 4 ∷ []) (net 3 4) (contains_head (net 3 4) [])) (omega arith, refl) (omega arith, refl))
 
--- 0 to 7 lies in the union of its halves, and so in one block; and not in that of one of them, so in none
+-- 0 to 7 lies in the union of its halves, so it lies in one block of their aggregate; it does not lie in the union of
+-- one half, so it lies in no block of that aggregate
 pub lies_in_a_block : AggregateHasNetworks → (blocks : List Network) → IsAggregate 4 (net 0 2 ∷ net 4 2 ∷ []) blocks → LiesInUnion 4 (net 3 1) (net 0 2 ∷ net 4 2 ∷ [])
     → (b : Network) × Contains blocks b × Subnet 4 (net 3 1) b
 lies_in_a_block law blocks h = (law 4 (net 0 2 ∷ net 4 2 ∷ []) blocks h (net 3 1) (record { address_fits = omega arith; prefix_fits = omega arith })).0
@@ -72,7 +73,7 @@ pub lies_in_no_block : UnionOfNone → UnionOfList → AggregateHasNetworks → 
 lies_in_no_block none list law blocks b h c s =
     in_neither none list ((law 4 two blocks h (net 9 1) (record { address_fits = omega arith; prefix_fits = omega arith })).1 (b, c, s) 8 (omega arith, refl))
 
--- blocks that touch and are no halves of one
+-- adjacent blocks that are not the halves of one block
 pub both_are_needed : AggregateBlocksAreNeeded → (others : List Network) → All (IsNetwork 4) others → SameUnion 4 others (net 4 2 ∷ net 8 2 ∷ [])
     → (n : Network) × Contains others n × Subnet 4 n (net 8 2)
 both_are_needed law others all same =
@@ -116,7 +117,7 @@ three_blocks law networks all same = (law 3 (net 2 0) (net 5 3) (net 0 1 ∷ net
 pub host_bits_are_cleared : NetworkIsOneBlock → (blocks : List Network) → IsLeastList 3 (FromTo 4 7) blocks → blocks ≡ net 4 1 ∷ []
 host_bits_are_cleared law blocks = law 3 (net 5 1) blocks (record { address_fits = omega arith; prefix_fits = omega arith })
 
--- as many blocks as a range can have, of two bits too
+-- the greatest number of blocks that a range can have, for addresses of two bits too
 pub most_of_v4 : AllButTheEndsHasMost → (blocks : List Network) → IsLeastList 32 (FromTo 1 4294967294) blocks → length blocks ≡ 62
 most_of_v4 law blocks = law 32 blocks (omega arith)
 
@@ -155,7 +156,7 @@ v4_ascend law hosts h = (law (net 5 0) hosts (record { address_fits = omega arit
 pub v6_ascend : Ipv6HostsLaw → (hosts : List ℕ) → AreIpv6Hosts (net 5 0) hosts → IsStrictlyIncreasing hosts
 v6_ascend law hosts h = (law (net 5 0) hosts (record { address_fits = omega arith; prefix_fits = omega arith }) h).ascending
 
--- ---- blocks within and around: those of 4 to 7
+-- ---- blocks within 4 to 7 and around it
 
 eighths : SubnetsLaw → ListsSubnets 3 (net 5 1) 3
 eighths law = law 3 (net 5 1) 3 (record { address_fits = omega arith; prefix_fits = omega arith }) (omega arith) (omega arith)
@@ -200,8 +201,8 @@ one_sibling law b h = law 32 (net 4 32) b (net 5 32) h even_and_odd
 pub back_without_host_bits : SiblingBack → IsSibling 32 (net 2147483648 1) (net 0 1)
 back_without_host_bits law = law 32 (net 5 1) (net 2147483648 1) (record { address_fits = omega arith; prefix_fits = omega arith }) upper_half
 
--- ---- over addresses of 128 bits, up to the last: 0:0:0:1::/64 and the last two, by networks with host bits that descend
--- and of which one lies in another; and all addresses, by a network with host bits
+-- ---- over addresses of 128 bits, up to the last: 0:0:0:1::/64 and the last two, given by networks with host bits in
+-- descending order, one of which lies in another; and all addresses, given by a network with host bits
 
 abbrev x6 : List Network
 x6 = net (2 ^ 128 - 1) 127 ∷ net (2 ^ 64 + 9) 66 ∷ net (2 ^ 64 + 7) 64 ∷ []
@@ -243,7 +244,7 @@ ipv6_exclusion law r = law 128 all6 (net (2 ^ 64 + 7) 64) r
 pub ipv6_is_one_block : NetworkIsOneBlock → (r : List Network) → IsLeastList 128 (FromTo 0 (2 ^ 128 - 1)) r → r ≡ net 0 0 ∷ []
 ipv6_is_one_block law r = law 128 all6 r all6_fits
 
--- each address by itself, up to the last
+-- blocks of one address each, up to the last
 pub ipv6_subnets : SubnetsLaw → ListsSubnets 128 all6 128
 ipv6_subnets law = law 128 all6 128 all6_fits (omega arith) (omega arith)
 

@@ -1,4 +1,4 @@
--- Least lists of blocks: a set has one, and how they are put together.
+-- Least lists of blocks: each set has at most one, and least lists can be put together.
 use Rattle.std.proofs.Common.{◌≡◌, ◌↔◌, ℕ, zero, suc, ◌<◌, ◌≤◌, ◌⊎◌, inl, inr, sym, refl, ap, subst, ◌∙◌, arith, ⊎_elim, List, [], ◌∷◌, ◌++◌, length, get_or}
 use Rattle.std.proofs.lemmas.Bool.{cases_lt}
 use Rattle.std.specs.List.{AllPairs, Contains}
@@ -11,7 +11,7 @@ use Rattle.ipnetwork_blocks.specs.LeastList.{LiesIn, IsMaximalIn, IsLeastList}
 
 -- ---- lists
 
--- an element of x ∷ xs is x, or one of xs
+-- an element of x ∷ xs is x or an element of xs
 pub contains_cons : {X : Type 0} (x : X) (xs : List X) (y : X) → Contains (x ∷ xs) y → (x ≡ y) ⊎ Contains xs y
 contains_cons {X} x xs y c = go c.0 c.1 c.2
   where
@@ -47,7 +47,8 @@ pairs_append {X} R (x ∷ xs) ys h k across =
     (Contains-append_cases xs ys (get_or (xs ++ ys) i d) (Contains-get_or (xs ++ ys) i d l)))
     (pairs_append R xs ys (pairs_tail R x xs h) k (λ a b c e. across a b (contains_tail x xs a c) e))
 
--- what is in a list that ascends by a key, behind its first, is in another behind the same first
+-- if two lists ascend by a key and begin with the same element, an element of the rest of one is in the rest of the
+-- other
 rest_of_same : {X : Type 0} (key : X → ℕ) (x y : X) (xs ys : List X) → AllPairs (λ a b. key a < key b) (x ∷ xs) → x ≡ y
     → ((b : X) → Contains (x ∷ xs) b → Contains (y ∷ ys) b) → (b : X) → Contains xs b → Contains ys b
 rest_of_same {X} key x y xs ys h first has b c =
@@ -59,7 +60,7 @@ rest_of_same {X} key x y xs ys h first has b c =
     let r : Contains ys b = absurd (omega arith) in r)
     (λ (d : Contains ys b). d) (contains_cons y ys b (has b (contains_tail x xs b c)))
 
--- two lists that ascend by one key and have the same elements are equal
+-- two lists that ascend by the same key and have the same elements are equal
 ascending_unique : {X : Type 0} (key : X → ℕ) (xs ys : List X) → AllPairs (λ a b. key a < key b) xs → AllPairs (λ a b. key a < key b) ys
     → ((b : X) → Contains xs b ↔ Contains ys b) → xs ≡ ys
 ascending_unique key [] [] h k same = refl
@@ -80,11 +81,12 @@ ascending_unique {X} key (x ∷ xs) (y ∷ ys) h k same =
 
 -- ---- least lists
 
--- a network has its own address
+-- a network contains its own address
 pub own_address : (w : ℕ) (n : Network) → IsNetwork w n → Member w n n.address
 own_address w n h = (h.address_fits, refl)
 
--- a block that is maximal in one set is so in another if it lies there, and the networks around it that do lie in the first
+-- a block that is maximal in one set is maximal in another if it lies in that, and every network around it that lies in
+-- the other set lies in the first
 maximal_in : (w : ℕ) (S T : ℕ → Type 0) (b : Network) → IsMaximalIn w S b → LiesIn w T b → ((n : Network) → IsNetwork w n → Subnet w b n → LiesIn w T n → LiesIn w S n) → IsMaximalIn w T b
 maximal_in w S T b m lies around = record {
   network = m.network;
@@ -96,7 +98,7 @@ maximal_in w S T b m lies around = record {
 maximal_of_same : (w : ℕ) (S T : ℕ → Type 0) → ((x : ℕ) → S x ↔ T x) → (b : Network) → IsMaximalIn w S b → IsMaximalIn w T b
 maximal_of_same w S T same b m = maximal_in w S T b m (λ x k. (same x).0 (m.lies x k)) (λ n h sub lies x k. (same x).1 (lies x k))
 
--- a least list depends on the addresses of the set alone,
+-- a least list depends only on the addresses of the set
 pub least_of_same : (w : ℕ) (S T : ℕ → Type 0) (r : List Network) → ((x : ℕ) → S x ↔ T x) → IsLeastList w S r → IsLeastList w T r
 least_of_same w S T r same h = record {
   maximal = λ b. (
@@ -106,12 +108,12 @@ least_of_same w S T r same h = record {
   ascending = h.ascending;
 }
 
--- and there is one alone
+-- a set has at most one least list
 pub least_unique : (w : ℕ) (S : ℕ → Type 0) (r s : List Network) → IsLeastList w S r → IsLeastList w S s → r ≡ s
 least_unique w S r s h k =
     ascending_unique (λ n. n.address) r s h.ascending k.ascending (λ b. ((λ c. (k.maximal b).1 ((h.maximal b).0 c)), (λ c. (h.maximal b).1 ((k.maximal b).0 c))))
 
--- two maximal blocks that share an address are one
+-- two maximal blocks that share an address are equal
 pub maximal_apart : (w : ℕ) (S : ℕ → Type 0) (a b : Network) → IsMaximalIn w S a → IsMaximalIn w S b → (x : ℕ) → Member w a x → Member w b x → a ≡ b
 maximal_apart w S a b ha hb x ma mb =
     ⊎_elim
@@ -126,14 +128,14 @@ maximal_apart w S a b ha hb x ma mb =
         (λ (le : a.prefix ≤ b.prefix). let ge = subnet_prefix w a b ha.network hb.network s in same_block w a b ha.block hb.block (omega arith) x ma mb)
         (cases_lt b.prefix a.prefix)
 
--- a set without addresses
+-- the least list of the empty set
 pub least_of_none : (w : ℕ) (S : ℕ → Type 0) → ((x : ℕ) → S x → ⊥) → IsLeastList w S []
 least_of_none w S none = record {
   maximal = λ b. ((λ c. absurd (contains_nil b c)), (λ m. absurd (none b.address (m.lies b.address (own_address w b m.network)))));
   ascending = λ i j d l m. absurd (omega arith);
 }
 
--- the addresses of a block
+-- the least list of the addresses of a block
 pub least_of_one : (w : ℕ) (b : Network) → IsNetwork w b → HostBitsAreZero w b → IsLeastList w (Member w b) (b ∷ [])
 least_of_one w b h k =
     let own : IsMaximalIn w (Member w b) b = record {
@@ -153,7 +155,7 @@ least_of_one w b h k =
       ascending = λ i j d l m. absurd (omega arith);
     }
 
--- a set of two parts, the one before the other, where no network of the set has addresses of both
+-- the least list of a set of two parts, one before the other, if no network in the set has addresses of both
 pub least_of_two : (w : ℕ) (S P Q : ℕ → Type 0) (r s : List Network) → ((x : ℕ) → S x ↔ (P x ⊎ Q x)) → ((x y : ℕ) → P x → Q y → x < y)
     → ((n : Network) → IsNetwork w n → LiesIn w S n → LiesIn w P n ⊎ LiesIn w Q n)
     → IsLeastList w P r → IsLeastList w Q s → IsLeastList w S (r ++ s)

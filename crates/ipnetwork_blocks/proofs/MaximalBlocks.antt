@@ -1,4 +1,4 @@
--- Each address of a set lies in one maximal block, and no fewer networks have them all.
+-- Each address of a set lies in one maximal block, and no shorter list of networks has all of the addresses.
 use Rattle.std.proofs.Common.{◌≡◌, ◌↔◌, ℕ, zero, suc, ◌+◌, ◌-◌, ◌/◌, ◌^◌, ◌<◌, ◌≤◌, ◌⊎◌, inl, inr, sym, ap, subst, ◌∙◌, arith, ⊎_elim, List, [], ◌∷◌, length, get_or}
 use Rattle.std.proofs.lemmas.Bool.{cases_lt, cases_eq, cases_order}
 use Rattle.std.proofs.lemmas.List.{get_or_default}
@@ -15,9 +15,9 @@ use Rattle.ipnetwork_blocks.specs.Ranges.{FromTo}
 use Rattle.ipnetwork_blocks.specs.Exclusion.{InDifference}
 use Rattle.ipnetwork_blocks.proofs.LeastLists.{contains_head, contains_tail, pairs_tail, pairs_head, own_address, maximal_apart, least_of_same, least_of_one, least_unique}
 
--- ---- each address of the set lies in a maximal block, where it can be told what is in the set
+-- ---- each address of the set lies in a maximal block, if membership in the set is decidable
 
--- count addresses in a row are all in the set, or one is not
+-- count consecutive addresses are all in the set, or one of them is not
 row_or_not : (S : ℕ → Type 0) → ((x : ℕ) → S x ⊎ ¬ (S x)) → (start count : ℕ)
     → ((x : ℕ) → start ≤ x → x < start + count → S x) ⊎ ((x : ℕ) × (start ≤ x) × (x < start + count) × ¬ (S x))
 row_or_not S tells start zero = inl (λ x l m. absurd (omega arith))
@@ -116,9 +116,9 @@ network_is_one_block w n r nn h =
     ))
     (least_of_one w b bn (block_begins w n)))
 
--- ---- no networks with the same addresses are fewer
+-- ---- no shorter list of networks has the same addresses
 
--- an element that is not the removed one stays
+-- an element other than the removed one remains
 contains_removed : {X : Type 0} (ys : List X) (i : ℕ) (y : X) → i < length ys → (c : Contains ys y) → (c.0 ≡ i → ⊥) → Contains (remove ys i) y
 contains_removed {X} ys i y l c other =
     let size = length-remove ys i l in
@@ -133,7 +133,7 @@ contains_removed {X} ys i y l c other =
     (k - 1, fits, get_or-remove_above ys i y (k - 1) (omega arith) l ∙ ap (λ j. get_or ys j y) back ∙ c.2)) o)
     (cases_order k i)
 
--- where each element of xs has one of ys, and no two have the same, ys is as long as xs or longer
+-- if each element of xs has an element of ys, and no two have the same one, ys is at least as long as xs
 as_long : {X Y : Type 0} (P : X → Y → Type 0) (xs : List X) (ys : List Y)
     → AllPairs (λ a b. (y : Y) → P a y → P b y → ⊥) xs
     → ((x : X) → Contains xs x → (y : Y) × Contains ys y × P x y)
@@ -156,7 +156,7 @@ as_long {X} {Y} P (x ∷ xs) ys apart has =
     let less = as_long P xs (remove ys at) (pairs_tail R x xs apart) rest in
     omega (arith, length-remove ys at l)
 
--- a maximal block holds one of the networks
+-- a maximal block contains one of the networks
 pub holds_one : (w : ℕ) (S : ℕ → Type 0) (ms : List Network) (b : Network) → All (IsNetwork w) ms → ((x : ℕ) → InUnion w ms x ↔ S x) → IsMaximalIn w S b
     → (n : Network) × Contains ms n × Subnet w n b
 holds_one w S ms b hm same m =

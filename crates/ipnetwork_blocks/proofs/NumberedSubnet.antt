@@ -1,4 +1,4 @@
--- The block of a number among those of a prefix length within a network.
+-- The block with a given number among those of a prefix length within a network.
 use Rattle.std.proofs.Common.{◌≡◌, ◌≢◌, ◌↔◌, ℕ, zero, suc, refl, ◌+◌, ◌-◌, ◌*◌, ◌/◌, ◌^◌, ◌<◌, ◌≤◌, IsTrue, nat_eq, ap, ◌∙◌, arith, ⊎_elim}
 use Rattle.std.proofs.Math.Nat.{add-mul-div_left, div-lt_iff_lt-mul}
 use Rattle.std.proofs.Math.Pow.{pow_mono}
@@ -15,7 +15,7 @@ pub record IsNumber (w : ℕ) (n : Network) (p i : ℕ) : Type 0 where
   pub within : p ≤ w
   pub below : i < 2 ^ (p - n.prefix)
 
--- the block's addresses are among the network's
+-- the block's addresses lie within the network
 distance_fits : (w : ℕ) (n : Network) (p i : ℕ) → IsNumber w n p i → i * block_size w p + block_size w p ≤ block_size w n.prefix
 distance_fits w n p i h =
     let s : ℕ = block_size w p in
@@ -35,7 +35,7 @@ numbered w n p i x e =
     let begin : ℕ → Network = λ q. record { address = q * s; prefix = p } in
     ap begin at
 
--- nothing is left of a number below 2^k where k bits are shifted out
+-- a number is below 2^k exactly if nothing is left of it when k bits are shifted out
 pub is_below : (n k : ℕ) → IsTrue (nat_eq (n / 2 ^ k) 0) ↔ (n < 2 ^ k)
 is_below n k =
     let one : (n / 2 ^ k < 1) ↔ (n < 1 * 2 ^ k) = div-lt_iff_lt-mul (pow_pos k) in (
@@ -43,11 +43,11 @@ is_below n k =
       (λ l. eq-eqb (n / 2 ^ k) 0 (omega (arith, one.1 (omega (arith, l))))),
     )
 
--- a number of 128 bits is below 2^k for each greater k
+-- a number of 128 bits is below 2^k for every k of at least 128
 pub all_below : (n k : ℕ) → n < 2 ^ 128 → 128 ≤ k → n < 2 ^ k
 all_below n k fits more = let power : 2 ^ 128 ≤ 2 ^ k = pow_mono more in omega (arith, fits, power)
 
--- a number that is not zero is shifted by fewer bits than hold the result
+-- if a number that is not zero is shifted by k bits and the result fits in 128 bits, k is less than 128
 pub few_shifted : (n k : ℕ) → n ≢ 0 → n * 2 ^ k < 2 ^ 128 → k < 128
 few_shifted zero k some fits = absurd (some refl)
 few_shifted (suc n) k some fits =

@@ -5,14 +5,14 @@ use Rattle.ipnetwork_family.proofs.Blocks.{div_within, size_pos}
 use Rattle.ipnetwork_blocks.specs.PrecedingBlock.{preceding_block}
 use Rattle.ipnetwork_blocks.proofs.FollowingBlock.{block_low}
 
--- the multiple of s up to a number that comes right before a multiple
+-- the greatest multiple of s up to the number just before a multiple
 multiple_before : (s x q : ℕ) → 0 < s → x + 1 ≡ q * s → x / s * s ≡ q * s - s
 multiple_before s x zero pos e = absurd (omega (arith, e))
 multiple_before s x (suc k) pos e =
     let own : x / s ≡ k = div_within k s x (omega (arith, e, pos)) (omega (arith, e)) in
     ap (λ d. d * s) own ∙ (omega arith)
 
--- the block of that prefix length at the address before a network is the one that precedes it
+-- the block of the same prefix length at the address before a network is the block that precedes it
 pub preceding_is : (w x : ℕ) (n : Network) → x + 1 ≡ low w n → block_at w x n.prefix ≡ preceding_block w n
 preceding_is w x n e =
     let begin : ℕ → Network = λ k. record { address = k; prefix = n.prefix } in

@@ -1,4 +1,4 @@
--- How many blocks a range has.
+-- The number of blocks of a range.
 use Rattle.std.proofs.Common.{◌≡◌, ℕ, zero, suc, ◌+◌, ◌-◌, ◌*◌, ◌^◌, ◌<◌, ◌≤◌, ◌⊎◌, inl, inr, refl, ap, ◌∙◌, arith, ⊎_elim, List, [], ◌∷◌, ◌++◌, length, Bool, true, false, leb, cond}
 use Rattle.std.proofs.lemmas.Bool.{cases_lt, leb-true, and_parts}
 use Rattle.std.proofs.lemmas.List.{length-append}
@@ -13,7 +13,7 @@ use Rattle.ipnetwork_blocks.proofs.HalfParts.{PartOf, whole_part}
 use Rattle.ipnetwork_blocks.proofs.LeastLists.{least_unique, least_of_none}
 use Rattle.ipnetwork_blocks.proofs.RangeLists.{least_within, least_from_to}
 
--- how many blocks of the range lie in the block with k host bits
+-- the number of blocks of the range that lie in the block with k host bits
 abbrev count : ℕ → ℕ → ℕ → ℕ → ℕ → ℕ
 count w k base first last = length (blocks_within w k base first last)
 
@@ -26,7 +26,7 @@ has_not base size first last fails = go (has_all base size first last) (λ t.
     go true f = absurd (f refl)
     go false f = refl
 
--- one for a block that lies in the range, none for a block outside it, and else those of the halves
+-- a block within the range counts as one, a block outside it as none, and any other block as the sum of its halves
 whole : (w k base first last : ℕ) → Begins w k base → first ≤ base → base + 2 ^ k ≤ last + 1 → count w k base first last ≡ 1
 whole w k base first last h from to =
     ap length (least_unique w (PartOf (FromTo first last) k base) (blocks_within w k base first last) (block_from w k base ∷ [])
@@ -60,7 +60,7 @@ record HasHalves (w k base : ℕ) : Type 0 where
 halved : (w k base : ℕ) → Begins w (suc k) base → HasHalves w k base
 halved w k base h = record { lower = lower_begins w k base h; upper = upper_begins w k base h; two = twice k }
 
--- a block that the range ends with, or behind: one block for each host bit at most
+-- a block with which or after which the range ends: at most one block for each host bit
 count_to_end : (w k base first last : ℕ) → Begins w k base → base < first → base + 2 ^ k ≤ last + 1 → count w k base first last ≤ k
 count_to_end w zero base first last h from to = omega (arith, outside w 0 base first last h (inr (omega arith)))
 count_to_end w (suc k) base first last h from to =
@@ -77,7 +77,7 @@ count_to_end w (suc k) base first last h from to =
     omega (arith, sum, one, some))
     (cases_lt (base + 2 ^ k) first)
 
--- a block that the range begins with, or before
+-- a block with which or before which the range begins: at most one block for each host bit
 count_from_start : (w k base first last : ℕ) → Begins w k base → first ≤ base → last + 1 < base + 2 ^ k → count w k base first last ≤ k
 count_from_start w zero base first last h from to = omega (arith, outside w 0 base first last h (inl (omega arith)))
 count_from_start w (suc k) base first last h from to =
@@ -94,7 +94,7 @@ count_from_start w (suc k) base first last h from to =
     omega (arith, sum, one, some))
     (cases_lt (last + 1) (base + 2 ^ k))
 
--- any block: one block, or two less than twice the host bits at most
+-- any block: at most one block, or at most two less than twice the number of host bits
 count_within : (w k base first last : ℕ) → Begins w k base → (count w k base first last ≤ 1) ⊎ (count w k base first last + 2 ≤ 2 * k)
 count_within w zero base first last h =
     ⊎_elim
@@ -159,7 +159,7 @@ count_from_to w first last h =
     (λ (l : count w w 0 first last + 2 ≤ 2 * w). omega arith)
     (count_within w w 0 first last (record { times = 0; multiple = omega arith; bits = omega arith; fits = omega arith }))
 
--- a block of which the range lacks only the first address, or only the last: one block for each host bit
+-- a block that lies in the range except for its first or its last address: one block for each host bit
 all_but_the_first : (w k base last : ℕ) → Begins w k base → base + 2 ^ k ≤ last + 1 → count w k base (base + 1) last ≡ k
 all_but_the_first w zero base last h to = outside w 0 base (base + 1) last h (inr (omega arith))
 all_but_the_first w (suc k) base last h to =
@@ -180,7 +180,7 @@ all_but_the_last w (suc k) base first last h from to =
     let some = all_but_the_last w k (base + 2 ^ k) first last half.upper (omega arith) (omega arith) in
     omega (arith, sum, one, some)
 
--- all addresses but the first and the last
+-- all addresses except the first and the last
 all_but_the_ends : (w : ℕ) → 2 ≤ w → length (blocks_from_to w 1 (2 ^ w - 2)) ≡ 2 * w - 2
 all_but_the_ends zero h = absurd (omega arith)
 all_but_the_ends (suc k) h =

@@ -1,4 +1,4 @@
--- Ranges and exclusions of addresses of three bits at which a misreading of the definitions would show.
+-- Ranges and exclusions of 3-bit addresses that would reveal a misreading of the definitions.
 use Rattle.std.proofs.Common.{ℕ, refl, arith, [], ◌∷◌}
 use Rattle.ipnetwork_family.specs.Network.{Network, IsNetwork}
 use Rattle.ipnetwork_blocks.specs.LeastList.{IsLeastList}
@@ -12,7 +12,7 @@ use Rattle.ipnetwork_blocks.proofs.RangeLists.{least_from_to}
 abbrev net : ℕ → ℕ → Network
 net address prefix = record { address = address; prefix = prefix }
 
--- both ends are of the range
+-- both ends belong to the range
 pub six_of_eight : IsLeastList 3 (FromTo 1 6) (net 1 3 ∷ net 2 2 ∷ net 4 2 ∷ net 6 3 ∷ [])
 unfolding blocks_within
 six_of_eight = least_from_to 3 1 6 (omega arith)
@@ -25,16 +25,16 @@ pub all_addresses : IsLeastList 3 (FromTo 0 7) (net 0 0 ∷ [])
 unfolding blocks_within
 all_addresses = least_from_to 3 0 7 (omega arith)
 
--- two blocks that touch are no block, if they are not its halves
+-- two adjacent blocks that are not halves of one block do not form a block
 pub two_that_touch : IsLeastList 3 (FromTo 3 4) (net 3 3 ∷ net 4 3 ∷ [])
 unfolding blocks_within
 two_that_touch = least_from_to 3 3 4 (omega arith)
 
--- halves are no least list
+-- two halves are not a least list
 pub not_two_halves : IsLeastList 3 (FromTo 0 7) (net 0 1 ∷ net 4 1 ∷ []) → ⊥
 not_two_halves h = let e = least_unique 3 (FromTo 0 7) (net 0 0 ∷ []) (net 0 1 ∷ net 4 1 ∷ []) all_addresses h in cc
 
--- host bits of either network change nothing
+-- the host bits of both networks make no difference
 pub all_but_one : IsLeastList 3 (InDifference 3 (net 2 0) (net 5 3)) (net 0 1 ∷ net 4 3 ∷ net 6 2 ∷ [])
 unfolding blocks_within
 all_but_one =

@@ -13,7 +13,7 @@ use Rattle.ipnetwork_blocks.proofs.BlocksFrom.{block_from, Begins, lower_begins,
 use Rattle.ipnetwork_blocks.proofs.HalfParts.{PartOf, HasAll, whole_part, no_part, least_of_halves}
 use Rattle.ipnetwork_blocks.proofs.LeastLists.{least_of_same, least_unique, least_of_none, least_of_one, least_of_two}
 
--- ---- the list by halves
+-- ---- the list, by repeated halving
 
 pub cond_by : {X : Type 0} (P : X → Type 0) (t : Bool) (x y : X) → (t ≡ true → P x) → (t ≡ false → P y) → P (cond t x y)
 cond_by P true x y f g = f refl
@@ -22,7 +22,7 @@ cond_by P false x y f g = g refl
 not_both : (a b c d : ℕ) → leb a b && leb c d ≡ false → a ≤ b → c ≤ d → ⊥
 not_both a b c d e h k = let t : leb a b && leb c d ≡ true = ap (λ x. x && leb c d) (le-leb a b h) ∙ le-leb c d k in cc
 
--- not each address of a block lies in the range
+-- not every address of a block lies in the range
 not_all : (k base first last : ℕ) → leb first base && leb (base + 2 ^ k) (last + 1) ≡ false → ¬ (HasAll (FromTo first last) k base)
 not_all k base first last t all =
     let pos = pow_pos k in
@@ -30,7 +30,7 @@ not_all k base first last t all =
     let b = all (base + 2 ^ k - 1) (omega arith) (omega arith) in
     not_both first base (base + 2 ^ k) (last + 1) t a.0 (omega (arith, b.1))
 
--- or each does
+-- every address of a block lies in the range
 whole_lies : (w k base first last : ℕ) → Begins w k base → leb first base && leb (base + 2 ^ k) (last + 1) ≡ true
     → IsLeastList w (PartOf (FromTo first last) k base) (block_from w k base ∷ [])
 whole_lies w k base first last h t =
@@ -60,13 +60,13 @@ least_from_to w first last fits =
     (λ x. ((λ p. p.0), (λ p. let l = p.1 in (p, (omega arith, omega arith)))))
     (least_within w w 0 first last (record { times = 0; multiple = omega arith; bits = omega arith; fits = omega arith }))
 
--- a range whose first address comes after its last has none
+-- a range whose first address comes after its last has no blocks
 pub least_from_after : (w first last : ℕ) → last < first → IsLeastList w (FromTo first last) []
 least_from_after w first last after = least_of_none w (FromTo first last) (λ x p. let l = p.0 in let k = p.1 in omega arith)
 
 -- ---- the first block, and the others
 
--- a network of the range lies in its first maximal block, or behind it
+-- a network in the range lies in its first maximal block or after it
 in_first_or_behind : (w first last : ℕ) (b : Network) → IsMaximalIn w (FromTo first last) b → b.address ≡ first
     → (n : Network) → IsNetwork w n → LiesIn w (FromTo first last) n → LiesIn w (Member w b) n ⊎ LiesIn w (FromTo (high w b + 1) last) n
 in_first_or_behind w first last b m e n nn lies =
@@ -117,7 +117,7 @@ least_after_first w first last b rest m e h =
 pub not_before : (a b : ℕ) → (a < b → ⊥) → b ≤ a
 not_before a b fails = ⊎_elim (λ (l : a < b). let r : b ≤ a = absurd (fails l) in r) (λ (le : b ≤ a). le) (cases_lt a b)
 
--- where the first block ends with the range,
+-- the first block ends at the end of the range
 pub ends_at_last : (w first last : ℕ) (done : Bool) (b : Network) (left : List Network) → done ≡ false → last < 2 ^ w → IsMaximalIn w (FromTo first last) b
     → b.address ≡ first → last ≤ high w b → left ≡ [] → cond done [] (blocks_from_to w first last) ≡ b ∷ left
 ends_at_last w first last done b left more fits m e ends none =
@@ -126,7 +126,7 @@ ends_at_last w first last done b left more fits m e ends none =
     (least_after_first w first last b [] m e (least_of_none w (FromTo (high w b + 1) last) (λ x p. let l = p.0 in let k = p.1 in omega arith))) in
     ap (λ t. cond t [] (blocks_from_to w first last)) more ∙ one ∙ ap (λ r. b ∷ r) (sym none)
 
--- and where it ends before
+-- the first block ends before the end of the range
 pub goes_on : (w first last next : ℕ) (done : Bool) (b : Network) (left : List Network) → done ≡ false → last < 2 ^ w → IsMaximalIn w (FromTo first last) b
     → b.address ≡ first → next ≡ high w b + 1 → left ≡ cond done [] (blocks_from_to w next last) → cond done [] (blocks_from_to w first last) ≡ b ∷ left
 goes_on w first last next done b left more fits m e at rest =
@@ -138,7 +138,7 @@ goes_on w first last next done b left more fits m e at rest =
     ap (λ t. cond t [] (blocks_from_to w first last)) more ∙ both
     ∙ ap (λ r. b ∷ r) (sym (rest ∙ ap (λ t. cond t [] (blocks_from_to w next last)) more))
 
--- the list falls by one
+-- the list gets one item shorter
 pub list_falls : {X : Type 0} (s t : List Network) (b : Network) (x : X) → s ≡ b ∷ t → MakesProgress (λ _. Unit {0}) (item_count (λ left. left)) s (Some x) t
 list_falls s t b x e =
     let l : length s ≡ suc (length t) = ap length e in

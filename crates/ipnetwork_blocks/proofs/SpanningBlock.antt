@@ -1,4 +1,4 @@
--- The smallest block around networks.
+-- The smallest block that contains some networks.
 use Rattle.std.proofs.Common.{◌≡◌, ◌==◌, false, ℕ, suc, ◌+◌, ◌/◌, ◌<◌, ◌≤◌, min, List, [], ◌∷◌, ◌++◌, length, take, get_or, map, sym, ap, subst, ◌∙◌, arith, ⊎_elim}
 use Rattle.std.proofs.Math.Seq.{take-suc, take-length}
 use Rattle.std.proofs.lemmas.Bool.{true≢false}
@@ -45,7 +45,7 @@ spans_more w networks n b wider h k = record {
       (contains_cons b (n ∷ []) m i));
 }
 
--- a network that is named twice
+-- a network that occurs twice
 pub spans_once : (w : ℕ) (networks : List Network) (n b : Network) → Contains networks n → IsSpanning w (n ∷ networks) b → IsSpanning w networks b
 spans_once w networks n b twice h = record {
   block = h.block;

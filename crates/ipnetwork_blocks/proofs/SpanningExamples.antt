@@ -1,4 +1,4 @@
--- The smallest block around two networks, where a misreading of the definition would show.
+-- The smallest block that contains two networks, in cases that would reveal a misreading of the definition.
 use Rattle.std.proofs.Common.{◌≡◌, ℕ, ◌^◌, ◌<◌, ◌≤◌, refl, arith, ⊎_elim, List, [], ◌∷◌}
 use Rattle.std.proofs.lemmas.Bool.{cases_lt}
 use Rattle.ipnetwork_family.specs.Bits.{SharesBits}
@@ -14,7 +14,7 @@ net address prefix = record { address = address; prefix = prefix }
 fits : (address prefix : ℕ) → address < 2 ^ 32 → prefix ≤ 32 → IsNetwork 32 (net address prefix)
 fits address prefix below short = record { address_fits = below; prefix_fits = short }
 
--- 192.0.2.0/26 and 192.0.2.77/26, of which the second has host bits
+-- 192.0.2.0/26 and 192.0.2.77/26; the second has host bits
 abbrev quarters : List Network
 quarters = net 3221225984 26 ∷ net 3221226061 26 ∷ []
 
@@ -29,7 +29,7 @@ shared = record {
       (cases_lt q 26);
 }
 
--- 192.0.2.0/25
+-- the smallest block is 192.0.2.0/25
 pub half_spans : IsSpanning 32 quarters (net 3221225984 25)
 half_spans =
     spans_both 32 25 25 (net 3221225984 26) (net 3221226061 26) (fits 3221225984 26 (omega arith) (omega arith)) (fits 3221226061 26 (omega arith) (omega arith)) shared refl
@@ -41,7 +41,7 @@ wider_does_not h =
     let f : 25165829 ≡ 25165828 = m.1 in
     omega (arith, f)
 
--- a narrower one is not around both,
+-- a narrower block does not contain both
 pub narrower_does_not : ¬ (IsSpanning 32 quarters (net 3221225984 26))
 narrower_does_not h =
     let m : Member 32 (net 3221225984 26) 3221226048 =
@@ -49,7 +49,7 @@ narrower_does_not h =
     let f : 50331657 ≡ 50331656 = m.1 in
     omega (arith, f)
 
--- and one with host bits is no block
+-- a network with host bits is not a block
 pub host_bits_do_not : ¬ (IsSpanning 32 quarters (net 3221225985 25))
 host_bits_do_not h =
     let f : 3221225985 ≡ 3221225984 = h.block.block in

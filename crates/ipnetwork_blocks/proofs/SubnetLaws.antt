@@ -1,4 +1,4 @@
--- The laws of the blocks within a network and around it.
+-- The laws of the blocks within a network and of those that contain it.
 use Rattle.std.proofs.Common.{◌≡◌, Some, ℕ, ◌+◌, ◌-◌, ◌*◌, ◌/◌, ◌^◌, ◌<◌, ◌≤◌, inl, inr, sym, refl, ap, subst, ◌∙◌, arith, ⊎_elim, List, length, get_or}
 use Rattle.std.proofs.Math.Nat.{div-mul-le_self, lt-div-mul-add}
 use Rattle.std.proofs.lemmas.Nat.{pow_pos, mul-le}
@@ -29,7 +29,7 @@ sibling_is_one w n b c sb sc =
     (λ (m : Member w c b.address). m) ((sc.whole b.address).0 ((sb.whole b.address).1 (inr own))) in
     same_block w b c sb.block.block sc.block.block (sb.as_long ∙ sym sc.as_long) b.address own in_c
 
--- networks within one block have it for their parent
+-- networks of one prefix length within the same parent have the same parent
 same_parent : (w : ℕ) (n b : Network) → b.prefix ≡ n.prefix → Member w (parent w n) b.address → parent w b ≡ parent w n
 same_parent w n b as_long m =
     let size : ℕ = block_size w (n.prefix - 1) in
@@ -56,7 +56,7 @@ sibling_back w n b h sb =
       );
     }
 
--- a network in blocks of a longer prefix length: the number of the first, and how many there are
+-- a network split into blocks of a longer prefix length: the number of the first block, and the number of blocks
 record Parts (w : ℕ) (n : Network) (p a m : ℕ) : Type 0 where
   pub begins : low w n ≡ a * block_size w p
   pub whole : block_size w n.prefix ≡ m * block_size w p
@@ -118,7 +118,7 @@ module _ (w p : ℕ) (n : Network) (h : IsNetwork w n) (longer : n.prefix ≤ p)
       let back : a + (q - a) ≡ q = omega arith in
       (q - a, omega (arith, length_is), item_is (q - a) (block_number w p q) (omega arith) ∙ ap (block_number w p) back)
 
-  -- where a multiple of the size lies, if it is of the network
+  -- which multiples of the block size lie in the network
   number_within : (q : ℕ) → low w n ≤ q * block_size w p → q * block_size w p + block_size w p ≤ low w n + block_size w n.prefix
       → (low w n / block_size w p ≤ q) × (q < low w n / block_size w p + 2 ^ (p - n.prefix))
   number_within q from to =

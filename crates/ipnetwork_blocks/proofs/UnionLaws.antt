@@ -1,4 +1,4 @@
--- What the union of a list of networks is, by the list.
+-- The union of a list of networks, by the structure of the list.
 use Rattle.std.proofs.Common.{◌≡◌, ◌↔◌, ◌⊎◌, inl, inr, sym, subst, ⊎_elim, List, ◌∷◌}
 use Rattle.std.specs.List.{Contains}
 use Rattle.ipnetwork_family.specs.Network.{Member}
@@ -7,7 +7,7 @@ use Rattle.ipnetwork_blocks.specs.AggregateIpLaws.{IpUnionOfNone, IpUnionOfList}
 use Rattle.ipnetwork_blocks.specs.AggregateLaws.{UnionOfNone, UnionOfList}
 use Rattle.ipnetwork_blocks.proofs.LeastLists.{contains_cons, contains_head, contains_nil, contains_tail}
 
--- one of a list has it exactly if the first or one of the others does
+-- an element of a list has a property exactly if the first does or one of the others does
 one_has : {X : Type 0} (Has : X → Type 0) (first : X) (others : List X) → ((n : X) × Contains (first ∷ others) n × Has n) ↔ (Has first ⊎ ((n : X) × Contains others n × Has n))
 one_has {X} Has first others = (
   (λ c. ⊎_elim

@@ -1,4 +1,4 @@
--- The block around an address, and the halves of a block.
+-- The block that contains an address, and the halves of a block.
 use Rattle.std.proofs.Common.{◌≡◌, ◌≢◌, Option, None, Some, MatchOption, ℕ, zero, suc, ◌+◌, ◌-◌, ◌*◌, ◌/◌, ◌^◌, ◌<◌, ◌≤◌, ◌⊎◌, ◌↔◌, inl, inr, sym, refl, ap, subst, ◌∙◌, arith, ⊎_elim}
 use Rattle.std.proofs.Math.Nat.{div-mul-le_self, lt-div-mul-add}
 use Rattle.std.proofs.lemmas.Bool.{cases_lt}
@@ -8,7 +8,7 @@ use Rattle.ipnetwork_blocks.specs.Supernets.{IsAround, IsSibling, parent}
 use Rattle.ipnetwork_blocks.proofs.FollowingBlock.{block_low, high_after}
 use Rattle.ipnetwork_blocks.proofs.HalfBlocks.{size_half}
 
--- the block of a shorter prefix length around the network
+-- the block of a shorter prefix length that contains the network
 pub around_made : (w p : ℕ) (n : Network) → IsNetwork w n → p ≤ n.prefix → IsAround w n p (block_of w (record { address = n.address; prefix = p }))
 around_made w p n h le =
     let k : Network = record { address = n.address; prefix = p } in
@@ -19,7 +19,7 @@ around_made w p n h le =
       around = λ x m. (block_same_set w k x).1 (subnet_from w n k h le (h.address_fits, refl) x m);
     }
 
--- what making the block around the network answers
+-- what making the block that contains the network returns
 pub supernet_answer : (w : ℕ) (n : Network) {X : Type 0} (pair : X → Network) (answer : Option X) (x p : ℕ) → IsNetwork w n → x ≡ n.address → p ≤ n.prefix
     → MatchOption answer (w < p) (λ m. (p ≤ w) × (pair m ≡ block_of w (record { address = x; prefix = p })))
     → MatchOption answer (n.prefix < p) (λ m. (p ≤ n.prefix) × IsAround w n p (pair m))
@@ -28,7 +28,7 @@ supernet_answer w n pair (Some m) x p net at le h =
     let made : pair m ≡ block_of w (record { address = n.address; prefix = p }) = h.1 ∙ ap (λ k. block_of w (record { address = k; prefix = p })) at in
     (le, subst (λ (b : Network). IsAround w n p b) (sym made) (around_made w p n net le))
 
--- the parent is twice as large
+-- the parent is twice as large as the network
 parent_size : (w : ℕ) (n : Network) → IsNetwork w n → 0 < n.prefix → block_size w (n.prefix - 1) ≡ block_size w n.prefix + block_size w n.prefix
 parent_size w n h pos =
     let back : n.prefix - 1 + 1 ≡ n.prefix = omega arith in
@@ -59,7 +59,7 @@ half_begins w n h pos =
     let r : Goal = inr (ap (λ k. k * s) own ∙ (omega (arith, base))) in r)
     (cases_lt x (a * 2 * s + s))
 
--- two blocks that make up one from base on: each has s addresses, and the upper begins where the lower ends
+-- two blocks that make up one block from base on: each has s addresses, and the upper begins where the lower ends
 record Halves (w base s : ℕ) (lower upper : Network) : Type 0 where
   pub lower_network : IsNetwork w lower
   pub upper_network : IsNetwork w upper
@@ -134,7 +134,7 @@ parent_made w x p n b at length made =
     let of : ℕ → ℕ → Network = λ address prefix. block_of w (record { address = address; prefix = prefix }) in
     made ∙ ap (λ k. of k (p - 1)) at ∙ ap (λ k. of n.address (k - 1)) length
 
--- the block at an address of the half that the network is not
+-- the block at an address in the other half of the parent
 sibling_at : (w x : ℕ) (n : Network) → IsNetwork w n → 0 < n.prefix → x < 2 ^ w
     → ((low w n ≡ low w (parent w n)) × (low w (parent w n) + block_size w n.prefix ≤ x) × (x < low w (parent w n) + block_size w n.prefix + block_size w n.prefix))
     ⊎ ((low w n ≡ low w (parent w n) + block_size w n.prefix) × (low w (parent w n) ≤ x) × (x < low w (parent w n) + block_size w n.prefix))
@@ -161,7 +161,7 @@ sibling_at w x n h pos fits within =
         let whole : q * s ≡ base = omega arith in
         ap (λ k. k * s) (div_within q s x (omega (arith, whole)) (omega (arith, whole))) ∙ whole
 
--- what making the other half answers, by an address of it
+-- what making the other half returns, given an address in it
 sibling_answer : (w : ℕ) (n : Network) {X : Type 0} (pair : X → Network) (answer : Option X) (x p : ℕ) → IsNetwork w n → p ≡ n.prefix → 0 < n.prefix
     → IsSibling w n (block_of w (record { address = x; prefix = n.prefix }))
     → MatchOption answer (w < p) (λ m. (p ≤ w) × (pair m ≡ block_of w (record { address = x; prefix = p })))
@@ -171,7 +171,7 @@ sibling_answer w n pair (Some m) x p net length pos is h =
     let made : pair m ≡ block_of w (record { address = x; prefix = n.prefix }) = h.1 ∙ ap (λ k. block_of w (record { address = x; prefix = k })) length in
     (pos, subst (λ (b : Network). IsSibling w n b) (sym made) is)
 
--- a network that is no whole address space, its parent, and where the two end
+-- a network that is not the whole address space, its parent, and where the two end
 pub record IsHalf (w : ℕ) (n b : Network) (end last p : ℕ) : Type 0 where
   pub network : IsNetwork w n
   pub as_long : p ≡ n.prefix
@@ -192,7 +192,7 @@ module _ (w : ℕ) (n b : Network) (end last p : ℕ) (half_is : IsHalf w n b en
   own_end : last + 1 ≡ low w n + block_size w n.prefix
   own_end = ap (λ k. k + 1) half_is.last_is ∙ high_after w n
 
-  -- where the network does not end with its parent, the other half is the upper one
+  -- if the network does not end where its parent does, the other half is the upper one
   pub upper_answer : {X : Type 0} (pair : X → Network) (answer : Option X) → end < 2 ^ w → last ≢ end
       → MatchOption answer (w < p) (λ m. (p ≤ w) × (pair m ≡ block_of w (record { address = end; prefix = p })))
       → MatchOption answer (n.prefix ≡ 0) (λ m. (0 < n.prefix) × IsSibling w n (pair m))
@@ -205,7 +205,7 @@ module _ (w : ℕ) (n b : Network) (end last p : ℕ) (half_is : IsHalf w n b en
       (⊎_elim (λ (e : low w n ≡ base). sibling_at w end n half_is.network longer fits (inl (e, omega (arith, at_end, s_pos), omega (arith, at_end))))
       (λ (e : low w n ≡ base + s). let r : Goal = absurd (differ (omega (arith, at_end, own_end, e))) in r) (half_begins w n half_is.network longer)) h
 
-  -- and where it does, the lower one
+  -- if the network ends where its parent does, the other half is the lower one
   pub lower_answer : {X : Type 0} (pair : X → Network) (answer : Option X) (first : ℕ) → first < 2 ^ w → first ≡ low w b → last ≡ end
       → MatchOption answer (w < p) (λ m. (p ≤ w) × (pair m ≡ block_of w (record { address = first; prefix = p })))
       → MatchOption answer (n.prefix ≡ 0) (λ m. (0 < n.prefix) × IsSibling w n (pair m))

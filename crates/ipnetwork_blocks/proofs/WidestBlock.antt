@@ -1,4 +1,4 @@
--- The widest block that begins with a range and ends within it.
+-- The widest block that begins at the start of a range and ends within it.
 use Rattle.std.proofs.Common.{◌≡◌, ℕ, ◌+◌, ◌-◌, ◌*◌, ◌/◌, ◌%◌, ◌^◌, ◌<◌, ◌≤◌, ◌⊎◌, inl, inr, max, sym, ap, subst, ◌∙◌, arith, ⊎_elim}
 use Rattle.std.proofs.Math.Nat.{mod-eq-sub-div-mul, div-mul-le_self}
 use Rattle.std.proofs.lemmas.Bool.{cases_lt}
@@ -12,14 +12,15 @@ use Rattle.ipnetwork_blocks.proofs.FollowingBlock.{block_low, block_high, high_a
 use Rattle.ipnetwork_blocks.proofs.HalfBlocks.{size_half}
 use Rattle.ipnetwork_blocks.proofs.RangeLists.{widest_is_maximal}
 
--- the ends of a range, the zeros that its first address ends with, and the bits that both share
+-- the ends of a range, the number of trailing zeros of the first address, and the number of leading bits that both
+-- share
 pub record AreEnds (w first last zeros shared : ℕ) : Type 0 where
   pub order : first ≤ last
   pub first_fits : first < 2 ^ w
   pub zeros_end : EndsInZeros w first zeros
   pub bits_shared : SharesBits w first last shared
 
--- the address that the block of prefix length p at first begins with
+-- the address at which the block of prefix length p that contains first begins
 abbrev pub begin_at : ℕ → ℕ → ℕ → ℕ
 begin_at w first p = first / block_size w p * block_size w p
 
@@ -29,7 +30,7 @@ no_rest n s e = omega (arith, mod-eq-sub-div-mul n s, div-mul-le_self n s, e)
 no_rest_back : (n s : ℕ) → n / s * s ≡ n → n % s ≡ 0
 no_rest_back n s e = omega (arith, mod-eq-sub-div-mul n s, e)
 
--- a block whose host bits are zeros of the address begins with it,
+-- a block whose host bits are all trailing zeros of the address begins at that address
 pub begins : (w first zeros p : ℕ) → EndsInZeros w first zeros → w - zeros ≤ p → p ≤ w → begin_at w first p ≡ first
 begins w first zeros p h from to =
     let k : ℕ = w - p in
@@ -39,7 +40,7 @@ begins w first zeros p h from to =
     let whole : first ≡ q * 2 ^ (zeros - k) * 2 ^ k = sym (no_rest first (2 ^ zeros) h.divides) ∙ ap (λ s. q * s) power ∙ (omega arith) in
     ap (λ n. n / 2 ^ k * 2 ^ k) whole ∙ multiple_begins (2 ^ k) (q * 2 ^ (zeros - k)) (pow_pos k) ∙ sym whole
 
--- and no other does
+-- no other block begins at that address
 pub begins_alone : (w first zeros p : ℕ) → EndsInZeros w first zeros → begin_at w first p ≡ first → w - zeros ≤ p
 begins_alone w first z p h e = let most = h.greatest (w - p) (omega arith) (no_rest_back first (block_size w p) e) in omega (arith, most)
 
@@ -65,7 +66,7 @@ module _ (w first last zeros shared p : ℕ) (e : AreEnds w first last zeros sha
   pub at_first : begin_at w first p ≡ first
   at_first = begins w first zeros p e.zeros_end from within
 
-  -- where the block ends within the range, the next wider one does not lie in it
+  -- if the block ends within the range, the next wider one does not lie in the range
   pub none_wider : high w (block_at w first p) ≤ last
       → 0 < p → (first ≤ low w (block_at w first (p - 1))) × (high w (block_at w first (p - 1)) ≤ last) → ⊥
   none_wider ends pos lies =
@@ -84,7 +85,7 @@ module _ (w first last zeros shared p : ℕ) (e : AreEnds w first last zeros sha
   pub widest_fits : high w (block_at w first p) ≤ last → IsMaximalIn w (FromTo first last) (block_at w first p)
   widest_fits ends = widest_is_maximal w first last p e.first_fits within (omega (arith, at_low w first p, at_first)) ends (none_wider ends)
 
-  -- a longer prefix than both share: the block ends before the last address
+  -- if the prefix is longer than the bits that both share, the block ends before or at the last address
   pub ends_within : shared < p → high w (block_at w first p) ≤ last
   ends_within more =
       let s : ℕ = block_size w p in
@@ -96,7 +97,7 @@ module _ (w first last zeros shared p : ℕ) (e : AreEnds w first last zeros sha
       (λ (outside : first + s ≤ last). omega (arith, at_end w first p, at_first, outside))
       (cases_lt last (first + s))
 
-  -- where it ends after the range, its lower half ends within
+  -- if the block ends after the range, it has a lower half, which ends within the range
   not_whole : last < high w (block_at w first p) → p < w
   not_whole late = ⊎_elim (λ (l : p < w). l)
       (λ (le : w ≤ p).

@@ -2,6 +2,6 @@
 use Rattle.std.specs.Prelude.{ℕ, ◌+◌}
 use Rattle.ipnetwork_family.specs.Network.{Network, high}
 
--- the block of the same prefix length that begins right after the greatest member of the network
+-- the block of the same prefix length that begins just after the highest address of the network
 abbrev pub following_block : ℕ → Network → Network
 following_block w n = record { address = high w n + 1; prefix = n.prefix }

@@ -1,4 +1,4 @@
--- The laws of least lists, for addresses of any number of bits.
+-- The laws of least lists, for addresses of any width.
 use Rattle.std.specs.Prelude.{◌≡◌, ℕ, ◌-◌, ◌*◌, ◌<◌, ◌≤◌, ◌^◌, ◌↔◌, List, [], ◌∷◌, length}
 use Rattle.std.specs.List.{All, AllPairs}
 use Rattle.ipnetwork_family.specs.Network.{Network, IsNetwork, low, high, block_of}
@@ -7,8 +7,8 @@ use Rattle.ipnetwork_blocks.specs.LeastList.{IsLeastList}
 use Rattle.ipnetwork_blocks.specs.Ranges.{FromTo}
 use Rattle.ipnetwork_blocks.specs.Exclusion.{InDifference}
 
--- the blocks have the addresses of the set and no others, each ends before the next begins, no networks that have
--- the same addresses are fewer, and no other list of blocks is the least of the set
+-- the blocks have exactly the addresses of the set, each ends before the next one begins, no shorter list of networks
+-- has the same addresses, and no other list is a least list of the set
 pub record IsShortest (w : ℕ) (set : ℕ → Type 0) (blocks : List Network) : Type 0 where
   pub addresses : (x : ℕ) → InUnion w blocks x ↔ set x
   pub apart : AllPairs (λ a b. high w a < b.address) blocks
@@ -16,30 +16,30 @@ pub record IsShortest (w : ℕ) (set : ℕ → Type 0) (blocks : List Network) :
       → length blocks ≤ length networks
   pub one : (others : List Network) → IsLeastList w set others → others ≡ blocks
 
--- so it is with the least list of a range,
+-- the least list of a range has these properties
 abbrev pub RangeIsShortest : Type 0
 RangeIsShortest = (w first last : ℕ) (blocks : List Network) → last < 2 ^ w → IsLeastList w (FromTo first last) blocks
     → IsShortest w (FromTo first last) blocks
 
--- and with that of an exclusion
+-- the least list of an exclusion has these properties
 abbrev pub ExclusionIsShortest : Type 0
 ExclusionIsShortest = (w : ℕ) (network inner : Network) (blocks : List Network)
     → IsLeastList w (InDifference w network inner) blocks
     → IsShortest w (InDifference w network inner) blocks
 
--- the addresses of a network, as a range, are one block
+-- the least list of the range from the lowest to the highest address of a network is only the network's block
 abbrev pub NetworkIsOneBlock : Type 0
 NetworkIsOneBlock = (w : ℕ) (n : Network) (blocks : List Network) → IsNetwork w n
     → IsLeastList w (FromTo (low w n) (high w n)) blocks
     → blocks ≡ block_of w n ∷ []
 
--- if addresses have two bits or more, a range has at most 2 w - 2 blocks,
+-- if addresses have at least two bits, the least list of a range has at most 2 w - 2 blocks
 abbrev pub RangeHasAtMost : Type 0
 RangeHasAtMost = (w first last : ℕ) (blocks : List Network) → 2 ≤ w → last < 2 ^ w
     → IsLeastList w (FromTo first last) blocks
     → length blocks ≤ 2 * w - 2
 
--- and that of all addresses but the first and the last has as many
+-- the least list of the range of all addresses except the first and the last has exactly 2 w - 2 blocks
 abbrev pub AllButTheEndsHasMost : Type 0
 AllButTheEndsHasMost = (w : ℕ) (blocks : List Network) → 2 ≤ w → IsLeastList w (FromTo 1 (2 ^ w - 2)) blocks
     → length blocks ≡ 2 * w - 2

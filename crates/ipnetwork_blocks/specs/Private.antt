@@ -1,4 +1,4 @@
--- What the private functions promise each other, and how contracts see private fields.
+-- The definitions used in the contracts of private functions and for private fields.
 pub mod Held
 pub mod Joining
 pub mod RangeList

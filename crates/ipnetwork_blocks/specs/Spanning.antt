@@ -1,13 +1,14 @@
--- The smallest block around networks.
+-- The smallest block that contains a list of networks.
 use Rattle.std.specs.Prelude.{ℕ, List}
 use Rattle.std.specs.List.{Contains}
 use Rattle.ipnetwork_family.specs.Network.{Network, IsNetwork, IsCidrBlock, Subnet}
 
--- each of the networks lies in b
+-- every network of the list lies in b
 abbrev pub AllLieIn : ℕ → List Network → Network → Type 0
 AllLieIn w networks b = (n : Network) → Contains networks n → Subnet w n b
 
--- b is the smallest block around the networks: they all lie in it, and it lies in each network in which they all lie
+-- b is the smallest block that contains the networks: they all lie in b, and b lies in every network in which they all
+-- lie
 pub record IsSpanning (w : ℕ) (networks : List Network) (b : Network) : Type 0 where
   pub block : IsCidrBlock w b
   pub around : AllLieIn w networks b

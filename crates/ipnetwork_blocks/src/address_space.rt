@@ -1,12 +1,12 @@
-//! The steps on addresses that blocks need beyond `CidrNetwork`.
+//! Operations on addresses that blocks need beyond `CidrNetwork`.
 ghost use Rattle.std.specs.Prelude.{◌≡◌, ◌+◌, ◌^◌, ◌<◌, ◌≤◌, MatchOption};
 ghost use Rattle.ipnetwork_family.specs.Bits.{SharesBits, EndsInZeros};
 ghost use Rattle.ipnetwork_family.specs.Network.{block_at};
 
 use ipnetwork_family::{Address, CidrNetwork, Network};
 
-/// The addresses of a family of networks, for code that steps from one to the next or looks at their bits. Every
-/// `Network<A>` has it. No call allocates.
+/// The addresses of a family of networks, for code that steps from one address to the next or looks
+/// at their bits. Every `Network<A>` implements it. No call allocates.
 ///
 /// ```
 /// let first = Ipv4Network::whole().network();
@@ -14,7 +14,7 @@ use ipnetwork_family::{Address, CidrNetwork, Network};
 /// assert_eq!(rt; next, Some(Ipv4Addr::new(0, 0, 0, 1)));
 /// ```
 pub trait AddressSpace: CidrNetwork {
-    /// The network of all addresses: the address 0 and the prefix length 0.
+    /// Returns the network of all addresses: the address 0 with the prefix length 0.
     ///
     /// ```
     /// assert_eq!(rt; Ipv4Network::whole().canonical().as_str(), "0.0.0.0/0");
@@ -22,7 +22,8 @@ pub trait AddressSpace: CidrNetwork {
     fn whole() -> Self
         ensures { Self.pair result ≡ record { address = 0; prefix = 0 } };
 
-    /// The network without host bits of this prefix length, which must be at most `WIDTH`, that holds the address.
+    /// Returns the network without host bits that has this prefix length and contains the address.
+    /// The prefix length must be at most `WIDTH`.
     ///
     /// ```
     /// let block = Ipv4Network::block_at(Ipv4Addr::new(192, 0, 2, 130), 25);
@@ -33,7 +34,7 @@ pub trait AddressSpace: CidrNetwork {
         ensures made { Self.pair result ≡ block_at Self.WIDTH (Self.number addr) prefix }
         ensures address { Self.number addr < 2 ^ Self.WIDTH };
 
-    /// The address after this one; `None` if it is the last of the family.
+    /// Returns the next address, or `None` if this is the last address of the family.
     ///
     /// ```
     /// let next = Ipv4Network::next_address(Ipv4Addr::new(10, 0, 0, 255));
@@ -44,7 +45,7 @@ pub trait AddressSpace: CidrNetwork {
             (λ next. (Self.number addr + 1 < 2 ^ Self.WIDTH)
             × (Self.number next ≡ Self.number addr + 1)) };
 
-    /// The address before this one; `None` if it is the first of the family.
+    /// Returns the previous address, or `None` if this is the first address of the family.
     ///
     /// ```
     /// let previous = Ipv4Network::previous_address(Ipv4Addr::new(10, 0, 1, 0));
@@ -54,7 +55,8 @@ pub trait AddressSpace: CidrNetwork {
         ensures { MatchOption result (Self.number addr ≡ 0)
             (λ previous. Self.number previous + 1 ≡ Self.number addr) };
 
-    /// The address `offset` addresses after this one. It must not be past the last address of the family.
+    /// Returns the address `offset` addresses after this one. It must not be past the last address
+    /// of the family.
     ///
     /// ```
     /// let addr = Ipv4Network::plus(Ipv4Addr::new(10, 0, 0, 255), 257);
@@ -64,7 +66,8 @@ pub trait AddressSpace: CidrNetwork {
         requires { Self.number addr + offset < 2 ^ Self.WIDTH }
         ensures { Self.number result ≡ Self.number addr + offset };
 
-    /// How many of their first bits two addresses share: the greatest prefix length with which they lie in one block.
+    /// Returns the number of leading bits that two addresses share: the greatest prefix length at
+    /// which one block contains both.
     ///
     /// ```
     /// let addr = Ipv4Addr::new(10, 0, 0, 255);
@@ -73,7 +76,7 @@ pub trait AddressSpace: CidrNetwork {
     fn shared_bits(addr: Self::Addr, other: Self::Addr) -> u8
         ensures { SharesBits Self.WIDTH (Self.number addr) (Self.number other) result };
 
-    /// The number of trailing zero bits of the address; `WIDTH` for the address 0.
+    /// Returns the number of trailing zero bits of the address: `WIDTH` for the address 0.
     ///
     /// ```
     /// assert_eq!(rt; Ipv4Network::trailing_zeros(Ipv4Addr::new(10, 0, 1, 0)), 8);
@@ -81,7 +84,7 @@ pub trait AddressSpace: CidrNetwork {
     fn trailing_zeros(addr: Self::Addr) -> u8
         ensures { EndsInZeros Self.WIDTH (Self.number addr) result };
 
-    // The numbers of addresses have at most 128 bits.
+    // Addresses have at most 128 bits.
     ghost few_bits: { Self.WIDTH ≤ 128 };
 }
 

@@ -1,4 +1,4 @@
-//! The least list of blocks with the union of given networks.
+//! The least list of blocks with the same union as a list of networks.
 ghost use Rattle.std.specs.Prelude.{◌≡◌, ◌<◌, ◌≤◌, ◌↔◌, IsTrue, MatchOption, length, take, ◌++◌, ◌∷◌, [], map, vec_capacity};
 ghost use Rattle.std.specs.List.{All};
 ghost use Rattle.ipnetwork_family.specs.Network.{IsCidrBlock, IsNetworkAtMost, block_of, high};
@@ -10,11 +10,12 @@ use crate::held_network::HoldsNetwork;
 use crate::supernets::block;
 use ipnetwork_family::CidrNetwork;
 
-/// Replaces the networks, which may have host bits, by their aggregate, at the front of the slice, and returns how many
-/// blocks it has: the blocks of the networks' union that lie in no larger block of it, in ascending order. No list of
-/// networks with the same union is shorter (`laws::least`). The rest of the slice holds unspecified networks.
+/// Replaces the networks, which may have host bits, with their aggregate at the front of the slice,
+/// and returns the number of its blocks. The aggregate is the list, in ascending order, of the
+/// blocks that lie in the networks' union but in no larger block of it. No list of networks with
+/// the same union is shorter (`laws::least`). The rest of the slice holds unspecified networks.
 ///
-/// Sorts the slice and goes over it once.
+/// Sorts the slice and makes one pass over it.
 ///
 /// ```
 /// let mut networks: [Ipv4Network; 2] = ["10.0.0.128/25".parse()?, "10.0.0.0/25".parse()?];
@@ -29,8 +30,8 @@ pub fn aggregate_in_place<N: CidrNetwork>(networks: &mut [N]) -> usize
     aggregate_held::<N, N>(networks)
 }
 
-/// Replaces the networks by their aggregate: the blocks that `aggregate_in_place` puts at the front, and nothing after
-/// them. Frees no memory: the capacity stays.
+/// Replaces the networks with their aggregate: the blocks that `aggregate_in_place` puts at the
+/// front. Frees no memory: the capacity does not change.
 ///
 /// ```
 /// let mut networks = vec![in rt.alloc(); "10.128.0.0/9".parse::<Ipv4Network>()?, "10.0.0.0/9".parse()?]?;
@@ -46,11 +47,11 @@ pub fn aggregate_vec<N: CidrNetwork>(networks: &mut Vec<N>)
     networks.truncate(count);
 }
 
-/// Does what `aggregate_in_place` does, for values that hold networks in a form of their own: replaces them by values
-/// that hold the aggregate, at the front of the slice, and returns how many these are. Each value must hold a network
-/// of the family of `N`. The rest of the slice holds unspecified networks.
+/// Like `aggregate_in_place`, but for values that hold networks: replaces them with values that
+/// hold the aggregate, at the front of the slice, and returns the number of its blocks. Each value
+/// must hold a network of the family of `N`. The rest of the slice holds unspecified networks.
 ///
-/// Sorts the slice and goes over it once.
+/// Sorts the slice and makes one pass over it.
 ///
 /// ```
 /// let mut values: [Ipv6Network; 2] = ["2001:db8:8000::/33".parse()?, "2001:db8::/33".parse()?];
@@ -69,7 +70,7 @@ pub fn aggregate_held<N: CidrNetwork, H: HoldsNetwork<N>>(values: &mut [H]) -> u
     join_sorted::<N, H>(values)
 }
 
-// Each network becomes its block.
+// Replaces each network with its block.
 fn clear_host_bits<N: CidrNetwork, H: HoldsNetwork<N>>(values: &mut [H])
     requires { All H.holds values.old }
     ensures cleared { map H.held values.new ≡ map (block_of N.WIDTH) (map H.held values.old) }
@@ -81,8 +82,9 @@ fn clear_host_bits<N: CidrNetwork, H: HoldsNetwork<N>>(values: &mut [H])
     }
 }
 
-// Aggregates blocks in order. Those that were read and not dropped stand in front, joined as far as they go, and
-// the next one lies in the last of them, or is joined with those at their end.
+// Aggregates sorted blocks. The aggregate of the blocks that were read is kept at the front. The
+// next block either lies in the last of these, or is added after them and joined with those at
+// their end.
 fn join_sorted<N: CidrNetwork, H: HoldsNetwork<N>>(values: &mut [H]) -> usize
     requires held { All H.holds values.old }
     requires blocks { All (IsCidrBlock N.WIDTH) (map H.held values.old) }
@@ -105,7 +107,7 @@ fn join_sorted<N: CidrNetwork, H: HoldsNetwork<N>>(values: &mut [H]) -> usize
     kept
 }
 
-// Whether the block lies in the last of the others.
+// Returns whether the block lies in the last of the others.
 fn lies_in_last<N: CidrNetwork, H: HoldsNetwork<N>>(front: &[H], block: N) -> bool
     requires { All H.holds front.now }
     ensures { IsTrue result ↔ LiesInLast N.WIDTH (map H.held front.now) (N.pair block) }
@@ -116,8 +118,9 @@ fn lies_in_last<N: CidrNetwork, H: HoldsNetwork<N>>(front: &[H], block: N) -> bo
     }
 }
 
-// Joins the block with the last of those in front, and what comes of it with the one before, for as long as the two are
-// the halves of one block: how many in front are left, and what to put after them.
+// Joins the block with the last block in front, then the result with the one before that, and so on
+// while the two are halves of one block. Returns how many blocks in front remain, and the block to
+// put after them.
 fn join_back<N: CidrNetwork, H: HoldsNetwork<N>>(front: &[H], block: N) -> (usize, N)
     requires held { All H.holds front.now }
     requires joined { AreJoined N.WIDTH (map H.held front.now) }
@@ -145,7 +148,7 @@ fn join_back<N: CidrNetwork, H: HoldsNetwork<N>>(front: &[H], block: N) -> (usiz
     (left, joined)
 }
 
-// The block of which the two are the halves, if there is one.
+// Returns the block whose halves are these two, if there is one.
 fn join<N: CidrNetwork>(first: N, second: N) -> Option<N>
     ensures { MatchOption result (¬ (AreHalves N.WIDTH (N.pair first) (N.pair second)))
         (λ whole. AreHalves N.WIDTH (N.pair first) (N.pair second)

@@ -1,4 +1,4 @@
-//! The least list of blocks with the union of networks of either family.
+//! The least list of blocks with the same union as networks of either family.
 ghost use Rattle.std.specs.Prelude.{◌≡◌, ◌≤◌, length, take, drop, vec_capacity};
 ghost use Rattle.std.specs.List.{All};
 ghost use Rattle.std.specs.List.Sorted.{IsPermutation};
@@ -8,11 +8,11 @@ ghost use Rattle.ipnetwork_blocks.specs.AggregateIp.{IsIpAggregate};
 use crate::aggregate::aggregate_held;
 use ipnetwork::{IpNetwork, Ipv4Network, Ipv6Network};
 
-/// Replaces the networks by the aggregate of the IPv4 networks and, after it, that of the IPv6 networks, at the front
-/// of the slice, and returns how many blocks these are: for each family what `aggregate_in_place` makes of its
-/// networks. The rest of the slice holds unspecified networks.
+/// Replaces the networks with the aggregate of the IPv4 networks followed by the aggregate of the
+/// IPv6 networks, at the front of the slice, and returns the number of blocks. Each family is
+/// aggregated as by `aggregate_in_place`. The rest of the slice holds unspecified networks.
 ///
-/// Sorts each family and goes over it once.
+/// Sorts each family and makes one pass over it.
 ///
 /// ```
 /// let mut networks: [IpNetwork; 3] = ["2001:db8::/32".parse()?, "10.128.0.0/9".parse()?, "10.0.0.0/9".parse()?];
@@ -31,8 +31,9 @@ pub fn aggregate_ip_in_place(networks: &mut [IpNetwork]) -> usize
     v4_blocks + v6_blocks
 }
 
-/// Replaces the networks by the aggregate of the IPv4 networks and, after it, that of the IPv6 networks: the blocks
-/// that `aggregate_ip_in_place` puts at the front, and nothing after them. Frees no memory: the capacity stays.
+/// Replaces the networks with the aggregate of the IPv4 networks followed by the aggregate of the
+/// IPv6 networks: the blocks that `aggregate_ip_in_place` puts at the front. Frees no memory: the
+/// capacity does not change.
 ///
 /// ```
 /// let mut networks = vec![in rt.alloc(); "2001:db8::/32".parse::<IpNetwork>()?, "10.0.0.0/8".parse()?]?;
@@ -47,7 +48,7 @@ pub fn aggregate_ip_vec(networks: &mut Vec<IpNetwork>)
     networks.truncate(count);
 }
 
-// Puts the IPv4 networks before the IPv6 networks, and returns how many there are.
+// Moves the IPv4 networks before the IPv6 networks, and returns the number of IPv4 networks.
 fn put_v4_first(networks: &mut [IpNetwork]) -> usize
     ensures within { result ≤ length networks.old }
     ensures same { IsPermutation networks.old networks.new }

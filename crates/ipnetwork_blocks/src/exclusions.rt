@@ -11,7 +11,8 @@ use crate::range_blocks::RangeBlocks;
 use std::alloc::AllocError;
 use std::marker::Model;
 
-/// An iterator over the blocks of the addresses of a network that are not in another, in ascending order.
+/// An iterator over the least list of blocks for the addresses of a network that are not in
+/// another, in ascending order.
 ///
 /// ```
 /// let network: Ipv4Network = "192.0.2.0/24".parse()?;
@@ -35,12 +36,12 @@ impl<N: AddressSpace> Model for Exclusion<N> {
     ghost view = { λ e. e.below ++ e.above };
 }
 
-/// The blocks of the addresses of `network` that are not in `inner`: the fewest possible, in ascending order. Host bits
-/// of either are ignored.
+/// Returns the blocks of the addresses of `network` that are not in `inner`: as few as possible, in
+/// ascending order. The host bits of both are ignored.
 ///
-/// If `inner` has all addresses of `network`, there is no block, and if it has none of them, the only one is the block
-/// of `network`. Otherwise `inner` lies within the network, and there is one block for each bit by which its prefix
-/// length is greater.
+/// If `inner` contains all of `network`, there are no blocks. If they share no address, the only
+/// block is that of `network`. Otherwise `inner` lies within `network`, and there is one block for
+/// each bit by which its prefix length is longer.
 ///
 /// ```
 /// let network: Ipv4Network = "10.0.0.0/30".parse()?;
@@ -57,7 +58,7 @@ pub fn exclude<N: AddressSpace>(network: N, inner: N) -> Exclusion<N>
     ensures some { Subnet N.WIDTH (N.pair inner) (N.pair network)
         → length result ≡ (N.pair inner).prefix - (N.pair network).prefix }
 {
-    // The clauses of these calls say that both are networks of addresses of WIDTH bits.
+    // The contracts of these calls say that both are valid networks of `WIDTH` bits.
     let _ = network.ip();
     let _ = inner.ip();
     let first = network.network();
@@ -74,7 +75,7 @@ pub fn exclude<N: AddressSpace>(network: N, inner: N) -> Exclusion<N>
     }
 }
 
-// The blocks of the addresses from `first` to the last one before the network.
+// Returns the blocks of the addresses from `first` to the last one before the network.
 fn blocks_before<N: AddressSpace>(first: N::Addr, network: N) -> RangeBlocks<N>
     ensures { IsLeastList N.WIDTH (Before N.WIDTH (N.number first) (N.pair network)) result }
 {
@@ -84,7 +85,7 @@ fn blocks_before<N: AddressSpace>(first: N::Addr, network: N) -> RangeBlocks<N>
     }
 }
 
-// The blocks of the addresses from the first one after the network to `last`.
+// Returns the blocks of the addresses from the first one after the network to `last`.
 fn blocks_behind<N: AddressSpace>(network: N, last: N::Addr) -> RangeBlocks<N>
     ensures { IsLeastList N.WIDTH (Behind N.WIDTH (N.pair network) (N.number last)) result }
 {

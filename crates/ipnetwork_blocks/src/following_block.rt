@@ -5,8 +5,8 @@ ghost use Rattle.ipnetwork_blocks.specs.FollowingBlock.{following_block};
 
 use crate::address_space::AddressSpace;
 
-/// The block of the same prefix length that begins right after the greatest member of the network; `None` if that
-/// member is the last address of the family.
+/// Returns the block of the same prefix length that begins just after the highest address of the
+/// network, or `None` if that address is the last of the family.
 ///
 /// ```
 /// let network: Ipv4Network = "192.0.2.128/25".parse()?;

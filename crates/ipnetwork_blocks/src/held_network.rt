@@ -1,14 +1,14 @@
-//! Values that hold a network of one family, so that one pass aggregates a list of such networks as well as the
-//! part of a list of both families that is of one.
+//! Values that hold a network of one family. They let the same code aggregate a list of networks of
+//! one family and the networks of one family in a list of both.
 ghost use Rattle.std.specs.Prelude.{◌≡◌};
 ghost use Rattle.ipnetwork_family.specs.Network.{Network, network_cmp};
 
 use ipnetwork::{IpNetwork, Ipv4Network, Ipv6Network};
 use ipnetwork_family::CidrNetwork;
 
-/// A value that may hold a network of the family of `N`, so that lists of such values are aggregated as they stand in
-/// memory. Values that do are ordered as their networks are. A network holds itself, and an `IpNetwork` holds one of
-/// either family.
+/// A value that may hold a network of the family of `N`, so that lists of such values are
+/// aggregated in place. Values that hold one are ordered as their networks are. A network holds
+/// itself, and an `IpNetwork` holds a network of either family.
 ///
 /// ```
 /// let network: Ipv4Network = "10.0.0.0/8".parse()?;
@@ -16,13 +16,13 @@ use ipnetwork_family::CidrNetwork;
 /// assert_eq!(rt; value, "10.0.0.0/8".parse()?);
 /// ```
 pub trait HoldsNetwork<N: CidrNetwork>: Copy + Ord {
-    // Whether the value holds such a network.
+    // Whether the value holds a network of the family of `N`.
     ghost holds: { Self → Type 0 };
 
-    // The address and the prefix length of the network that it holds.
+    // The address and the prefix length of the network that the value holds.
     ghost held: { Self → Network };
 
-    /// The network that the value holds; it must hold one of the family of `N`.
+    /// Returns the network that the value holds. The value must hold one of the family of `N`.
     ///
     /// ```
     /// let value: Ipv6Network = "2001:db8::/32".parse()?;
@@ -32,7 +32,7 @@ pub trait HoldsNetwork<N: CidrNetwork>: Copy + Ord {
         requires { holds self }
         ensures { N.pair result ≡ held self };
 
-    /// The value that holds the network.
+    /// Returns the value that holds the network.
     ///
     /// ```
     /// let network: Ipv6Network = "2001:db8::/32".parse()?;
@@ -41,7 +41,7 @@ pub trait HoldsNetwork<N: CidrNetwork>: Copy + Ord {
     fn holding(network: N) -> Self
         ensures { holds result × (held result ≡ N.pair network) };
 
-    // Values that hold networks are ordered as these are.
+    // Values that hold networks are ordered as these networks are.
     ghost held_order: { (x y : Self) → holds x → holds y
         → Self.cmp x y ≡ network_cmp (held x) (held y) };
 }

@@ -34,9 +34,10 @@ impl Model for Ipv4HostIterator {
     ghost invariant = { λ i. i.count ≤ i.last + 1 };
 }
 
-/// The addresses of an IPv4 network that hosts may have, each once, in ascending order: up to prefix length 30 all
-/// members except the first and the last, whose host bits are all zeros and all ones (RFC 1122, section 3.2.1.3); at 31
-/// both members (RFC 3021), and at 32 the one.
+/// Returns the addresses that hosts of an IPv4 network may have, each once, in ascending order. Up
+/// to prefix length 30 these are all members except the first and the last, whose host bits are all
+/// zeros and all ones (RFC 1122, section 3.2.1.3). At 31 they are both members (RFC 3021), and at
+/// 32 the only member.
 ///
 /// ```
 /// let mut hosts = ipv4_hosts("10.0.0.4/30".parse()?);
@@ -59,9 +60,10 @@ pub fn ipv4_hosts(network: Ipv4Network) -> Ipv4HostIterator
     }
 }
 
-/// The addresses of an IPv6 network that hosts may have, each once, in ascending order: up to prefix length 126 all
-/// members except the first, the anycast address of its routers (RFC 4291, section 2.6.1); at 127 both members (RFC
-/// 6164), and at 128 the one.
+/// Returns the addresses that hosts of an IPv6 network may have, each once, in ascending order. Up
+/// to prefix length 126 these are all members except the first, the anycast address of the
+/// network's routers (RFC 4291, section 2.6.1). At 127 they are both members (RFC 6164), and at 128
+/// the only member.
 ///
 /// ```
 /// let mut hosts = ipv6_hosts("2001:db8::/64".parse()?);

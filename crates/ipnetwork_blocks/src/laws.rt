@@ -1,5 +1,5 @@
-//! The laws of blocks and of least lists, for addresses of any number of bits, and of hosts. Each function's contract
-//! is a law; it takes nothing and does nothing, and a proof whose function calls it may use the law.
+//! The laws of blocks and of least lists, for addresses of any width, and of hosts. Each function's
+//! contract is a law: the function does nothing, and a proof that calls it may use the law.
 
 mod aggregates;
 mod ranges;

@@ -1,7 +1,8 @@
-//! Blocks of IP addresses, for networks of either family: the blocks within a network and around it, its hosts, and
-//! the least lists of blocks with the addresses of given networks, of a range or of an exclusion.
+//! Blocks of IP addresses, for networks of either family: the blocks within a network, the blocks
+//! that contain it, its hosts, and the least lists of blocks for a list of networks, a range or an
+//! exclusion.
 //!
-//! Nothing here allocates.
+//! Nothing in this crate allocates.
 #![tactic(auto)]
 
 mod address_space;

@@ -4,10 +4,10 @@ ghost use Rattle.ipnetwork_blocks.specs.Subnets.{subnet_number};
 
 use crate::address_space::AddressSpace;
 
-/// The block number `number` of this prefix length within the network: the one that [`subnets`](crate::subnets) yields
-/// after `number` others. `None` for a prefix length that is shorter than the network's or greater than `WIDTH`, and
-/// for a number that is not below 2^(`prefix` - n), where n is the network's own prefix length. Takes the same
-/// few steps for each number.
+/// Returns block number `number` of this prefix length within the network: the one that
+/// [`subnets`](crate::subnets) yields after `number` others. Returns `None` if `prefix` is shorter
+/// than the network's own prefix length n or greater than `WIDTH`, or if `number` is not below
+/// 2^(`prefix` - n). Takes a few steps, whatever the number.
 ///
 /// ```
 /// let network: Ipv4Network = "10.0.0.0/8".parse()?;
@@ -32,14 +32,15 @@ pub fn subnet_at<N: AddressSpace>(network: N, prefix: u8, number: u128) -> Optio
     Some(N::block_at(N::plus(network.network(), offset), prefix))
 }
 
-// Whether the number is below 2^`exponent`.
+// Returns whether the number is below 2^`exponent`.
 fn is_below_power(number: u128, exponent: u8) -> bool
     ensures { IsTrue result ↔ (number < 2 ^ exponent) }
 {
     exponent >= 128 || number >> exponent == 0
 }
 
-// The number times 2^`exponent`, which 128 bits hold. Zero is tested first: 128 bits cannot be shifted by 128.
+// Returns the number times 2^`exponent`, which must fit in 128 bits. Zero is tested first because
+// 128 bits cannot be shifted by 128.
 fn times_power(number: u128, exponent: u8) -> u128
     requires { number * 2 ^ exponent < 2 ^ 128 }
     ensures { result ≡ number * 2 ^ exponent }

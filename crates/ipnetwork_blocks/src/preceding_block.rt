@@ -5,8 +5,8 @@ ghost use Rattle.ipnetwork_blocks.specs.PrecedingBlock.{preceding_block};
 
 use crate::address_space::AddressSpace;
 
-/// The block of the same prefix length that ends right before the least member of the network; `None` if that member is
-/// the first address of the family.
+/// Returns the block of the same prefix length that ends just before the lowest address of the
+/// network, or `None` if that address is the first of the family.
 ///
 /// ```
 /// let network: Ipv4Network = "192.0.3.0/25".parse()?;

@@ -9,7 +9,7 @@ use crate::address_space::AddressSpace;
 use std::alloc::AllocError;
 use std::marker::Model;
 
-/// An iterator over the blocks of a range of addresses, in ascending order.
+/// An iterator over the least list of blocks for a range of addresses, in ascending order.
 ///
 /// ```
 /// let (first, last) = (Ipv4Addr::new(192, 0, 2, 1), Ipv4Addr::new(192, 0, 2, 4));
@@ -39,11 +39,11 @@ impl<N: AddressSpace> Model for RangeBlocks<N> {
         × (N.number r.last < 2 ^ N.WIDTH) };
 }
 
-/// The blocks whose addresses are those from `first` to `last`, both included: the fewest possible, in ascending order.
-/// `None` if `first` comes after `last`.
+/// Returns the blocks whose addresses are those from `first` to `last`, both included: as few as
+/// possible, in ascending order. Returns `None` if `first` comes after `last`.
 ///
-/// For addresses of W bits there are at most 2 W - 2 blocks: 62 for IPv4 and 254 for IPv6. The whole address space is
-/// one block, of prefix length 0.
+/// There are at most 62 blocks for IPv4 and 254 for IPv6: 2 W - 2 for addresses of W bits, if W is
+/// at least 2. The whole address space is one block, of prefix length 0.
 ///
 /// ```
 /// let (first, last) = ("2001:db8::".parse()?, "2001:db8::1:ffff".parse()?);
@@ -64,7 +64,7 @@ pub fn range_to_blocks<N: AddressSpace>(first: N::Addr, last: N::Addr) -> Option
 }
 
 impl<N: AddressSpace> RangeBlocks<N> {
-    /// The blocks of the addresses from `first` to `last`, both included.
+    /// Returns the blocks of the addresses from `first` to `last`, both included.
     pub(crate) fn between(first: N::Addr, last: N::Addr) -> Self
         requires { N.number first ≤ N.number last }
         ensures blocks { IsLeastList N.WIDTH (FromTo (N.number first) (N.number last)) result }
@@ -79,7 +79,7 @@ impl<N: AddressSpace> RangeBlocks<N> {
         }
     }
 
-    /// No blocks. Any address will do.
+    /// Returns no blocks. Any address can be passed.
     pub(crate) fn none(address: N::Addr) -> Self
         ensures none { result ≡ [] }
         ensures address { N.number address < 2 ^ N.WIDTH }
@@ -92,7 +92,8 @@ impl<N: AddressSpace> RangeBlocks<N> {
         }
     }
 
-    /// The blocks of the addresses from `first` to `last`, and none if `first` comes after `last`.
+    /// Returns the blocks of the addresses from `first` to `last`, or none if `first` comes after
+    /// `last`.
     pub(crate) fn between_or_none(first: N::Addr, last: N::Addr) -> Self
         ensures { IsLeastList N.WIDTH (FromTo (N.number first) (N.number last)) result }
     {
@@ -127,23 +128,24 @@ impl<N: AddressSpace> Iterator for RangeBlocks<N> {
     }
 }
 
-// Whether the network ends before the address.
+// Returns whether the network ends before the address.
 fn ends_before<N: AddressSpace>(network: N, address: N::Addr) -> bool
     ensures { IsTrue result ↔ (high N.WIDTH (N.pair network) < N.number address) }
 {
     network.broadcast() < address
 }
 
-// Whether the network ends after the address.
+// Returns whether the network ends after the address.
 fn ends_behind<N: AddressSpace>(network: N, address: N::Addr) -> bool
     ensures { IsTrue result ↔ (N.number address < high N.WIDTH (N.pair network)) }
 {
     address < network.broadcast()
 }
 
-// The widest block that begins at `first` and ends at `last` or before. If `first` ends with fewer zeros than there are
-// bits after those that it shares with `last`, it is that of the zeros. If not, it is the least block that holds both
-// if that ends with `last`, and its lower half if not.
+// Returns the widest block that begins at `first` and does not end after `last`. If `first` has
+// fewer trailing zeros than there are bits after those that it shares with `last`, it is the block
+// with these zeros as host bits. Otherwise it is the smallest block that contains both if that ends
+// at `last`, or else the lower half of that block.
 fn widest_block<N: AddressSpace>(first: N::Addr, last: N::Addr) -> N
     requires { N.number first ≤ N.number last }
     ensures begins { (N.pair result).address ≡ N.number first }

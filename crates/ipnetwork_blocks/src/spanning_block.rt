@@ -1,12 +1,12 @@
-//! The smallest block around networks.
+//! The smallest block that contains a list of networks.
 ghost use Rattle.std.specs.Prelude.{◌≡◌, ◌∷◌, [], map, MatchOption};
 ghost use Rattle.ipnetwork_blocks.specs.Spanning.{IsSpanning};
 
 use crate::address_space::AddressSpace;
 use crate::supernets::block;
 
-/// The smallest block that has all members of each of the networks: it lies in every other network that has them.
-/// `None` if there are no networks.
+/// Returns the smallest block that contains all of the networks: it lies in every other network
+/// that contains them all. Returns `None` if there are no networks.
 ///
 /// ```
 /// let networks: [Ipv4Network; 2] = ["10.0.1.0/24".parse()?, "10.0.2.128/25".parse()?];
@@ -26,7 +26,7 @@ pub fn spanning<N: AddressSpace>(networks: &[N]) -> Option<N>
     Some(around)
 }
 
-// The smallest block that has all members of both networks.
+// Returns the smallest block that contains both networks.
 fn around_both<N: AddressSpace>(first: N, second: N) -> N
     ensures { IsSpanning N.WIDTH (N.pair first ∷ N.pair second ∷ []) (N.pair result) }
 {

@@ -22,7 +22,8 @@ pub struct SubnetIterator<N: AddressSpace> {
     last: N,
 }
 
-// A contract sees an iterator as the list of the blocks still to come, each as its address and prefix length.
+// A contract sees an iterator as the list of the blocks still to come, each as its address and
+// prefix length.
 impl<N: AddressSpace> Model for SubnetIterator<N> {
     ghost use Rattle.std.specs.Prelude.{List, option_map};
     ghost use Rattle.ipnetwork_family.specs.Network.{Network};
@@ -35,9 +36,10 @@ impl<N: AddressSpace> Model for SubnetIterator<N> {
     ghost invariant = { λ s. AreEnds N.WIDTH (option_map N.pair s.next) (N.pair s.last) };
 }
 
-/// The blocks of this prefix length within the network, each once, in ascending order: 2^(`prefix` - n) of them, where
-/// n is the network's own prefix length. If `prefix` is n, that is only the network's own block. `None` for a prefix
-/// length that is shorter than the network's or greater than `WIDTH`.
+/// Returns the blocks of this prefix length within the network, each once, in ascending order:
+/// 2^(`prefix` - n) of them, where n is the network's own prefix length. If `prefix` is n, the only
+/// block is the network's own. Returns `None` if `prefix` is shorter than n or greater than
+/// `WIDTH`.
 ///
 /// ```
 /// let network: Ipv4Network = "10.0.0.0/8".parse()?;

@@ -1,11 +1,11 @@
-//! The block of a network, the blocks around it, and the other half of its parent.
+//! The block of a network, the blocks that contain it, and the other half of its parent.
 ghost use Rattle.std.specs.Prelude.{◌≡◌, ◌<◌, ◌≤◌, MatchOption};
 ghost use Rattle.ipnetwork_family.specs.Network.{IsNetwork, HostBitsAreZero, block_of};
 ghost use Rattle.ipnetwork_blocks.specs.Supernets.{IsAround, IsSibling};
 
 use ipnetwork_family::CidrNetwork;
 
-/// The network without host bits that has the same members and the same prefix length.
+/// Returns the network without host bits that has the same members and the same prefix length.
 ///
 /// ```
 /// let network: Ipv4Network = "192.0.2.129/25".parse()?;
@@ -22,8 +22,9 @@ pub fn block<N: CidrNetwork>(network: N) -> N
     block
 }
 
-/// The block of this prefix length around the network: it has no host bits, and holds each member. At the network's own
-/// prefix length that is its `block`; `None` if the prefix length is longer.
+/// Returns the block of this prefix length that contains the network. It has no host bits. At the
+/// network's own prefix length, it is the network's `block`. Returns `None` if `prefix` is longer
+/// than the network's prefix length.
 ///
 /// ```
 /// let network: Ipv4Network = "192.0.2.129/25".parse()?;
@@ -41,8 +42,8 @@ pub fn supernet<N: CidrNetwork>(network: N, prefix: u8) -> Option<N>
     N::block(network.ip(), prefix)
 }
 
-/// The other half of the block that is one bit shorter: it has no host bits and the same prefix length. `None` at
-/// prefix length 0, where there is no wider block.
+/// Returns the other half of the block that is one bit shorter: a block of the same prefix length,
+/// without host bits. Returns `None` at prefix length 0, because there is no wider block.
 ///
 /// ```
 /// let network: Ipv4Network = "192.0.2.128/25".parse()?;

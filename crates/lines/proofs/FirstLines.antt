@@ -29,6 +29,6 @@ pub first_still : (ended : Bool) (read : List ℕ) (first : List (List ℕ)) (pe
 first_still ended read first pending chunk h =
     λ more e. ap lines (append_assoc read chunk more) ∙ h (chunk ++ more) (λ f. absurd (true≢false (sym f))) ∙ ap (λ l. first ++ lines l) (sym (append_assoc pending chunk more))
 
--- so far they are all lines
+-- if nothing more is read, these are all of the lines
 pub are_all : (ended : Bool) (read : List ℕ) (first : List (List ℕ)) (pending : List ℕ) → AreFirst ended read first pending → lines read ≡ first ++ lines pending
 are_all ended read first pending h = ap lines (sym (append-nil read)) ∙ h [] (λ f. refl) ∙ ap (λ l. first ++ lines l) (append-nil pending)

@@ -1,4 +1,4 @@
--- What is handed out is the first line of what is pending.
+-- What is handed out is the first line of the pending bytes.
 use Rattle.std.proofs.Common.{◌≡◌, ◌≢◌, ◌⊎◌, inl, inr, ℕ, zero, suc, ◌+◌, ◌-◌, ◌<◌, ◌≤◌, Bool, true, false, cond, List, [], ◌∷◌, ◌++◌, length, take, drop, refl, sym, ap, subst, ◌∙◌, append_assoc, append-nil, length-append, length-take, length-drop, true≢false, arith}
 use Rattle.std.proofs.lemmas.Bool.Decides.{eqb_tells}
 use Rattle.std.proofs.lemmas.List.{take-append-le, take-take, length-take-le, drop_all, drop-append-le, take_more, take_all, get_or-drop}
@@ -36,16 +36,16 @@ absent (x ∷ text) h (suc i) low high = absent text h.1 i (omega arith) (omega 
 pub has_no : (text : List ℕ) → HasNoFeed text → HasNo 10 text
 has_no text h = none_behind 10 text 0 h
 
--- a text of which no byte behind a place is a line feed
+-- if a text has no line feed after a position, a search from there finds none
 pub absent_behind : (text : List ℕ) (from : ℕ) → HasNoFeed (drop from text) → IsAbsent 10 text from (length text)
 absent_behind text from h place low high =
     let there : from + (place - from) ≡ place = omega (arith, low) in
     let is : slice_index (drop from text) (place - from) ≡ slice_index text place = get_or-drop from text (place - from) 0 ∙ ap (slice_index text) there in
     rw (sym is) (h (place - from) (omega arith) (omega (arith, low, high, length-drop from text)))
 
--- ---- how a line ends that has a line feed
+-- ---- how a line with a line feed ends
 
--- the bytes before a line feed, and it, are the line and the bytes that end it
+-- the bytes before a line feed, followed by the line feed, are the line and its line ending
 abbrev pub HowEnds : List ℕ → LineEnd → Type 0
 HowEnds raw end = HasFeed end × (raw ++ 10 ∷ [] ≡ strip_carriage_return raw ++ end_bytes end)
 
@@ -85,7 +85,7 @@ gone_long held gone h e = (subst (λ v. IsDropped v held.limit gone) e h).1
 holds_these : (held : Buffered) (bytes : List ℕ) → held.dropped ≡ false → bytes ≡ waits held → IsPending held bytes
 holds_these held bytes clean is = record { gone = []; dropped = subst (λ v. IsDropped v held.limit []) (sym clean) refl; bytes = is }
 
--- ---- a line that a line feed ends
+-- ---- a line that ends with a line feed
 
 hands_out : (old new : Buffered) (pending : List ℕ) (at : ℕ) (end : LineEnd) → (h : IsPending old pending) → IsFirst 10 (waits old) at
     → HowEnds (h.gone ++ take at (waits old)) end → new.dropped ≡ false → waits new ≡ drop (at + 1) (waits old)
@@ -132,7 +132,7 @@ gives_too_long old new pending at h first clean after same long =
       ],
     )
 
--- ---- the same, of places in the buffer
+-- ---- the same, for positions in the buffer
 
 drop_twice : (a b : ℕ) (xs : List ℕ) → drop (a + b) xs ≡ drop b (drop a xs)
 drop_twice zero b xs = let e : 0 + b ≡ b = omega arith in ap (λ n. drop n xs) e
@@ -145,7 +145,7 @@ first_of waiting at h = let e : at - 0 ≡ at = omega arith in subst (IsFirst 10
 length_waiting : (start end : ℕ) (buffer : List ℕ) → length (drop start (take end buffer)) ≤ end - start
 length_waiting start end buffer = omega (arith, length-drop start (take end buffer), length-take end buffer)
 
--- the first bytes of those that wait
+-- the first of the waiting bytes
 front_of : (start end count : ℕ) (buffer : List ℕ) → count ≤ length (drop start (take end buffer)) → drop start (take (start + count) buffer) ≡ take count (drop start (take end buffer))
 front_of start end count buffer within =
     let bound : count ≤ end - start = omega (arith, within, length_waiting start end buffer) in
@@ -153,7 +153,7 @@ front_of start end count buffer within =
     sym (between_is buffer start (start + count)) ∙ ap (λ n. take n (drop start buffer)) counted
     ∙ sym (take-take count (end - start) (drop start buffer) bound) ∙ ap (take count) (between_is buffer start end)
 
--- a line buffer with these bytes and places
+-- a line buffer with these bytes and positions
 abbrev pub at_places : List ℕ → ℕ → ℕ → ℕ → Bool → Bool → List ℕ → List ℕ → Buffered
 at_places buffer start end limit dropped ended line whole =
     record { bytes = buffer; start = start; end = end; limit = limit; dropped = dropped; ended = ended; line = line; whole = whole }
@@ -183,7 +183,7 @@ waits_too_long buffer start end limit dropped dropped_now ended line whole after
     (first_of waiting cut.before is_cut.feed) clean (drop_twice start (cut.before + 1) (take end buffer)) refl
     (elim long [ inl before ↦ inl before | inr more ↦ inr (omega (arith, counted, more.0), more.1) ])
 
--- ---- the line that the end of the input ends
+-- ---- the line that ends at the end of the input
 
 lines_only : (a : List ℕ) → HasNo 10 a → 0 < length a → lines a ≡ a ∷ []
 unfolding last_line
@@ -261,7 +261,7 @@ holds_more old new chunk pending h dropped limit more = record {
   bytes = ap (λ l. l ++ chunk) h.bytes ∙ append_assoc h.gone (waits old) chunk ∙ ap (λ l. h.gone ++ l) (sym more);
 }
 
--- they are pending still where as many bytes wait as before, and the same ones
+-- bytes are still pending if the same bytes wait as before
 pub holds_still : (old new : Buffered) (pending : List ℕ) → IsPending old pending → new.dropped ≡ old.dropped → new.limit ≡ old.limit → waits new ≡ waits old → IsPending new pending
 holds_still old new pending h dropped limit same = record {
   gone = h.gone;
@@ -274,7 +274,7 @@ take_past [] text count all e = ap (λ n. take n text) (omega (arith, e))
 take_past (x ∷ front) text count zero e = absurd (omega (arith, e))
 take_past (x ∷ front) text count (suc all) e = ap (λ t. x ∷ t) (take_past front text count all (omega (arith, e)))
 
--- a read behind the bytes that wait
+-- a read that puts bytes after those that wait
 pub waits_more : (start end count room : ℕ) (buffer part : List ℕ) → start ≤ end → end ≤ length buffer → count ≤ length part
     → drop start (take (end + count) (put_mid end room buffer part)) ≡ drop start (take end buffer) ++ take count part
 waits_more start end count room buffer part order within bound =
@@ -284,7 +284,7 @@ waits_more start end count room buffer part order within bound =
     ap (drop start) (take_past front (part ++ past) count (end + count) (omega (arith, size)) ∙ ap (λ t. front ++ t) (take-append-le count part past bound))
     ∙ drop-append-le start front (take count part) (omega (arith, size, order))
 
--- a read that failed, whatever it wrote behind them
+-- a read that failed, whatever it wrote after the waiting bytes
 pub waits_still : (start end room : ℕ) (buffer part : List ℕ) → end ≤ length buffer
     → drop start (take end (put_mid end room buffer part)) ≡ drop start (take end buffer)
 waits_still start end room buffer part within =

@@ -1,22 +1,22 @@
--- Lines at which a misreading of the definitions would show.
+-- Lines that would reveal a misreading of the definitions.
 use Rattle.std.proofs.Common.{◌≡◌, [], ◌∷◌, ◌++◌, true, false, codes, length, refl, sym, ap, true≢false, arith}
 use Rattle.std.specs.List.{concat}
 use Rattle.lines.specs.LineBuffers.{IsFirstLine}
 use Rattle.lines.specs.declared.line_end.LineEnd.TheVariants.{LineFeed, ReturnAndLineFeed, EndOfInput}
 use Rattle.lines.proofs.Lines.{lines_line}
 
--- a line feed ends a line, and what follows it is not the line's
+-- a line feed ends a line, and what follows it is not part of the line
 line_feed : IsFirstLine LineFeed false (codes "a" ++ 10 ∷ codes "b") (codes "a") (codes "b")
 line_feed = λ rest. lines_line (codes "a") (codes "b" ++ rest) (refl, tt)
 
--- one carriage return before it is dropped, and no second one
+-- one carriage return before it is dropped, but not a second one
 one_return : IsFirstLine ReturnAndLineFeed false (codes "a" ++ 13 ∷ 13 ∷ 10 ∷ []) (codes "a" ++ 13 ∷ []) []
 one_return = λ rest. lines_line (codes "a" ++ 13 ∷ 13 ∷ []) rest (refl, (refl, (refl, tt)))
 
 return_is_dropped : ¬ IsFirstLine LineFeed false (codes "a" ++ 13 ∷ 10 ∷ []) (codes "a" ++ 13 ∷ []) []
 return_is_dropped h = let e : 1 ≡ 2 = ap (λ ls. length (concat ls)) (h []) in absurd (omega (arith, e))
 
--- without a line feed there is a line only at the end of the input, all that is left, and none of nothing
+-- without a line feed, there is a line only at the end of the input: all that is left, unless nothing is left
 last_line : IsFirstLine EndOfInput true (codes "ab" ++ 13 ∷ []) (codes "ab" ++ 13 ∷ []) []
 last_line = (refl, refl, refl)
 

@@ -9,33 +9,32 @@ use Rattle.std.specs.Str.Lines.{lines, lines_of_parts, strip_carriage_return}
 use Rattle.lines.proofs.BytesLemmas.{HasNo, HasNo-push, split_at, split_none, split_cons}
 use Rattle.lines.specs.Parts.{complete_part, IsBeginning}
 
--- `pending` is what was read after the last line feed
--- the lines that a piece completes
+-- `pending` is what was read after the last line feed.
 unfoldable pub lines_from : List ℕ → List ℕ → List (List ℕ)
--- no more bytes complete no line
+-- an empty piece completes no line
 lines_from pending [] = []
--- a line feed completes what is pending, without one carriage return at its end; any other byte becomes pending
+-- a line feed completes the pending line, without one carriage return at its end; any other byte becomes pending
 lines_from pending (byte ∷ piece) =
     if byte == 10 then strip_carriage_return pending ∷ lines_from [] piece else lines_from (pending ++ byte ∷ []) piece
 
 -- what is pending after a piece
 unfoldable pub pending_from : List ℕ → List ℕ → List ℕ
--- no more bytes change nothing
+-- an empty piece changes nothing
 pending_from pending [] = pending
--- after a line feed nothing is pending; any other byte becomes pending
+-- after a line feed, nothing is pending; any other byte becomes pending
 pending_from pending (byte ∷ piece) = if byte == 10 then pending_from [] piece else pending_from (pending ++ byte ∷ []) piece
 
 -- the line that is pending at the end of the input, if there is one
 unfoldable pub last_line : List ℕ → List (List ℕ)
 -- if nothing is pending, there is no line
 last_line [] = []
--- and else what is pending is the last line, whole
+-- otherwise, all that is pending is the last line
 last_line (byte ∷ bytes) = (byte ∷ bytes) ∷ []
 
 parts_cons : (a b : List ℕ) → lines_of_parts (a ∷ slice_split (λ x. x == 10) b) ≡ strip_carriage_return a ∷ lines_of_parts (slice_split (λ x. x == 10) b)
 parts_cons a b = let e = (split_cons 10 b).2 in rw e refl
 
--- a line, and the lines after it
+-- the first line of a text, and the lines after it
 pub lines_line : (a b : List ℕ) → HasNo 10 a → lines (a ++ 10 ∷ b) ≡ strip_carriage_return a ∷ lines b
 lines_line a b h = ap lines_of_parts (split_at 10 a b refl h) ∙ parts_cons a b
 
@@ -48,7 +47,7 @@ lines_last (x ∷ a) h =
 pub newline_cases : (c : ℕ) → (c ≡ 10) ⊎ ((c == 10) ≡ false)
 newline_cases c = elim (eqb_tells c 10) [ inl same ↦ inl same.1 | inr apart ↦ inr apart.0 ]
 
--- ---- one byte more
+-- ---- one more byte
 
 pub lines_other : (p xs : List ℕ) (c : ℕ) → (c == 10) ≡ false → lines_from p (c ∷ xs) ≡ lines_from (p ++ c ∷ []) xs
 unfolding lines_from
@@ -58,7 +57,7 @@ pub pending_other : (p xs : List ℕ) (c : ℕ) → (c == 10) ≡ false → pend
 unfolding pending_from
 pending_other p xs c e = rw e refl
 
--- ---- one piece more
+-- ---- one more piece
 
 pub pending-append : (p a b : List ℕ) → pending_from p (a ++ b) ≡ pending_from (pending_from p a) b
 unfolding pending_from
@@ -85,7 +84,7 @@ lines-append p (c ∷ a) b =
 push_assoc : (p xs : List ℕ) (c : ℕ) → p ++ c ∷ xs ≡ (p ++ c ∷ []) ++ xs
 push_assoc p xs c = sym (append_assoc p (c ∷ []) xs)
 
--- the lines are the complete ones, and then what is pending
+-- the lines are the complete ones followed by what is pending
 pub lines_split : (p xs : List ℕ) → HasNo 10 p → lines (p ++ xs) ≡ lines_from p xs ++ last_line (pending_from p xs)
 unfolding lines_from pending_from last_line
 lines_split p [] h = ap lines (append-nil p) ∙ lines_last p h
@@ -124,7 +123,7 @@ lines_complete p (c ∷ xs) h = elim (newline_cases c) [
 
 -- ---- the first lines, whatever follows
 
--- a line feed more ends one line more
+-- one more line feed ends one more line
 line_more : (read : List ℕ) → (line : List ℕ) × (lines (read ++ 10 ∷ []) ≡ lines (complete_part read) ++ line ∷ [])
 unfolding lines_from pending_from last_line
 line_more read =
@@ -139,7 +138,7 @@ same_but_last ls ms l m e =
     let counted : length ls ≡ length ms = omega (arith, ap length e, length-append ls (l ∷ []), length-append ms (m ∷ [])) in
     sym (take-append_seam ls (l ∷ [])) ∙ ap₂ take counted e ∙ take-append_seam ms (m ∷ [])
 
--- lines that come first if a line feed ends what follows them are the complete ones
+-- lines that come first when a line feed ends what follows them are the complete ones
 pub first_are_complete : (read : List ℕ) (asks : List (List ℕ)) (pending : List ℕ) → HasNo 10 pending → lines (read ++ 10 ∷ []) ≡ asks ++ lines (pending ++ 10 ∷ [])
     → lines (complete_part read) ≡ asks
 first_are_complete read asks pending none same =
@@ -154,10 +153,10 @@ begins_itself a = ([], sym (append-nil a))
 pub begins_with_nothing : (a : List ℕ) → IsBeginning [] a
 begins_with_nothing a = (a, refl)
 
--- what begins a begins a ++ b
+-- a beginning of a is a beginning of a ++ b
 pub begins_longer : (w a b : List ℕ) → IsBeginning w a → IsBeginning w (a ++ b)
 begins_longer w a b h = (h.0 ++ b, ap (λ l. l ++ b) h.1 ∙ append_assoc w h.0 b)
 
--- what begins b begins a ++ b after a
+-- if w is a beginning of b, a ++ w is a beginning of a ++ b
 pub begins_after : (a w b : List ℕ) → IsBeginning w b → IsBeginning (a ++ w) (a ++ b)
 begins_after a w b h = (h.0, ap (λ l. a ++ l) h.1 ∙ sym (append_assoc a w h.0))

@@ -1,4 +1,4 @@
--- Bytes that are added to an output, one after the other.
+-- Bytes that are added to an output, in turn.
 use Rattle.std.proofs.Common.{subst, ◌≡◌, ℕ, List, [], ◌++◌, refl, sym, ap, ◌∙◌, append_assoc, append-nil}
 use Rattle.std.specs.Prelude.{Option, Result, Ok, Err, OnOk, OnErr}
 use Rattle.std.specs.Io.KnownBytes.{Appends}
@@ -23,7 +23,7 @@ pub put_directly_ok : {T E : Type 0} (result : Result T E) (held writer holds : 
 put_directly_ok (Ok x) held writer holds waits added is none h = puts_directly held holds waits added none (subst (λ w. Appends w holds added) (sym is) h)
 put_directly_ok (Err e) held writer holds waits added is none h = tt
 
--- what waited is handed on, and nothing is added
+-- the bytes that waited are written, and none are added
 pub puts_out : (held holds : Option (List ℕ)) (waited waits : List ℕ) → waits ≡ [] → Appends held holds waited → Puts held waited holds waits []
 puts_out held holds waited waits e h = (waited, h, append-nil waited ∙ sym (ap (λ t. waited ++ t) e ∙ append-nil waited))
 
@@ -56,7 +56,7 @@ pub begins_behind : (held mid holds : Option (List ℕ)) (front bytes : List ℕ
 begins_behind held mid holds front bytes h b =
     (front ++ b.0, Appends-trans held mid holds front b.0 h b.1, (b.2.0, ap (λ t. front ++ t) b.2.1 ∙ sym (append_assoc front b.0 b.2.0)))
 
--- a writer that failed after some bytes were put
+-- a writer that failed after some bytes were added
 pub begins_after_puts : (held mid holds : Option (List ℕ)) (waited between first second : List ℕ) → Puts held waited mid between first → AppendsBeginning mid holds (between ++ second)
     → AppendsBeginning held holds (waited ++ (first ++ second))
 begins_after_puts held mid holds waited between first second p b = (

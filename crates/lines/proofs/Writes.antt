@@ -9,7 +9,7 @@ use Rattle.std.specs.Io.KnownBytes.{Appends}
 use Rattle.std.specs.Prelude.{Option}
 use Rattle.lines.specs.Outputs.{AppendsBeginning}
 
--- one more write, of the rest of these bytes
+-- one more write, from the rest of these bytes
 pub written_more : (b m a : Option (List ℕ)) (at n : ℕ) (bytes : List ℕ) → Appends b m (take at bytes)
     → Appends m a (take n (take (length bytes - at) (drop at bytes))) → Appends b a (take (at + n) bytes)
 written_more b m a at n bytes h k =
@@ -22,6 +22,6 @@ stopped_at b a at bytes h = (take at bytes, h, (drop at bytes, sym (take-append-
 pub took_some : (was : Bool) (n : ℕ) (rest : Bool) → n ≢ 0 → (was || ((n == 0) && rest)) ≡ was
 took_some was n rest h = ap (λ v. was || (v && rest)) (ne_eqb n 0 h) ∙ or-false was
 
--- a device that works goes on to work after a call that did not fail
+-- a device that works still works after a call that did not fail
 pub still_works : (now was first : Bool) → now ≡ (was || false) → was ≡ first → now ≡ first
 still_works now was first call before = call ∙ or-false was ∙ before

@@ -1,4 +1,4 @@
--- The faults of a run: their words, and which device they are of.
+-- The faults of a run: their texts, and the devices at which they occur.
 use Rattle.std.specs.Prelude.{ℕ, Bool, true, false, List, codes, Result, Ok, Err}
 use Rattle.lines.specs.declared.fault.RunFault.{RunFault}
 use Rattle.lines.specs.declared.fault.RunFault.TheVariants.{Read, Write, InputTooLong}
@@ -9,24 +9,24 @@ run_fault_text Read = codes "read error"
 run_fault_text Write = codes "write error"
 run_fault_text InputTooLong = codes "input too long"
 
--- whether a read ended the run
+-- whether a failed read ended the run
 abbrev pub ended_by_read : Result (Unit {0}) RunFault → Bool
--- no: it came to the end of the input
+-- no: the run finished
 ended_by_read (Ok done) = false
 -- yes: a read failed
 ended_by_read (Err Read) = true
--- no: the writer did
+-- no: a write or the flush failed
 ended_by_read (Err Write) = false
--- no: the limit did
+-- no: the input passed the limit
 ended_by_read (Err InputTooLong) = false
 
--- whether a write or the flush ended the run
+-- whether a failed write or flush ended the run
 abbrev pub ended_by_write : Result (Unit {0}) RunFault → Bool
--- no: it came to the end of the input
+-- no: the run finished
 ended_by_write (Ok done) = false
--- no: the reader did
+-- no: a read failed
 ended_by_write (Err Read) = false
 -- yes: a write or the flush failed
 ended_by_write (Err Write) = true
--- no: the limit did
+-- no: the input passed the limit
 ended_by_write (Err InputTooLong) = false

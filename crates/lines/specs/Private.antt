@@ -1,3 +1,3 @@
--- Words of the private functions, and of how contracts look into private fields.
+-- The definitions used in the contracts of private functions and for private fields.
 pub mod Cuts
 pub mod Device

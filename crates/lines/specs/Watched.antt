@@ -1,4 +1,4 @@
--- What contracts see of a `Watched`.
+-- How contracts see a `Watched`.
 use Rattle.std.specs.Prelude.{ℕ, Bool, true, ◌&&◌, List, length, nat_lt, ◌==◌, Result, Ok, Err}
 use Rattle.lines.specs.declared.watched.Watched.{Watched}
 use Rattle.lines.specs.Private.Device.{inner_of, failed_of}
@@ -13,7 +13,7 @@ has_failed watched = failed_of watched.device
 
 -- whether a write of these bytes failed
 abbrev pub write_fails : {E : Type 0} → Result ℕ E → List ℕ → Bool
--- a write that was given bytes and took none failed
+-- a write that was given bytes but took none failed
 write_fails (Ok count) bytes = (count == 0) && nat_lt 0 (length bytes)
 -- a write that returned an error failed
 write_fails (Err error) bytes = true

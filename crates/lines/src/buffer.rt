@@ -1,9 +1,10 @@
-//! Bytes at the front of a slice that the caller lends.
+//! Bytes gathered in a slice that the caller lends.
 ghost use Rattle.std.specs.Prelude.{◌≡◌, ◌+◌, ◌==◌, ◌≤◌, if◌then◌else◌, [], ◌∷◌, length};
 
 use std::marker::Model;
 
-/// Bytes that are gathered at the front of a lent slice: none at first, and at most as many as the slice has.
+/// Bytes that are gathered at the front of a lent slice: none at first, and at most as many as the
+/// slice is long.
 ///
 /// No call allocates.
 ///
@@ -37,7 +38,7 @@ impl<'a> Model for Buffer<'a> {
 impl<'a> Buffer<'a> {
     ghost use Rattle.lines.specs.Buffers.{HasRoom, Adds, IsCleared};
 
-    /// An empty buffer in the slice.
+    /// Creates an empty buffer in the slice.
     ///
     /// ```
     /// let mut slice = [0; 9];
@@ -51,7 +52,7 @@ impl<'a> Buffer<'a> {
         Buffer { slice, count: 0 }
     }
 
-    /// Whether the buffer is empty.
+    /// Returns whether the buffer is empty.
     ///
     /// ```
     /// let mut slice = [0; 9];
@@ -66,7 +67,7 @@ impl<'a> Buffer<'a> {
         self.count == 0
     }
 
-    /// How many more bytes fit.
+    /// Returns how many more bytes fit in the buffer.
     ///
     /// ```
     /// let mut slice = [0; 9];
@@ -80,7 +81,7 @@ impl<'a> Buffer<'a> {
         self.slice.len() - self.count
     }
 
-    /// The bytes in the buffer.
+    /// Returns the bytes in the buffer.
     ///
     /// ```
     /// let mut slice = [0; 9];
@@ -129,7 +130,8 @@ impl<'a> Buffer<'a> {
         self.count = end;
     }
 
-    /// Adds these bytes at the end, or none of them, which takes as long. There must be room for them.
+    /// Adds these bytes at the end if `is_added` is true, or adds none; both take the same time.
+    /// There must be room for the bytes either way.
     ///
     /// ```
     /// let mut slice = [0; 9];

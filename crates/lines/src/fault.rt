@@ -2,7 +2,7 @@
 ghost use Rattle.std.specs.Prelude.{◌≡◌};
 ghost use Rattle.lines.specs.Faults.{run_fault_text};
 
-/// Why a run stops before it has answered its whole input.
+/// Why a run stops before it has answered all of its input.
 ///
 /// ```
 /// let fault = lines::fault::RunFault::Write;
@@ -14,12 +14,12 @@ pub enum RunFault {
     Read,
     /// A write or the flush failed.
     Write,
-    /// There are more bytes than the limit.
+    /// The input has more bytes than the limit.
     InputTooLong,
 }
 
 impl RunFault {
-    /// The text of the fault, for a program to print.
+    /// Returns the text of the fault, for a program to print.
     ///
     /// ```
     /// let fault = lines::fault::RunFault::InputTooLong;

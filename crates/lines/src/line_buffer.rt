@@ -1,4 +1,4 @@
-//! Lines of the bytes that are read into a buffer, handed out where they lie.
+//! Splits the bytes that are read into a buffer into lines, in place.
 ghost use Rattle.std.specs.Prelude.{◌≡◌, ◌+◌, ◌-◌, ◌<◌, ◌≤◌, ◌++◌, ◌==◌, ◌||◌, ◌↔◌, ℕ, List, [], length, take, drop, false, is_err, Err, IfOk, IsOkUnless, OnErr, IsTrue, MatchOption};
 ghost use Rattle.std.specs.Io.KnownBytes.{Keeps};
 ghost use Rattle.lines.specs.Watched.{device_of, has_failed};
@@ -10,7 +10,7 @@ use byte_search::find_far;
 use std::io::Read;
 use std::marker::Model;
 
-/// What comes next.
+/// What `LineBuffer::next` returns.
 ///
 /// ```
 /// use lines::line_buffer::{LineBuffer, NextLine};
@@ -29,27 +29,30 @@ use std::marker::Model;
 pub enum NextLine {
     /// A line, which `line` lends, and how it ended.
     Line(LineEnd),
-    /// A line that has more bytes than the limit. All of it is passed over.
+    /// A line that is longer than the limit. The whole line is skipped.
     TooLong,
-    /// No line yet: the device has to be asked for more bytes.
+    /// No complete line yet: more bytes must be read with `ask`.
     Ask,
     /// No line: the input has ended, and all of its lines were handed out.
     End,
 }
 
-/// How many bytes a read asks for at most. What is read and answered then stays in the processor's nearer memory.
+/// The greatest number of bytes that one read asks for. This keeps what is read and answered in the
+/// processor's nearer caches.
 const MOST_AT_ONCE: usize = 131_072;
 
 /// The lines of the bytes that are read into a buffer, which the caller lends.
 ///
-/// `next` hands out one line after the other and calls no device; if it needs more bytes, it says so, and `ask` makes
-/// one read. So between two reads the caller decides what is done. A line is lent from the buffer, where it was read: no
-/// byte of it is copied, and none is moved while its line feed is in the buffer. `ask` moves the bytes of a line that is
-/// not whole yet to the front of the buffer, unless they are there. Nothing here allocates.
+/// `next` hands out one line at a time and calls no device. If it needs more bytes, it says so, and
+/// `ask` makes one read. The caller thus decides what happens between two reads. A line is lent
+/// from the buffer in place: none of its bytes is copied, and none is moved while its line feed is
+/// in the buffer. `ask` moves the bytes of an incomplete line to the front of the buffer, unless
+/// they are already there. No call allocates.
 ///
-/// The lines, each with the bytes that end it, make up what was read, except for what is still pending. They are the
-/// lines of std's `str::lines`: a line ends with a line feed, and one carriage return before it is dropped; what follows
-/// the last line feed is a line too, unless it is empty.
+/// The lines, each with its line ending, make up what was read, except for the bytes that are still
+/// pending. They are the lines of `str::lines` in std: a line ends with a line feed, and one
+/// carriage return before it is dropped; what follows the last line feed is also a line, unless it
+/// is empty.
 ///
 /// ```
 /// use lines::line_buffer::{LineBuffer, NextLine};
@@ -71,7 +74,7 @@ pub struct LineBuffer<'b> {
     // The line that was handed out last.
     line_start: usize,
     line_end: usize,
-    // The bytes that wait. Those up to `searched` are not line feeds.
+    // The bytes that wait. There is no line feed among those before `searched`.
     start: usize,
     searched: usize,
     end: usize,
@@ -108,10 +111,11 @@ impl<'b> LineBuffer<'b> {
     ghost use Rattle.lines.specs.LineBuffers.{waits, HasNoFeed, IsPending, Gives, IsLess, Receives, Settles};
     ghost use Rattle.lines.specs.Private.Cuts.{IsCut};
 
-    /// No bytes yet. A line of more than `limit` bytes, not counting those that end it, is too long.
+    /// Creates a buffer in which no bytes wait. A line of more than `limit` bytes, not counting its
+    /// line ending, is too long.
     ///
-    /// The buffer must have at least two bytes more than the limit. The longer it is, the fewer reads are made. Its
-    /// content is not read before it is written, and is unspecified afterwards.
+    /// The buffer must be at least two bytes longer than the limit. The longer it is, the fewer
+    /// reads are made. Its content is not read before it is written, and is unspecified afterwards.
     ///
     /// ```
     /// let mut room = [0; 10];
@@ -139,7 +143,8 @@ impl<'b> LineBuffer<'b> {
         }
     }
 
-    /// The line that `next` handed out last, without the bytes that end it. It is there until the next call of `ask`.
+    /// Returns the line that `next` handed out last, without its line ending. It is available until
+    /// the next call of `ask`.
     ///
     /// ```
     /// let mut room = [0; 10];
@@ -152,7 +157,8 @@ impl<'b> LineBuffer<'b> {
         &self.buffer[self.line_start..self.line_end]
     }
 
-    /// The line that `next` handed out last, with the bytes that end it. It is there until the next call of `ask`.
+    /// Returns the line that `next` handed out last, with its line ending. It is available until
+    /// the next call of `ask`.
     ///
     /// ```
     /// use lines::watched::Watched;
@@ -169,8 +175,9 @@ impl<'b> LineBuffer<'b> {
         &self.buffer[self.line_start..self.start]
     }
 
-    /// Whether the line that is pending is too long, however it goes on: it has more bytes than the limit and a carriage
-    /// return. No line feed may wait, as after `next` returned `Ask`.
+    /// Returns whether the pending line is too long however it continues: whether it has at least
+    /// two bytes more than the limit, one of which may be a carriage return. No line feed may wait,
+    /// as is the case after `next` returned `Ask`.
     ///
     /// ```
     /// use lines::watched::Watched;
@@ -229,7 +236,7 @@ impl<'b> LineBuffer<'b> {
         NextLine::Line(cut.end)
     }
 
-    // Where the first of the lines that wait ends, if its line feed waits.
+    // Returns the end of the first waiting line, if its line feed waits.
     fn first_cut(&self) -> Option<Cut>
         ensures { MatchOption result (HasNoFeed (waits self.now)) (IsCut (waits self.now)) }
     {
@@ -239,7 +246,7 @@ impl<'b> LineBuffer<'b> {
         Some(cut_before(&window[start..at]))
     }
 
-    // What comes next if no line feed waits.
+    // Returns what comes next if no line feed waits.
     fn next_unended(&mut self) -> NextLine
         requires { HasNoFeed (waits self.old) }
         ensures gives { (pending : List ℕ) → IsPending self.old pending
@@ -270,11 +277,12 @@ impl<'b> LineBuffer<'b> {
         NextLine::Line(LineEnd::EndOfInput)
     }
 
-    /// Reads from the device, in one call, and returns how many bytes it gave: none only at the end of the input. They
-    /// are pending behind those that were. No line feed may wait, as after `next` returned `Ask`.
+    /// Reads from the device, in one call, and returns the number of bytes read, which is 0 only at
+    /// the end of the input. They are pending after those that were pending before. No line feed
+    /// may wait, as is the case after `next` returned `Ask`.
     ///
-    /// The error means that a read failed, now or earlier; a device that had failed is not called. What was pending is
-    /// pending still.
+    /// Returns `RunFault::Read` if a read failed, now or earlier; a device that had failed before
+    /// is not called. The pending bytes do not change.
     ///
     /// ```
     /// use lines::watched::Watched;
@@ -295,7 +303,7 @@ impl<'b> LineBuffer<'b> {
             (R.remaining (device_of reader.new)) self.old self.new) }
         ensures ended { IfOk result (λ count. self.new.ended ≡ (count == 0)) }
 
-        // After a fault nothing is lost.
+        // After a fault, nothing is lost.
         ensures err { OnErr result
             (Keeps (R.remaining (device_of reader.old)) (R.remaining (device_of reader.new))) }
         ensures kept { OnErr result ((pending : List ℕ) → IsPending self.old pending
@@ -306,7 +314,7 @@ impl<'b> LineBuffer<'b> {
         ensures uncalled { IsTrue (has_failed reader.old)
             → (result ≡ Err RunFault.Read) × (device_of reader.new ≡ device_of reader.old) }
 
-        // Where the bytes that wait are moved.
+        // Where the waiting bytes are moved.
         ensures settles { IfOk result (λ count. Settles self.old self.new) }
         ensures limit { self.new.limit ≡ self.old.limit }
         ensures size { length self.new.bytes ≡ length self.old.bytes }
@@ -324,8 +332,8 @@ impl<'b> LineBuffer<'b> {
         Ok(count)
     }
 
-    // Moves the bytes that wait to the front of the buffer, with room for at least a byte behind them. If they are all of
-    // it, they are dropped.
+    // Moves the waiting bytes to the front of the buffer, which leaves room for at least one byte
+    // after them. If they fill the whole buffer, they are dropped.
     fn make_room(&mut self)
         requires { HasNoFeed (waits self.old) }
         ensures holds { (pending : List ℕ) → IsPending self.old pending

@@ -4,7 +4,7 @@ ghost use Rattle.std.specs.Str.Lines.{strip_carriage_return};
 ghost use Rattle.lines.specs.LineEnds.{end_bytes};
 ghost use Rattle.lines.specs.Private.Cuts.{HasFeed};
 
-/// How a line ended. What ends it is not part of the line.
+/// How a line ended. The line ending is not part of the line.
 ///
 /// ```
 /// use lines::line_buffer::{LineBuffer, NextLine};
@@ -27,7 +27,8 @@ pub enum LineEnd {
     EndOfInput,
 }
 
-/// Where a line ends: how many bytes stand before its line feed, how many of them are its own, and how it ended.
+/// Where a line ends: the number of bytes before its line feed, the number of these that belong to
+/// the line, and how the line ended.
 #[derive(Clone, Copy)]
 pub(crate) struct Cut {
     pub(crate) before: usize,
@@ -35,7 +36,7 @@ pub(crate) struct Cut {
     pub(crate) end: LineEnd,
 }
 
-/// Where a line ends if these bytes stand before its line feed.
+/// Returns the end of a line that has these bytes before its line feed.
 pub(crate) fn cut_before(raw: &[u8]) -> Cut
     ensures before { result.before ≡ length raw.now }
     ensures content { take result.content raw.now ≡ strip_carriage_return raw.now }

@@ -1,4 +1,4 @@
-//! A reader of lines, which is asked for one after the other.
+//! A device whose input is read line by line.
 ghost use Rattle.std.specs.Prelude.{◌≡◌, ◌+◌, ◌<◌, ◌≤◌, ◌==◌, ◌||◌, ◌↔◌, ℕ, List, [], length, false, is_err, Err, IfOk, IsOkUnless, OnErr, IsTrue};
 ghost use Rattle.std.specs.Io.KnownBytes.{Keeps};
 ghost use Rattle.lines.specs.Watched.{device_of, has_failed};
@@ -8,7 +8,7 @@ use crate::line_buffer::{LineBuffer, NextLine};
 use crate::watched::Watched;
 use std::io::Read;
 
-/// A device, and a `LineBuffer` of what is read from it.
+/// A device, and a `LineBuffer` of the bytes read from it.
 ///
 /// ```
 /// use lines::line_buffer::NextLine;
@@ -33,8 +33,9 @@ impl<'b, R: Read> LineReader<'b, R> {
     ghost use Rattle.lines.specs.LineBuffers.{waits, HasNoFeed, IsPending, Gives, IsLess, Receives, Settles};
     ghost use Rattle.lines.specs.LineReaders.{source_of, buffered};
 
-    /// The lines of a device, none of which is read yet. A line of more than `limit` bytes, not counting those that end
-    /// it, is too long. The buffer must have at least two bytes more than the limit.
+    /// Creates a reader of the lines of a device, none of which is read yet. A line of more than
+    /// `limit` bytes, not counting its line ending, is too long. The buffer must be at least two
+    /// bytes longer than the limit.
     ///
     /// ```
     /// use lines::line_buffer::NextLine;
@@ -60,7 +61,8 @@ impl<'b, R: Read> LineReader<'b, R> {
         }
     }
 
-    /// The line that `next` handed out last, without the bytes that end it. It is there until the next call of `ask`.
+    /// Returns the line that `next` handed out last, without its line ending. It is available until
+    /// the next call of `ask`.
     ///
     /// ```
     /// use lines::line_reader::LineReader;
@@ -78,7 +80,8 @@ impl<'b, R: Read> LineReader<'b, R> {
         self.buffer.line()
     }
 
-    /// The line that `next` handed out last, with the bytes that end it. It is there until the next call of `ask`.
+    /// Returns the line that `next` handed out last, with its line ending. It is available until
+    /// the next call of `ask`.
     ///
     /// ```
     /// use lines::line_reader::LineReader;
@@ -96,8 +99,9 @@ impl<'b, R: Read> LineReader<'b, R> {
         self.buffer.whole_line()
     }
 
-    /// Whether the line that is pending is too long, however it goes on: it has more bytes than the limit and a carriage
-    /// return. No line feed may wait, as after `next` returned `Ask`.
+    /// Returns whether the pending line is too long however it continues: whether it has at least
+    /// two bytes more than the limit, one of which may be a carriage return. No line feed may wait,
+    /// as is the case after `next` returned `Ask`.
     ///
     /// ```
     /// use lines::line_reader::LineReader;
@@ -116,7 +120,8 @@ impl<'b, R: Read> LineReader<'b, R> {
         self.buffer.is_too_long()
     }
 
-    /// Hands out the next line, or says why there is none. The device is not called, and no byte is moved or copied.
+    /// Hands out the next line, or says why there is none. The device is not called, and no byte is
+    /// moved or copied.
     ///
     /// ```
     /// use lines::line_buffer::NextLine;
@@ -141,11 +146,12 @@ impl<'b, R: Read> LineReader<'b, R> {
         self.buffer.next()
     }
 
-    /// Reads from the device, in one call, and returns how many bytes it gave: none only at the end of the input. They
-    /// are pending behind those that were. No line feed may wait, as after `next` returned `Ask`.
+    /// Reads from the device, in one call, and returns the number of bytes read, which is 0 only at
+    /// the end of the input. They are pending after those that were pending before. No line feed
+    /// may wait, as is the case after `next` returned `Ask`.
     ///
-    /// The error means that a read failed, now or earlier; a device that had failed is not called. What was pending is
-    /// pending still.
+    /// Returns `RunFault::Read` if a read failed, now or earlier; a device that had failed before
+    /// is not called. The pending bytes do not change.
     ///
     /// ```
     /// use lines::line_reader::LineReader;

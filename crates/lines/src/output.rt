@@ -12,8 +12,9 @@ use std::marker::Model;
 
 /// A writer, and the bytes that wait to be written, in a slice that the caller lends.
 ///
-/// Once a call of the writer has failed, the writer is not called again, and each call of the output returns
-/// `RunFault::Write`. No call allocates, unless the writer does.
+/// Once a call of the writer has failed, the writer is not called again, and each call of `put`,
+/// `put_if`, `hand_on` and `finish` returns `RunFault::Write`. No call allocates, unless the writer
+/// does.
 ///
 /// ```
 /// let mut slice = [0; 64];
@@ -27,7 +28,7 @@ pub struct Output<'a, W: Write> {
     waiting: Buffer<'a>,
 }
 
-// A contract sees what the writer holds, what waits, and whether the writer failed.
+// A contract sees the writer, what it holds, the bytes that wait, and whether the writer failed.
 impl<'a, W: Write> Model for Output<'a, W> {
     ghost use Rattle.lines.specs.Outputs.{Written};
     ghost use Rattle.lines.specs.Private.Device.{inner_of, failed_of};
@@ -43,7 +44,8 @@ impl<'a, W: Write> Model for Output<'a, W> {
 }
 
 impl<'a, W: Write> Output<'a, W> {
-    /// An output to the writer. No call of it has failed yet, and no bytes wait.
+    /// Creates an output to the writer, with no bytes waiting. No call of the writer counts as
+    /// failed yet.
     ///
     /// ```
     /// let mut slice = [0; 64];
@@ -64,10 +66,11 @@ impl<'a, W: Write> Output<'a, W> {
         }
     }
 
-    /// Adds these bytes. If there is no room for them, those that wait are written first, and if these do not fit even
-    /// then, they are written too.
+    /// Adds these bytes. If there is no room for them, the bytes that wait are written first; if
+    /// the new bytes do not fit even then, they are written too.
     ///
-    /// The error means that a write failed, now or earlier: a beginning of what waited and of these bytes was written.
+    /// Returns `RunFault::Write` if a write failed, now or earlier. Then a beginning of the bytes
+    /// that waited and of these bytes was written.
     ///
     /// ```
     /// let mut slice = [0; 8];
@@ -93,8 +96,8 @@ impl<'a, W: Write> Output<'a, W> {
         self.put_first(bytes)
     }
 
-    /// Adds these bytes as `put` does, or none. If there is room for them, it takes no branch whether they are added: so it
-    /// is faster than a branch that the processor guesses wrong.
+    /// Adds these bytes as `put` does if `is_put` is true, or adds none. If there is room for them,
+    /// no branch depends on `is_put`, which is faster than a branch that the processor mispredicts.
     ///
     /// ```
     /// let mut slice = [0; 8];
@@ -127,7 +130,7 @@ impl<'a, W: Write> Output<'a, W> {
         self.put(bytes)
     }
 
-    // Adds bytes if none wait, on a writer that has not failed.
+    // Adds bytes if none wait, to a writer that has not failed.
     fn put_first(&mut self, bytes: &[u8]) -> Result<(), RunFault>
         requires works { IsFalse self.old.failed }
         requires empty { self.old.waits ≡ [] }
@@ -146,7 +149,8 @@ impl<'a, W: Write> Output<'a, W> {
 
     /// Writes the bytes that wait.
     ///
-    /// The error means that a write failed, now or earlier: a beginning of what waited was written.
+    /// Returns `RunFault::Write` if a write failed, now or earlier. Then a beginning of the bytes
+    /// that waited was written.
     ///
     /// ```
     /// let mut slice = [0; 64];
@@ -169,9 +173,10 @@ impl<'a, W: Write> Output<'a, W> {
         hand_on(&mut self.writer, &mut self.waiting)
     }
 
-    /// Writes what waits, and flushes the writer.
+    /// Writes the bytes that wait, and flushes the writer.
     ///
-    /// The error means that a write or the flush failed, now or earlier: a beginning of what waited was written.
+    /// Returns `RunFault::Write` if a write or the flush failed, now or earlier. Then a beginning
+    /// of the bytes that waited was written.
     ///
     /// ```
     /// let mut slice = [0; 64];

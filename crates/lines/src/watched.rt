@@ -1,4 +1,4 @@
-//! A device that remembers whether a call of it failed.
+//! A device that records whether a call of it failed.
 ghost use Rattle.std.specs.Prelude.{◌≡◌, ◌||◌, false, is_err};
 ghost use Rattle.std.specs.Io.{ReadsAtMost, WritesAtMost};
 ghost use Rattle.std.specs.Io.KnownBytes.{Keeps, ReadConsumes, WriteAppends};
@@ -12,8 +12,9 @@ use std::io::{Read, Write};
 
 /// A reader or a writer, and whether a call of it through this value has failed.
 ///
-/// A read, a write or a flush fails if it returns an error, of any kind. A write also fails if it is given bytes and
-/// takes none. Once a call has failed, `failed` stays true, and the device can still be called.
+/// A read, a write or a flush fails if it returns an error, of any kind. A write also fails if it
+/// is given bytes but takes none. Once a call has failed, `failed` stays true, but the device can
+/// still be called.
 ///
 /// ```
 /// let mut room = [0; 1];
@@ -29,7 +30,7 @@ pub struct Watched<D> {
 impl<D> Watched<D> {
     ghost use Rattle.lines.specs.Watched.{device_of, has_failed};
 
-    /// Wraps a device, no call of which has failed yet.
+    /// Wraps a device. No call of it counts as failed yet.
     ///
     /// ```
     /// let reader = lines::watched::Watched::new(b"10.0.0.0/8".as_slice());
@@ -44,7 +45,7 @@ impl<D> Watched<D> {
         }
     }
 
-    /// Whether a call of the device failed.
+    /// Returns whether a call of the device has failed.
     ///
     /// ```
     /// let mut writer = lines::watched::Watched::new([].as_mut_slice());
@@ -76,8 +77,9 @@ impl<D: Read> Watched<D> {
 
     /// Reads from the device, in one call, and returns its result.
     ///
-    /// `Ok` has the number of bytes put at the front of `buf`, which is 0 only at the end of the input or if `buf` is
-    /// empty. The error is the device's. Does not allocate, unless the device does.
+    /// `Ok` contains the number of bytes that were put at the front of `buf`, which is 0 only at
+    /// the end of the input or if `buf` is empty. The error is the device's. Does not allocate,
+    /// unless the device does.
     ///
     /// ```
     /// let mut reader = lines::watched::Watched::new(b"abc".as_slice());
@@ -100,8 +102,8 @@ impl<D: Write> Watched<D> {
 
     /// Writes these bytes to the device, in one call, and returns its result.
     ///
-    /// `Ok` has the number of first bytes that the device took. The error is the device's. Does not allocate, unless
-    /// the device does.
+    /// `Ok` contains the number of bytes that the device took, from the front of `buf`. The error
+    /// is the device's. Does not allocate, unless the device does.
     ///
     /// ```
     /// let mut room = [0; 2];
@@ -117,8 +119,8 @@ impl<D: Write> Watched<D> {
         self.device.try_write(buf)
     }
 
-    /// Flushes the device, in one call, and returns its result. The error is the device's. Does not allocate, unless
-    /// the device does.
+    /// Flushes the device, in one call, and returns its result. The error is the device's. Does not
+    /// allocate, unless the device does.
     ///
     /// ```
     /// let mut writer = lines::watched::Watched::new(std::io::sink());

@@ -9,7 +9,7 @@ use crate::fault::RunFault;
 use crate::watched::device::Device;
 use std::io::Write;
 
-/// Writes the bytes that wait, and drops them.
+/// Writes the bytes that wait, and removes them from the buffer.
 pub(crate) fn hand_on<W: Write>(
     writer: &mut Device<W>,
     waiting: &mut Buffer<'_>,
@@ -30,7 +30,7 @@ pub(crate) fn hand_on<W: Write>(
     Ok(())
 }
 
-/// Writes these bytes, however many the device takes at a time.
+/// Writes all of these bytes, however many the device takes at a time.
 pub(crate) fn write_whole<W: Write>(writer: &mut Device<W>, bytes: &[u8]) -> Result<(), RunFault>
     requires { IsFalse (failed_of writer.old) }
     ensures ok { OnOk result

@@ -1,6 +1,6 @@
 // Written by scripts/plain out of crates/cidr/src/answering.rt
 
-//! Lines are answered: what they get waits to be written, until there is no room for more.
+//! Answers lines. The replies wait to be written until there is no room for more.
 
 use crate::dispatch::answer;
 use crate::replies::{ANSWER_MAX, reply};
@@ -11,7 +11,7 @@ use cidr_programs::lines::watched::Watched;
 use fosibegan::plain_std::alloc::Global;
 use fosibegan::plain_std::io::Write;
 
-/// The most bytes of a line, not counting its line end. A longer line is too long.
+/// The greatest number of bytes in a line, not counting its line ending. A longer line is too long.
 pub(crate) const LINE_MAX: usize = 1024;
 
 /// What a run keeps from line to line: the routes, and the replies that wait to be written.
@@ -21,7 +21,7 @@ pub(crate) struct Answering<'a> {
 }
 
 impl<'a> Answering<'a> {
-    /// No routes, and no replies, which will wait in this slice.
+    /// Starts with no routes and no replies. Replies will wait in the slice.
     pub(crate) fn new(alloc: Global, slice: &'a mut [u8]) -> Answering<'a> {
         Answering {
             routes: RouteTables::new(alloc),
@@ -50,7 +50,7 @@ impl<'a> Answering<'a> {
         Ok(())
     }
 
-    // Writes the replies that wait if there might be no room for one more.
+    // Writes the replies that wait if there may be no room for one more.
     fn make_room<W: Write>(&mut self, writer: &mut Watched<W>) -> Result<(), RunFault> {
         if self.waiting.remaining() >= ANSWER_MAX {
             return Ok(());

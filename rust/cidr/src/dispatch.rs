@@ -1,6 +1,6 @@
 // Written by scripts/plain out of crates/cidr/src/dispatch.rt
 
-//! The command that a line asks, by its name and the number of its words.
+//! Finds the command of a line, by its name and the number of its words.
 
 use crate::commands::ends::ends;
 use crate::commands::has::{has, has4};
@@ -16,8 +16,8 @@ use cidr_programs::lines::buffer::Buffer;
 /// The answer to a line that is not a command.
 const UNKNOWN: &str = "unknown command";
 
-/// Adds the answer to a line, whatever its length: its words are split at each blank, the first names the command, and
-/// the others are its arguments.
+/// Adds the answer to a line of any length. Its words are split at each blank; the first names the
+/// command, and the others are its arguments.
 pub(crate) fn answer(line: &[u8], routes: &mut RouteTables, replies: &mut Buffer<'_>) {
     let Some((command, first_at)) = cut_word(line, 0) else {
         reply(replies, UNKNOWN);
@@ -33,7 +33,7 @@ pub(crate) fn answer(line: &[u8], routes: &mut RouteTables, replies: &mut Buffer
     }
 }
 
-/// The answer of a command with one argument.
+/// Adds the answer of a command with one argument.
 fn answer_one(command: &[u8], word: &[u8], routes: &mut RouteTables, replies: &mut Buffer<'_>) {
     if names::is_read(command) {
         read(word, replies);
@@ -52,7 +52,7 @@ fn answer_one(command: &[u8], word: &[u8], routes: &mut RouteTables, replies: &m
     }
 }
 
-/// The answer of a command with two arguments.
+/// Adds the answer of a command with two arguments.
 fn answer_two(
     command: &[u8],
     first: &[u8],

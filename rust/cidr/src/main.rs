@@ -33,7 +33,8 @@ fn main() -> ExitCode {
     status(end)
 }
 
-/// The exit status of the program: 0 after a run that answered its whole input, and 1 otherwise.
+/// Returns the exit status of the program: 0 after a run that answered all of its input, and 1
+/// otherwise.
 fn status(end: Result<(), RunFault>) -> ExitCode {
     match end {
         Ok(()) => ExitCode::SUCCESS,

@@ -1,17 +1,17 @@
 // Written by scripts/plain out of crates/cidr/src/replies.rt
 
-//! Answers are added to the replies that wait.
+//! Adds answers to the replies that wait.
 
 use fosibegan::plain_std::arrayvec::ArrayString;
 use cidr_programs::lines::buffer::Buffer;
 
-/// The most bytes of an answer and its line feed.
+/// The greatest number of bytes in an answer with its line feed.
 pub(crate) const ANSWER_MAX: usize = 160;
 
 /// An answer of several parts, before it is added.
 pub(crate) type Answer = ArrayString<ANSWER_MAX>;
 
-/// Adds an answer, and a line feed.
+/// Adds an answer and a line feed.
 #[inline(always)]
 pub(crate) fn reply(replies: &mut Buffer<'_>, answer: &str) {
     replies.push_bytes(answer.as_bytes());

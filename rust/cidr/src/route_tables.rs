@@ -6,14 +6,14 @@ use fosibegan::ipnetwork::{IpAddr, IpNetwork, Ipv4Network, Ipv6Network};
 use fosibegan::ipnetwork_table::PrefixTable;
 use fosibegan::plain_std::alloc::{AllocError, Global};
 
-/// Numbers under blocks, in a table for each family.
+/// The numbers of blocks, in a table for each family.
 pub(crate) struct RouteTables {
     v4: PrefixTable<Ipv4Network, u32>,
     v6: PrefixTable<Ipv6Network, u32>,
 }
 
 impl RouteTables {
-    /// No routes. Does not allocate.
+    /// Creates tables without routes. Does not allocate.
     pub(crate) fn new(alloc: Global) -> RouteTables {
         RouteTables {
             v4: PrefixTable::new(alloc),
@@ -21,9 +21,9 @@ impl RouteTables {
         }
     }
 
-    /// Gives the block of a network a number, and returns the one that it had.
+    /// Gives the block of a network a number, and returns the number that it had.
     ///
-    /// Allocates only for a new block. If memory runs out, the routes are unchanged.
+    /// Allocates only for a new block. If memory runs out, the routes do not change.
     pub(crate) fn insert(
         &mut self,
         network: IpNetwork,
@@ -43,7 +43,8 @@ impl RouteTables {
         }
     }
 
-    /// The longest block that holds an address, and its number: of the blocks of the address's family.
+    /// Returns the longest block of the address's family that contains the address, with its
+    /// number.
     pub(crate) fn find(&self, address: IpAddr) -> Option<(IpNetwork, u32)> {
         match address {
             IpAddr::V4(address) => {

@@ -1,6 +1,6 @@
 // Written by scripts/plain out of crates/cidr/src/run.rt
 
-//! The run that the program makes, and what it promises.
+//! The run of the program, and what it promises.
 
 use crate::answering::{Answering, LINE_MAX};
 use cidr_programs::lines::fault::RunFault;
@@ -9,16 +9,16 @@ use cidr_programs::lines::watched::Watched;
 use fosibegan::plain_std::alloc::Global;
 use fosibegan::plain_std::io::{Read, Write};
 
-/// The most bytes that are read and not answered yet.
+/// The greatest number of bytes that are read but not answered yet.
 const BUFFER_MAX: usize = 65536;
 
-/// The most bytes of replies that wait.
+/// The greatest number of bytes of replies that wait to be written.
 const WAITING_MAX: usize = 65536;
 
 /// Answers each line of `reader`, up to 4,294,967,295 bytes of input, and then flushes `writer`.
 ///
-/// It is `run_limited` with that limit: the same clauses and errors, and the same condition for the promises about
-/// bytes. Only the routes allocate, from `alloc`.
+/// This is `run_limited` with that limit: the clauses and errors are the same, and so is the
+/// condition for the promises about bytes. Only the routes allocate, from `alloc`.
 pub fn run<R: Read, W: Write>(
     alloc: Global,
     reader: &mut Watched<R>,
@@ -32,26 +32,29 @@ pub fn run<R: Read, W: Write>(
 /// The errors, and what the clauses say about each:
 ///
 /// - `RunFault::Read`: a read failed. Exactly the lines that were complete before were answered.
-/// - `RunFault::Write`: a write or the flush failed, or a write took no byte. A beginning of the output was written.
-/// - `RunFault::InputTooLong`: a read passed the limit. Exactly the lines were answered that some first bytes complete,
-///   at most as many as the limit.
+/// - `RunFault::Write`: a write or the flush failed, or a write took no bytes. A beginning of the
+///   output was written.
+/// - `RunFault::InputTooLong`: a read passed the limit. For some beginning of the input, not longer
+///   than the limit, exactly the lines that it completes were answered.
 ///
-/// If the reader had failed before the run, the result is `Read`; otherwise, if the writer had, it is `Write`. Then
-/// neither is called.
+/// If the reader had failed before the run, the result is `Read`; otherwise, if the writer had, it
+/// is `Write`. In both cases neither is called.
 ///
-/// These two are not clauses, but follow from them: each line that a read completes is answered before the next read;
-/// nothing is written or flushed after a read that failed or passed the limit. If a body did otherwise, the next read
-/// or that write might fail, and then no result would meet the clauses. No call is made on a device after one that
-/// failed: `ask`, `write_whole` and `finish` call no device that has.
+/// Two facts are not clauses but follow from them: each line that a read completes is answered
+/// before the next read; and nothing is written or flushed after a read that failed or passed the
+/// limit. Otherwise that next read, or that write, might fail, and no result would meet the
+/// clauses. No device is called after a call of it failed: `ask`, `write_whole` and `finish` call
+/// no device that has failed.
 ///
-/// These two are only tested: if a read passes the limit, no line that it completes is answered; the writer is
-/// flushed once, after the last answer.
+/// Two facts are only tested: if a read passes the limit, none of the lines that it completes is
+/// answered; and the writer is flushed once, after the last answer.
 ///
-/// The promises about bytes apply to a reader and a writer whose contracts tell their bytes, as those over memory do.
-/// Standard input and output do not.
+/// The promises about bytes apply to a reader and a writer whose contracts tell their bytes, as do
+/// those over memory. Standard input and output do not.
 ///
-/// A run begins with no routes and frees them as it ends. Only an `add` of a new block allocates, from `alloc`; if
-/// memory runs out, its answer says so, the routes are unchanged, and the run goes on.
+/// A run starts with no routes and frees its routes at the end. Only an `add` of a new block
+/// allocates, from `alloc`. If memory runs out, its answer says so, the routes do not change, and
+/// the run continues.
 pub fn run_limited<R: Read, W: Write>(
     alloc: Global,
     limit: u32,

@@ -4,8 +4,8 @@
 
 use fosibegan::byte_search::find_from;
 
-/// The word of a line that begins at the place `from`, and the place where the next word begins, after a blank; `None`
-/// if the rest of the line is one word.
+/// Returns the word of a line that begins at the position `from`, and the position of the next
+/// word, after a blank. Returns `None` if the rest of the line is one word.
 #[inline(always)]
 pub(crate) fn cut_word(line: &[u8], from: usize) -> Option<(&[u8], usize)> {
     match find_from(line, from, b' ') {

@@ -1,10 +1,11 @@
 // Written by scripts/plain out of crates/lines/src/lib.rt
 
-//! The lines of a reader, and bytes for a writer, over devices that are not called again once a call of them failed.
+//! Reads lines and gathers output, over devices that are not called again after a call has failed.
 //!
-//! [`line_buffer::LineBuffer`] hands out the lines of what it is told to read, where they lie in a slice that the caller
-//! lends, and [`line_reader::LineReader`] is one with its reader. [`output::Output`] gathers what is to be written in
-//! such a slice. [`watched::Watched`] knows whether a call of its device failed. Nothing here allocates.
+//! [`line_buffer::LineBuffer`] splits what is read into lines, in place, in a slice that the caller
+//! lends. [`line_reader::LineReader`] combines one with its reader. [`output::Output`] gathers what
+//! is to be written in such a slice. [`watched::Watched`] records whether a call of its device
+//! failed. Nothing in this crate allocates.
 
 pub mod buffer;
 pub mod fault;

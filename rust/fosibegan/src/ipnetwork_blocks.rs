@@ -1,9 +1,10 @@
 // Written by scripts/plain out of crates/ipnetwork_blocks/src/lib.rt
 
-//! Blocks of IP addresses, for networks of either family: the blocks within a network and around it, its hosts, and
-//! the least lists of blocks with the addresses of given networks, of a range or of an exclusion.
+//! Blocks of IP addresses, for networks of either family: the blocks within a network, the blocks
+//! that contain it, its hosts, and the least lists of blocks for a list of networks, a range or an
+//! exclusion.
 //!
-//! Nothing here allocates.
+//! Nothing in this crate allocates.
 
 mod address_space;
 mod aggregate;

@@ -1,4 +1,4 @@
--- The output if no `add` is out of memory, computed.
+-- The output if no `add` runs out of memory, computed.
 use Rattle.std.specs.Prelude.{ℕ, List, [], ◌∷◌}
 use Rattle.std.specs.FinMap.{entries}
 use Rattle.std.specs.Str.Lines.{lines}
@@ -11,35 +11,35 @@ use Rattle.cidr.specs.Output.{added, dropped, replies}
 use Rattle.cidr.specs.Requests.{Request, Add, Drop, Find, Plain, request_of}
 use Rattle.cidr.specs.Routes.{Routes, no_routes, number_at, with_number, without}
 
--- the answer about the longest of the entries whose block holds the address
+-- the answer about the longest entry whose block contains the address
 abbrev pub find_answer : Routes → IpAddr → List ℕ
 find_answer routes (V4 address) = found_text (of_family networks.V4 (longest_of 32 address (entries routes.v4)))
 find_answer routes (V6 address) = found_text (of_family networks.V6 (longest_of 128 address (entries routes.v6)))
 
--- what a request gets,
+-- the answer to a request
 abbrev pub request_answer : Routes → Request → List ℕ
 request_answer routes (Add network number) = added (number_at routes network)
 request_answer routes (Drop network) = dropped (number_at routes network)
 request_answer routes (Find address) = find_answer routes address
 request_answer routes (Plain text) = text
 
--- and the routes that it leaves
+-- the routes that a request leaves
 abbrev pub next_routes : Routes → Request → Routes
 next_routes routes (Add network number) = with_number routes network number
 next_routes routes (Drop network) = without routes network
 next_routes routes (Find address) = routes
 next_routes routes (Plain text) = routes
 
--- what these lines get, one after the other
+-- the answers to the lines, in turn
 abbrev pub answers_from : Routes → List (List ℕ) → List (List ℕ)
 answers_from routes [] = []
 answers_from routes (line ∷ lines) =
     request_answer routes (request_of line) ∷ answers_from (next_routes routes (request_of line)) lines
 
--- what is written for them, starting with no routes
+-- the output for an input, starting with no routes
 abbrev pub output_of : List ℕ → List ℕ
 output_of input = replies (answers_from no_routes (lines input))
 
--- what a line gets over no routes
+-- the answer to a line if there are no routes
 abbrev pub answer_of : List ℕ → List ℕ
 answer_of line = request_answer no_routes (request_of line)

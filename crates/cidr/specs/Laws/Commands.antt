@@ -1,4 +1,4 @@
--- The laws of the commands: what a line is answered, or asks of the routes, in the words of texts, networks and sets.
+-- The laws of the commands: the answer to a line or its request to the routes, in terms of texts, networks and sets.
 use Rattle.std.specs.Prelude.{◌≡◌, ◌≢◌, ◌↔◌, ℕ, ◌+◌, ◌<◌, ◌≤◌, List, [], ◌∷◌, ◌++◌, Contains, length, codes, decimal}
 use Rattle.ipnetwork_addr.specs.Either.{NamesIp, canonical_ip, IsAddrAtMost}
 use Rattle.ipnetwork_addr.specs.Ipv4Text.{NamesV4, canonical_v4}
@@ -19,27 +19,27 @@ use Rattle.cidr.specs.Requests.{Add, Drop, Find, request_of}
 use Rattle.cidr.specs.Routes.{Routes}
 use Rattle.cidr.specs.Words.{words, blank}
 
--- the line has these words, and at most 1,024 bytes
+-- the line has these words and at most 1,024 bytes
 abbrev pub HasWords : List ℕ → List (List ℕ) → Type 0
 HasWords line these = (words line ≡ these) × (length line ≤ 1024)
 
--- whatever the routes are, the line gets this answer and no other, and leaves them
+-- whatever the routes are, the line gets exactly this answer and does not change them
 abbrev pub IsAnswered : List ℕ → List ℕ → Type 0
 IsAnswered line text = (before after : Routes) (answer : List ℕ)
     → MayGet before (request_of line) answer after ↔ ((answer ≡ text) × (after ≡ before))
 
 -- ---- `read4 T` and `read6 T`
 
--- the canonical text of the network that T names in the family; if it names none, the first cause that applies
+-- the canonical text of the network that T names in the family, or the first cause that applies if T names none
 pub record AnswersRead (w : ℕ) (NamesAddress IsSuffix : List ℕ → ℕ → Type 0) (canonical : ℕ → List ℕ)
     (line text : List ℕ) : Type 0 where
   pub network : (n : Network) → NamesNetwork w NamesAddress IsSuffix text n → IsAnswered line (network_text canonical n)
   -- T contains two or more `/`
   pub format : HasSeveralSlashes text → IsAnswered line (codes "refused format")
-  -- else what stands before the `/` is not an address
+  -- else the part before the `/` is not an address
   pub address : slashes text ≤ 1 → ((a : ℕ) → ¬ (NamesAddress (before_slash text) a))
       → IsAnswered line (codes "refused address")
-  -- else, since T names nothing, what stands after it is not a suffix
+  -- else the part after the `/` is not a suffix, because T names no network
   pub prefix : slashes text ≤ 1 → (a : ℕ) → NamesAddress (before_slash text) a
       → ((n : Network) → ¬ (NamesNetwork w NamesAddress IsSuffix text n))
       → IsAnswered line (codes "refused prefix")
@@ -54,7 +54,7 @@ Read6Law = (line text : List ℕ) → HasWords line (codes "read6" ∷ text ∷ 
 
 -- ---- `read T` and `ends T`
 
--- the answer about the network that T names, of either family; `refused` if it names none
+-- the answer about the network of either family that T names, or `refused` if it names none
 pub record AnswersNetwork (IsTold : IpNetwork → List ℕ → Type 0) (line text : List ℕ) : Type 0 where
   pub network : (n : IpNetwork) → IsIpNetwork n → NamesIpNetwork text n → (told : List ℕ) × IsTold n told
       × IsAnswered line told
@@ -65,7 +65,7 @@ abbrev pub ReadLaw : Type 0
 ReadLaw = (line text : List ℕ) → HasWords line (codes "read" ∷ text ∷ [])
     → AnswersNetwork (λ n told. told ≡ ip_network_text n) line text
 
--- `ends`: the least member, the greatest, the mask, and the number of members, with blanks between
+-- `ends`: the lowest address, the highest address, the mask and the number of addresses, separated by blanks
 pub record TellsEnds (n : IpNetwork) (told : List ℕ) : Type 0 where
   pub least : IpAddr
   pub greatest : IpAddr
@@ -77,7 +77,7 @@ pub record TellsEnds (n : IpNetwork) (told : List ℕ) : Type 0 where
   pub is_greatest : IpMember n greatest × ((x : IpAddr) → IpMember n x → IsAddrAtMost x greatest)
   pub is_mask : IsIpMask mask (prefix_of n) × (width_of mask ≡ width_of (address_of n))
   pub is_number : prefix_of n ≢ 0 → length (ip_members n) ≡ number
-  -- at prefix length 0 it is one less
+  -- at prefix length 0, the number is one less
   pub is_one_less : prefix_of n ≡ 0 → length (ip_members n) ≡ number + 1
 
 abbrev pub EndsLaw : Type 0
@@ -85,7 +85,7 @@ EndsLaw = (line text : List ℕ) → HasWords line (codes "ends" ∷ text ∷ []
 
 -- ---- `has4 T A` and `has T A`
 
--- whether the set of the network that T names has the address that A names; T is checked first
+-- whether the network that T names has the address that A names as a member. T is checked first
 pub record AnswersMembership {N A : Type 0} (Names : List ℕ → N → Type 0) (NamesAddress : List ℕ → A → Type 0)
     (Holds : N → A → Type 0) (line text word : List ℕ) : Type 0 where
   pub yes : (n : N) (a : A) → Names text n → NamesAddress word a → Holds n a → IsAnswered line (codes "yes")
@@ -104,7 +104,7 @@ HasLaw = (line text word : List ℕ) → HasWords line (codes "has" ∷ text ∷
 
 -- ---- `rel T U`
 
--- how the sets of the networks that T and U name relate to each other
+-- how the sets of the networks that T and U name are related
 pub record AnswersRelation (line text other : List ℕ) : Type 0 where
   pub sets : (a b : IpNetwork) → IsIpNetwork a → IsIpNetwork b → NamesIpNetwork text a → NamesIpNetwork other b
       → (told : List ℕ) × Relates told a b × IsAnswered line told
@@ -114,7 +114,7 @@ pub record AnswersRelation (line text other : List ℕ) : Type 0 where
 abbrev pub RelLaw : Type 0
 RelLaw = (line text other : List ℕ) → HasWords line (codes "rel" ∷ text ∷ other ∷ []) → AnswersRelation line text other
 
--- ---- `add T N`, `drop T` and `find A`: what they ask of the routes; `refused` if T, N or A names nothing
+-- ---- `add T N`, `drop T` and `find A`: their requests to the routes, or `refused` if T, N or A names nothing
 
 pub record AsksAdd (line text word : List ℕ) : Type 0 where
   pub asks : (n : IpNetwork) (number : ℕ) → NamesIpNetwork text n → IsPrefixNumber word number → number ≤ 4294967295
@@ -148,17 +148,17 @@ names_before_one = codes "read" ∷ codes "read4" ∷ codes "read6" ∷ codes "e
 abbrev pub names_before_two : List (List ℕ)
 names_before_two = codes "has" ∷ codes "has4" ∷ codes "rel" ∷ codes "add" ∷ []
 
--- the words are a command's name and as many words as it takes
+-- the words are the name of a command and as many other words as it takes
 abbrev pub IsCommand : List (List ℕ) → Type 0
 IsCommand (name ∷ word ∷ []) = Contains names_before_one name
 IsCommand (name ∷ first ∷ second ∷ []) = Contains names_before_two name
 IsCommand _ = ⊥
 
--- no line is a command except those of the ten names with their number of words
+-- a line that is not one of the ten commands with the right number of words gets `unknown command`
 abbrev pub UnknownLaw : Type 0
 UnknownLaw = (line : List ℕ) → length line ≤ 1024 → ¬ (IsCommand (words line))
     → IsAnswered line (codes "unknown command")
 
--- nor is one of more than 1,024 bytes
+-- a line of more than 1,024 bytes gets `line too long`
 abbrev pub LongLaw : Type 0
 LongLaw = (line : List ℕ) → 1024 < length line → IsAnswered line (codes "line too long")

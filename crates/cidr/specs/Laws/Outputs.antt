@@ -8,32 +8,32 @@ use Rattle.cidr.specs.Requests.{request_of}
 use Rattle.cidr.specs.Routes.{Routes, no_routes}
 use Rattle.cidr.specs.Words.{words}
 
--- ---- the output if no `add` is out of memory
+-- ---- the output if no `add` runs out of memory
 
--- what is written for an input if no `add` is out of memory
+-- the output for an input if no `add` runs out of memory
 abbrev pub IsFullOutput : List ℕ → List ℕ → Type 0
 IsFullOutput input output = (answers : List (List ℕ)) × (after : Routes)
     × InTurn Gets no_routes (lines input) answers after × (output ≡ replies answers)
 
--- is the computed output, and no other;
+-- if no `add` runs out of memory, the output is the computed one, and no other
 abbrev pub FullIsComputed : Type 0
 FullIsComputed = (input output : List ℕ) → IsFullOutput input output ↔ (output ≡ output_of input)
 
--- it may be written;
+-- the computed output is allowed
 abbrev pub ComputedIsAllowed : Type 0
 ComputedIsAllowed = (input : List ℕ) → IsOutput input (output_of input)
 
--- and an output that may be written, of which no answer is `out of memory`,
+-- an allowed output in which no answer is `out of memory`
 abbrev pub IsUnrefusedOutput : List ℕ → List ℕ → Type 0
 IsUnrefusedOutput input output = (answers : List (List ℕ)) × (after : Routes)
     × MayAnswer no_routes (lines input) answers after
     × (output ≡ replies answers) × AllByRecursion (λ answer. answer ≢ out_of_memory) answers
 
--- is no other
+-- an allowed output in which no answer is `out of memory` is the computed one
 abbrev pub UnrefusedIsComputed : Type 0
 UnrefusedIsComputed = (input output : List ℕ) → IsUnrefusedOutput input output → output ≡ output_of input
 
--- nor is one of which no line is `out of memory`
+-- an allowed output in which no line is `out of memory` is the computed one
 abbrev pub UnrefusedLinesAreComputed : Type 0
 UnrefusedLinesAreComputed = (input output : List ℕ) → IsOutput input output
     → AllByRecursion (λ line. line ≢ out_of_memory) (lines output) → output ≡ output_of input
@@ -48,23 +48,23 @@ pub record IsAskingLine (line : List ℕ) : Type 0 where
   pub no_add : command ≢ codes "add"
   pub no_drop : command ≢ codes "drop"
 
--- nor is it `find`
+-- the line's first word is none of `add`, `drop` and `find`
 pub record IsPlainLine (line : List ℕ) : Type 0 where
   pub asking : IsAskingLine line
   pub no_find : asking.command ≢ codes "find"
 
--- each other line begins with one of the three
+-- every other line begins with one of the three
 abbrev pub OthersAreRouting : Type 0
 OthersAreRouting = (line : List ℕ) → ¬ (IsPlainLine line)
     → (command : List ℕ) × (others : List (List ℕ)) × (words line ≡ command ∷ others)
     × Contains (codes "add" ∷ codes "drop" ∷ codes "find" ∷ []) command
 
--- such a line has one answer, whatever the routes are, and leaves them
+-- such a line has one answer, whatever the routes are, and does not change them
 abbrev pub PlainLinesAskNothing : Type 0
 PlainLinesAskNothing = (line answer : List ℕ) (before after : Routes) → IsPlainLine line
     → MayGet before (request_of line) answer after ↔ ((answer ≡ answer_of line) × (after ≡ before))
 
--- so an input of only such lines has one output: for each line its answer and a line feed
+-- an input of only such lines has one output: for each line, its answer and a line feed
 abbrev pub plain_output : List ℕ → List ℕ
 plain_output input = flat_map (λ line. reply (answer_of line)) (lines input)
 
@@ -74,12 +74,12 @@ PlainInputsHaveOneOutput = (input output : List ℕ) → AllByRecursion IsPlainL
 
 -- ---- an input in two parts
 
--- the input is cut directly after a line feed
+-- the first part of the input ends with a line feed
 abbrev pub EndsALine : List ℕ → Type 0
 EndsALine front = (text : List ℕ) × (front ≡ text ++ 10 ∷ [])
 
--- what may be written for both parts is what may be written for the first, and then what may be written for the second
--- starting with the routes that the first leaves
+-- an output for both parts is an output for the first part followed by an output for the second part, which starts with
+-- the routes that the first leaves
 abbrev pub IsOutputInParts : Routes → List ℕ → List ℕ → List ℕ → Routes → Type 0
 IsOutputInParts before front back output after = (between : Routes) × (one : List ℕ) × (two : List ℕ)
     × IsOutputFrom before front one between × IsOutputFrom between back two after × (output ≡ one ++ two)
@@ -88,15 +88,16 @@ abbrev pub SplitsAtLineEnds : Type 0
 SplitsAtLineEnds = (front back output : List ℕ) (before after : Routes) → EndsALine front
     → IsOutputFrom before (front ++ back) output after ↔ IsOutputInParts before front back output after
 
--- if the first part has none of the three commands, each part may be run by itself
+-- if no line of the first part begins with `add`, `drop` or `find`, each part may be run separately
 abbrev pub PlainPartsRunAlone : Type 0
 PlainPartsRunAlone = (front back output : List ℕ) → EndsALine front → AllByRecursion IsPlainLine (lines front)
     → IsOutput (front ++ back) output ↔ ((one : List ℕ) × (two : List ℕ) × IsOutput front one × IsOutput back two
     × (output ≡ one ++ two))
 
--- if the routes come first, and the parts after them are cut after lines that leave the routes, each part may be run by
--- itself after the routes: if no `add` is out of memory, the output of the whole is that of the routes and the first
--- part, and then what that of the routes and the second part has after that of the routes
+-- if the lines that add routes come first, and the lines of the next part do not change them, each part may be run
+-- separately after these routes: if no `add` runs out of memory, the output for everything is the output for the routes
+-- and the first part, followed by what the output for the routes and the second part has after the output for the
+-- routes
 abbrev pub AskingPartsRunAfterRoutes : Type 0
 AskingPartsRunAfterRoutes = (routes front back : List ℕ) → EndsALine routes → EndsALine front
     → AllByRecursion IsAskingLine (lines front)

@@ -10,21 +10,21 @@ use Rattle.ipnetwork.specs.IpNetworkText.{NamesIpNetwork}
 use Rattle.ipnetwork.specs.declared.ip_network.IpNetwork.{IpNetwork}
 use Rattle.cidr.specs.Commands.{has4_answer, has_answer, rel_answer}
 
--- of texts that name a network and an address, `has4` answers `yes` exactly if the address is a member of the network's
--- set, and `no` exactly if it is not
+-- for texts that name a network and an address, `has4` replies `yes` exactly if the address is a member of the network,
+-- and `no` exactly if it is not
 abbrev pub Has4AnswersMembership : Type 0
 Has4AnswersMembership = (text word : List ℕ) (n : Network) (a : ℕ) → NamesV4Network text n → NamesV4 word a
     → ((has4_answer text word ≡ codes "yes") ↔ Member 32 n a)
     × ((has4_answer text word ≡ codes "no") ↔ ¬ (Member 32 n a))
 
--- the same for `has`, over both families
+-- the same for `has`, for both families
 abbrev pub HasAnswersMembership : Type 0
 HasAnswersMembership = (text word : List ℕ) (n : IpNetwork) (a : IpAddr) → NamesIpNetwork text n → NamesIp word a
     → ((has_answer text word ≡ codes "yes") ↔ IpMember n a) × ((has_answer text word ≡ codes "no") ↔ ¬ (IpMember n a))
 
--- of texts that name two networks, `rel` answers by their sets: `same` exactly if each is part of the other, `inside`
--- exactly if only the first is part of the second, `around` exactly if only the second is part of the first, and
--- `apart` exactly if neither is
+-- for texts that name two networks, `rel` compares their sets: it replies `same` exactly if each is a subset of the
+-- other, `inside` exactly if only the first is a subset of the second, `around` exactly if only the second is a subset
+-- of the first, and `apart` exactly if neither is a subset of the other
 pub record Relates (answer : List ℕ) (a b : IpNetwork) : Type 0 where
   pub same : (answer ≡ codes "same") ↔ (IpSubnet a b × IpSubnet b a)
   pub inside : (answer ≡ codes "inside") ↔ (IpSubnet a b × (¬ (IpSubnet b a)))

@@ -1,4 +1,4 @@
--- What a `RouteTables` stands for.
+-- How contracts see a `RouteTables`.
 use Rattle.cidr.specs.declared.route_tables.RouteTables.{RouteTables}
 use Rattle.cidr.specs.Routes.{Routes}
 

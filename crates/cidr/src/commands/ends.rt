@@ -1,4 +1,4 @@
-//! `ends`: the ends of a network, its mask and its size.
+//! `ends`: the lowest and highest address of a network, its mask and its size.
 ghost use Rattle.std.specs.Prelude.{◌≡◌, ◌<◌, [], length};
 ghost use Rattle.cidr.specs.Commands.{ends_answer, ends_text};
 ghost use Rattle.cidr.specs.Private.Replies.{HasRoom, Adds};
@@ -11,7 +11,7 @@ use ipnetwork::IpNetwork;
 use ipnetwork::decimal::push_number;
 use lines::buffer::Buffer;
 
-/// `ends`: the ends of a network, its mask and its size.
+/// `ends`: the lowest and highest address of a network, its mask and its size.
 #[tactic(auto, unfolding(crate::specs::Commands::ends_answer))]
 pub(crate) fn ends(word: &[u8], replies: &mut Buffer<'_>)
     requires { HasRoom replies.old }
@@ -27,8 +27,8 @@ pub(crate) fn ends(word: &[u8], replies: &mut Buffer<'_>)
     }
 }
 
-/// Writes the ends of a network, its mask and its size, with blanks between: at most three addresses of
-/// 39 bytes, a number of 39 digits and three blanks.
+/// Writes the lowest and highest address of a network, its mask and its size, separated by blanks:
+/// three addresses of at most 39 bytes, a number of at most 39 digits and three blanks.
 fn push_ends(network: IpNetwork, text: &mut Answer)
     requires { text.old.bytes ≡ [] }
     ensures text { text.new.bytes ≡ ends_text network }

@@ -8,7 +8,7 @@ use crate::replies::reply;
 use ipnetwork::{Ipv4Addr, Ipv4Network, laws};
 use lines::buffer::Buffer;
 
-/// The answers if a text names no network, or no address.
+/// The answers if a text names no network or no address.
 const NO_NETWORK: &str = "refused network";
 
 const NO_ADDRESS: &str = "refused address";
@@ -56,7 +56,7 @@ pub(crate) fn has4(network: &[u8], address: &[u8], replies: &mut Buffer<'_>)
     reply_whether(network.contains(address), replies);
 }
 
-/// Adds the answer, by whether the network contains the address.
+/// Adds the answer, which says whether the network contains the address.
 #[inline(always)]
 fn reply_whether(contains: bool, replies: &mut Buffer<'_>)
     requires { HasRoom replies.old }

@@ -48,7 +48,7 @@ pub(crate) fn read6(word: &[u8], replies: &mut Buffer<'_>)
     }
 }
 
-/// Why a text names no network.
+/// Returns why a text names no network.
 fn refusal(fault: CidrFault) -> &'static str
     ensures text { result.now ≡ refusal fault }
     ensures short { length result.now ≤ 15 }

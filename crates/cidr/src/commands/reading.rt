@@ -1,11 +1,11 @@
-//! What a text names, read as the definitions compute it.
+//! Reads the network or address that a text names, as the definitions compute it.
 ghost use Rattle.std.specs.Prelude.{◌≡◌};
 ghost use Rattle.ipnetwork_addr.specs.Computed.Either.{ip_of};
 ghost use Rattle.ipnetwork.specs.Computed.IpNetworkText.{ip_network_of};
 
 use ipnetwork::{CidrFault, IpAddr, IpNetwork, laws};
 
-/// The network of either family that a text names.
+/// Returns the network of either family that a text names.
 #[inline(always)]
 pub(crate) fn network_of(text: &[u8]) -> Result<IpNetwork, CidrFault>
     ensures { result ≡ ip_network_of text.now }
@@ -15,7 +15,7 @@ pub(crate) fn network_of(text: &[u8]) -> Result<IpNetwork, CidrFault>
     IpNetwork::read_bytes(text)
 }
 
-/// The address of either family that a text names.
+/// Returns the address of either family that a text names.
 #[inline(always)]
 pub(crate) fn address_of(text: &[u8]) -> Option<IpAddr>
     ensures { result ≡ ip_of text.now }

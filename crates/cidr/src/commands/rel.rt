@@ -1,4 +1,4 @@
-//! `rel`: how the sets of two networks relate to each other.
+//! `rel`: how the sets of two networks are related.
 ghost use Rattle.std.specs.Prelude.{◌≡◌, ◌≤◌, length};
 ghost use Rattle.ipnetwork.specs.Computed.IpNetworks.{is_ip_subnet};
 ghost use Rattle.cidr.specs.Commands.{rel_answer, relation};
@@ -10,7 +10,7 @@ use crate::replies::reply;
 use ipnetwork::{IpNetwork, laws};
 use lines::buffer::Buffer;
 
-/// `rel`: how the sets of two networks relate to each other.
+/// `rel`: how the sets of two networks are related.
 #[tactic(auto, unfolding(crate::specs::Commands::rel_answer))]
 pub(crate) fn rel(first: &[u8], second: &[u8], replies: &mut Buffer<'_>)
     requires { HasRoom replies.old }
@@ -22,7 +22,7 @@ pub(crate) fn rel(first: &[u8], second: &[u8], replies: &mut Buffer<'_>)
     }
 }
 
-/// How the sets of two networks relate to each other.
+/// Returns how the sets of two networks are related.
 fn relation(first: IpNetwork, second: IpNetwork) -> &'static str
     ensures text { result.now ≡ relation first second }
     ensures short { length result.now ≤ 15 }
@@ -40,11 +40,12 @@ fn relation(first: IpNetwork, second: IpNetwork) -> &'static str
     }
 }
 
-/// Whether the set of a network is part of that of another.
+/// Returns whether the set of a network is a subset of that of another.
 fn is_part(network: &IpNetwork, other: &IpNetwork) -> bool
     ensures { result ≡ is_ip_subnet network.now other.now }
 {
-    // Does nothing: the proof of this body needs the law, and from the next two calls that these are networks.
+    // Does nothing: the proof of this body needs the law, and the facts from the next two calls
+    // that these are networks.
     laws::ip_subnet_is_computed();
     let _ = network.prefix();
     let _ = other.prefix();

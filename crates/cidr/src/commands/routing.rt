@@ -17,11 +17,11 @@ use ipnetwork::parse::read_number;
 use ipnetwork::{IpNetwork, laws};
 use lines::buffer::Buffer;
 
-/// The answer if no block holds the address.
+/// The answer if no block contains the address.
 const NONE: &str = "none";
 
-// The calls of these three commands stay calls: in place they would make the code around them, which every other
-// command goes through, save more registers.
+// The calls of these three commands are not inlined: otherwise the code around them, which every
+// other command runs through, would save more registers.
 
 /// `add`: gives the block of a network a number.
 #[inline(never)]
@@ -44,7 +44,7 @@ pub(crate) fn add(network: &[u8], number: &[u8], routes: &mut RouteTables, repli
     reply(replies, insert(network, number, routes));
 }
 
-/// Gives the block of a network a number, and returns the answer: whether it had one.
+/// Gives the block of a network a number, and returns the answer, which says whether it had one.
 fn insert(network: IpNetwork, number: u32, routes: &mut RouteTables) -> &'static str
     ensures text { MayGet (routes_of routes.old) (Add network number) result.now
         (routes_of routes.new) }
@@ -70,7 +70,7 @@ pub(crate) fn drop(network: &[u8], routes: &mut RouteTables, replies: &mut Buffe
     }
 }
 
-/// Removes the block of a network, and returns the answer: whether it had a number.
+/// Removes the block of a network, and returns the answer, which says whether it had a number.
 fn remove(network: IpNetwork, routes: &mut RouteTables) -> &'static str
     ensures text { MayGet (routes_of routes.old) (Drop network) result.now (routes_of routes.new) }
     ensures short { length result.now ≤ 15 }
@@ -81,7 +81,7 @@ fn remove(network: IpNetwork, routes: &mut RouteTables) -> &'static str
     }
 }
 
-/// `find`: the longest block that holds an address, and its number.
+/// `find`: the longest block that contains an address, and its number.
 #[inline(never)]
 pub(crate) fn find(address: &[u8], routes: &RouteTables, replies: &mut Buffer<'_>)
     requires { HasRoom replies.old }
@@ -102,7 +102,7 @@ pub(crate) fn find(address: &[u8], routes: &RouteTables, replies: &mut Buffer<'_
     }
 }
 
-/// Adds the answer of a block, of at most 43 bytes, and its number, with a blank between.
+/// Adds the answer: the block, of at most 43 bytes, a blank and its number.
 fn push_found(block: &str, number: u32, replies: &mut Buffer<'_>)
     requires room { HasRoom replies.old }
     requires short { length block.now ≤ 43 }

@@ -1,13 +1,14 @@
-//! The laws of routes: what `add`, `drop` and `find` get.
+//! The laws of routes: what `add`, `drop` and `find` do.
 ghost use Rattle.cidr.specs.Laws.Routes.{AddsGet, DropsGet, FindsGet, FirstFindsNothing, FirstDropsNothing, FirstAddsNew};
 
 use crate::laws::commands::lines_about_routes;
 use ipnetwork::laws;
 use ipnetwork_table::laws as table_laws;
 
-/// `add` and `drop` answer by the number that the block had, and change the number of the networks with the same set
-/// and of no other. `find` answers with the longest block that holds the address. Only an `add` of a block without a
-/// number can be out of memory, and then the routes are unchanged.
+/// `add` and `drop` reply according to the number that the block had, and change only the number of
+/// the networks with the same set. `find` replies with the longest block that contains the address.
+/// Only an `add` of a block without a number can run out of memory, and then the routes do not
+/// change.
 pub fn routes_by_sets()
     ensures add { AddsGet }
     ensures drop { DropsGet }
@@ -20,8 +21,8 @@ pub fn routes_by_sets()
     laws::families_are_apart();
 }
 
-/// A run begins with no routes: a `find` in the first line of an input finds nothing, a `drop` there drops nothing, and
-/// an `add` there changes no number.
+/// A run starts with no routes: in the first line of an input, a `find` finds nothing, a `drop`
+/// drops nothing, and an `add` changes no number.
 pub fn a_run_begins_with_no_routes()
     ensures find { FirstFindsNothing }
     ensures drop { FirstDropsNothing }

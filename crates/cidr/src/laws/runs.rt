@@ -5,23 +5,24 @@ ghost use Rattle.cidr.specs.Laws.Runs.{AfterOk, AfterReadFault, AfterWriteFault,
 use lines::fault::RunFault;
 use std::alloc::AllocError;
 
-/// After Ok the input was within the limit, and an output of it was written.
+/// After Ok, the input was within the limit, and an output for it was written.
 pub fn after_ok()
     ensures { AfterOk }
 {}
 
-/// After a read fault exactly the lines that were read whole, with their line feed, were answered.
+/// After a read fault, exactly the lines that were read completely, with their line feed, were
+/// answered.
 pub fn after_a_read_fault()
     ensures { AfterReadFault }
 {}
 
-/// After a write fault a beginning of an output of what was read was written.
+/// After a write fault, a beginning of an output for what was read was written.
 pub fn after_a_write_fault()
     ensures { AfterWriteFault }
 {}
 
-/// If the input is too long, exactly the lines were answered that some first bytes of it complete, at most as many as
-/// the limit.
+/// If the input is too long, there is a beginning of it, not longer than the limit, such that
+/// exactly the lines that it completes were answered.
 pub fn after_too_long_an_input()
     ensures { AfterTooLong }
 {}
@@ -33,7 +34,7 @@ pub fn fault_equality(a: RunFault, b: RunFault) -> bool
     a == b
 }
 
-/// A clone of a fault is the same fault, and there is always one.
+/// A clone of a fault is the same fault, and cloning never fails.
 pub fn fault_clone(fault: RunFault) -> Result<RunFault, AllocError>
     ensures { result ≡ Ok fault }
 {

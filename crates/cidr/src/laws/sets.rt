@@ -1,9 +1,10 @@
-//! The laws of `has4`, `has` and `rel` by sets.
+//! The laws of `has4`, `has` and `rel`, in terms of sets.
 ghost use Rattle.cidr.specs.Laws.Sets.{Has4AnswersMembership, HasAnswersMembership, RelatesSets};
 
 use ipnetwork::laws;
 
-/// `has4` answers `yes` exactly for the members of the network's set, and `no` exactly for the other addresses.
+/// `has4` replies `yes` exactly for the members of the network, and `no` exactly for the other
+/// addresses.
 pub fn has4_answers_membership()
     ensures { Has4AnswersMembership }
 {
@@ -12,8 +13,8 @@ pub fn has4_answers_membership()
     laws::membership_is_computed();
 }
 
-/// `has` answers `yes` exactly for the members of the network's set, and `no` exactly for the other addresses, those
-/// of the other family among them.
+/// `has` replies `yes` exactly for the members of the network, and `no` exactly for the other
+/// addresses, including those of the other family.
 pub fn has_answers_membership()
     ensures { HasAnswersMembership }
 {
@@ -22,7 +23,8 @@ pub fn has_answers_membership()
     laws::ip_membership_is_computed();
 }
 
-/// `rel` answers by the sets: whether they are the same, one is a part of the other, or neither is.
+/// `rel` compares the sets: whether they are the same, one is a proper subset of the other, or
+/// neither is a subset of the other.
 pub fn rel_answers_sets()
     ensures { RelatesSets }
 {

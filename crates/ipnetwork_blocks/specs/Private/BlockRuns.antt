@@ -1,16 +1,16 @@
--- A run of neighbouring blocks of one prefix length, by its first and its last.
+-- A run of adjacent blocks of one prefix length, given by its first and its last block.
 use Rattle.std.specs.Prelude.{◌≡◌, ℕ, ◌+◌, ◌-◌, ◌/◌, ◌≤◌, List, [], map, Option, None, Some}
 use Rattle.ipnetwork_family.specs.Network.{Network, IsNetwork, HostBitsAreZero, block_size, count_up}
 use Rattle.ipnetwork_blocks.specs.Subnets.{block_number}
 
--- the blocks from a first to a last one, or none
+-- the blocks from the first to the last, or none
 abbrev pub blocks_left : ℕ → Option Network → Network → List Network
 blocks_left w None last = []
 blocks_left w (Some first) last =
     let size : ℕ = block_size w first.prefix in
     map (block_number w first.prefix) (count_up (first.address / size) (last.address / size + 1 - first.address / size))
 
--- the first is a block of the same prefix length as the last, and is that or comes before it
+-- both are blocks, of the same prefix length, and first is not after last
 pub record IsRun (w : ℕ) (first last : Network) : Type 0 where
   pub network : IsNetwork w last
   pub as_long : first.prefix ≡ last.prefix

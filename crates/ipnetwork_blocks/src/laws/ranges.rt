@@ -1,17 +1,18 @@
-//! The laws of the blocks of ranges and of exclusions, for addresses of any number of bits.
+//! The laws of the blocks of ranges and of exclusions, for addresses of any width.
 ghost use Rattle.ipnetwork_blocks.specs.LeastListLaws.{RangeIsShortest, ExclusionIsShortest, NetworkIsOneBlock, RangeHasAtMost, AllButTheEndsHasMost};
 
-/// The blocks of a range, or of an exclusion, have its addresses and no others; each ends before the next begins; no
-/// networks with the same addresses are fewer; and no other list is the least. The range from the least to the greatest
-/// address of a network is only its block, and so that of all addresses is the block of prefix length 0.
+/// The blocks of a range or of an exclusion have exactly its addresses, and each ends before the
+/// next one begins. No list of networks with the same addresses is shorter, and no other list is
+/// the least. The range from the lowest to the highest address of a network is only the network's
+/// block, so the range of all addresses is the block of prefix length 0.
 pub fn ranges_are_shortest()
     ensures range { RangeIsShortest }
     ensures exclusion { ExclusionIsShortest }
     ensures network { NetworkIsOneBlock }
 {}
 
-/// If addresses have two bits or more, a range has at most 2 W - 2 blocks, and the range of all
-/// addresses but the first and the last has as many: 62 of IPv4, and 254 of IPv6.
+/// If addresses have W bits, at least two, a range has at most 2 W - 2 blocks. The range of all
+/// addresses except the first and the last has exactly that many: 62 for IPv4 and 254 for IPv6.
 pub fn range_counts()
     ensures most { RangeHasAtMost }
     ensures reached { AllButTheEndsHasMost }

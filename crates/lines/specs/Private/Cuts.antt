@@ -1,4 +1,4 @@
--- Where the first of some lines ends, and the places of a `LineBuffer`.
+-- Where the first line of some bytes ends, and the positions in a `LineBuffer`.
 use Rattle.std.specs.Prelude.{◌≡◌, ℕ, ◌≤◌, List, [], ◌∷◌, ◌++◌, take}
 use Rattle.std.specs.Str.Lines.{strip_carriage_return}
 use Rattle.byte_search.specs.Bytes.{IsNext}
@@ -7,13 +7,13 @@ use Rattle.lines.specs.declared.line_end.Cut.{Cut}
 use Rattle.lines.specs.declared.line_end.LineEnd.{LineEnd}
 use Rattle.lines.specs.declared.line_end.LineEnd.TheVariants.{LineFeed, ReturnAndLineFeed, EndOfInput}
 
--- a line feed is the last of the bytes that end the line
+-- the line ending includes a line feed
 abbrev pub HasFeed : LineEnd → Type 0
 HasFeed LineFeed = Unit {0}
 HasFeed ReturnAndLineFeed = Unit {0}
 HasFeed EndOfInput = ⊥
 
--- the first line of these bytes ends there
+-- the first line of the waiting bytes ends at the cut
 pub record IsCut (waiting : List ℕ) (cut : Cut) : Type 0 where
   pub feed : IsNext 10 waiting 0 cut.before
   pub within : cut.content ≤ cut.before
@@ -21,7 +21,7 @@ pub record IsCut (waiting : List ℕ) (cut : Cut) : Type 0 where
   pub bytes : take cut.before waiting ++ 10 ∷ [] ≡ strip_carriage_return (take cut.before waiting) ++ end_bytes cut.end
   pub has_feed : HasFeed cut.end
 
--- the places of the line that was handed out last, and of the bytes that wait, in a buffer of this size
+-- the positions in a buffer of this size: of the line that was handed out last, and of the bytes that wait
 pub record IsOrdered (line_start line_end start searched end size : ℕ) : Type 0 where
   pub before : line_start ≤ start
   pub of_line : line_start ≤ line_end

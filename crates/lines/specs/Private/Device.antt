@@ -1,4 +1,4 @@
--- What contracts see of a `Device`.
+-- How contracts see a `Device`.
 use Rattle.std.specs.Prelude.{Bool}
 use Rattle.lines.specs.declared.watched.device.Device.{Device}
 
@@ -6,6 +6,6 @@ use Rattle.lines.specs.declared.watched.device.Device.{Device}
 abbrev pub inner_of : {D : Type 0} → Device D → D
 inner_of device = device.inner
 
--- whether a call of it failed
+-- whether a call of the reader or writer failed
 abbrev pub failed_of : {D : Type 0} → Device D → Bool
 failed_of device = device.failed

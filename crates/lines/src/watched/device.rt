@@ -1,4 +1,4 @@
-//! A device that is not called again once a call of it has failed.
+//! A device that is not called again after a call has failed.
 ghost use Rattle.std.specs.Prelude.{◌≡◌, ◌||◌, false, is_err, IsFalse};
 ghost use Rattle.std.specs.Io.{ReadsAtMost, WritesAtMost};
 ghost use Rattle.std.specs.Io.KnownBytes.{Keeps, ReadConsumes, WriteAppends};
@@ -8,8 +8,9 @@ use std::io::{Read, Write};
 
 /// A reader or a writer, and whether a call of it has failed.
 ///
-/// `read`, `write` and `flush` require a device that has not failed, and the rest of the crate uses only these.
-/// `try_read`, `try_write` and `try_flush`, which call a device even if it has failed, are only for `Watched`.
+/// `read`, `write` and `flush` require a device that has not failed, and the rest of the crate uses
+/// only these. `try_read`, `try_write` and `try_flush`, which call a device even if it has failed,
+/// are only for `Watched`.
 #[derive(Drop)]
 pub(crate) struct Device<D> {
     inner: D,
@@ -29,7 +30,7 @@ impl<D> Device<D> {
         }
     }
 
-    /// Whether a call failed.
+    /// Returns whether a call of the device has failed.
     pub(crate) fn failed(&self) -> bool
         ensures { result ≡ failed_of self.now }
     {
@@ -46,7 +47,7 @@ impl<D> Device<D> {
 impl<D: Read> Device<D> {
     ghost use Rattle.lines.specs.Private.Device.{inner_of, failed_of};
 
-    /// Asks the device, which has not failed, for bytes, once.
+    /// Reads from the device, in one call. The device must not have failed.
     pub(crate) fn read(&mut self, buf: &mut [u8]) -> io::Result<usize>
         requires { IsFalse (failed_of self.old) }
         ensures bound { ReadsAtMost result buf.new }
@@ -75,7 +76,7 @@ impl<D: Write> Device<D> {
     ghost use Rattle.lines.specs.Private.Device.{inner_of, failed_of};
     ghost use Rattle.lines.specs.Watched.{write_fails};
 
-    /// Offers the device, which has not failed, these bytes, once.
+    /// Writes these bytes to the device, in one call. The device must not have failed.
     pub(crate) fn write(&mut self, buf: &[u8]) -> io::Result<usize>
         requires { IsFalse (failed_of self.old) }
         ensures bound { WritesAtMost result buf.now }
@@ -86,7 +87,7 @@ impl<D: Write> Device<D> {
         self.try_write(buf)
     }
 
-    /// Asks the device, which has not failed, to pass on what it took, once.
+    /// Flushes the device, in one call. The device must not have failed.
     pub(crate) fn flush(&mut self) -> io::Result<()>
         requires { IsFalse (failed_of self.old) }
         ensures bytes { Keeps (D.contents (inner_of self.old)) (D.contents (inner_of self.new)) }

@@ -1,4 +1,4 @@
-//! Whole texts that are written to a device, unless a call of it has failed.
+//! Writes whole texts to a device, unless a call of it has failed.
 ghost use Rattle.std.specs.Prelude.{◌≡◌, ◌||◌, is_err, Err, OnOk, OnErr, IsOkUnless, IsTrue};
 ghost use Rattle.std.specs.Io.KnownBytes.{Appends, Keeps};
 ghost use Rattle.lines.specs.Outputs.{AppendsBeginning};
@@ -12,8 +12,9 @@ use std::io::Write;
 impl<D: Write> Watched<D> {
     /// Writes all of these bytes, in as many calls as the device needs.
     ///
-    /// The error means that a write failed, now or earlier: a beginning of the bytes was written. A device that had
-    /// failed is not called. Does not allocate, unless the device does.
+    /// Returns `RunFault::Write` if a write failed, now or earlier. Then a beginning of the bytes
+    /// was written, and a device that had failed before was not called. Does not allocate, unless
+    /// the device does.
     ///
     /// ```
     /// let mut room = [0; 4];
@@ -41,8 +42,8 @@ impl<D: Write> Watched<D> {
 
     /// Flushes the device, in one call.
     ///
-    /// The error means that the flush failed, or a call before it: then the device is not called. Does not allocate,
-    /// unless the device does.
+    /// Returns `RunFault::Write` if the flush failed, or a call before it. A device that had failed
+    /// before is not called. Does not allocate, unless the device does.
     ///
     /// ```
     /// let mut writer = lines::watched::Watched::new(std::io::sink());

@@ -1,6 +1,6 @@
 // Written by scripts/plain out of crates/cidr/src/commands/ends.rt
 
-//! `ends`: the ends of a network, its mask and its size.
+//! `ends`: the lowest and highest address of a network, its mask and its size.
 
 use crate::commands::REFUSED;
 use crate::commands::reading::network_of;
@@ -9,7 +9,7 @@ use fosibegan::ipnetwork::IpNetwork;
 use fosibegan::ipnetwork::decimal::push_number;
 use cidr_programs::lines::buffer::Buffer;
 
-/// `ends`: the ends of a network, its mask and its size.
+/// `ends`: the lowest and highest address of a network, its mask and its size.
 pub(crate) fn ends(word: &[u8], replies: &mut Buffer<'_>) {
     match network_of(word) {
         Ok(network) => {
@@ -21,8 +21,8 @@ pub(crate) fn ends(word: &[u8], replies: &mut Buffer<'_>) {
     }
 }
 
-/// Writes the ends of a network, its mask and its size, with blanks between: at most three addresses of
-/// 39 bytes, a number of 39 digits and three blanks.
+/// Writes the lowest and highest address of a network, its mask and its size, separated by blanks:
+/// three addresses of at most 39 bytes, a number of at most 39 digits and three blanks.
 fn push_ends(network: IpNetwork, text: &mut Answer) {
     text.push_text(&network.network().canonical());
     text.push(' ');

@@ -34,7 +34,7 @@ pub(crate) fn read6(word: &[u8], replies: &mut Buffer<'_>) {
     }
 }
 
-/// Why a text names no network.
+/// Returns why a text names no network.
 fn refusal(fault: CidrFault) -> &'static str {
     match fault {
         CidrFault::Format => "refused format",

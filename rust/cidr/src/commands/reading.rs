@@ -1,17 +1,17 @@
 // Written by scripts/plain out of crates/cidr/src/commands/reading.rt
 
-//! What a text names, read as the definitions compute it.
+//! Reads the network or address that a text names, as the definitions compute it.
 
 use fosibegan::ipnetwork::{CidrFault, IpAddr, IpNetwork};
 
-/// The network of either family that a text names.
+/// Returns the network of either family that a text names.
 #[inline(always)]
 pub(crate) fn network_of(text: &[u8]) -> Result<IpNetwork, CidrFault> {
     // Does nothing: the proof of this body needs the law.
     IpNetwork::read_bytes(text)
 }
 
-/// The address of either family that a text names.
+/// Returns the address of either family that a text names.
 #[inline(always)]
 pub(crate) fn address_of(text: &[u8]) -> Option<IpAddr> {
     // Does nothing: the proof of this body needs the law.

@@ -1,6 +1,6 @@
 // Written by scripts/plain out of crates/cidr/src/commands/rel.rt
 
-//! `rel`: how the sets of two networks relate to each other.
+//! `rel`: how the sets of two networks are related.
 
 use crate::commands::REFUSED;
 use crate::commands::reading::network_of;
@@ -8,7 +8,7 @@ use crate::replies::reply;
 use fosibegan::ipnetwork::IpNetwork;
 use cidr_programs::lines::buffer::Buffer;
 
-/// `rel`: how the sets of two networks relate to each other.
+/// `rel`: how the sets of two networks are related.
 pub(crate) fn rel(first: &[u8], second: &[u8], replies: &mut Buffer<'_>) {
     match (network_of(first), network_of(second)) {
         (Ok(first), Ok(second)) => reply(replies, relation(first, second)),
@@ -16,7 +16,7 @@ pub(crate) fn rel(first: &[u8], second: &[u8], replies: &mut Buffer<'_>) {
     }
 }
 
-/// How the sets of two networks relate to each other.
+/// Returns how the sets of two networks are related.
 fn relation(first: IpNetwork, second: IpNetwork) -> &'static str {
     if is_part(&first, &second) {
         if is_part(&second, &first) {
@@ -31,9 +31,10 @@ fn relation(first: IpNetwork, second: IpNetwork) -> &'static str {
     }
 }
 
-/// Whether the set of a network is part of that of another.
+/// Returns whether the set of a network is a subset of that of another.
 fn is_part(network: &IpNetwork, other: &IpNetwork) -> bool {
-    // Does nothing: the proof of this body needs the law, and from the next two calls that these are networks.
+    // Does nothing: the proof of this body needs the law, and the facts from the next two calls
+    // that these are networks.
     let _ = network.prefix();
     let _ = other.prefix();
     network.is_subnet_of(*other)

@@ -1,8 +1,9 @@
 // Written by scripts/plain out of crates/lines/src/buffer.rt
 
-//! Bytes at the front of a slice that the caller lends.
+//! Bytes gathered in a slice that the caller lends.
 
-/// Bytes that are gathered at the front of a lent slice: none at first, and at most as many as the slice has.
+/// Bytes that are gathered at the front of a lent slice: none at first, and at most as many as the
+/// slice is long.
 ///
 /// No call allocates.
 ///
@@ -20,7 +21,7 @@ pub struct Buffer<'a> {
 }
 
 impl<'a> Buffer<'a> {
-    /// An empty buffer in the slice.
+    /// Creates an empty buffer in the slice.
     ///
     /// ```
     /// # use cidr_programs::in_examples::*;
@@ -32,7 +33,7 @@ impl<'a> Buffer<'a> {
         Buffer { slice, count: 0 }
     }
 
-    /// Whether the buffer is empty.
+    /// Returns whether the buffer is empty.
     ///
     /// ```
     /// # use cidr_programs::in_examples::*;
@@ -46,7 +47,7 @@ impl<'a> Buffer<'a> {
         self.count == 0
     }
 
-    /// How many more bytes fit.
+    /// Returns how many more bytes fit in the buffer.
     ///
     /// ```
     /// # use cidr_programs::in_examples::*;
@@ -59,7 +60,7 @@ impl<'a> Buffer<'a> {
         self.slice.len() - self.count
     }
 
-    /// The bytes in the buffer.
+    /// Returns the bytes in the buffer.
     ///
     /// ```
     /// # use cidr_programs::in_examples::*;
@@ -95,7 +96,8 @@ impl<'a> Buffer<'a> {
         self.count = end;
     }
 
-    /// Adds these bytes at the end, or none of them, which takes as long. There must be room for them.
+    /// Adds these bytes at the end if `is_added` is true, or adds none; both take the same time.
+    /// There must be room for the bytes either way.
     #[inline(always)]
     pub(crate) fn push_bytes_if(&mut self, bytes: &[u8], is_added: bool) {
         let end = self.count + bytes.len();

@@ -2,7 +2,7 @@
 
 //! Why a run stops early.
 
-/// Why a run stops before it has answered its whole input.
+/// Why a run stops before it has answered all of its input.
 ///
 /// ```
 /// # use cidr_programs::in_examples::*;
@@ -15,12 +15,12 @@ pub enum RunFault {
     Read,
     /// A write or the flush failed.
     Write,
-    /// There are more bytes than the limit.
+    /// The input has more bytes than the limit.
     InputTooLong,
 }
 
 impl RunFault {
-    /// The text of the fault, for a program to print.
+    /// Returns the text of the fault, for a program to print.
     ///
     /// ```
     /// # use cidr_programs::in_examples::*;

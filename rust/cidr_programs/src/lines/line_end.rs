@@ -2,7 +2,7 @@
 
 //! How a line ends, and where.
 
-/// How a line ended. What ends it is not part of the line.
+/// How a line ended. The line ending is not part of the line.
 ///
 /// ```
 /// # use cidr_programs::in_examples::*;
@@ -26,7 +26,8 @@ pub enum LineEnd {
     EndOfInput,
 }
 
-/// Where a line ends: how many bytes stand before its line feed, how many of them are its own, and how it ended.
+/// Where a line ends: the number of bytes before its line feed, the number of these that belong to
+/// the line, and how the line ended.
 #[derive(Clone, Copy)]
 pub(crate) struct Cut {
     pub(crate) before: usize,
@@ -34,7 +35,7 @@ pub(crate) struct Cut {
     pub(crate) end: LineEnd,
 }
 
-/// Where a line ends if these bytes stand before its line feed.
+/// Returns the end of a line that has these bytes before its line feed.
 pub(crate) fn cut_before(raw: &[u8]) -> Cut {
     let before = raw.len();
     match raw.split_last() {

@@ -10,8 +10,9 @@ use fosibegan::plain_std::io::Write;
 
 /// A writer, and the bytes that wait to be written, in a slice that the caller lends.
 ///
-/// Once a call of the writer has failed, the writer is not called again, and each call of the output returns
-/// `RunFault::Write`. No call allocates, unless the writer does.
+/// Once a call of the writer has failed, the writer is not called again, and each call of `put`,
+/// `put_if`, `hand_on` and `finish` returns `RunFault::Write`. No call allocates, unless the writer
+/// does.
 ///
 /// ```
 /// # use cidr_programs::in_examples::*;
@@ -26,7 +27,8 @@ pub struct Output<'a, W: Write> {
 }
 
 impl<'a, W: Write> Output<'a, W> {
-    /// An output to the writer. No call of it has failed yet, and no bytes wait.
+    /// Creates an output to the writer, with no bytes waiting. No call of the writer counts as
+    /// failed yet.
     ///
     /// ```
     /// # use cidr_programs::in_examples::*;
@@ -41,10 +43,11 @@ impl<'a, W: Write> Output<'a, W> {
         }
     }
 
-    /// Adds these bytes. If there is no room for them, those that wait are written first, and if these do not fit even
-    /// then, they are written too.
+    /// Adds these bytes. If there is no room for them, the bytes that wait are written first; if
+    /// the new bytes do not fit even then, they are written too.
     ///
-    /// The error means that a write failed, now or earlier: a beginning of what waited and of these bytes was written.
+    /// Returns `RunFault::Write` if a write failed, now or earlier. Then a beginning of the bytes
+    /// that waited and of these bytes was written.
     ///
     /// ```
     /// # use cidr_programs::in_examples::*;
@@ -65,8 +68,8 @@ impl<'a, W: Write> Output<'a, W> {
         self.put_first(bytes)
     }
 
-    /// Adds these bytes as `put` does, or none. If there is room for them, it takes no branch whether they are added: so it
-    /// is faster than a branch that the processor guesses wrong.
+    /// Adds these bytes as `put` does if `is_put` is true, or adds none. If there is room for them,
+    /// no branch depends on `is_put`, which is faster than a branch that the processor mispredicts.
     ///
     /// ```
     /// # use cidr_programs::in_examples::*;
@@ -94,7 +97,7 @@ impl<'a, W: Write> Output<'a, W> {
         self.put(bytes)
     }
 
-    // Adds bytes if none wait, on a writer that has not failed.
+    // Adds bytes if none wait, to a writer that has not failed.
     fn put_first(&mut self, bytes: &[u8]) -> Result<(), RunFault> {
         if self.waiting.remaining() >= bytes.len() {
             self.waiting.push_bytes(bytes);
@@ -105,7 +108,8 @@ impl<'a, W: Write> Output<'a, W> {
 
     /// Writes the bytes that wait.
     ///
-    /// The error means that a write failed, now or earlier: a beginning of what waited was written.
+    /// Returns `RunFault::Write` if a write failed, now or earlier. Then a beginning of the bytes
+    /// that waited was written.
     ///
     /// ```
     /// # use cidr_programs::in_examples::*;
@@ -122,9 +126,10 @@ impl<'a, W: Write> Output<'a, W> {
         hand_on(&mut self.writer, &mut self.waiting)
     }
 
-    /// Writes what waits, and flushes the writer.
+    /// Writes the bytes that wait, and flushes the writer.
     ///
-    /// The error means that a write or the flush failed, now or earlier: a beginning of what waited was written.
+    /// Returns `RunFault::Write` if a write or the flush failed, now or earlier. Then a beginning
+    /// of the bytes that waited was written.
     ///
     /// ```
     /// # use cidr_programs::in_examples::*;

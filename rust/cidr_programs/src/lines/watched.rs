@@ -1,6 +1,6 @@
 // Written by scripts/plain out of crates/lines/src/watched.rt
 
-//! A device that remembers whether a call of it failed.
+//! A device that records whether a call of it failed.
 
 pub(crate) mod device;
 mod whole;
@@ -11,8 +11,9 @@ use fosibegan::plain_std::io::{Read, Write};
 
 /// A reader or a writer, and whether a call of it through this value has failed.
 ///
-/// A read, a write or a flush fails if it returns an error, of any kind. A write also fails if it is given bytes and
-/// takes none. Once a call has failed, `failed` stays true, and the device can still be called.
+/// A read, a write or a flush fails if it returns an error, of any kind. A write also fails if it
+/// is given bytes but takes none. Once a call has failed, `failed` stays true, but the device can
+/// still be called.
 ///
 /// ```
 /// # use cidr_programs::in_examples::*;
@@ -29,7 +30,7 @@ pub struct Watched<D> {
 }
 
 impl<D> Watched<D> {
-    /// Wraps a device, no call of which has failed yet.
+    /// Wraps a device. No call of it counts as failed yet.
     ///
     /// ```
     /// # use cidr_programs::in_examples::*;
@@ -42,7 +43,7 @@ impl<D> Watched<D> {
         }
     }
 
-    /// Whether a call of the device failed.
+    /// Returns whether a call of the device has failed.
     ///
     /// ```
     /// # use cidr_programs::in_examples::*;
@@ -76,8 +77,9 @@ impl<D> Watched<D> {
 impl<D: Read> Watched<D> {
     /// Reads from the device, in one call, and returns its result.
     ///
-    /// `Ok` has the number of bytes put at the front of `buf`, which is 0 only at the end of the input or if `buf` is
-    /// empty. The error is the device's. Does not allocate, unless the device does.
+    /// `Ok` contains the number of bytes that were put at the front of `buf`, which is 0 only at
+    /// the end of the input or if `buf` is empty. The error is the device's. Does not allocate,
+    /// unless the device does.
     ///
     /// ```
     /// # use cidr_programs::in_examples::*;
@@ -97,8 +99,8 @@ impl<D: Read> Watched<D> {
 impl<D: Write> Watched<D> {
     /// Writes these bytes to the device, in one call, and returns its result.
     ///
-    /// `Ok` has the number of first bytes that the device took. The error is the device's. Does not allocate, unless
-    /// the device does.
+    /// `Ok` contains the number of bytes that the device took, from the front of `buf`. The error
+    /// is the device's. Does not allocate, unless the device does.
     ///
     /// ```
     /// # use cidr_programs::in_examples::*;
@@ -113,8 +115,8 @@ impl<D: Write> Watched<D> {
         self.device.try_write(buf)
     }
 
-    /// Flushes the device, in one call, and returns its result. The error is the device's. Does not allocate, unless
-    /// the device does.
+    /// Flushes the device, in one call, and returns its result. The error is the device's. Does not
+    /// allocate, unless the device does.
     ///
     /// ```
     /// # use cidr_programs::in_examples::*;

@@ -7,7 +7,7 @@ use crate::lines::fault::RunFault;
 use crate::lines::watched::device::Device;
 use fosibegan::plain_std::io::Write;
 
-/// Writes the bytes that wait, and drops them.
+/// Writes the bytes that wait, and removes them from the buffer.
 pub(crate) fn hand_on<W: Write>(
     writer: &mut Device<W>,
     waiting: &mut Buffer<'_>,
@@ -17,7 +17,7 @@ pub(crate) fn hand_on<W: Write>(
     Ok(())
 }
 
-/// Writes these bytes, however many the device takes at a time.
+/// Writes all of these bytes, however many the device takes at a time.
 pub(crate) fn write_whole<W: Write>(writer: &mut Device<W>, bytes: &[u8]) -> Result<(), RunFault> {
     let mut at = 0;
     while at < bytes.len() {

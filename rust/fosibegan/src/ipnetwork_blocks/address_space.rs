@@ -1,11 +1,11 @@
 // Written by scripts/plain out of crates/ipnetwork_blocks/src/address_space.rt
 
-//! The steps on addresses that blocks need beyond `CidrNetwork`.
+//! Operations on addresses that blocks need beyond `CidrNetwork`.
 
 use crate::ipnetwork_family::{Address, CidrNetwork, Network};
 
-/// The addresses of a family of networks, for code that steps from one to the next or looks at their bits. Every
-/// `Network<A>` has it. No call allocates.
+/// The addresses of a family of networks, for code that steps from one address to the next or looks
+/// at their bits. Every `Network<A>` implements it. No call allocates.
 ///
 /// ```
 /// # use fosibegan::in_examples::*;
@@ -14,7 +14,7 @@ use crate::ipnetwork_family::{Address, CidrNetwork, Network};
 /// assert_eq!(next, Some(Ipv4Addr::new(0, 0, 0, 1)));
 /// ```
 pub trait AddressSpace: CidrNetwork {
-    /// The network of all addresses: the address 0 and the prefix length 0.
+    /// Returns the network of all addresses: the address 0 with the prefix length 0.
     ///
     /// ```
     /// # use fosibegan::in_examples::*;
@@ -22,7 +22,8 @@ pub trait AddressSpace: CidrNetwork {
     /// ```
     fn whole() -> Self;
 
-    /// The network without host bits of this prefix length, which must be at most `WIDTH`, that holds the address.
+    /// Returns the network without host bits that has this prefix length and contains the address.
+    /// The prefix length must be at most `WIDTH`.
     ///
     /// ```
     /// # use fosibegan::in_examples::*;
@@ -31,7 +32,7 @@ pub trait AddressSpace: CidrNetwork {
     /// ```
     fn block_at(addr: Self::Addr, prefix: u8) -> Self;
 
-    /// The address after this one; `None` if it is the last of the family.
+    /// Returns the next address, or `None` if this is the last address of the family.
     ///
     /// ```
     /// # use fosibegan::in_examples::*;
@@ -40,7 +41,7 @@ pub trait AddressSpace: CidrNetwork {
     /// ```
     fn next_address(addr: Self::Addr) -> Option<Self::Addr>;
 
-    /// The address before this one; `None` if it is the first of the family.
+    /// Returns the previous address, or `None` if this is the first address of the family.
     ///
     /// ```
     /// # use fosibegan::in_examples::*;
@@ -49,7 +50,8 @@ pub trait AddressSpace: CidrNetwork {
     /// ```
     fn previous_address(addr: Self::Addr) -> Option<Self::Addr>;
 
-    /// The address `offset` addresses after this one. It must not be past the last address of the family.
+    /// Returns the address `offset` addresses after this one. It must not be past the last address
+    /// of the family.
     ///
     /// ```
     /// # use fosibegan::in_examples::*;
@@ -58,7 +60,8 @@ pub trait AddressSpace: CidrNetwork {
     /// ```
     fn plus(addr: Self::Addr, offset: u128) -> Self::Addr;
 
-    /// How many of their first bits two addresses share: the greatest prefix length with which they lie in one block.
+    /// Returns the number of leading bits that two addresses share: the greatest prefix length at
+    /// which one block contains both.
     ///
     /// ```
     /// # use fosibegan::in_examples::*;
@@ -67,7 +70,7 @@ pub trait AddressSpace: CidrNetwork {
     /// ```
     fn shared_bits(addr: Self::Addr, other: Self::Addr) -> u8;
 
-    /// The number of trailing zero bits of the address; `WIDTH` for the address 0.
+    /// Returns the number of trailing zero bits of the address: `WIDTH` for the address 0.
     ///
     /// ```
     /// # use fosibegan::in_examples::*;

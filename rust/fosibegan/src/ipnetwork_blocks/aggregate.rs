@@ -1,17 +1,18 @@
 // Written by scripts/plain out of crates/ipnetwork_blocks/src/aggregate.rt
 
-//! The least list of blocks with the union of given networks.
+//! The least list of blocks with the same union as a list of networks.
 
 use crate::plain_std::vec::Vec;
 use crate::ipnetwork_blocks::held_network::HoldsNetwork;
 use crate::ipnetwork_blocks::supernets::block;
 use crate::ipnetwork_family::CidrNetwork;
 
-/// Replaces the networks, which may have host bits, by their aggregate, at the front of the slice, and returns how many
-/// blocks it has: the blocks of the networks' union that lie in no larger block of it, in ascending order. No list of
-/// networks with the same union is shorter (`laws::least`). The rest of the slice holds unspecified networks.
+/// Replaces the networks, which may have host bits, with their aggregate at the front of the slice,
+/// and returns the number of its blocks. The aggregate is the list, in ascending order, of the
+/// blocks that lie in the networks' union but in no larger block of it. No list of networks with
+/// the same union is shorter (`laws::least`). The rest of the slice holds unspecified networks.
 ///
-/// Sorts the slice and goes over it once.
+/// Sorts the slice and makes one pass over it.
 ///
 /// ```
 /// # use fosibegan::in_examples::*;
@@ -26,8 +27,8 @@ pub fn aggregate_in_place<N: CidrNetwork>(networks: &mut [N]) -> usize {
     aggregate_held::<N, N>(networks)
 }
 
-/// Replaces the networks by their aggregate: the blocks that `aggregate_in_place` puts at the front, and nothing after
-/// them. Frees no memory: the capacity stays.
+/// Replaces the networks with their aggregate: the blocks that `aggregate_in_place` puts at the
+/// front. Frees no memory: the capacity does not change.
 ///
 /// ```
 /// # use fosibegan::in_examples::*;
@@ -44,11 +45,11 @@ pub fn aggregate_vec<N: CidrNetwork>(networks: &mut Vec<N>) {
     networks.truncate(count);
 }
 
-/// Does what `aggregate_in_place` does, for values that hold networks in a form of their own: replaces them by values
-/// that hold the aggregate, at the front of the slice, and returns how many these are. Each value must hold a network
-/// of the family of `N`. The rest of the slice holds unspecified networks.
+/// Like `aggregate_in_place`, but for values that hold networks: replaces them with values that
+/// hold the aggregate, at the front of the slice, and returns the number of its blocks. Each value
+/// must hold a network of the family of `N`. The rest of the slice holds unspecified networks.
 ///
-/// Sorts the slice and goes over it once.
+/// Sorts the slice and makes one pass over it.
 #[doc(hidden)]
 pub fn aggregate_held<N: CidrNetwork, H: HoldsNetwork<N>>(values: &mut [H]) -> usize {
     clear_host_bits::<N, H>(values);
@@ -56,15 +57,16 @@ pub fn aggregate_held<N: CidrNetwork, H: HoldsNetwork<N>>(values: &mut [H]) -> u
     join_sorted::<N, H>(values)
 }
 
-// Each network becomes its block.
+// Replaces each network with its block.
 fn clear_host_bits<N: CidrNetwork, H: HoldsNetwork<N>>(values: &mut [H]) {
     for value in values.iter_mut() {
         *value = H::holding(block(value.held_network()));
     }
 }
 
-// Aggregates blocks in order. Those that were read and not dropped stand in front, joined as far as they go, and
-// the next one lies in the last of them, or is joined with those at their end.
+// Aggregates sorted blocks. The aggregate of the blocks that were read is kept at the front. The
+// next block either lies in the last of these, or is added after them and joined with those at
+// their end.
 fn join_sorted<N: CidrNetwork, H: HoldsNetwork<N>>(values: &mut [H]) -> usize {
     let mut kept = 0;
     for next in 0..values.len() {
@@ -78,7 +80,7 @@ fn join_sorted<N: CidrNetwork, H: HoldsNetwork<N>>(values: &mut [H]) -> usize {
     kept
 }
 
-// Whether the block lies in the last of the others.
+// Returns whether the block lies in the last of the others.
 fn lies_in_last<N: CidrNetwork, H: HoldsNetwork<N>>(front: &[H], block: N) -> bool {
     match front.last() {
         Some(last) => block.is_subnet_of(last.held_network()),
@@ -86,8 +88,9 @@ fn lies_in_last<N: CidrNetwork, H: HoldsNetwork<N>>(front: &[H], block: N) -> bo
     }
 }
 
-// Joins the block with the last of those in front, and what comes of it with the one before, for as long as the two are
-// the halves of one block: how many in front are left, and what to put after them.
+// Joins the block with the last block in front, then the result with the one before that, and so on
+// while the two are halves of one block. Returns how many blocks in front remain, and the block to
+// put after them.
 fn join_back<N: CidrNetwork, H: HoldsNetwork<N>>(front: &[H], block: N) -> (usize, N) {
     let mut left = front.len();
     let mut joined = block;
@@ -103,7 +106,7 @@ fn join_back<N: CidrNetwork, H: HoldsNetwork<N>>(front: &[H], block: N) -> (usiz
     (left, joined)
 }
 
-// The block of which the two are the halves, if there is one.
+// Returns the block whose halves are these two, if there is one.
 fn join<N: CidrNetwork>(first: N, second: N) -> Option<N> {
     let prefix = first.prefix();
     if prefix == 0 || second.prefix() != prefix {

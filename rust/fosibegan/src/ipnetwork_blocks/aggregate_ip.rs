@@ -1,16 +1,16 @@
 // Written by scripts/plain out of crates/ipnetwork_blocks/src/aggregate_ip.rt
 
-//! The least list of blocks with the union of networks of either family.
+//! The least list of blocks with the same union as networks of either family.
 
 use crate::plain_std::vec::Vec;
 use crate::ipnetwork_blocks::aggregate::aggregate_held;
 use crate::ipnetwork::{IpNetwork, Ipv4Network, Ipv6Network};
 
-/// Replaces the networks by the aggregate of the IPv4 networks and, after it, that of the IPv6 networks, at the front
-/// of the slice, and returns how many blocks these are: for each family what `aggregate_in_place` makes of its
-/// networks. The rest of the slice holds unspecified networks.
+/// Replaces the networks with the aggregate of the IPv4 networks followed by the aggregate of the
+/// IPv6 networks, at the front of the slice, and returns the number of blocks. Each family is
+/// aggregated as by `aggregate_in_place`. The rest of the slice holds unspecified networks.
 ///
-/// Sorts each family and goes over it once.
+/// Sorts each family and makes one pass over it.
 ///
 /// ```
 /// # use fosibegan::in_examples::*;
@@ -30,8 +30,9 @@ pub fn aggregate_ip_in_place(networks: &mut [IpNetwork]) -> usize {
     v4_blocks + v6_blocks
 }
 
-/// Replaces the networks by the aggregate of the IPv4 networks and, after it, that of the IPv6 networks: the blocks
-/// that `aggregate_ip_in_place` puts at the front, and nothing after them. Frees no memory: the capacity stays.
+/// Replaces the networks with the aggregate of the IPv4 networks followed by the aggregate of the
+/// IPv6 networks: the blocks that `aggregate_ip_in_place` puts at the front. Frees no memory: the
+/// capacity does not change.
 ///
 /// ```
 /// # use fosibegan::in_examples::*;
@@ -48,7 +49,7 @@ pub fn aggregate_ip_vec(networks: &mut Vec<IpNetwork>) {
     networks.truncate(count);
 }
 
-// Puts the IPv4 networks before the IPv6 networks, and returns how many there are.
+// Moves the IPv4 networks before the IPv6 networks, and returns the number of IPv4 networks.
 fn put_v4_first(networks: &mut [IpNetwork]) -> usize {
     let mut v4_count = 0;
     for next in 0..networks.len() {

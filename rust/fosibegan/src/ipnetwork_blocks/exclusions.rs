@@ -7,7 +7,8 @@ use crate::ipnetwork_blocks::address_space::AddressSpace;
 use crate::ipnetwork_blocks::range_blocks::RangeBlocks;
 use crate::plain_std::alloc::AllocError;
 
-/// An iterator over the blocks of the addresses of a network that are not in another, in ascending order.
+/// An iterator over the least list of blocks for the addresses of a network that are not in
+/// another, in ascending order.
 ///
 /// ```
 /// # use fosibegan::in_examples::*;
@@ -36,12 +37,12 @@ where
     }
 }
 
-/// The blocks of the addresses of `network` that are not in `inner`: the fewest possible, in ascending order. Host bits
-/// of either are ignored.
+/// Returns the blocks of the addresses of `network` that are not in `inner`: as few as possible, in
+/// ascending order. The host bits of both are ignored.
 ///
-/// If `inner` has all addresses of `network`, there is no block, and if it has none of them, the only one is the block
-/// of `network`. Otherwise `inner` lies within the network, and there is one block for each bit by which its prefix
-/// length is greater.
+/// If `inner` contains all of `network`, there are no blocks. If they share no address, the only
+/// block is that of `network`. Otherwise `inner` lies within `network`, and there is one block for
+/// each bit by which its prefix length is longer.
 ///
 /// ```
 /// # use fosibegan::in_examples::*;
@@ -54,7 +55,7 @@ where
 /// # });
 /// ```
 pub fn exclude<N: AddressSpace>(network: N, inner: N) -> Exclusion<N> {
-    // The clauses of these calls say that both are networks of addresses of WIDTH bits.
+    // The contracts of these calls say that both are valid networks of `WIDTH` bits.
     let _ = network.ip();
     let _ = inner.ip();
     let first = network.network();
@@ -71,7 +72,7 @@ pub fn exclude<N: AddressSpace>(network: N, inner: N) -> Exclusion<N> {
     }
 }
 
-// The blocks of the addresses from `first` to the last one before the network.
+// Returns the blocks of the addresses from `first` to the last one before the network.
 fn blocks_before<N: AddressSpace>(first: N::Addr, network: N) -> RangeBlocks<N> {
     match N::previous_address(network.network()) {
         Some(last) => RangeBlocks::between_or_none(first, last),
@@ -79,7 +80,7 @@ fn blocks_before<N: AddressSpace>(first: N::Addr, network: N) -> RangeBlocks<N> 
     }
 }
 
-// The blocks of the addresses from the first one after the network to `last`.
+// Returns the blocks of the addresses from the first one after the network to `last`.
 fn blocks_behind<N: AddressSpace>(network: N, last: N::Addr) -> RangeBlocks<N> {
     match N::next_address(network.broadcast()) {
         Some(next) => RangeBlocks::between_or_none(next, last),

@@ -4,8 +4,8 @@
 
 use crate::ipnetwork_blocks::address_space::AddressSpace;
 
-/// The block of the same prefix length that begins right after the greatest member of the network; `None` if that
-/// member is the last address of the family.
+/// Returns the block of the same prefix length that begins just after the highest address of the
+/// network, or `None` if that address is the last of the family.
 ///
 /// ```
 /// # use fosibegan::in_examples::*;

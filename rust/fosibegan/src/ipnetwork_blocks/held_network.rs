@@ -1,14 +1,14 @@
 // Written by scripts/plain out of crates/ipnetwork_blocks/src/held_network.rt
 
-//! Values that hold a network of one family, so that one pass aggregates a list of such networks as well as the
-//! part of a list of both families that is of one.
+//! Values that hold a network of one family. They let the same code aggregate a list of networks of
+//! one family and the networks of one family in a list of both.
 
 use crate::ipnetwork::{IpNetwork, Ipv4Network, Ipv6Network};
 use crate::ipnetwork_family::CidrNetwork;
 
-/// A value that may hold a network of the family of `N`, so that lists of such values are aggregated as they stand in
-/// memory. Values that do are ordered as their networks are. A network holds itself, and an `IpNetwork` holds one of
-/// either family.
+/// A value that may hold a network of the family of `N`, so that lists of such values are
+/// aggregated in place. Values that hold one are ordered as their networks are. A network holds
+/// itself, and an `IpNetwork` holds a network of either family.
 ///
 /// ```
 /// # use fosibegan::in_examples::*;
@@ -20,7 +20,7 @@ use crate::ipnetwork_family::CidrNetwork;
 /// # });
 /// ```
 pub trait HoldsNetwork<N: CidrNetwork>: Copy + Ord {
-    /// The network that the value holds; it must hold one of the family of `N`.
+    /// Returns the network that the value holds. The value must hold one of the family of `N`.
     ///
     /// ```
     /// # use fosibegan::in_examples::*;
@@ -32,7 +32,7 @@ pub trait HoldsNetwork<N: CidrNetwork>: Copy + Ord {
     /// ```
     fn held_network(self) -> N;
 
-    /// The value that holds the network.
+    /// Returns the value that holds the network.
     ///
     /// ```
     /// # use fosibegan::in_examples::*;

@@ -4,8 +4,8 @@
 
 use crate::ipnetwork_blocks::address_space::AddressSpace;
 
-/// The block of the same prefix length that ends right before the least member of the network; `None` if that member is
-/// the first address of the family.
+/// Returns the block of the same prefix length that ends just before the lowest address of the
+/// network, or `None` if that address is the first of the family.
 ///
 /// ```
 /// # use fosibegan::in_examples::*;

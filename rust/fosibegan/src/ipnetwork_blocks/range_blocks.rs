@@ -5,7 +5,7 @@
 use crate::ipnetwork_blocks::address_space::AddressSpace;
 use crate::plain_std::alloc::AllocError;
 
-/// An iterator over the blocks of a range of addresses, in ascending order.
+/// An iterator over the least list of blocks for a range of addresses, in ascending order.
 ///
 /// ```
 /// # use fosibegan::in_examples::*;
@@ -24,11 +24,11 @@ pub struct RangeBlocks<N: AddressSpace> {
     is_done: bool,
 }
 
-/// The blocks whose addresses are those from `first` to `last`, both included: the fewest possible, in ascending order.
-/// `None` if `first` comes after `last`.
+/// Returns the blocks whose addresses are those from `first` to `last`, both included: as few as
+/// possible, in ascending order. Returns `None` if `first` comes after `last`.
 ///
-/// For addresses of W bits there are at most 2 W - 2 blocks: 62 for IPv4 and 254 for IPv6. The whole address space is
-/// one block, of prefix length 0.
+/// There are at most 62 blocks for IPv4 and 254 for IPv6: 2 W - 2 for addresses of W bits, if W is
+/// at least 2. The whole address space is one block, of prefix length 0.
 ///
 /// ```
 /// # use fosibegan::in_examples::*;
@@ -48,7 +48,7 @@ pub fn range_to_blocks<N: AddressSpace>(first: N::Addr, last: N::Addr) -> Option
 }
 
 impl<N: AddressSpace> RangeBlocks<N> {
-    /// The blocks of the addresses from `first` to `last`, both included.
+    /// Returns the blocks of the addresses from `first` to `last`, both included.
     pub(crate) fn between(first: N::Addr, last: N::Addr) -> Self {
         // The clause `address` of this call says that `last` is an address of the family.
         let _ = N::block_at(last, N::WIDTH);
@@ -59,7 +59,7 @@ impl<N: AddressSpace> RangeBlocks<N> {
         }
     }
 
-    /// No blocks. Any address will do.
+    /// Returns no blocks. Any address can be passed.
     pub(crate) fn none(address: N::Addr) -> Self {
         let _ = N::block_at(address, N::WIDTH);
         RangeBlocks {
@@ -69,7 +69,8 @@ impl<N: AddressSpace> RangeBlocks<N> {
         }
     }
 
-    /// The blocks of the addresses from `first` to `last`, and none if `first` comes after `last`.
+    /// Returns the blocks of the addresses from `first` to `last`, or none if `first` comes after
+    /// `last`.
     pub(crate) fn between_or_none(first: N::Addr, last: N::Addr) -> Self {
         match range_to_blocks(first, last) {
             Some(blocks) => blocks,
@@ -98,19 +99,20 @@ impl<N: AddressSpace> Iterator for RangeBlocks<N> {
     }
 }
 
-// Whether the network ends before the address.
+// Returns whether the network ends before the address.
 fn ends_before<N: AddressSpace>(network: N, address: N::Addr) -> bool {
     network.broadcast() < address
 }
 
-// Whether the network ends after the address.
+// Returns whether the network ends after the address.
 fn ends_behind<N: AddressSpace>(network: N, address: N::Addr) -> bool {
     address < network.broadcast()
 }
 
-// The widest block that begins at `first` and ends at `last` or before. If `first` ends with fewer zeros than there are
-// bits after those that it shares with `last`, it is that of the zeros. If not, it is the least block that holds both
-// if that ends with `last`, and its lower half if not.
+// Returns the widest block that begins at `first` and does not end after `last`. If `first` has
+// fewer trailing zeros than there are bits after those that it shares with `last`, it is the block
+// with these zeros as host bits. Otherwise it is the smallest block that contains both if that ends
+// at `last`, or else the lower half of that block.
 fn widest_block<N: AddressSpace>(first: N::Addr, last: N::Addr) -> N {
     let aligned = N::WIDTH - N::trailing_zeros(first);
     let shared = N::shared_bits(first, last);

@@ -1,12 +1,12 @@
 // Written by scripts/plain out of crates/ipnetwork_blocks/src/spanning_block.rt
 
-//! The smallest block around networks.
+//! The smallest block that contains a list of networks.
 
 use crate::ipnetwork_blocks::address_space::AddressSpace;
 use crate::ipnetwork_blocks::supernets::block;
 
-/// The smallest block that has all members of each of the networks: it lies in every other network that has them.
-/// `None` if there are no networks.
+/// Returns the smallest block that contains all of the networks: it lies in every other network
+/// that contains them all. Returns `None` if there are no networks.
 ///
 /// ```
 /// # use fosibegan::in_examples::*;
@@ -27,7 +27,7 @@ pub fn spanning<N: AddressSpace>(networks: &[N]) -> Option<N> {
     Some(around)
 }
 
-// The smallest block that has all members of both networks.
+// Returns the smallest block that contains both networks.
 fn around_both<N: AddressSpace>(first: N, second: N) -> N {
     let begin = first.network();
     let shared = N::shared_bits(begin, second.network());

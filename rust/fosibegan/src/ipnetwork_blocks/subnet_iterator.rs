@@ -24,9 +24,10 @@ pub struct SubnetIterator<N: AddressSpace> {
     last: N,
 }
 
-/// The blocks of this prefix length within the network, each once, in ascending order: 2^(`prefix` - n) of them, where
-/// n is the network's own prefix length. If `prefix` is n, that is only the network's own block. `None` for a prefix
-/// length that is shorter than the network's or greater than `WIDTH`.
+/// Returns the blocks of this prefix length within the network, each once, in ascending order:
+/// 2^(`prefix` - n) of them, where n is the network's own prefix length. If `prefix` is n, the only
+/// block is the network's own. Returns `None` if `prefix` is shorter than n or greater than
+/// `WIDTH`.
 ///
 /// ```
 /// # use fosibegan::in_examples::*;

@@ -16,6 +16,7 @@ invariant-lines g l = record {
   writer_works : has_failed l.writer ≡ has_failed l.initial.writer;
 }
 
--- the bytes that may still be read, and the end of the input, each before all lines that the buffer may have
+-- a measure that decreases: first the bytes that may still be read and whether the input has ended, then the lines left
+-- in the buffer
 abbrev pub decreases-lines : goal.decreases-lines
 decreases-lines g l = (l.room + (if l.lines.ended then 0 else 1)) * 65538 + work l.lines

@@ -23,7 +23,7 @@ returns-then-shared-aligned g c =
       maximal = subst (λ (b : Network). IsMaximalIn w (FromTo first last) b) (sym c.block_at.ensures.made) (widest_fits w first last _ _ _ e is early);
     }
 
--- the bits that both ends share are at least as many as those before the zeros of the first
+-- both ends share at least as many bits as there are before the trailing zeros of the first
 ends : (g : Over) (c : After-block_at-block g)
     → AreEnds g.N.CidrNetwork.WIDTH (g.N.CidrNetwork.number c.args.first) (g.N.CidrNetwork.number c.args.last) c.trailing_zeros.result c.shared_bits-shared.result
     × (c.shared_bits-shared.result ≡ max (g.N.CidrNetwork.WIDTH - c.trailing_zeros.result) c.shared_bits-shared.result)

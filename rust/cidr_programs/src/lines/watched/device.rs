@@ -1,14 +1,15 @@
 // Written by scripts/plain out of crates/lines/src/watched/device.rt
 
-//! A device that is not called again once a call of it has failed.
+//! A device that is not called again after a call has failed.
 
 use fosibegan::plain_std::io;
 use fosibegan::plain_std::io::{Read, Write};
 
 /// A reader or a writer, and whether a call of it has failed.
 ///
-/// `read`, `write` and `flush` require a device that has not failed, and the rest of the crate uses only these.
-/// `try_read`, `try_write` and `try_flush`, which call a device even if it has failed, are only for `Watched`.
+/// `read`, `write` and `flush` require a device that has not failed, and the rest of the crate uses
+/// only these. `try_read`, `try_write` and `try_flush`, which call a device even if it has failed,
+/// are only for `Watched`.
 pub(crate) struct Device<D> {
     inner: D,
     failed: bool,
@@ -22,7 +23,7 @@ impl<D> Device<D> {
         }
     }
 
-    /// Whether a call failed.
+    /// Returns whether a call of the device has failed.
     pub(crate) fn failed(&self) -> bool {
         self.failed
     }
@@ -33,7 +34,7 @@ impl<D> Device<D> {
 }
 
 impl<D: Read> Device<D> {
-    /// Asks the device, which has not failed, for bytes, once.
+    /// Reads from the device, in one call. The device must not have failed.
     pub(crate) fn read(&mut self, buf: &mut [u8]) -> io::Result<usize> {
         self.try_read(buf)
     }
@@ -48,12 +49,12 @@ impl<D: Read> Device<D> {
 }
 
 impl<D: Write> Device<D> {
-    /// Offers the device, which has not failed, these bytes, once.
+    /// Writes these bytes to the device, in one call. The device must not have failed.
     pub(crate) fn write(&mut self, buf: &[u8]) -> io::Result<usize> {
         self.try_write(buf)
     }
 
-    /// Asks the device, which has not failed, to pass on what it took, once.
+    /// Flushes the device, in one call. The device must not have failed.
     pub(crate) fn flush(&mut self) -> io::Result<()> {
         self.try_flush()
     }

@@ -1,6 +1,6 @@
 // Written by scripts/plain out of crates/lines/src/watched/whole.rt
 
-//! Whole texts that are written to a device, unless a call of it has failed.
+//! Writes whole texts to a device, unless a call of it has failed.
 
 use crate::lines::fault::RunFault;
 use crate::lines::watched::Watched;
@@ -10,8 +10,9 @@ use fosibegan::plain_std::io::Write;
 impl<D: Write> Watched<D> {
     /// Writes all of these bytes, in as many calls as the device needs.
     ///
-    /// The error means that a write failed, now or earlier: a beginning of the bytes was written. A device that had
-    /// failed is not called. Does not allocate, unless the device does.
+    /// Returns `RunFault::Write` if a write failed, now or earlier. Then a beginning of the bytes
+    /// was written, and a device that had failed before was not called. Does not allocate, unless
+    /// the device does.
     ///
     /// ```
     /// # use cidr_programs::in_examples::*;
@@ -29,8 +30,8 @@ impl<D: Write> Watched<D> {
 
     /// Flushes the device, in one call.
     ///
-    /// The error means that the flush failed, or a call before it: then the device is not called. Does not allocate,
-    /// unless the device does.
+    /// Returns `RunFault::Write` if the flush failed, or a call before it. A device that had failed
+    /// before is not called. Does not allocate, unless the device does.
     ///
     /// ```
     /// # use cidr_programs::in_examples::*;

@@ -7,7 +7,7 @@ use Rattle.ipnetwork_blocks.proofs.subnet_iterator.SubnetIteratorIterator.next.G
 use Rattle.ipnetwork_blocks.proofs.subnet_iterator.SubnetIteratorIterator.next.Goals as goal
 use Rattle.ipnetwork_blocks.proofs.subnet_iterator.SubnetIteratorIterator.next.Goals.{Joined-eq, then-eq, else-eq}
 
--- what the step makes of the run
+-- how the step changes the run
 steps : (g : Over) (c : Joined-eq g) → Steps g.N.CidrNetwork.WIDTH g.N.CidrNetwork.pair (g.N.CidrNetwork.pair c.in_ok-item.item) (g.N.CidrNetwork.pair c.self.inside.last) c.if-eq.self
 steps g c =
     let w : ℕ = g.N.CidrNetwork.WIDTH in
