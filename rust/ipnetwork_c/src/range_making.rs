@@ -20,8 +20,7 @@ pub(crate) fn make<N: AddressSpace, H: SearchHint<N>>(
     ranges: &mut [H],
     places: &mut [usize],
     count: &mut usize,
-) -> u32
-{
+) -> u32 {
     if !all_fit::<N, H>(blocks) {
         return PREFIX;
     }
@@ -43,8 +42,7 @@ pub(crate) fn make_numbered<N: AddressSpace, H: SearchHint<N>>(
     ranges: &mut [H],
     beside: &mut [usize],
     count: &mut usize,
-) -> u32
-{
+) -> u32 {
     if numbers.len() < blocks.len() {
         return SHORT_BUFFER;
     }
@@ -72,8 +70,7 @@ fn number_at(numbers: &[usize], place: usize) -> usize {
 }
 
 // Puts where each block begins, and where it has ended, and returns how many these are.
-fn put_cuts<N: AddressSpace, H: SearchHint<N>>(blocks: &[H], ranges: &mut [H]) -> usize
-{
+fn put_cuts<N: AddressSpace, H: SearchHint<N>>(blocks: &[H], ranges: &mut [H]) -> usize {
     let mut count = 0;
     for row in 0..blocks.len() {
         count = put_ends::<N, H>(blocks[row].held_network(), ranges, count);
@@ -83,8 +80,7 @@ fn put_cuts<N: AddressSpace, H: SearchHint<N>>(blocks: &[H], ranges: &mut [H]) -
 
 // Puts after so many others where the block begins, and the address after its last, if there is
 // one.
-fn put_ends<N: AddressSpace, H: SearchHint<N>>(block: N, ranges: &mut [H], count: usize) -> usize
-{
+fn put_ends<N: AddressSpace, H: SearchHint<N>>(block: N, ranges: &mut [H], count: usize) -> usize {
     let _ = block.prefix();
     put_first::<N, H>(block.network(), ranges, count);
     match N::next_address(block.broadcast()) {

@@ -77,8 +77,7 @@ fn place_by_halves<N: AddressSpace, H: SearchHint<N>>(
     places: &[usize],
     index: &[u32],
     number: H::Number,
-) -> usize
-{
+) -> usize {
     let count = upper_bound_by_halves::<N, H>(ranges, index, number);
     found_before(places, count)
 }

@@ -62,8 +62,7 @@ fn found_by_halves<N: AddressSpace, H: Numbered<N>>(
     list: &[H],
     index: &[u32],
     number: H::Number,
-) -> Option<u8>
-{
+) -> Option<u8> {
     let count = upper_bound_by_halves::<N, H>(list, index, number);
     answer_after::<N, H>(list, count, number)
 }

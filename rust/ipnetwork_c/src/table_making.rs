@@ -43,8 +43,7 @@ fn order_between<N: AddressSpace, H: Listed<N>>(
     networks: &[H],
     first: usize,
     second: usize,
-) -> Ordering
-{
+) -> Ordering {
     let one = block_in::<N, H>(networks, first);
     let other = block_in::<N, H>(networks, second);
     one.cmp(&other).then(first.cmp(&second))

@@ -14,8 +14,7 @@ pub(crate) fn upper_bound<N: AddressSpace, H: SearchHint<N>>(
     list: &[H],
     index: &[u32],
     number: H::Number,
-) -> usize
-{
+) -> usize {
     let guess = guess_by_last::<N, H>(list, index, number);
     match upper_bound_at_once::<N, H>(list, number, guess) {
         Some(count) => count,
@@ -192,8 +191,7 @@ fn end_of<N: AddressSpace, H: Numbered<N>>(
     part: usize,
     from: usize,
     number: H::Number,
-) -> usize
-{
+) -> usize {
     let count = list.len();
     let end = part_end(index, part, count);
     if end < from || end >= count || begins_up_to::<N, H>(list[end], number) {

@@ -74,8 +74,7 @@ fn tell_needed<E: Write>(number: u32, errors: &mut Output<'_, E>) {
 }
 
 // Reports where the addresses of a line are looked for.
-fn tell_where<E: Write>(part: &Part<'_>, errors: &mut Output<'_, E>)
-{
+fn tell_where<E: Write>(part: &Part<'_>, errors: &mut Output<'_, E>) {
     match part {
         Part::Field { number, .. } => tell_nth("in field ", *number, errors),
         Part::Word(number) => tell_nth("in word ", *number, errors),

@@ -20,8 +20,7 @@ pub fn place_of<K: Key>(keys: &[K], starts: &[u32], base: K, shift: u32, key: K)
 
 // The same, from where the search in the part begins.
 #[inline(always)]
-fn place_from_start<K: Key>(keys: &[K], starts: &[u32], part: usize, start: usize, key: K) -> usize
-{
+fn place_from_start<K: Key>(keys: &[K], starts: &[u32], part: usize, start: usize, key: K) -> usize {
     let below = below_of_four::<K>(keys, start, 0, key);
     if below == 4 {
         return place_in_part::<K>(keys, starts, part, start + 4, key);
@@ -33,8 +32,7 @@ fn place_from_start<K: Key>(keys: &[K], starts: &[u32], part: usize, start: usiz
 // less, as it is if the starts are those of the keys. Not inlined, so that a search that ends with
 // the first four keys is short.
 #[inline(never)]
-fn place_in_part<K: Key>(keys: &[K], starts: &[u32], part: usize, from: usize, key: K) -> usize
-{
+fn place_in_part<K: Key>(keys: &[K], starts: &[u32], part: usize, from: usize, key: K) -> usize {
     let end = end_of_part(starts, part, from, keys.len() - 4);
     if keys[end].is_less(key) {
         return place_beyond::<K>(keys, from, key);

@@ -71,8 +71,7 @@ fn quarter_of<N: AddressSpace>(
     addr: N::Addr,
     from: usize,
     left: usize,
-) -> (usize, usize)
-{
+) -> (usize, usize) {
     let quarter = size_of_quarter(left);
     let first = begins_up_to(blocks[from + (quarter - 1)], addr);
     let second = begins_up_to(blocks[from + (2 * quarter - 1)], addr);

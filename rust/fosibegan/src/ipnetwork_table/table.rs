@@ -243,8 +243,7 @@ impl<N: CidrNetwork, V: Copy> PrefixTable<N, V> {
 
     // `lookup` where no stored block of a prefix length above `most` holds the address: asks for the blocks of the
     // other prefix lengths in turn, without those that no stored block has.
-    fn longest_up_to(&self, steps: &mut u32, addr: N::Addr, most: u8) -> Option<(N, V)>
-    {
+    fn longest_up_to(&self, steps: &mut u32, addr: N::Addr, most: u8) -> Option<(N, V)> {
         let mut length = most;
         'shorter: loop {
             if self.has_length(length) {
