@@ -79,9 +79,9 @@ same_members w lasts x at n p h c nn =
           (cases_lt x (low w n))),
     )
 
--- ---- what is told of a number
+-- ---- what an answer says about a number
 
--- what is found is told by its prefix length
+-- the answer follows from the prefix length of what is found
 pub told : {V : Type 0} (w : ℕ) (t : FinMap network_cmp V) (x prefix : ℕ) (n : Network) (value : V)
     → w ≤ 128 → HasOnlyBlocks w t → IsLongest w t x n value → prefix ≡ n.prefix
     → Tells w t x prefix value
@@ -101,7 +101,7 @@ pub none_told : {V : Type 0} (w : ℕ) (t : FinMap network_cmp V) (x : ℕ) (val
     → NoneHolds w t x → Tells w t x 255 value
 none_told w t x value h = record { none = λ _. h; found = λ ne. absurd (ne refl) }
 
--- ---- what is told of a number also holds for the numbers in the same blocks
+-- ---- an answer for a number also holds for the numbers in the same blocks
 
 told_moves : {V : Type 0} (w : ℕ) (t : FinMap network_cmp V) (prefixes : List ℕ) (values : List V)
     (at x y : ℕ)
@@ -154,7 +154,7 @@ answered w t lasts prefixes values blocks c a =
     })
     a
 
--- ---- an answer made from what is told is what a look-up finds
+-- ---- the entry made from an answer is what a look-up finds
 
 pub made_finds : {N V : Type 0} (pair : N → Network) (w : ℕ) (t : FinMap network_cmp V)
     (prefixes : List ℕ) (values : List V) (x at : ℕ) (answer : Option (N × V))

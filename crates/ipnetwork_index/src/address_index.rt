@@ -44,7 +44,7 @@ impl<N: IndexedNetwork> Model for AddressIndex<N> {
 }
 
 impl<N: IndexedNetwork> AddressIndex<N> {
-    /// The index of a set. Goes over its blocks once, and leaves the set unchanged.
+    /// The index of a set. Goes over its blocks once. `AllocError` when out of memory.
     ///
     /// ```
     /// let networks = vec![in rt.alloc(); "2001:db8::/32".parse::<Ipv6Network>()?]?;
@@ -69,7 +69,7 @@ impl<N: IndexedNetwork> AddressIndex<N> {
     }
 
     /// The index of the addresses of networks, which may have host bits and be in any order. Sorts
-    /// them in place.
+    /// them in place. `AllocError` when out of memory.
     ///
     /// ```
     /// let networks = vec![in rt.alloc(); "192.0.2.9/25".parse::<Ipv4Network>()?]?;

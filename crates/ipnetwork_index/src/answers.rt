@@ -10,7 +10,7 @@ use crate::sweep::answers_by_sweep;
 use ipnetwork_table::{PrefixTable, laws};
 use std::alloc::{AllocError, Global};
 
-// Stands for a prefix length if no block holds the addresses of the range.
+// Takes the place of a prefix length if no block holds the addresses of the range.
 pub(crate) const NO_BLOCK: u8 = 255;
 
 /// What a look-up finds in each range, without the address of the block, which is computed from the

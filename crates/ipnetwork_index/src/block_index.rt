@@ -44,7 +44,8 @@ impl<N: IndexedNetwork, V: Copy> Model for BlockIndex<N, V> {
 
 impl<N: IndexedNetwork, V: Copy> BlockIndex<N, V> {
     /// The index of the blocks of networks, which may have host bits and be in any order; each
-    /// block gets this value. Sorts the blocks, and the places where they begin and end.
+    /// block gets this value. Sorts the blocks, and where they begin and end. `AllocError` when out
+    /// of memory.
     ///
     /// ```
     /// let networks = ["2001:db8::1/32".parse::<Ipv6Network>()?];

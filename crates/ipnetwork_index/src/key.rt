@@ -24,6 +24,7 @@ pub trait Key: Copy {
 
     /// The part in which this number lies, if the parts begin at `base` and have 2^`shift` numbers
     /// each: the first for the numbers before `base`, and the part `last` for those after it.
+    /// `shift` must be less than the number of bits.
     ///
     /// ```
     /// assert_eq!(rt; 259u32.part_of(3, 6, 9), 4);

@@ -50,7 +50,8 @@ impl<N: IndexedNetwork, V: Copy> Model for RouteIndex<N, V> {
 impl<N: IndexedNetwork, V: Copy> RouteIndex<N, V> {
     /// The index of a table. Sorts the places where its blocks begin and end, and goes over the
     /// blocks and the ranges between them in order. At most one block of each prefix length is open
-    /// at once, so the open blocks need no allocation. If memory runs out, the table is dropped.
+    /// at once, so the open blocks need no allocation. If memory runs out, the result is
+    /// `AllocError` and the table is dropped.
     ///
     /// ```
     /// let mut table = PrefixTable::new(rt.alloc());
@@ -67,7 +68,8 @@ impl<N: IndexedNetwork, V: Copy> RouteIndex<N, V> {
     }
 
     /// The index of networks with values, which may have host bits and be in any order: that of a
-    /// table of their blocks. Of several with the same block, the last one counts.
+    /// table of their blocks. Of several with the same block, the last one counts. `AllocError`
+    /// when out of memory.
     ///
     /// ```
     /// let entries = [("10.0.0.0/8".parse::<Ipv4Network>()?, 2), ("10.1.9.32/16".parse()?, 3)];

@@ -7,8 +7,8 @@ use crate::key::Key;
 use crate::simd_step::below_of_four;
 
 /// The place of the first key that is not less than `key`. The keys must ascend, and none of the
-/// last four may be less than `key`. For each part of the numbers from `base` on, `starts` has a
-/// place where the search may begin, as `write_starts` writes it.
+/// last four may be less than `key`. For each part of 2^`shift` numbers from `base` on, `starts`
+/// has a place where the search may begin, as `write_starts` writes it.
 ///
 /// The search reads the four keys from there on. Only if all of them are less than `key`, it goes
 /// on within the part, in steps that shrink: if n keys lie in the part, it reads some 2 log2(n) of

@@ -73,9 +73,9 @@ pub(crate) fn span_of<K: Key>(keys: &[K], bits: u32) -> (K, u32)
 
 /// Writes, for each part of the numbers from `base` on, the place where the search for a number of
 /// the part may begin: how many of the keys are less than each of these numbers, or fewer if that
-/// is 2^32 or more. Each part has 2^`shift` numbers. There are as many parts as elements of
-/// `starts`, at least one; the last part also has the numbers after it, and the first one those
-/// before it.
+/// is 2^32 or more. Each part has 2^`shift` numbers; `shift` must be less than the number of bits
+/// of a key. There are as many parts as elements of `starts`, at least one; the last part also has
+/// the numbers after it, and the first one those before it.
 ///
 /// ```
 /// let mut starts = [0, 0, 0];

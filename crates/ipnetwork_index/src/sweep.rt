@@ -94,7 +94,7 @@ fn close_before<N: IndexedNetwork, V: Copy>(
     }
 }
 
-// The prefix length and the value of the last open block.
+// The prefix length and the value of the last open block, or `NO_BLOCK` and any value.
 fn innermost<N: IndexedNetwork, V: Copy>(entries: &[(N, V)], opened: &[usize]) -> (u8, V)
     requires some { 1 ≤ length entries.now }
     requires places { ArePlaces (by_pair N.pair entries.now) opened.now }
