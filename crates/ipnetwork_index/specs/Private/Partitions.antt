@@ -8,7 +8,7 @@ pub record IsPartition (w : ℕ) (lasts : List ℕ) : Type 0 where
   pub some : 1 ≤ length lasts
   pub last : (k : ℕ) → k + 1 ≡ length lasts → get_or lasts k 0 + 1 ≡ 2 ^ w
 
--- x lies in the range at this place: after the last number of each range before it, and not after its own
+-- x lies in the range at this place: it is greater than the last number of each range before, and at most this one's
 pub record LiesAt (lasts : List ℕ) (x at : ℕ) : Type 0 where
   pub one : at < length lasts
   pub after : (k : ℕ) → k < at → get_or lasts k 0 < x
