@@ -155,7 +155,7 @@ third_quarter_is_not_first h = omega (arith, h.first (net 2 2) second_quarter)
 pub some_quarter_is_free : ¬ (NoBlockIsFree 3 (net 0 0) (net 0 2 ∷ []) 2)
 some_quarter_is_free none = none (net 2 2) second_quarter
 
--- for any networks: the first free block is free, no free block begins before it, and if a block is free, then some is
+-- for any networks: the first free block is free, no free block begins before it, and there is one if a block is free
 pub first_is_free : (w p : ℕ) (n b : Network) (ns : List Network) → IsFirstFree w n ns p b → IsFreeBlock w n ns p b
 first_is_free w p n b ns h = h.one
 

@@ -58,7 +58,7 @@ module _ (w : ℕ) (n : Network) (a all : List Network) (p : ℕ) (networks : Ag
       let lies : LiesInUnion w o all = λ x m. (shortest.addresses x).1 (f.within x m, λ u. f.free (x, m, u)) in
       (networks w all all set o f.block.network).0 lies
 
-  -- the block that it lies in has no longer prefix length, and does not begin after it
+  -- the block that it lies in has a prefix length of at most p, and begins no later
   as_wide : (o b : Network) → IsFreeBlock w n a p o → Contains all b → Subnet w o b → b.prefix ≤ p
   as_wide o b f c sub =
       let l = subnet_prefix w o b f.block.network (maximal b c).network sub in

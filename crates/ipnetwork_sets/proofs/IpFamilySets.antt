@@ -50,7 +50,7 @@ pub either : IsOperation InEither InIpEither
 either = record { v4 = λ a b x. or_iff (in_v4 a x) (in_v4 b x); v6 = λ a b x. or_iff (in_v6 a x) (in_v6 b x) }
 
 module _ {F : ℕ → List Network → List Network → ℕ → Type 0} {G : List IpNetwork → List IpNetwork → IpAddr → Type 0} (op : IsOperation F G) where
-  -- the result of an operation is the blocks of its results for each family, put together
+  -- the result of an operation is its results for each family, put together
   pub least_of_families : (a b : List IpNetwork) (a4 b4 a6 b6 r4 r6 : List Network) (r : List IpNetwork)
       → a4 ≡ filter_map as_v4 a → b4 ≡ filter_map as_v4 b → a6 ≡ filter_map as_v6 a → b6 ≡ filter_map as_v6 b
       → IsLeastList 32 (F 32 a4 b4) r4 → IsLeastList 128 (F 128 a6 b6) r6 → r ≡ v4_then_v6 r4 r6 → IsIpLeastList (G a b) r

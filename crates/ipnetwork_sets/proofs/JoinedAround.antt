@@ -258,7 +258,7 @@ module _ (w : ℕ) (bs : List Network) (n : Network) (law : AggregateIsApart) (h
       } in
       subst (λ (v : Network). IsJoinedTo w bs n first (behind + 1) v) (sym s.joined) step
 
-  -- if neither neighbor is the other half, the list is that of the set with the network added
+  -- if neither the block before nor the one after is the other half, the list is that of the set with the network added
   pub joining_ends : (first behind : ℕ) (b : Network) → IsJoinedTo w bs n first behind b → NoHalfBefore w bs first b → NoHalfBehind w bs b behind
       → IsLeastList w (InEither w bs (n ∷ [])) (take first bs ++ b ∷ drop behind bs)
   joining_ends first behind b j none_before none_behind =

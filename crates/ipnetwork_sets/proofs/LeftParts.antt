@@ -135,7 +135,7 @@ widest_half w whole piece half b bs p at long nb inside =
 
 -- ---- the next piece
 
--- what holds throughout as the blocks around the piece are tried: a block within the whole ends where the piece does
+-- as the blocks around the piece are tried, `ended` is a block within the whole that ends where the piece does
 pub record EndsWith (w : ℕ) (whole piece ended : Network) : Type 0 where
   pub part : IsPiece w whole ended
   pub end : high w ended ≡ high w piece
@@ -176,7 +176,7 @@ module _ (w : ℕ) (whole piece ended around_it : Network) (h : EndsWith w whole
       let fits = ended_network.prefix_fits in
       ap (block_size w) around_it_prefix ∙ size_half w (ended.prefix - 1) (omega arith) ∙ ap (λ k. block_size w k + block_size w k) back
 
-  -- the block begins with its parent, or half the size of the parent later
+  -- the block begins where its parent does, or half the parent's size later
   where_it_begins : (ended.address ≡ around_it.address) ⊎ (ended.address ≡ around_it.address + block_size w ended.prefix)
   where_it_begins =
       let base : low w (parent w ended) ≡ around_it.address = ap (low w) (sym is) ∙ sym around_it_block in

@@ -19,7 +19,7 @@ use Rattle.ipnetwork_sets.proofs.Steps.{tail_is_set, union_cons, union_nil, unio
 
 -- ---- a run that grows
 
--- the addresses from s to l, followed by those of a block that leaves no gap
+-- a run from s to l is extended by a block that leaves no gap
 run_grows : (w : ℕ) (S R T : ℕ → Type 0) (s l last : ℕ) (b : Network) → IsCidrBlock w b → ((x : ℕ) → R x ↔ (Member w b x ⊎ T x)) → s ≤ b.address → b.address ≤ l + 1
     → IsLater l (high w b) last → ((x : ℕ) → S x ↔ (FromTo s l x ⊎ R x)) → (x : ℕ) → S x ↔ (FromTo s last x ⊎ T x)
 run_grows w S R T s l last b hb split from to later parts x =
@@ -283,7 +283,7 @@ one_is_range w b last hb e =
           (least_of_one w b hb.network hb.block),
     )
 
--- the blocks of a run are those of the range from its first address
+-- the blocks of the range from `a`, the first address of a run, are those of the run
 pub range_of : (w a start last : ℕ) (next : Option (List Network)) → a ≡ start
     → MatchOption next (last < a) (λ blocks. (a ≤ last) × IsLeastList w (FromTo a last) blocks)
     → MatchOption next (last < start) (λ blocks. (start ≤ last) × IsLeastList w (FromTo start last) blocks)
@@ -297,7 +297,7 @@ first_swaps first second b others rest is = record {
   lowest = λ c more k. is.lowest c more (⊎_elim (λ (e : second ≡ c ∷ more). inr e) (λ (e : first ≡ c ∷ more). inl e) k);
 }
 
--- of two lists with a first block each
+-- the block that begins first, of two lists with a first block each
 pub first_begins : (first second others rest : List Network) (a b : Network) → first ≡ a ∷ others → second ≡ b ∷ rest → a.address ≤ b.address → IsFirst first second a others second
 first_begins first second others rest a b e f h = record {
   one = inl (e, refl);
@@ -310,7 +310,7 @@ first_begins first second others rest a b e f h = record {
 pub second_begins : (first second others rest : List Network) (a b : Network) → first ≡ a ∷ others → second ≡ b ∷ rest → b.address ≤ a.address → IsFirst first second b first rest
 second_begins first second others rest a b e f h = first_swaps second first b rest first (first_begins second first rest others b a f e h)
 
--- of a list and an empty one
+-- the first block of a list begins first if the other list is empty
 pub first_alone : (first second others : List Network) (a : Network) → first ≡ a ∷ others → second ≡ [] → IsFirst first second a others second
 first_alone first second others a e f = record {
   one = inl (e, refl);
