@@ -18,8 +18,8 @@ use crate::structs::{Ipv4InC, Ipv6InC, PlaceInC, address_of};
 use crate::{lists, ranges, sets, tables};
 use ipnetwork::{Ipv4Addr, Ipv4Network, Ipv6Network};
 
-/// Writes to `answer` 1 if an address is in one of these networks, else 0: if there are no networks,
-/// 0. Returns `PREFIX` if a prefix length is greater than 32.
+/// Writes to `answer` 1 if an address is in one of these networks, else 0, also if there are no
+/// networks. Returns `PREFIX` if a prefix length is greater than 32.
 #[unsafe(no_mangle)]
 pub extern "C" fn ipnetwork_v4_list_contains(
     networks: &[Ipv4InC],
