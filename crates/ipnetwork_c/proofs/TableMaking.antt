@@ -27,7 +27,7 @@ place_cmp_total w ns = then_total (on_total (row_block w ns) (then_total (on_tot
 pub place_cmp_weak : (w : ℕ) (ns : List Network) → IsStrictWeakOrder (λ a b. is_lt (place_cmp w ns a b))
 place_cmp_weak w ns = ranks_by (place_cmp_total w ns) (λ a. a)
 
--- a list that was sorted by calls that return this order is sorted
+-- a list that was sorted by calls that return this order is sorted by it
 pub sorted_by : {F : Type 0} {g : Mut F (Bor ℕ × (Bor ℕ × Unit {0})) Ordering} {f : F} (w : ℕ) (ns : List Network) (xs : List ℕ) → ((lt : ℕ → ℕ → Bool) → IsStrictWeakOrder lt → ComparesAs g lt f → IsSortedBy lt xs)
     → ((a : Bor ℕ × (Bor ℕ × Unit {0})) (r : Ordering) (f' : F) → Called g f a r f' → (r ≡ place_cmp w ns a.0.now a.1.0.now) × (f' ≡ f)) → IsSorted (place_cmp w ns) xs
 sorted_by {g = g} {f = f} w ns xs up told =

@@ -77,7 +77,8 @@ pub extern "C" fn ipnetwork_v6_ranges_make(
 
 /// Like `ipnetwork_v4_ranges_make`, but writes for each range, instead of the place of its longest
 /// block, the number that `numbers` has at that place, such as the place of the block's network in
-/// the caller's list. Returns `SHORT_BUFFER` also if there are fewer numbers than blocks.
+/// the caller's list. Returns `SHORT_BUFFER`, before any other fault, if there are fewer numbers
+/// than blocks.
 #[unsafe(no_mangle)]
 pub extern "C" fn ipnetwork_v4_ranges_make_numbered(
     blocks: &[Ipv4InC],

@@ -78,8 +78,8 @@ pub(crate) fn upper_bound_at_once<N: AddressSpace, H: Numbered<N>>(
     Some(guess)
 }
 
-/// Finds the number by halving the part of the number, or the whole list if the index does not have
-/// the part.
+/// Returns the same by a binary search of the number's part, extended to the start or end of the
+/// list where the bounds in the index are wrong.
 #[inline(never)]
 pub(crate) fn upper_bound_by_halves<N: AddressSpace, H: Numbered<N>>(
     list: &[H],
@@ -97,9 +97,9 @@ pub(crate) fn upper_bound_by_halves<N: AddressSpace, H: Numbered<N>>(
     upper_bound_between::<N, H>(list, from, to, number)
 }
 
-// The same, if the struct before `begin` begins at or before the number, and the one at `end` after
-// it. Each step keeps a count of structs and not an end, so that it compiles to no branch that
-// depends on the list.
+// The same between `begin` and `end`, if the struct before `begin` begins at or before the number,
+// and the one at `end` after it. Each step keeps a count of structs and not an end, so that it
+// compiles to no branch that depends on the list.
 fn upper_bound_between<N: AddressSpace, H: Numbered<N>>(
     list: &[H],
     begin: usize,

@@ -1,4 +1,4 @@
--- What is reported of a log that cannot be opened.
+-- The report about a log that cannot be opened.
 use Rattle.std.specs.Prelude.{ℕ, List, ◌++◌, codes}
 use Rattle.lists.specs.Opening.{open_fault_text}
 use Rattle.lists.specs.declared.opening.OpenFault.{OpenFault}

@@ -1,4 +1,4 @@
--- What is reported of a log in which no line has an address.
+-- The report about a log in which no line has an address.
 use Rattle.std.specs.Prelude.{ℕ, ◌&&◌, Bool, not, List, [], ◌++◌, nat_lt, codes, decimal, if◌then◌else◌}
 use Rattle.line_addresses.specs.declared.area.Area.{Area}
 use Rattle.line_addresses.specs.declared.area.Part.{Part}

@@ -1,4 +1,4 @@
--- What is seen of the lines of a log.
+-- The counts of the lines of a log.
 use Rattle.std.specs.Prelude.{ℕ, ◌+◌, ◌-◌, ◌^◌, ◌==◌, min, Bool, true, false, not, List, length, nat_lt}
 use Rattle.std.specs.Prelude.{if◌then◌else◌}
 use Rattle.std.specs.List.{list_any, count_by, position_or_len}
@@ -27,7 +27,7 @@ place_of before lines = if before == lines then 0 else min (before + 1) (2 ^ 64 
 abbrev pub first_long : List LogLine → ℕ
 first_long lines = place_of (position_or_len is_long lines) (length lines)
 
--- what is seen of these lines
+-- the counts of these lines
 abbrev pub stats_of : (List ℕ → Bool) → List LogLine → LogStats
 stats_of has lines = record {
   lines = min (length lines) (2 ^ 64 - 1);

@@ -1,4 +1,4 @@
--- What is reported of the lines of a log that was opened.
+-- The reports about the lines of a log that was opened.
 use Rattle.std.specs.Prelude.{ℕ, ◌==◌, ◌&&◌, Bool, not, List, [], ◌++◌, codes, decimal, nat_lt, if◌then◌else◌}
 use Rattle.log_programs.specs.WithoutAddress.{is_dropped, is_reported}
 use Rattle.log_programs.specs.declared.log_stats.LogStats.{LogStats}

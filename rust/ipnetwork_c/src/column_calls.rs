@@ -53,8 +53,8 @@ const _: () = {
 /// For each address, finds whether it is in the set of a list, by an index of the list: answer i
 /// and fault i are what `ipnetwork_v4_index_contains` leaves and returns for address i. A refused
 /// address does not stop the call. In a list that is not in ascending order, the answer may come
-/// from another block than there. The rest of `answers` and `faults` is unchanged. Returns
-/// `SHORT_BUFFER` if there are fewer answers or faults than addresses.
+/// from another block than in the call for one address. The rest of `answers` and `faults` is
+/// unchanged. Returns `SHORT_BUFFER` if there are fewer answers or faults than addresses.
 #[inline]
 pub fn ipnetwork_v4_index_contains_column(
     blocks: &[Ipv4InC],

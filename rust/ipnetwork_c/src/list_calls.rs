@@ -9,7 +9,7 @@ use crate::structs::{Ipv4InC, Ipv6InC, PlaceInC, address_of};
 use crate::{lists, ranges, sets, tables};
 use fosibegan::ipnetwork::{Ipv4Addr, Ipv4Network, Ipv6Network};
 
-/// Writes to `answer` 1 if an address is in one of these networks, else 0, as it is if there are no
+/// Writes to `answer` 1 if an address is in one of these networks, else 0, also if there are no
 /// networks. Returns `PREFIX` if a prefix length is greater than 32.
 #[inline]
 pub fn ipnetwork_v4_list_contains(
@@ -44,11 +44,11 @@ const _: () = {
     }
 };
 
-/// Writes to `answer` 1 if an address is in the set of a list, else 0. The list must be the list of
-/// a set, as `ipnetwork_v4_aggregate` leaves it; for any other list, 1 is right too, but 0 says
-/// nothing. If the structs ascend, the search ends at the last struct whose own address is at or
-/// before this one. Returns `PREFIX` exactly if the prefix length of the struct at which the search
-/// ends is greater than 32, which never occurs in the list of a set.
+/// Writes to `answer` 1 if an address is in the set of a list, else 0, for the list of a set, as
+/// `ipnetwork_v4_aggregate` leaves it. For any other list, 1 is right too, but 0 says nothing. If
+/// the structs ascend, the search ends at the last struct whose own address is at or before this
+/// one. Returns `PREFIX` exactly if the prefix length of the struct at which the search ends is
+/// greater than 32, which never occurs in the list of a set.
 #[inline]
 pub fn ipnetwork_v4_set_contains(
     blocks: &[Ipv4InC],
