@@ -79,8 +79,7 @@ pub(crate) fn upper_bound_by_halves<N: AddressSpace, H: Numbered<N>>(
     list: &[H],
     index: &[u32],
     number: H::Number,
-) -> usize
-{
+) -> usize {
     if list.is_empty() || index.is_empty() {
         return upper_bound_between::<N, H>(list, 0, list.len(), number);
     }
