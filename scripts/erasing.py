@@ -124,7 +124,7 @@ def without_ghosts(text):
             out.append(token)
         at = end
         if is_clause and (brace := re.compile(r"\s*(?=\{)").match(text, at)):
-            begin = "".join(out[max(0, len(out) - 200) :])
+            begin = "".join(each for each in out[-200:] if not each.startswith("//"))
             if not re.search(r"\bwhere\b(?!.*[;}])", begin, re.S):
                 out.append(" ")
                 at = brace.end()

@@ -314,9 +314,9 @@ finished computed limit room old new left rest held holds a b (Err fault) s give
 
 -- ---- a device that had failed before
 
-pub reader_had_failed : (limit : ℕ) (left held : Option (List ℕ)) → Ran limit left left held held (Err Read)
+pub read_had_failed : (limit : ℕ) (left held : Option (List ℕ)) → Ran limit left left held held (Err Read)
 unfolding complete_part
-reader_had_failed limit left held = record {
+read_had_failed limit left held = record {
   read = [];
   written = [];
   reads = Consumes-nil left;
@@ -324,8 +324,8 @@ reader_had_failed limit left held = record {
   ends = (omega arith, (no_routes, ([], refl, refl)));
 }
 
-pub writer_had_failed : (limit : ℕ) (left held : Option (List ℕ)) → Ran limit left left held held (Err Write)
-writer_had_failed limit left held = record {
+pub write_had_failed : (limit : ℕ) (left held : Option (List ℕ)) → Ran limit left left held held (Err Write)
+write_had_failed limit left held = record {
   read = [];
   written = [];
   reads = Consumes-nil left;

@@ -61,7 +61,7 @@ pub fn run<R: Read, W: Write>(
 /// A run starts with no routes and frees its routes at the end. Only an `add` of a new block
 /// allocates, from `alloc`. If memory runs out, its answer says so, the routes do not change, and
 /// the run continues.
-#[tactic(auto, using(crate::proofs::Runs::reader_had_failed, crate::proofs::Runs::writer_had_failed))]
+#[tactic(auto, using(crate::proofs::Runs::read_had_failed, crate::proofs::Runs::write_had_failed))]
 pub fn run_limited<R: Read, W: Write>(
     alloc: Global,
     limit: u32,

@@ -1,4 +1,4 @@
--- Blocks put into a list one after the other.
+-- Blocks put into a list, one after the other.
 use Rattle.std.proofs.Common.{◌≡◌, ℕ, ◌+◌, ◌-◌, ◌^◌, ◌<◌, ◌≤◌, List, [], ◌∷◌, ◌++◌, length, map, drop, get_or, slice_set, refl, sym, subst, ap, ◌∙◌, arith, min, add-one, append_assoc, drop-cons}
 use Rattle.std.proofs.Math.Nat.{min-le_left, min-eq_left}
 use Rattle.std.proofs.Math.Seq.{set-append_seam}
@@ -13,7 +13,7 @@ use Rattle.ipnetwork_c.specs.Lists.{PutsBlocks}
 use Rattle.ipnetwork_c.specs.Outcomes.Unless.{On, Nothing}
 use Rattle.ipnetwork_c.specs.Private.Writing.{HasBlocks, PutsItems}
 
--- ---- blocks in the front of a list
+-- ---- blocks at the front of a list
 
 pub nothing_put : {C : Type 0} (held : C → Network) (list : List C) → HasBlocks held [] list list 0
 nothing_put held list = record {
@@ -28,7 +28,7 @@ one_more blocks n = length-append blocks (n ∷ [])
 counts_on : (blocks : List Network) (n : Network) (count next : ℕ) → count ≡ min (length blocks) (2 ^ 128 - 1) → next ≡ min (count + 1) (2 ^ 128 - 1) → next ≡ min (length (blocks ++ n ∷ [])) (2 ^ 128 - 1)
 counts_on blocks n count next is told = let more = one_more blocks n in omega (arith, is, told, more)
 
--- there is room for one block more
+-- there is room for one more block
 pub block_put : {C : Type 0} (held : C → Network) (blocks : List Network) (before list : List C) (count next : ℕ) (c : C) (n : Network) → HasBlocks held blocks before list count → count < length list → length list < 2 ^ 64
     → held c ≡ n → next ≡ min (count + 1) (2 ^ 128 - 1) → HasBlocks held (blocks ++ n ∷ []) before (slice_set list count c) next
 block_put {C} held blocks before list count next c n h room few is told =
@@ -57,7 +57,7 @@ block_put {C} held blocks before list count next c n h room few is told =
           };
     }
 
--- what an iterator over blocks gives are the blocks of its list
+-- an iterator over blocks yields the blocks of its list
 pub given : {N C : Type 0} (pair : N → Network) (held : C → Network) (blocks : List Network) (before after : List C) (count : ℕ)
     → PutsItems (YieldsFirstBy pair (λ (left : List Network). left)) pair held blocks before after count → HasBlocks held blocks before after count
 given pair held blocks before after count h =
@@ -65,7 +65,7 @@ given pair held blocks before after count h =
     let all : map pair h.0 ≡ blocks = items_from_drains h.0 (drains.1.0, drains.1.1, λ _. (drains.0, drains.1.2)) (YieldsList-from_first pair (λ l. l) blocks refl) in
     subst (λ (l : List Network). HasBlocks held l before after count) all h.2
 
--- ---- what the caller is told
+-- ---- what the caller gets
 
 -- there are more than the list has room for
 pub too_many : {C : Type 0} (w : ℕ) (held : C → Network) (S : ℕ → Type 0) (before : List C) (blocks : List Network) (told_before wanted told : ℕ) → IsLeastList w S blocks → wanted ≡ min (length blocks) (2 ^ 128 - 1)

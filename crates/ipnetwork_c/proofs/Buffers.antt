@@ -1,4 +1,4 @@
--- A text and a zero byte in the front of a buffer.
+-- A text and a zero byte at the front of a buffer.
 use Rattle.std.proofs.Common.{◌≡◌, ℕ, ◌+◌, ◌<◌, List, ◌∷◌, ◌++◌, length, drop, slice_set, ap, sym, add-one, ◌∙◌, drop-cons}
 use Rattle.std.proofs.Math.Seq.{set-append_seam}
 

@@ -1,4 +1,4 @@
--- Columns and lists in the caller's memory at which a misreading of the definitions would show.
+-- Columns and lists in the caller's memory that would expose a misreading of the definitions.
 use Rattle.std.proofs.Common.{◌≡◌, ◌≢◌, ℕ, zero, suc, ◌+◌, ◌-◌, ◌^◌, ◌<◌, ◌≤◌, List, [], ◌∷◌, ◌++◌, map, length, get_or, refl, ap, arith}
 use Rattle.std.proofs.lemmas.List.{length-append}
 use Rattle.std.specs.Prelude.{Option, Some, min, take, flat_map, codes, replicate}
@@ -57,7 +57,7 @@ texts_with_room_are_read Reads texts offsets before after (Nothing (not, is) sam
 
 -- ---- columns that are printed
 
--- texts of 2^31 bytes have no room, however long the buffer is; texts of one byte less have
+-- texts of 2^31 bytes have no room, however long the buffer is; texts of one byte less do
 pub texts_of_2_to_the_31_have_no_room : {R : Type 0} (text : R → List ℕ) (rows : List R) (before offsets : List ℕ) → length (flat_map text rows) ≡ 2 ^ 31 → ¬ (HasColumnRoom text rows before offsets)
 texts_of_2_to_the_31_have_no_room text rows before offsets size h = let short = h.short in omega (arith, size, short)
 
@@ -71,7 +71,7 @@ as_many_offsets_as_rows_are_too_few text rows before offsets size h = let more =
 pub texts_are_not_longer_than_the_buffer : {R : Type 0} (text : R → List ℕ) (rows : List R) (before offsets : List ℕ) → length before < length (flat_map text rows) → ¬ (HasColumnRoom text rows before offsets)
 texts_are_not_longer_than_the_buffer text rows before offsets long h = let room = h.texts in omega (arith, long, room)
 
--- without room nothing is written but the length, and with room the column is
+-- without room only the length is written, and with room the column too
 pub without_room_the_length_is_told : {R : Type 0} (Fits : R → Type 0) (Refused : R → ℕ → Type 0) (text : R → List ℕ) (rows : List R) (before after : List ℕ × List ℕ) (told_before told : ℕ) → ((r : R) → ¬ (Refused r short_buffer))
     → PrintsColumn Fits Refused text rows (before, told_before) (after, told) short_buffer
     → ¬ (HasColumnRoom text rows before.0 before.1) × (told ≡ min (length (flat_map text rows)) (2 ^ 64 - 1)) × (after ≡ before)
@@ -85,12 +85,12 @@ rows_with_room_are_printed Fits Refused text rows before after told_before told 
 rows_with_room_are_printed Fits Refused text rows before after told_before told other (On (fit, (told_is, Nothing (none, is) same))) = absurd (omega (arith, is))
 rows_with_room_are_printed Fits Refused text rows before after told_before told other (Nothing (i, r, there, fit, refused) same) = absurd (other r refused)
 
--- of two rows that do not fit the fault is that of the first
+-- if two rows do not fit, the fault is that of the first
 pub the_first_refused_row_is_told : (code : ℕ) → FirstRefused (λ r. r ≡ 0) (λ r fault. fault ≡ r) (7 ∷ 8 ∷ []) code → code ≡ 7
 the_first_refused_row_is_told code (zero, r, there, fit, refused) = let is : Some 7 ≡ Some r = there in let same : 7 ≡ r = cc in omega (arith, same, refused)
 the_first_refused_row_is_told code (suc i, r, there, fit, refused) = let none : 7 ≡ 0 = fit 0 7 (omega arith) in omega (arith, none)
 
--- the text of 1 is the byte 49: what stands behind it stays
+-- the text of 1 is the byte 49: what follows it is unchanged
 pub a_byte_behind_the_texts_stays : (offsets_before offsets : List ℕ) → ¬ (PrintsRows (λ (r : ℕ). (48 + r) ∷ []) (1 ∷ []) (7 ∷ 7 ∷ []) (49 ∷ 0 ∷ []) offsets_before offsets)
 a_byte_behind_the_texts_stays offsets_before offsets h = let behind : 0 ≡ 7 = ap (λ (l : List ℕ). get_or l 1 0) h.texts in omega (arith, behind)
 
@@ -173,7 +173,7 @@ pub a_range_of_one_address_is_one : {C : Type 0} (w : ℕ) (held : C → Network
 a_range_of_one_address_is_one w held before after code (On (order, puts)) = puts
 a_range_of_one_address_is_one w held before after code (Nothing (not, is) same) = absurd (not (omega arith))
 
--- of two blocks the third is not there; the second is
+-- of two blocks there is no third; there is a second
 pub there_is_no_third_half : (before after : Ipv4InC) (code : ℕ) → WritesSubnet 32 HoldsV4 (record { address = 0; prefix = 8 }) 9 2 before after code → (code ≡ no_member) × (after ≡ before)
 there_is_no_third_half before after code (On (fit, On (below, (is, holds)))) = absurd (omega (arith, below))
 there_is_no_third_half before after code (On (fit, Nothing (above, is) same)) = (is, same)
@@ -205,7 +205,7 @@ both_lists_fit w held first second h = h
 pub both_lists_are_those_of_sets : {C : Type 0} (w : ℕ) (held : C → Network) (first second : List C) → BothAreSets w held first second → IsAddressSet w (map held first) × IsAddressSet w (map held second)
 both_lists_are_those_of_sets w held first second h = h
 
--- a prefix length past the width comes before a list that is none of a set
+-- the fault for a prefix length past the width comes before the one for a list that is not the list of a set
 pub no_set_fits : {C : Type 0} (w : ℕ) (held : C → Network) (Leaves : List Network → List Network → ℕ → Type 0) (first second : List C) (before after : List C × ℕ) → SetOperation w held Leaves first second before after no_set
     → BothFit w held first second × ¬ (BothAreSets w held first second) × (after ≡ before)
 no_set_fits w held Leaves first second before after (On (fit, On (are, (blocks, least, (told_is, On (room, (is, stand))))))) = absurd (omega (arith, is))

@@ -1,4 +1,4 @@
--- Where the networks of a table cut the addresses, and that one place serves a whole range.
+-- Where the networks of a table divide the addresses, and why one place serves a whole range.
 use Rattle.std.proofs.Common.{◌≡◌, ◌↔◌, ℕ, zero, suc, ◌+◌, ◌-◌, ◌*◌, ◌/◌, ◌^◌, ◌<◌, ◌≤◌, ◌⊎◌, inl, inr, ⊎_elim, List, [], ◌∷◌, ◌++◌, length, map, take, drop, get_or, slice_set, sym, refl, ap, subst, ◌∙◌, arith, length-append, append_assoc, take-append-drop, ◌≢◌, get_or-set_other, get_or-set_same}
 use Rattle.std.specs.List.{All, AllPairs, Contains}
 use Rattle.std.specs.List.Sorted.{IsPermutation}
@@ -53,18 +53,18 @@ ends_two {C} w holds held n a b fits is begins is_too ends = record {
       (contains_cons (held a).address ((held b).address ∷ []) x c);
 }
 
--- the block of an address alone is that of the address
+-- the block of only one address begins at the address
 pub alone_at : (w x p : ℕ) → p ≡ w → (block_at w x p).address ≡ x
 alone_at w x p is = let e : 0 ≡ w - p = omega (arith, is) in subst (λ (k : ℕ). x / 2 ^ k * 2 ^ k ≡ x) e (omega arith)
 
--- an end more stands in a front
+-- two more values at the front of a list
 pub put_more : {C : Type 0} (list between after : List C) (count result : ℕ) (a b : C) → take (count + 1) between ≡ take count list ++ a ∷ [] → take (count + 1 + 1) after ≡ take (count + 1) between ++ b ∷ [] → result ≡ count + 2
     → take result after ≡ take count list ++ a ∷ b ∷ []
 put_more list between after count result a b first second is =
     let e : result ≡ count + 1 + 1 = omega (arith, is) in
     ap (λ k. take k after) e ∙ second ∙ ap (λ xs. xs ++ b ∷ []) first ∙ append_assoc (take count list) (a ∷ []) (b ∷ [])
 
--- ---- those of one network more
+-- ---- the ends of one more network
 
 pub cuts_none : {C : Type 0} (w : ℕ) (holds : C → Type 0) (held : C → Network) (networks : List Network) → AreCutsOf w holds held networks 0 []
 cuts_none w holds held networks = record {
@@ -117,7 +117,7 @@ cuts_more {C} w holds held networks rows front put n so_far ends below is =
           (Contains-append_cases (firsts held front) (firsts held put) a (subst (λ (xs : List ℕ). Contains xs a) all c));
     }
 
--- ---- what is written step by step
+-- ---- what each step writes
 
 pub written_first : {C : Type 0} (list : List C) (place : ℕ) (c : C) → place < length list → IsWrittenUpTo list (slice_set list place c) (place + 1)
 written_first list place c below = record {
@@ -140,7 +140,7 @@ written_more {C} list between after count more first second grows =
 pub written_none : {C : Type 0} (list : List C) → IsWrittenUpTo list list 0
 written_none list = record { size = refl; within = omega arith; rest = refl }
 
--- ---- in order
+-- ---- the ranges are in order
 
 at_most_ascends : (a b : Network) → IsNetworkAtMost a b → a.address ≤ b.address
 at_most_ascends a b o =
@@ -164,7 +164,7 @@ ascends ns o i j d l m =
 
 -- ---- the addresses of a range have the same networks
 
--- a cut up to x comes no later than the last range that begins up to x
+-- a cut at or before x comes no later than the last range that begins at or before x
 cut_before : (ns : List Network) (x i a : ℕ) → IsSplit ns x i i → AllPairs (λ a b. a.address ≤ b.address) ns → Contains (map (λ n. n.address) ns) a → a ≤ x
     → (0 < i) × ((d : Network) → a ≤ (get_or ns (i - 1) d).address)
 cut_before ns x i a split up c le =
@@ -187,13 +187,13 @@ cut_before ns x i a split up c le =
     absurd (omega (arith, later, is d, le)))
     (cases_lt c.0 i)
 
--- so it is with the ends of a network
+-- both ends of a network are cuts
 pub record CutsAt (w : ℕ) (cuts : List ℕ) (n : Network) : Type 0 where
   pub network : IsNetwork w n
   pub begun : Contains cuts (low w n)
   pub ended : high w n + 1 < 2 ^ w → Contains cuts (high w n + 1)
 
--- no range begins before x: no network has it
+-- if a network has x, some range begins at or before x
 none_before : (w : ℕ) (ns : List Network) (x i : ℕ) (n : Network) → IsSplit ns x i i → AllPairs (λ a b. a.address ≤ b.address) ns → CutsAt w (map (λ n. n.address) ns) n → Member w n x → 0 < i
 none_before w ns x i n split up cuts m =
     let inside = within_member w n x m in
@@ -225,7 +225,7 @@ same_members w ns x i n d fits split up cuts some =
           (cases_lt x (low w n + s))),
     )
 
--- ---- so what is found for the first address is found for them all
+-- ---- what is found for the first address of a range is found for all of them
 
 moved : (w : ℕ) (table : List Network) (x y place : ℕ) → ((k : ℕ) (d : Network) → k < length table → Member w (get_or table k d) x ↔ Member w (get_or table k d) y) → IsLongestAt w table y place → IsLongestAt w table x place
 moved w table x y place same h =
@@ -285,7 +285,7 @@ answers_all w table ranges places x i cuts up size beside fits stands =
     )))
     (cases_lt 0 i)
 
--- ---- what a search of the table finds, as a place
+-- ---- the place that a search of the table finds
 
 pub fits_last : {C : Type 0} (w : ℕ) (held : C → Network) (list : List C) (i : ℕ) → All (λ c. PrefixFits w (held c)) list → LastFits w (map held list) i
 fits_last w held [] i all n some got = let l = slice_get_within [] (i - 1) n got in absurd (omega (arith, l))
@@ -303,7 +303,7 @@ placed w held list x all (i, _, Nothing (not, _) _) = absurd (not (fits_last w h
 placed w held list x all (i, _, On (_, Nothing ((_, none), _) same)) = inr (same, none)
 placed w held list x all (i, _, On (_, On (_, (_, finds)))) = inl finds
 
--- ---- what is found by ranges
+-- ---- what a search by ranges finds
 
 pub find_the_longest : {C : Type 0} (w : ℕ) (held : C → Network) → RangesFindTheLongest w held
 find_the_longest w held list ranges places x before after code are fits (i, stands, Nothing (none, is) same) =
@@ -321,14 +321,14 @@ pub place_is_of_the_longest : {C : Type 0} (w : ℕ) (held : C → Network) → 
 place_is_of_the_longest w held list ranges places x place are fits (i, stands, is) =
     subst (IsLongestAt w (map held list) x) (sym is) (are.answers x i fits stands)
 
--- the number of a fault that such a search returns is that of a byte
+-- the fault that such a search returns fits a byte
 pub range_fault_is_byte : {C : Type 0} {before after code : ℕ} (held : C → Network) (ranges : List C) (places : List ℕ) (x : ℕ) → RangeQuery held ranges places x before after code → code < 256
 range_fault_is_byte _ _ _ _ (_, _, Nothing (_, is) _) = omega (arith, is)
 range_fault_is_byte _ _ _ _ (_, _, On (is, _)) = omega (arith, is)
 
 -- ---- the ranges of a whole table
 
--- a place more beside the ranges
+-- one more place for the ranges
 pub place_put : (w : ℕ) (table : List Network) (firsts places : List ℕ) (row new : ℕ) → ArePlacesUpTo w table firsts places row → row < length places → IsLongestAt w table (get_or firsts row 0) new → ArePlacesUpTo w table firsts (slice_set places row new) (row + 1)
 place_put w table firsts places row new so_far below is = λ k l.
     ⊎_elim
@@ -397,7 +397,7 @@ ranges_made {C} w holds held list cuts sorted put are moved order size beside =
           fits stands;
     }
 
--- they are put in the fronts of two lists
+-- the ranges and places are put at the fronts of two lists
 pub made : {C : Type 0} (w : ℕ) (holds : C → Type 0) (held : C → Network) (list before cut sorted : List C) (places put : List ℕ) (count count_before : ℕ) → All (λ c. PrefixFits w (held c)) list
     → 2 * length list ≤ length before → 2 * length list ≤ length places → IsWrittenUpTo before cut count → AreCutsOf w holds held (map held list) (length list) (take count cut) → IsPermutation (take count cut) sorted
     → AreInOrder (map held sorted) → length put ≡ count → count ≤ length places → ArePlacesUpTo w (map held list) (firsts held sorted) put count

@@ -1,5 +1,5 @@
--- Results of calls of either family and of tables, and ends of sets: with which number the answer is there, and with which
--- nothing has been written.
+-- Results of calls for either family and for tables, and ends of sets: which number means that the answer is written,
+-- and which that nothing is.
 use Rattle.std.proofs.Common.{◌≡◌, ◌≢◌, ◌↔◌, ℕ, ◌<◌, ◌≤◌, List, [], ◌∷◌, ◌++◌, length, map, drop, get_or, refl, arith}
 use Rattle.std.specs.Prelude.{Option, Some, None, Ok, take}
 use Rattle.std.specs.List.{All}
@@ -41,7 +41,7 @@ no_member_is_told_after_a_fault held octets before after code fault (On (a, addr
 no_member_is_told_after_a_fault held octets before after code fault (On (a, address_told, Nothing none same)) = same
 no_member_is_told_after_a_fault held octets before after code fault (Nothing (none, is) same) = same
 
--- five octets are no address, whatever the prefix length is
+-- five octets are no address, whatever the struct's prefix length is
 pub five_octets_are_of_no_family : (held : IpInC) (before after code : ℕ) → MemberQuery held (1 ∷ 2 ∷ 3 ∷ 4 ∷ 5 ∷ []) before after code → code ≡ no_family
 five_octets_are_of_no_family held before after code (On (a, address_told, goes)) = let none : None ≡ Some a = address_told in cc
 five_octets_are_of_no_family held before after code (Nothing (none, is) same) = is

@@ -1,4 +1,4 @@
--- Values at which a misreading of the definitions would show.
+-- Values that would expose a misreading of the definitions.
 use Rattle.std.proofs.Common.{◌≡◌, [], ◌∷◌, arith, refl}
 use Rattle.std.specs.Prelude.{Some, None, negsuc}
 use Rattle.std.specs.declared.cmp.Ordering.TheVariants.{Less}

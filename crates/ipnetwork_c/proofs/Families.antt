@@ -1,4 +1,4 @@
--- The family that a struct tells, and membership in the network that it stands for.
+-- The family that a struct states, and membership in the network that it represents.
 use Rattle.std.proofs.Common.{◌≡◌, ◌↔◌, Bool, IsTrue, refl, subst}
 use Rattle.std.specs.Prelude.{Some}
 use Rattle.ipnetwork_addr.specs.declared.ip.IpAddr.{IpAddr}

@@ -1,4 +1,4 @@
--- Indexes of a list of two networks, and the parts that they have: another number in one of them is none.
+-- Indexes of a list of two networks, and their parts: with another number they are no indexes of the list.
 use Rattle.std.proofs.Common.{◌≡◌, ℕ, zero, suc, ◌+◌, ◌*◌, ◌/◌, ◌^◌, ◌<◌, ◌≤◌, List, [], ◌∷◌, length, get_or, refl, subst, arith}
 use Rattle.std.specs.Prelude.{min}
 use Rattle.std.proofs.Math.Pow.{pow-lt}
@@ -24,7 +24,7 @@ one_begins_before_18 (suc (suc (suc i))) h = absurd (omega (arith, h.within))
 pub none_begins_before_10 : ¬ (BeginBefore two 10 1)
 none_begins_before_10 h = let l = h.last (record { address = 10; prefix = 128 }) (omega arith) refl in omega (arith, l)
 
--- in parts of four, the second network would be in a third part, and parts of sixteen are not the least
+-- with parts of four, the second network would be in a third part, and parts of sixteen are not the least
 pub two_parts_have_eight : (shift : ℕ) → AreLeastParts two 2 shift → shift ≡ 3
 two_parts_have_eight zero h = absurd (omega (arith, h.enough))
 two_parts_have_eight (suc zero) h = absurd (omega (arith, h.enough))
@@ -46,7 +46,7 @@ the_index_of_two size start h = (shift_is, start_is)
         let is : start ≡ min one.0 4294967295 = one.2 in
         omega (arith, i, is)
 
--- one part has both networks, and is the least that has them: its size is the one number of an index of one number
+-- the least part that has both networks: its size is the number in an index of length one
 pub one_part_has_sixteen : (shift : ℕ) → AreLeastParts two 1 shift → shift ≡ 4
 one_part_has_sixteen zero h = absurd (omega (arith, h.enough))
 one_part_has_sixteen (suc zero) h = absurd (omega (arith, h.enough))
@@ -58,7 +58,7 @@ one_part_has_sixteen (suc (suc (suc (suc (suc i))))) h = let l = h.least 4 (omeg
 pub the_index_of_one_number : (size : ℕ) → IsIndexOf two (size ∷ []) → size ≡ 4
 the_index_of_one_number size h = one_part_has_sixteen size (h.size (omega arith))
 
--- of networks at the first and the last address it is that of all addresses
+-- for networks at the first and the last address it is the size of all addresses
 abbrev ends : List Network
 ends = record { address = 0; prefix = 128 } ∷ record { address = 0xffffffffffffffffffffffffffffffff; prefix = 128 } ∷ []
 
@@ -74,7 +74,7 @@ one_part_has_all_addresses size h =
     let not_more : ¬ (128 < size) = λ more. let least : 1 ≤ 0 = parts.least 128 more in omega (arith, least) in
     omega (arith, not_less, not_more)
 
--- what is asked in a column has an answer of its own, and no answer without room is written
+-- each row of a column has its own answer, and without room no answer is written
 pub rows_without_room_have_no_answer : {C : Type 0} (w : ℕ) (held : C → Network) (list : List C) (asked : List (List ℕ)) (before after : List ℕ × List ℕ) → SetRows w held list asked before after short_buffer
     → ¬ ((length asked ≤ length before.0) × (length asked ≤ length before.1)) × (after ≡ before)
 rows_without_room_have_no_answer w held list asked before after (On (room, (is, rows))) = absurd (omega (arith, is))
@@ -85,6 +85,6 @@ pub rows_with_room_have_answers : {C : Type 0} (w : ℕ) (held : C → Network) 
 rows_with_room_have_answers w held list asked before after (On (room, (is, rows))) = rows
 rows_with_room_have_answers w held list asked before after (Nothing (none, is) same) = absurd (omega (arith, is))
 
--- an index is written over all numbers that there are, and no more
+-- an index is written over the whole of its memory, and no further
 pub an_index_keeps_its_length : {C : Type 0} (held : C → Network) (list : List C) (before after : List ℕ) (code : ℕ) → MakesIndex held list before after code → (code ≡ ok) × (length after ≡ length before)
 an_index_keeps_its_length held list before after code h = (h.0, h.1.0)

@@ -1,4 +1,4 @@
--- Parts of the numbers, and how many networks of a list begin before one.
+-- Parts of the numbers, and how many networks of a list begin before a part.
 use Rattle.std.proofs.Common.{◌≡◌, ◌↔◌, ℕ, suc, ◌+◌, ◌-◌, ◌*◌, ◌/◌, ◌^◌, ◌<◌, ◌≤◌, ⊎_elim, List, length, map, get_or, ap, sym, subst, ◌∙◌, arith}
 use Rattle.std.specs.Prelude.{min, slice_get, Some, slice_set}
 use Rattle.std.proofs.lemmas.Bool.{cases_lt}
@@ -12,14 +12,14 @@ use Rattle.ipnetwork_c.specs.Indexes.{address_at, span, AreLeastParts, BeginBefo
 use Rattle.ipnetwork_c.specs.Private.Indexes.{LastBefore, HasStarts}
 use Rattle.ipnetwork_c.proofs.Searching.{the_one}
 
--- ---- in which part a number lies
+-- ---- the part in which a number lies
 
 part_size : (shift part : ℕ) → 1 ≤ part → 2 ^ shift ≤ part * 2 ^ shift
 part_size shift part some =
     let e : 1 * 2 ^ shift ≤ part * 2 ^ shift = mul-le-mul_right (2 ^ shift) some in
     omega arith
 
--- it lies before a part exactly if it is less than each number of the part
+-- a number lies before a part exactly if it is less than each number of the part
 pub lies_before : (a base shift own part : ℕ) → own ≡ min ((a - base) / 2 ^ shift) 18446744073709551615 → 1 ≤ part → part ≤ 18446744073709551615 → (own < part) ↔ (a < base + part * 2 ^ shift)
 lies_before a base shift own part is some few =
     let pos : 0 < 2 ^ shift = pow_pos shift in
@@ -46,7 +46,7 @@ own_is held list k x l is =
     let at : held x ≡ get_or (map held list) k (held x) = read_map held list k x l is in
     ap (λ (n : Network). n.address) (at ∙ get_or_default (map held list) k (held x) none (omega (arith, l, size)))
 
--- how far the last one is from the first
+-- the difference between the last and the first address
 pub span_is : {X : Type 0} (held : X → Network) (list : List X) (first last : X) (a b : ℕ) → 1 ≤ length list → first ≡ get_or list 0 first → last ≡ get_or list (length list - 1) last
     → a ≡ (held first).address → b ≡ (held last).address → b - a ≡ span (map held list)
 span_is held list first last a b some first_is last_is a_is b_is =
@@ -55,13 +55,13 @@ span_is held list first last a b some first_is last_is a_is b_is =
     let to : b ≡ address_at ns (length list - 1) = b_is ∙ own_is held list (length list - 1) last (omega arith) last_is in
     subst (λ (k : ℕ). b - a ≡ address_at ns (k - 1) - address_at ns 0) (sym (length-map list held)) (omega (arith, from, to))
 
--- one part of all numbers reaches over each list
+-- one part of all numbers covers each list
 pub parts_all : (ns : List Network) (w count half : ℕ) → half + 1 ≡ w → span ns < 2 ^ w → 1 ≤ count → ((smaller : ℕ) → smaller < half + 1 → count ≤ span ns / 2 ^ smaller) → AreLeastParts ns count (half + 1)
 parts_all ns w count half e small some more =
     let one : span ns / 2 ^ w < 1 = div_below (span ns) (2 ^ w) 1 (pow_pos w) (omega arith) in
     record { enough = subst (λ (k : ℕ). span ns / 2 ^ k < count) (sym e) (omega arith); least = more }
 
--- two parts of half of all numbers do too
+-- two parts of half of all numbers cover each list too
 pub two_halves : (ns : List Network) (w count half : ℕ) → half + 1 ≡ w → span ns < 2 ^ w → count ≤ span ns / 2 ^ half → count < 2
 two_halves ns w count half e small least =
     let pos : 0 < 2 ^ half = pow_pos half in
@@ -70,7 +70,7 @@ two_halves ns w count half e small least =
     let two : span ns / 2 ^ half < 2 = div_below (span ns) (2 ^ half) 2 pos (omega arith) in
     omega arith
 
--- ---- how many begin before a part
+-- ---- how many networks begin before a part
 
 pub before_more : (ns : List Network) (number at : ℕ) (n : Network) → LastBefore ns number at → at < length ns → n ≡ get_or ns at n → n.address < number → LastBefore ns number (at + 1)
 before_more ns number at n h l is less = record {

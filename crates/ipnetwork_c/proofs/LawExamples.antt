@@ -1,4 +1,4 @@
--- What the laws let one conclude, at values that a narrower law does not reach.
+-- Conclusions from the laws, for values that a narrower law does not cover.
 use Rattle.std.proofs.Common.{◌≡◌, ℕ, ◌<◌, ◌≤◌, List, [], ◌∷◌, ◌++◌, length, take, refl, arith}
 use Rattle.std.specs.Prelude.{Some, replicate}
 use Rattle.std.specs.Fmt.{digits}
@@ -77,7 +77,7 @@ the_last_addresses_of_either_family law = (
   law (record { octets = replicate 16 255; length = 16 }) (addresses.V6 0xffffffffffffffffffffffffffffffff) (omega arith) (refl, refl),
 )
 
--- networks with host bits alone, of which no two octets are to be exchanged, and addresses like them: 10.1.9.32/0 and
+-- networks with only host bits, and their addresses, whose octets would expose an exchange: 10.1.9.32/0 and
 -- 2001:db8::1/0
 abbrev wide_four : Network
 wide_four = record { address = 0x0a010920; prefix = 0 }
@@ -121,7 +121,7 @@ addresses_in_order four six held = (
   held (record { octets = six_octets; length = 16 }) (addresses.V6 0x20010db8000000000000000000000001) (omega arith) (refl, refl),
 )
 
--- of three rows the last one is read again, and four offsets are offsets
+-- the last of three rows is read back, and its four offsets are valid offsets
 pub the_third_row : {R : Type 0} (text : R → List ℕ) (a b c : R) (before after offsets_before offsets : List ℕ) → PrintedRowsAreTexts text → PrintsRows text (a ∷ b ∷ c ∷ []) before after offsets_before offsets → row_text after offsets 2 ≡ text c
 the_third_row text a b c before after offsets_before offsets law prints = law (a ∷ b ∷ c ∷ []) before after offsets_before offsets 2 c prints refl
 
@@ -129,7 +129,7 @@ pub four_offsets : {R : Type 0} (text : R → List ℕ) (a b c : R) (before afte
     → HasColumnRoom text (a ∷ b ∷ c ∷ []) before offsets_before → AreOffsets after (take 4 offsets)
 four_offsets text a b c before after offsets_before offsets law prints room = law (a ∷ b ∷ c ∷ []) before after offsets_before offsets prints room
 
--- the longest texts have just room, with the zero byte behind them, and in one byte less they have none
+-- the longest texts just fit, with the zero byte after them, and do not fit in one byte less
 pub the_longest_ipv4_network : V4TextsFit → length (network_text canonical_v4 last_four) < 19
 the_longest_ipv4_network law = law last_four four_is
 
@@ -157,7 +157,7 @@ the_longest_address_has_39_bytes = refl
 pub a_number_of_no_fault : FaultTextsFit → length (fault_text 0xffffffff) < 40
 a_number_of_no_fault law = law 0xffffffff
 
--- so a call that is given a buffer of so many bytes is not refused for want of room
+-- a call with a buffer of this size is thus not refused for lack of room
 enough : (text : List ℕ) (size : ℕ) (before after : List ℕ × ℕ) → length text < size → size ≤ length before.0 → ¬ (PutsText text before after short_buffer)
 enough text size before after short room (told, On (fits, (is, stands))) = omega (arith, is)
 enough text size before after short room (told, Nothing (none, is) same) = none (omega (arith, room, short))

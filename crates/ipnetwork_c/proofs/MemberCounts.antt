@@ -1,4 +1,4 @@
--- How many members a network has, and where each stands in their list.
+-- The number of members of a network, and the position of each in their list.
 use Rattle.std.proofs.Common.{◌≡◌, ℕ, ◌+◌, ◌/◌, ◌%◌, ◌^◌, ◌<◌, List, [], ◌∷◌, ◌++◌, length, Some, arith, ap, sym, ◌∙◌}
 use Rattle.std.proofs.lemmas.Int.Digits.{number_push}
 use Rattle.std.proofs.lemmas.Option.{slice_get-get_or}
@@ -22,7 +22,7 @@ nth_from_least w n i x below is =
     let fits : i < block_size w n.prefix = omega (arith, below, size) in
     slice_get-get_or (members w n) i 0 below ∙ ap Some (get_or-count_up (low w n) (block_size w n.prefix) i 0 fits ∙ sym is)
 
--- one more than a number, as its octets but the last, and the last
+-- one more than a number, as all its octets but the last, and the last
 pub next_in_octets : (last high : ℕ) (front octets : List ℕ) → last < 2 ^ 128 → high ≡ last / 256 + (last % 256 + 1) / 256 → front ≡ octets_of_v6 high → octets ≡ front ++ (last % 256 + 1) % 256 ∷ [] → number_of_octets octets ≡ last + 1
 next_in_octets last high front octets fits high_is front_is is =
     let small : high < 2 ^ 128 = omega (arith, fits, high_is) in

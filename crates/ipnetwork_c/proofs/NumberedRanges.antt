@@ -1,4 +1,4 @@
--- What is found by ranges beside which numbers stand in the place of places.
+-- What a search by ranges finds if they have numbers instead of places.
 use Rattle.std.proofs.Common.{◌≡◌, ℕ, zero, suc, List, [], ◌∷◌, map, get_or, refl, subst, ◌∙◌}
 use Rattle.std.proofs.lemmas.List.{get_or_past}
 use Rattle.ipnetwork_family.specs.Network.{Network}

@@ -1,4 +1,4 @@
--- The octets of a number stand for it.
+-- The octets of a number give that number.
 use Rattle.std.proofs.Common.{◌≡◌, ℕ, zero, suc, ◌+◌, ◌*◌, ◌/◌, ◌%◌, ◌^◌, ◌<◌, ◌++◌, List, refl, ap, ap₂, ◌∙◌, arith, subst}
 use Rattle.std.specs.Prelude.{Some, replicate, take}
 use Rattle.std.proofs.Math.Nat.{div-lt_iff_lt-mul}

@@ -1,22 +1,22 @@
--- Offsets judged one after the other.
+-- Offsets checked one after the other.
 use Rattle.std.proofs.Common.{◌≡◌, ⊎_elim, ℕ, zero, suc, ◌+◌, ◌-◌, ◌<◌, ◌≤◌, List, length, get_or, ap, refl, arith}
 use Rattle.std.proofs.lemmas.Bool.{cases_lt}
 use Rattle.ipnetwork_c.specs.TextColumns.{AreOffsets}
 
--- of the first offsets none is less than the one before
+-- none of the first `count` offsets is less than the one before
 abbrev pub Rise : List ℕ → ℕ → Type 0
 Rise offsets count = (k : ℕ) → k + 1 < count → get_or offsets k 0 ≤ get_or offsets (k + 1) 0
 
--- of the first offsets some is
+-- one of the first `count` offsets is less than the one before
 abbrev pub Fall : List ℕ → ℕ → Type 0
 Fall offsets count = (k : ℕ) × (k + 1 < count) × (get_or offsets (k + 1) 0 < get_or offsets k 0)
 
--- the last of the first offsets, or 0 if there are none
+-- the last of the first `count` offsets, or 0 if there are none
 pub record IsLast (offsets : List ℕ) (count last : ℕ) : Type 0 where
   pub none : count ≡ 0 → last ≡ 0
   pub some : (k : ℕ) → count ≡ k + 1 → last ≡ get_or offsets k 0
 
--- ---- with one more
+-- ---- one more offset
 
 pub last_here : (offsets : List ℕ) (count : ℕ) → IsLast offsets (count + 1) (get_or offsets count 0)
 last_here offsets count = record {
@@ -45,9 +45,9 @@ fall_here offsets (suc k) last is less =
     let same : get_or offsets (suc k) 0 ≡ get_or offsets (k + 1) 0 = ap (λ j. get_or offsets j 0) end in
     (k, omega arith, omega (arith, was, same, less))
 
--- ---- with all of them
+-- ---- all offsets
 
--- of offsets that rise each is at most the last
+-- each of rising offsets is at most the last
 up_to_last : (offsets : List ℕ) (count last distance i : ℕ) → Rise offsets count → IsLast offsets count last → i + distance + 1 ≡ count → get_or offsets i 0 ≤ last
 up_to_last offsets count last zero i rise is e = let was = is.some i (omega (arith, e)) in omega (arith, was)
 up_to_last offsets count last (suc distance) i rise is e =
@@ -55,14 +55,14 @@ up_to_last offsets count last (suc distance) i rise is e =
     let rest = up_to_last offsets count last distance (i + 1) rise is (omega (arith, e)) in
     omega (arith, step, rest)
 
--- so they are offsets of the texts if the last one is
+-- rising offsets are offsets of the texts if the last is at most the texts' length
 pub are_where_last_fits : (texts offsets : List ℕ) (count last : ℕ) → count ≡ length offsets → Rise offsets count → IsLast offsets count last → last ≤ length texts → AreOffsets texts offsets
 are_where_last_fits texts offsets count last all rise is fits = record {
   within = λ i below. let up = up_to_last offsets count last (count - (i + 1)) i rise is (omega (arith, all, below)) in omega (arith, up, fits);
   rising = λ i below. rise i (omega (arith, all, below));
 }
 
--- and the last of offsets of the texts is
+-- the last of the texts' offsets is at most the texts' length
 pub last_fits : (texts offsets : List ℕ) (count last : ℕ) → count ≡ length offsets → IsLast offsets count last → AreOffsets texts offsets → last ≤ length texts
 last_fits texts offsets zero last all is are = let was = is.none refl in omega (arith, was)
 last_fits texts offsets (suc k) last all is are =

@@ -1,4 +1,4 @@
--- Texts printed one behind the other, with their offsets.
+-- Texts printed one after the other, with their offsets.
 use Rattle.std.proofs.Common.{◌≡◌, ◌≢◌, ℕ, ◌+◌, ◌-◌, ◌<◌, ◌≤◌, List, [], ◌∷◌, ◌++◌, length, take, drop, get_or, slice_set, ⊎_elim, refl, sym, ap, subst, ◌∙◌, append_assoc, arith}
 use Rattle.std.specs.List.{flat_map}
 use Rattle.std.proofs.Math.Seq.{take-append_seam, drop-append_seam, drop-append-add}
@@ -24,7 +24,7 @@ none_printed text before offsets some = record {
 one_more : {R : Type 0} (text : R → List ℕ) (rows : List R) (r : R) → flat_map text (rows ++ r ∷ []) ≡ flat_map text rows ++ text r
 one_more text rows r = flat_map-append text rows (r ∷ []) ∙ ap (λ t. flat_map text rows ++ t) (append-nil (text r))
 
--- one row more is printed
+-- one more row is printed
 pub one_printed : {R : Type 0} (text : R → List ℕ) (rows : List R) (r : R) (before after offsets_before offsets : List ℕ) (at end : ℕ) → PrintsRows text rows before after offsets_before offsets
     → at ≡ length (flat_map text rows) → end ≡ at + length (text r) → length rows + 1 < length offsets_before
     → PrintsRows text (rows ++ r ∷ []) before (take at after ++ text r ++ drop end after) offsets_before (slice_set offsets (length rows + 1) end)
@@ -65,7 +65,7 @@ one_printed {R} text rows r before after offsets_before offsets at end h at_is e
           got_elsewhere offsets (length rows + 1) i end apart ∙ h.rest i (omega (arith, behind, size));
     }
 
--- ---- a row of the whole list, as a loop comes to it
+-- ---- a row of the whole list, when a loop reaches it
 
 pub within_whole : {R : Type 0} (text : R → List ℕ) (rows : List R) (i : ℕ) (r : R) (t : List ℕ) (at : ℕ) → i < length rows → r ≡ get_or rows i r → t ≡ text r → at ≡ length (flat_map text (take i rows))
     → at + length t ≤ length (flat_map text rows)

@@ -1,4 +1,4 @@
--- Ranges at which a misreading of `IsCut`, `IsLongestAt`, `place_before` or `AreRangesOf` would show: of 10.0.0.0/8, and
+-- Ranges that would expose a misreading of `IsCut`, `IsLongestAt`, `place_before` or `AreRangesOf`: of 10.0.0.0/8, and
 -- 10.1.0.0/16 twice.
 use Rattle.std.proofs.Common.{◌≡◌, ℕ, zero, suc, ◌<◌, ◌≤◌, List, [], ◌∷◌, map, refl, ap, ◌∙◌, inl, inr, lit<, lit≤, arith, ⊎_elim, slice_index_or}
 use Rattle.ipnetwork_family.specs.Network.{Network, Member}
@@ -20,18 +20,18 @@ wide = record { address = 0x0a000000; prefix = 8 }
 abbrev narrow : Network
 narrow = record { address = 0x0a010000; prefix = 16 }
 
--- a range begins with a block, and after one
+-- a range begins where a block begins, and after a block
 pub one_begins_with_a_block : IsCut 32 nested 0x0a010000
 one_begins_with_a_block = (narrow, (1, lit< tt, refl), inl refl)
 
 pub one_begins_after_a_block : IsCut 32 nested 0x0b000000
 one_begins_after_a_block = (wide, (0, lit< tt, refl), inr refl)
 
--- and not with its last address
+-- no range begins at the last address of a block
 pub none_begins_at_an_end : ¬ (EndsAt 32 wide 0x0affffff)
 none_begins_at_an_end e = ⊎_elim (λ (f : 0x0affffff ≡ 0x0a000000). omega (arith, f)) (λ (l : 0x0affffff ≡ 0x0b000000). omega (arith, l)) e
 
--- the place is that beside the last of so many ranges
+-- the place is that of the last of the first i ranges
 pub the_place_of_the_second_range : place_before (0 ∷ 2 ∷ 0 ∷ []) 2 ≡ 2
 the_place_of_the_second_range = refl
 
@@ -41,11 +41,11 @@ no_place_before_the_first = refl
 pub no_place_past_the_last : place_before (0 ∷ 2 ∷ 0 ∷ []) 4 ≡ no_place
 no_place_past_the_last = refl
 
--- of 10.1.2.3 it is that of the last of the longest,
+-- for 10.1.2.3 it is that of the last of the longest blocks
 pub the_longest_stands_there : IsLongestAt 32 nested 0x0a010203 2
 the_longest_stands_there = inl (lit< tt, the_last_of_the_longest_is_found)
 
--- and no other, nor that of no network
+-- for 10.1.2.3 it is no other place, and not `no_place`
 pub no_wider_one_stands_there : ¬ (IsLongestAt 32 nested 0x0a010203 0)
 no_wider_one_stands_there h = ⊎_elim (λ (f : (0 < no_place) × FindsLongest 32 nested 0x0a010203 0). no_wider_block_is_found f.1) (λ (n : (0 ≡ no_place) × _). let none = n.0 in omega (arith, none)) h
 
@@ -59,14 +59,14 @@ none_is_missed h =
     (λ (n : (no_place ≡ no_place) × _). n.1 nested_is_a_table narrow_has_it)
     h
 
--- no range is left out, and none is there that no network needs
+-- no range is missing, and none is there without a network that begins or ends there
 pub no_range_is_left_out : ¬ (AreRangesOf 32 (wide ∷ []) [] [])
 no_range_is_left_out r = contains_nil 0x0b000000 (r.cut 0x0b000000 (lit< tt) (wide, (0, lit< tt, refl), inr refl))
 
 pub no_range_without_a_network : ¬ (AreRangesOf 32 [] (record { address = 0x0a000000; prefix = 32 } ∷ []) (no_place ∷ []))
 no_range_without_a_network r = let few : 1 ≤ 0 = r.few in omega (arith, few)
 
--- so what the law says is found by the ranges of these blocks is that of the last of the longest, and no fault
+-- by the law, the ranges of these blocks thus give the place of the last of the longest, and no fault
 abbrev nested_in_c : List Ipv4InC
 nested_in_c =
     record { address = 10 ∷ 0 ∷ 0 ∷ 0 ∷ []; prefix = 8 }
@@ -80,13 +80,13 @@ only_the_last (suc zero) f = absurd (none_before_an_equal_one_is_found f)
 only_the_last (suc (suc zero)) f = refl
 only_the_last (suc (suc (suc i))) f = let l = f.within in absurd (omega (arith, l))
 
--- what is found in a table that has the address is the one place that can be found,
+-- if a table has the address, a search finds the only place that can be found
 pub found_in_a_table : (w : ℕ) (networks : List Network) (x place : ℕ) → IsTable w networks → InUnion w networks x → ((i : ℕ) → FindsLongest w networks x i → i ≡ place)
     → (before after code : ℕ) → Unless (IsFault no_member (IsTable w networks → ¬ (InUnion w networks x))) (Writes (FindsLongest w networks x)) before after code → (code ≡ ok) × (after ≡ place)
 found_in_a_table w networks x place table has only before after code (On f) = (f.0, only after f.1)
 found_in_a_table w networks x place table has only before after code (Nothing f same) = absurd (f.0 table has)
 
--- and so is the place that stands there
+-- the place of the range is that place too
 pub stands_in_a_table : (w : ℕ) (networks : List Network) (x place : ℕ) → IsTable w networks → InUnion w networks x → ((i : ℕ) → FindsLongest w networks x i → i ≡ place)
     → (stands : ℕ) → IsLongestAt w networks x stands → stands ≡ place
 stands_in_a_table w networks x place table has only stands (inl f) = only stands f.1
@@ -97,13 +97,13 @@ pub ranges_find_the_last_of_the_longest : RangesFindTheLongest 32 v4_in → (ran
 ranges_find_the_last_of_the_longest law ranges places before after code are query =
     found_in_a_table 32 nested 0x0a010203 2 nested_is_a_table narrow_has_it only_the_last before after code (law nested_in_c ranges places 0x0a010203 before after code are (lit< tt) query)
 
--- and the place that is returned is that of it, and no other
+-- the place that is returned for 10.1.2.3 is that of the last of the longest, and no other
 pub places_are_of_the_last_of_the_longest : PlacesAreOfTheLongest 32 v4_in → (ranges : List Ipv4InC) (places : List ℕ) (place : ℕ)
     → AreRangesOf 32 nested (map v4_in ranges) places → PlaceQuery v4_in ranges places 0x0a010203 place → place ≡ 2
 places_are_of_the_last_of_the_longest law ranges places place are query =
     stands_in_a_table 32 nested 0x0a010203 2 nested_is_a_table narrow_has_it only_the_last place (law nested_in_c ranges places 0x0a010203 place are (lit< tt) query)
 
--- of the address after 10.0.0.0/8 it is that of no network
+-- for the address after 10.0.0.0/8 it is `no_place`
 none_has_it : (i : ℕ) → i < 3 → ¬ (Member 32 (slice_index_or nested i narrow) 0x0b000000)
 none_has_it zero _ m = let same : 11 ≡ 10 = m.1 in omega (arith, same)
 none_has_it (suc zero) _ m = let same : 2816 ≡ 2561 = m.1 in omega (arith, same)
@@ -119,7 +119,7 @@ pub places_after_all_are_of_none : PlacesAreOfTheLongest 32 v4_in → (ranges : 
 places_after_all_are_of_none law ranges places place are query =
     none_stands_there place (law nested_in_c ranges places 0x0b000000 place are (lit< tt) query)
 
--- and the number that stands at the place of the last of the longest is found, and that of no network
+-- numbered ranges give the number at the place of the last of the longest, and `no_place`
 abbrev numbers : List ℕ
 numbers = 500 ∷ 0 ∷ 7 ∷ []
 

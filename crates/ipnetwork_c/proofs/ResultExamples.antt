@@ -1,4 +1,4 @@
--- What the results of calls exclude: with which number the answer is there, and with which nothing has been written.
+-- What the results of calls exclude: which number means that the answer is written, and which that nothing is.
 use Rattle.std.proofs.Common.{◌≡◌, ◌≢◌, ℕ, ◌+◌, ◌-◌, ◌^◌, ◌<◌, ◌≤◌, ◌⊎◌, List, [], ◌∷◌, length, inl, inr, refl, arith}
 use Rattle.std.specs.Prelude.{pos, min, Result, Ok, Err}
 use Rattle.std.specs.declared.cmp.Ordering.TheVariants.{Equal, Greater}
@@ -32,7 +32,7 @@ a_flag_is_not_two P h = let most = h.0 in omega (arith, most)
 pub a_flag_of_what_holds_is_one : (P : Type 0) → P → ¬ (IsFlag P 0)
 a_flag_of_what_holds_is_one P holds h = let one = h.1.1 holds in omega (arith, one)
 
--- ---- the shape of all results
+-- ---- the form of all results
 
 pub what_is_needed_and_holds_is_not_refused : {M : Type 0} (Holds : Type 0) (fault : ℕ) (GoesOn : M → M → ℕ → Type 0) (before after : M) (code : ℕ) → Holds → Needs Holds fault GoesOn before after code → GoesOn before after code
 what_is_needed_and_holds_is_not_refused Holds fault GoesOn before after code holds (On (also, goes)) = goes
@@ -73,12 +73,12 @@ pub a_buffer_with_room_is_written : (told_before : ℕ) (after : List ℕ × ℕ
 a_buffer_with_room_is_written told_before after (told, On (room, (is, stands))) = omega (arith, is)
 a_buffer_with_room_is_written told_before after (told, Nothing (none, is) same) = none (omega arith)
 
--- the length is told of a text that has no room
+-- the length of a text is written even if there is no room for the text
 pub the_length_is_told : (text before after : List ℕ) (told_before told : ℕ) → PutsText text (before, told_before) (after, told) short_buffer → (length before ≤ length text) × (told ≡ length text) × (after ≡ before)
 the_length_is_told text before after told_before told (told_is, On (room, (is, stands))) = absurd (omega (arith, is))
 the_length_is_told text before after told_before told (told_is, Nothing (none, is) same) = (omega (arith, none), told_is, same)
 
--- a text that is refused leaves the struct, and the number is that of its cause
+-- a refused text leaves the struct unchanged, and the number is that of its cause
 pub a_refused_text_leaves_the_struct : {N C : Type 0} (Reads : List ℕ → Result N CidrFault → Type 0) (Holds : C → N → Type 0) (text : List ℕ) (before after : C) (code : ℕ) → code ≢ ok → ReadsInto Reads Holds text before after code
     → (cause : CidrFault) × Reads text (Err cause) × (code ≡ fault_number cause) × (after ≡ before)
 a_refused_text_leaves_the_struct Reads Holds text before after code fault (On (n, reads, (is, holds))) = absurd (fault is)
@@ -95,7 +95,7 @@ a_read_text_is_held Reads Holds text before after (Nothing (cause, (reads, is)) 
 
 -- ---- masks and members
 
--- a mask is told as its prefix length, and not refused
+-- the prefix length of a mask is written, and the mask is not refused
 pub a_mask_is_not_refused : (w p before after : ℕ) → p ≤ w → ¬ (WritesPrefix w (mask_of w p) before after no_mask)
 a_mask_is_not_refused w p before after fits (On (is, (within, equal))) = omega (arith, is)
 a_mask_is_not_refused w p before after fits (Nothing (none, is) same) = none p fits refl
@@ -112,7 +112,7 @@ pub no_mask_is_not_written : (w mask before after : ℕ) → WritesPrefix w mask
 no_mask_is_not_written w mask before after (On (is, (within, equal))) = absurd (omega (arith, is))
 no_mask_is_not_written w mask before after (Nothing (none, is) same) = same
 
--- the network of all addresses has one member more than the number of the last one
+-- the network of all addresses has one member more than the index of the last
 pub all_ipv4_addresses : HasSize 32 (record { address = 0; prefix = 0 }) (2 ^ 32)
 all_ipv4_addresses = let apart : 0 + length (members 32 (record { address = 0; prefix = 0 })) ≡ 0xffffffff + 1 = ends_apart 32 (record { address = 0; prefix = 0 }) in omega (arith, apart)
 
@@ -144,7 +144,7 @@ no_member_is_written_after_a_fault w octets_of n i before after code fault (On (
 no_member_is_written_after_a_fault w octets_of n i before after code fault (On (fits, Nothing (none, is) same)) = same
 no_member_is_written_after_a_fault w octets_of n i before after code fault (Nothing (not, is) same) = same
 
--- ---- questions of either family
+-- ---- questions about either family
 
 pub a_named_address_is_not_refused : (text : List ℕ) (a : IpAddr) (before after : AddressInC) (code : ℕ) → NamesIp text a → code ≢ ok → ¬ (ReadsAddress text before after code)
 a_named_address_is_not_refused text a before after code names fault (On (b, also, (is, holds))) = fault is
@@ -170,7 +170,7 @@ pub an_ip_query_is_refused : {A : Type 0} (held : IpInC) (Answers : IpNetwork �
 an_ip_query_is_refused held Answers before after code fault (On (n, stands, (is, answer))) = absurd (fault is)
 an_ip_query_is_refused held Answers before after code fault (Nothing none same) = (none, same)
 
--- the second struct is judged only if the first stands for a network
+-- the second struct is checked only if the first represents a network
 pub the_first_struct_is_judged_first : {A : Type 0} (one other : IpInC) (Answers : IpNetwork → IpNetwork → A → Type 0) (before after : A) (code : ℕ) → code ≢ ok → OfNetwork one (λ a. OfNetwork other (λ b. Writes (Answers a b))) before after code
     → (NoIpNetwork one code ⊎ ((a : IpNetwork) × StandsForIp one a × NoIpNetwork other code)) × (after ≡ before)
 the_first_struct_is_judged_first one other Answers before after code fault (On (a, stands, On (b, also, (is, answer)))) = absurd (fault is)

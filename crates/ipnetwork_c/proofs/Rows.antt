@@ -7,7 +7,7 @@ use Rattle.std.proofs.lemmas.Option.{slice_get-get_or}
 use Rattle.ipnetwork_c.specs.Outcomes.Unless.{On}
 use Rattle.ipnetwork_c.specs.Columns.{AnswersEach, AsksEach}
 
--- the answers to the rows so far, and behind them what was there: with the next answer
+-- the answers to the rows so far, followed by what was there, and then with the next answer
 pub row_written : {A : Type 0} (f : A → ℕ) (rows : List A) (x : A) (before answers : List ℕ) (row value : ℕ) → row < length rows → length rows ≤ length before → x ≡ get_or rows row x → answers ≡ map f (take row rows) ++ drop row before → value ≡ f x → slice_set answers row value ≡ map f (take (row + 1) rows) ++ drop (row + 1) before
 row_written f rows x before answers row value below room x_is is value_is =
     let front : List ℕ = map f (take row rows) in
@@ -24,7 +24,7 @@ row_written f rows x before answers row value below room x_is is value_is =
     ∙ sym (append_assoc front (f x ∷ []) behind)
     ∙ ap (λ xs. xs ++ behind) (sym mapped)
 
--- ---- rows with a fault of their own
+-- ---- rows with their own faults
 
 pub got_where_set : {X : Type 0} (xs : List X) (i : ℕ) (x : X) → i < length xs → slice_get (slice_set xs i x) i ≡ Some x
 got_where_set [] i x below = absurd (omega (arith, below))
@@ -38,7 +38,7 @@ got_elsewhere (y ∷ xs) zero (suc j) x apart = refl
 got_elsewhere (y ∷ xs) (suc i) zero x apart = refl
 got_elsewhere (y ∷ xs) (suc i) (suc j) x apart = got_elsewhere xs i j x (λ e. apart (ap suc e))
 
--- one row more is answered
+-- one more row is answered
 pub one_row_more : {R : Type 0} (Answers : ℕ → R → R → ℕ → Type 0) (n : ℕ) (before after : List R) (faults_before faults : List ℕ) (d new : R) (fault : ℕ) → AnswersEach Answers n before after faults_before faults → n < length before → n < length faults_before → Answers n (get_or after n d) new fault → AnswersEach Answers (n + 1) before (slice_set after n new) faults_before (slice_set faults n fault)
 one_row_more {R} Answers n before after faults_before faults d new fault so_far room fault_room answered =
     let old : R = get_or after n d in
@@ -62,7 +62,7 @@ one_row_more {R} Answers n before after faults_before faults d new fault so_far 
       fault_rest = λ i behind. let apart : i ≢ n = λ e. omega (arith, e, behind) in got_elsewhere faults n i fault apart ∙ so_far.fault_rest i (omega (arith, behind));
     }
 
--- the same of a row whose item was read
+-- the same for a row whose item was read
 pub item_row_more : {A : Type 0} (Asks : A → ℕ → ℕ → ℕ → Type 0) (items : List A) (none item : A) (n : ℕ) (before after faults_before faults : List ℕ) (new fault : ℕ) → AnswersEach (λ i. Asks (get_or items i none)) n before after faults_before faults → n < length items → n < length before → n < length faults_before
     → item ≡ get_or items n item → Asks item (get_or after n 0) new fault → AnswersEach (λ i. Asks (get_or items i none)) (n + 1) before (slice_set after n new) faults_before (slice_set faults n fault)
 item_row_more {A} Asks items none item n before after faults_before faults new fault so_far within room fault_room is answered =

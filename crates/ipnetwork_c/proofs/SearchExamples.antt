@@ -1,5 +1,5 @@
--- Searches of lists in which a prefix length is past the width, and lists at which a misreading of the definitions would
--- show.
+-- Searches of lists in which a prefix length is past the width, and lists that would expose a misreading of the
+-- definitions.
 use Rattle.std.proofs.Common.{◌≡◌, ◌≢◌, ℕ, zero, suc, ◌+◌, ◌<◌, ◌≤◌, ◌-◌, List, [], ◌∷◌, map, length, get_or, refl, sym, ap, subst, lit<, lit≤, ◌∙◌, arith}
 use Rattle.std.specs.Prelude.{Some, None}
 use Rattle.std.specs.List.{All}
@@ -26,7 +26,7 @@ past = record { address = 5; prefix = 200 }
 abbrev past_in_c : Ipv4InC
 past_in_c = record { address = 0 ∷ 0 ∷ 0 ∷ 5 ∷ []; prefix = 200 }
 
--- a search for 0.0.0.5 stands behind it
+-- a search for 0.0.0.5 ends after this struct
 stands_behind : (i : ℕ) → StandsAt (past ∷ []) 5 i → i ≡ 1
 stands_behind zero h = let later : 5 < 5 = h.next past refl in absurd (omega (arith, later))
 stands_behind (suc zero) h = refl
@@ -37,7 +37,7 @@ does_not_fit zero is h = omega (arith, is)
 does_not_fit (suc zero) is h = let fits : 200 ≤ 32 = h past (omega arith) refl in omega (arith, fits)
 does_not_fit (suc (suc i)) is h = omega (arith, is)
 
--- and comes to no other network
+-- the search reaches no other network
 comes_to_it : (i : ℕ) → ComesTo 32 (past ∷ []) 5 i → i ≡ 1
 comes_to_it i (First j stands) = stands_behind j stands
 comes_to_it i (On zero shared j n comes passes shares stands) = let fits = passes.fits in let same : Some past ≡ Some n = passes.here in let is : 200 ≡ n.prefix = cc in absurd (omega (arith, is, fits))
@@ -51,7 +51,7 @@ pub a_table_of_a_struct_past_the_width_is_refused : (before after code : ℕ) �
 a_table_of_a_struct_past_the_width_is_refused before after code (i, comes, On (fits, goes)) = absurd (does_not_fit i (comes_to_it i comes) fits)
 a_table_of_a_struct_past_the_width_is_refused before after code (i, comes, Nothing (not, is) same) = (is, same)
 
--- lists that fit are not refused
+-- lists whose prefix lengths fit are not refused
 last_of_what_fits : (list : List Ipv4InC) (i : ℕ) → All (λ c. c.prefix ≤ 32) list → LastFits 32 (map v4_in list) i
 last_of_what_fits list i fit n some there =
     let within : i - 1 < length (map v4_in list) = slice_get_within (map v4_in list) (i - 1) n there in
@@ -97,7 +97,8 @@ a_struct_that_the_search_does_not_come_to_is_not_judged before after (i, comes, 
 a_struct_that_the_search_does_not_come_to_is_not_judged before after (i, comes, Nothing (not, is) same) =
     not (subst (LastFits 32 (past_wide ∷ narrow ∷ [])) (sym (stays_at_the_first i comes)) (λ n some there. let told : Some narrow ≡ Some n = there in let prefix_is : 16 ≡ n.prefix = cc in omega (arith, prefix_is)))
 
--- 10.2.0.0 is not in 10.1.0.0/16: the search goes on to the struct before it, which begins no later than a block with both
+-- 10.2.0.0 is not in 10.1.0.0/16: the search goes on to the struct before it, which begins no later than a block that
+-- has both
 comes_to_the_first_too : (i : ℕ) → ComesTo 32 (past_wide ∷ narrow ∷ []) 0x0a020000 i → 0 < i
 comes_to_the_first_too i (First j stands) = first j stands
   where
@@ -127,7 +128,7 @@ a_struct_around_the_address_is_judged before after (i, comes, Nothing (not, is) 
 pub no_search_stands_behind_a_later_address : ¬ (StandsAt (past ∷ []) 4 1)
 no_search_stands_behind_a_later_address h = let before : 5 ≤ 4 = h.last past (omega arith) refl in omega (arith, before)
 
--- ---- answers of a search
+-- ---- results of a search
 
 pub a_set_is_answered : {C : Type 0} (w : ℕ) (held : C → Network) (list : List C) (x before after : ℕ) → SetQuery w held list x before after ok → FindsIn w (map held list) x after
 a_set_is_answered w held list x before after (i, stands, On (fits, (is, finds))) = finds
@@ -152,7 +153,7 @@ an_index_is_not_changed_after_a_fault list x before after code fault (i, comes, 
 an_index_is_not_changed_after_a_fault list x before after code fault (i, comes, On (fits, On (is, finds))) = absurd (fault is)
 an_index_is_not_changed_after_a_fault list x before after code fault (i, comes, Nothing not same) = same
 
--- an index that is found is the one before which the search ends
+-- the index found is the one before the end of the search
 pub the_index_is_that_of_the_end : (list : List Ipv4InC) (x before after : ℕ) → TableQuery 32 v4_in list x before after ok → ComesTo 32 (map v4_in list) x (after + 1) × LastFits 32 (map v4_in list) (after + 1) × FindsLongest 32 (map v4_in list) x after
 the_index_is_that_of_the_end list x before after (i, comes, On (fits, Nothing (none, is) same)) = absurd (omega (arith, is))
 the_index_is_that_of_the_end list x before after (i, comes, On (fits, On (is, (end, finds)))) = (subst (ComesTo 32 (map v4_in list) x) end comes, subst (LastFits 32 (map v4_in list)) end fits, finds)

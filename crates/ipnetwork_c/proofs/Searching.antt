@@ -1,4 +1,4 @@
--- Where an address stands in the list of a set, and what that tells of the set.
+-- The position of an address in the list of a set, and what follows for the set.
 use Rattle.std.proofs.Common.{◌≡◌, ◌↔◌, ℕ, ◌+◌, ◌-◌, ◌<◌, ◌≤◌, ⊎_elim, List, length, map, get_or, Bool, true, false, IsTrue, refl, sym, ap, subst, ◌∙◌, arith}
 use Rattle.std.specs.Int.{from_bool}
 use Rattle.std.specs.List.{AllPairs}
@@ -24,7 +24,7 @@ none_up_to ns x h = split_none_at ns x 0 0 h refl (omega arith)
 pub last_up_to : (ns : List Network) (x i : ℕ) (b : Network) → AllPairs (λ a b. a.address < b.address) ns → IsSplit ns x i i → 0 < i → b ≡ get_or ns (i - 1) b → IsLastUpTo ns x b
 last_up_to ns x i b up h some is = split_last ns x i i b up h (omega arith) some is
 
--- none of the networks begins up to the address
+-- none of the networks begins at or before the address
 pub finds_none : (w : ℕ) (ns : List Network) (x : ℕ) → AggregateHasOneBlock → (AllPairs (λ a b. a.address < b.address) ns → IsSplit ns x 0 0) → FindsIn w ns x 0
 finds_none w ns x one split = record {
   flag = omega arith;
@@ -32,7 +32,7 @@ finds_none w ns x one split = record {
   missed = λ set z. none_holds w ns one set x x (none_up_to ns x (split set.ascending)) (omega arith);
 }
 
--- the last that does was asked
+-- the last network that does was checked
 pub finds_last : (w : ℕ) (ns : List Network) (x i : ℕ) (b : Network) (has : Bool) (byte : ℕ) → AggregateHasOneBlock → (AllPairs (λ a b. a.address < b.address) ns → IsSplit ns x i i)
     → 0 < i → i ≤ length ns → b ≡ get_or ns (i - 1) b → (IsTrue has ↔ Member w b x) → byte ≡ from_bool has → FindsIn w ns x byte
 finds_last w ns x i b true byte one split some within is has told = record {
@@ -46,7 +46,7 @@ finds_last w ns x i b false byte one split some within is has told = record {
   missed = λ set z u. no_true (has.1 ((holds_by_last w ns one set x b (last_up_to ns x i b set.ascending (split set.ascending) some is)).1 u));
 }
 
--- ---- where a search stands in any list
+-- ---- the position of a search in any list
 
 pub the_one : (ns : List Network) (k : ℕ) (b n : Network) → b ≡ get_or ns k b → slice_get ns k ≡ Some n → b ≡ n
 the_one ns k b n is got = is ∙ get_or_from_slice_get ns k n b got
@@ -73,7 +73,7 @@ between_met ns x from to h ordered met within =
     let e : to ≡ from = omega arith in
     record { within = omega arith; last = h.last; next = subst (λ (k : ℕ). (n : Network) → slice_get ns k ≡ Some n → x < n.address) e h.next }
 
--- if the addresses ascend, all others are on the side of their neighbour
+-- if the addresses ascend, all other networks are on the side of their neighbour
 pub stands_split : (ns : List Network) (x i : ℕ) → StandsAt ns x i → AllPairs (λ a b. a.address ≤ b.address) ns → IsSplit ns x i i
 stands_split ns x i s up =
     let within = s.within in
@@ -98,7 +98,7 @@ stands_split ns x i s up =
           (cases_lt i k);
     }
 
--- ---- what is known of a neighbour that was looked at
+-- ---- what is known of a neighbour that was read
 
 pub last_at : (ns : List Network) (x i k : ℕ) (n : Network) → i ≡ k + 1 → n ≡ get_or ns k n → n.address ≤ x → LastUpTo ns x i
 last_at ns x i k n e is begins m some got =
@@ -111,7 +111,7 @@ next_at ns x i k n e is later m got =
     let same = ap (λ (o : Network). o.address) (the_one ns k n m is (subst (λ (j : ℕ). slice_get ns j ≡ Some m) e got)) in
     omega (arith, same, later)
 
--- nothing stands before the first, and nothing behind the last
+-- there is nothing before the first network, and nothing after the last
 pub none_last : (ns : List Network) (x i : ℕ) → i ≡ 0 → LastUpTo ns x i
 none_last ns x i e m some got = absurd (omega (arith, e, some))
 
@@ -121,23 +121,23 @@ none_next held list x i e m got =
     let size = length-map list held in
     absurd (omega (arith, e, l, size))
 
--- the last of the first `end` values, and what it holds
+-- the last of the first `end` values, and the network that it holds
 pub last_held : {C : Type 0} (held : C → Network) (list : List C) (end : ℕ) (value : C) → 0 < end → end ≤ length list → value ≡ get_or list (end - 1) value → (end ≤ length (map held list)) × (held value ≡ get_or (map held list) (end - 1) (held value))
 last_held held list end value some within is = let size = length-map list held in (omega (arith, size, within), read_map held list (end - 1) value (omega arith) is)
 
--- the last network fits, if the one that stands there does
+-- the last network fits if the one that was read there fits
 pub last_fits : (w : ℕ) (ns : List Network) (i : ℕ) (b : Network) → b ≡ get_or ns (i - 1) b → PrefixFits w b → LastFits w ns i
 last_fits w ns i b is fits n some got = subst (PrefixFits w) (the_one ns (i - 1) b n is got) fits
 
--- and only then
+-- the last network does not fit if the one that was read there does not
 pub last_does_not_fit : (w : ℕ) (ns : List Network) (i : ℕ) (b : Network) → 0 < i → i ≤ length ns → b ≡ get_or ns (i - 1) b → ¬ (PrefixFits w b) → ¬ (LastFits w ns i)
 last_does_not_fit w ns i b some within is not h = not (h b some (slice_get_read ns (length ns) (i - 1) b refl (omega arith) is))
 
--- nothing stands before the first
+-- there is nothing before the first network
 pub none_fits : (w : ℕ) (ns : List Network) (i : ℕ) → i ≡ 0 → LastFits w ns i
 none_fits w ns i none n some got = absurd (omega arith)
 
--- what a search tells of an address
+-- what a search writes about an address
 pub set_answered : {C : Type 0} (w : ℕ) (held : C → Network) (list : List C) (x before after : ℕ) → EndFits w (map held list) x → FindsIn w (map held list) x after → SetQuery w held list x before after 0
 set_answered w held list x before after ends finds = (ends.0, ends.1, On (ends.2, (refl, finds)))
 

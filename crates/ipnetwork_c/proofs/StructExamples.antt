@@ -1,4 +1,4 @@
--- Structs of C at which a misreading of the definitions would show.
+-- C structs that would expose a misreading of the definitions.
 use Rattle.std.proofs.Common.{◌≡◌, ℕ, List, [], ◌∷◌, ◌++◌, get_or, refl, ap, arith}
 use Rattle.std.specs.Prelude.{Some, None, replicate}
 use Rattle.ipnetwork_addr.specs.declared.ip.IpAddr.TheVariants as addresses
@@ -70,7 +70,7 @@ a_prefix_length_of_129_is_none_of_ipv6 h = omega (arith, h)
 pub both_full_widths_fit : IpPrefixFits (V4 (record { address = 0; prefix = 32 })) × IpPrefixFits (V6 (record { address = 0; prefix = 128 }))
 both_full_widths_fit = (omega arith, omega arith)
 
--- a struct of neither family is refused as that, whatever its prefix lengths are
+-- a struct of neither family is refused for its family, whatever its prefix lengths are
 pub no_family_comes_first : ¬ (NoIpNetwork (either 5 (record { address = replicate 4 0; prefix = 33 }) blank_six) prefix)
 no_family_comes_first (NoFamily told is) = omega (arith, is)
 no_family_comes_first (NoPrefix n told past is) = cc

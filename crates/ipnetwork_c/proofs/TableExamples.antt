@@ -1,4 +1,4 @@
--- Tables at which a misreading of `IsTable`, `FindsLongest` or `IsTableOf` would show: 10.0.0.0/8, and 10.1.0.0/16 twice.
+-- A table that would expose a misreading of `IsTable`, `FindsLongest` or `IsTableOf`: 10.0.0.0/8 and twice 10.1.0.0/16.
 use Rattle.std.proofs.Common.{◌≡◌, ℕ, zero, suc, ◌<◌, ◌≤◌, List, [], ◌∷◌, get_or, refl, inl, inr, lit<, lit≤, ap, arith, ⊎_elim}
 use Rattle.std.proofs.lemmas.List.Sorted.{sum_by-IsPermutation}
 use Rattle.ipnetwork_family.specs.Network.{Network, IsCidrBlock, IsNetworkAtMost}
@@ -31,7 +31,7 @@ ascend (suc (suc i)) zero d l m = absurd (omega (arith, l))
 ascend (suc (suc i)) (suc zero) d l m = absurd (omega (arith, l))
 ascend i (suc (suc (suc j))) d l m = absurd (omega (arith, m))
 
--- a block may lie in another, and stand there twice
+-- a block may be contained in another, and may occur twice
 pub nested_is_a_table : IsTable 32 nested
 nested_is_a_table = record { blocks = are_blocks; ascending = ascend }
 
@@ -51,7 +51,7 @@ at_most_sixteen (suc zero) d l = lit≤ tt
 at_most_sixteen (suc (suc zero)) d l = lit≤ tt
 at_most_sixteen (suc (suc (suc k))) d l = absurd (omega (arith, l))
 
--- of 10.1.2.3 the last of the longest is found,
+-- for 10.1.2.3 the last of the longest blocks is found
 pub the_last_of_the_longest_is_found : FindsLongest 32 nested 0x0a010203 2
 the_last_of_the_longest_is_found = record {
   within = lit< tt;
@@ -60,27 +60,27 @@ the_last_of_the_longest_is_found = record {
   last = λ t k d after l. absurd (omega (arith, after, l));
 }
 
--- and no other
+-- no other block is found
 pub no_wider_block_is_found : ¬ (FindsLongest 32 nested 0x0a010203 0)
 no_wider_block_is_found f = let h : 16 ≤ 8 = f.longest nested_is_a_table 1 wide (lit< tt) (lit< tt, refl) in omega (arith, h)
 
 pub none_before_an_equal_one_is_found : ¬ (FindsLongest 32 nested 0x0a010203 1)
 none_before_an_equal_one_is_found f = f.last nested_is_a_table 2 wide (lit< tt) (lit< tt) (lit< tt, refl)
 
--- a table has the blocks of its networks, by their places
+-- each row of a table is the block of the network at its place
 pub a_row_is_the_block_of_its_network : row_block 32 (record { address = 0x0a010203; prefix = 16 } ∷ wide ∷ []) 0 ≡ narrow
 a_row_is_the_block_of_its_network = refl
 
 pub other_places_are_beside_no_table : ¬ (IsTableOf 32 (narrow ∷ wide ∷ []) (wide ∷ narrow ∷ []) (0 ∷ 1 ∷ []))
 other_places_are_beside_no_table t = let h : 8 ≡ 16 = ap (λ (n : Network). n.prefix) (t.block 0 wide (lit< tt)) in omega (arith, h)
 
--- and each of them once
+-- each network occurs once
 pub no_network_stands_twice : ¬ (IsTableOf 32 (wide ∷ narrow ∷ []) (wide ∷ wide ∷ []) (0 ∷ 0 ∷ []))
 no_network_stands_twice t = let same : 0 ≡ 1 = sum_by-IsPermutation (λ (place : ℕ). place) (0 ∷ 1 ∷ []) (0 ∷ 0 ∷ []) t.once in omega (arith, same)
 
 pub no_network_is_left_out : (places : List ℕ) → ¬ (IsTableOf 32 (wide ∷ []) [] places)
 no_network_is_left_out places t = let rows : 0 ≡ 1 = t.rows in omega (arith, rows)
 
--- of equal blocks that of the later network comes later
+-- of equal blocks, the one of the later network comes later
 pub equal_blocks_are_not_turned : ¬ (IsTableOf 32 (narrow ∷ narrow ∷ []) (narrow ∷ narrow ∷ []) (1 ∷ 0 ∷ []))
 equal_blocks_are_not_turned t = let h : 1 ≤ 0 = t.equal 0 1 wide (lit< tt) (lit< tt) refl in omega (arith, h)

@@ -28,12 +28,12 @@ taken_ascends ns n le up i j d l m =
     let order : (get_or ns i d).address ≤ (get_or ns j d).address = up i j d l (omega (arith, m, size, le)) in
     omega (arith, first, second, order)
 
--- of the networks of a table, those before `end` begin up to the address, and none of the others has it
+-- the networks of a table before `end` begin at or before the address, and none of the others has it
 pub record IsSearched (w : ℕ) (ns : List Network) (x end : ℕ) : Type 0 where
   pub before : (k : ℕ) (d : Network) → k < end → (get_or ns k d).address ≤ x
   pub behind : (k : ℕ) (d : Network) → end ≤ k → k < length ns → ¬ (Member w (get_or ns k d) x)
 
--- a block that begins after the address has it not
+-- a block that begins after the address does not have it
 later_has_not : (w : ℕ) (b : Network) (x : ℕ) → IsCidrBlock w b → x < b.address → ¬ (Member w b x)
 later_has_not w b x h later m = let i = within_member w b x m in let block = h.block in let from = i.0 in omega arith
 
@@ -43,7 +43,7 @@ search_begins w ns x end t h = record {
   behind = λ k d l m. later_has_not w (get_or ns k d) x (t.blocks k d m) (h.above k d l m);
 }
 
--- a block that has an address, and begins up to another one before it, begins with the bits that both share
+-- a block that has an address and begins at or before an earlier one begins no later than the bits that both share
 pub around_both : (w : ℕ) (b : Network) (a x shared : ℕ) → IsCidrBlock w b → x < 2 ^ w → Member w b x → b.address ≤ a → a ≤ x → SharesBits w a x shared → b.address ≤ (block_at w x shared).address
 around_both w b a x shared h fits m from to s =
     let i = within_member w b x m in
@@ -58,7 +58,7 @@ around_both w b a x shared h fits m from to s =
     let begins = j.0 in
     omega arith
 
--- the last of them has it not
+-- the last of them does not have it
 pub search_goes_on : (w : ℕ) (ns : List Network) (x end next shared : ℕ) (b : Network) → IsTable w ns → IsSearched w ns x end → x < 2 ^ w → 0 < end → end ≤ length ns → b ≡ get_or ns (end - 1) b → ¬ (Member w b x)
     → SharesBits w b.address x shared → next ≤ end - 1 → IsSplit (take (end - 1) ns) (block_at w x shared).address next next → IsSearched w ns x next
 search_goes_on w ns x end next shared b t h fits some within is not s less split = record {
@@ -124,7 +124,7 @@ search_fails w ns x end h none t u =
     let k : ℕ = u.1.0 in
     (h t).behind k u.0 (omega arith) u.1.1 (subst (λ (n : Network). Member w n x) (sym u.1.2) u.2)
 
--- the number of a fault that a search returns is that of a byte
+-- the fault that a search returns fits a byte
 pub fault_is_byte : {C : Type 0} {before after code : ℕ} (w : ℕ) (held : C → Network) (list : List C) (x : ℕ) → TableQuery w held list x before after code → code < 256
 fault_is_byte _ _ _ _ (_, _, Nothing (_, is) _) = omega (arith, is)
 fault_is_byte _ _ _ _ (_, _, On (_, Nothing (_, is) _)) = omega (arith, is)

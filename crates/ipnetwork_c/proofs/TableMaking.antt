@@ -1,4 +1,4 @@
--- Tables made of networks in any order.
+-- Tables made from networks in any order.
 use Rattle.std.proofs.Common.{◌≡◌, ◌≢◌, ℕ, ◌+◌, ◌<◌, ◌≤◌, List, ◌++◌, length, map, take, drop, get_or, slice_set, Bool, false, inl, inr, ap, refl, sym, subst, ◌∙◌, arith, zero-add, below_more, get_or-set_other, get_or-set_same}
 use Rattle.std.specs.Cmp.{IsTotalOrder, IsStrictWeakOrder, nat_cmp_total}
 use Rattle.std.specs.List.{All, range_with_len}
@@ -27,14 +27,14 @@ place_cmp_total w ns = then_total (on_total (row_block w ns) (then_total (on_tot
 pub place_cmp_weak : (w : ℕ) (ns : List Network) → IsStrictWeakOrder (λ a b. is_lt (place_cmp w ns a b))
 place_cmp_weak w ns = ranks_by (place_cmp_total w ns) (λ a. a)
 
--- what was sorted by calls that tell this order
+-- a list that was sorted by calls that return this order is sorted by it
 pub sorted_by : {F : Type 0} {g : Mut F (Bor ℕ × (Bor ℕ × Unit {0})) Ordering} {f : F} (w : ℕ) (ns : List Network) (xs : List ℕ) → ((lt : ℕ → ℕ → Bool) → IsStrictWeakOrder lt → ComparesAs g lt f → IsSortedBy lt xs)
     → ((a : Bor ℕ × (Bor ℕ × Unit {0})) (r : Ordering) (f' : F) → Called g f a r f' → (r ≡ place_cmp w ns a.0.now a.1.0.now) × (f' ≡ f)) → IsSorted (place_cmp w ns) xs
 sorted_by {g = g} {f = f} w ns xs up told =
     up (λ x y. is_lt (place_cmp w ns x y)) (place_cmp_weak w ns)
     (always_returns_same g (λ a r. is_lt r ≡ is_lt (place_cmp w ns a.0.now a.1.0.now)) f (λ a r f' k. (ap is_lt (told a r f' k).0, (told a r f' k).1)))
 
--- the order of two blocks and of their places, from that by which they were sorted
+-- the order of two blocks and of their places, from the order by which they were sorted
 in_order : (a b : Network) (q p : ℕ) (o r s : Ordering) → MatchOrdering o (a.address < b.address) (a.address ≡ b.address) (b.address < a.address)
     → MatchOrdering r (a.prefix < b.prefix) (a.prefix ≡ b.prefix) (b.prefix < a.prefix) → MatchOrdering s (q < p) (q ≡ p) (p < q)
     → is_lt (ordering_then (ordering_then o r) s) ≡ false → IsNetworkAtMost b a × (b ≡ a → p ≤ q)
@@ -65,7 +65,7 @@ in_order_at w ns blocks places rows put sorted i j d l m =
       λ same. both.1 (sym first ∙ same ∙ second),
     )
 
--- the block of a place was put
+-- the block of the network at a place was put
 pub record IsRow (w : ℕ) (ns : List Network) (places : List ℕ) (blocks : List Network) (k : ℕ) : Type 0 where
   pub put : (d : Network) → get_or blocks k d ≡ row_block w ns (get_or places k 0)
   pub block : IsCidrBlock w (row_block w ns (get_or places k 0))
@@ -81,15 +81,15 @@ row_put held w ns places blocks row new so_far below is block =
     record { put = λ d. get_or-set_other (map held blocks) row k (held new) d apart ∙ (so_far k l).put d; block = (so_far k l).block })
     (record { put = λ d. get_or-set_same (map held blocks) row (held new) d (omega (arith, below, length-map blocks held)) ∙ is; block = block }))
 
--- the numbers of places, one after the other
+-- places set to their own indexes are the numbers from 0 on
 pub are_places : (places : List ℕ) → ((k : ℕ) → k < length places → get_or places k 0 ≡ k) → places ≡ range_with_len 0 (length places)
 are_places places is = ext_get_or 0 places (range_with_len 0 (length places)) (sym (length-range_with_len 0 (length places))) (λ k l. is k l ∙ sym (get_or-range_with_len 0 (length places) k 0 l ∙ zero-add k))
 
--- what is read from the front of a list that was written there
+-- the front of a list is what was written there
 pub taken : (front rest : List ℕ) (n : ℕ) → length front ≡ n → take n (front ++ rest) ≡ front
 taken front rest n is = ap (λ k. take k (front ++ rest)) (sym is) ∙ take-append_seam front rest
 
--- places are numbered and sorted in the front of a list, and the blocks are put in their order
+-- places are numbered and sorted at the front of a list, and the blocks are put in their order
 pub made : {C : Type 0} (held : C → Network) (w : ℕ) (networks before rows : List C) (places_before numbers order : List ℕ) → All (λ c. PrefixFits w (held c)) networks
     → length networks ≤ length before → length networks ≤ length places_before → numbers ≡ range_with_len 0 (length networks)
     → IsPermutation (take (length networks) (numbers ++ drop (length networks) places_before)) order → IsSorted (place_cmp w (map held networks)) order → length rows ≡ length networks

@@ -1,4 +1,4 @@
--- How long the texts of addresses, networks and faults are at the most.
+-- The greatest lengths of the texts of addresses, networks and faults.
 use Rattle.std.proofs.Common.{◌≡◌, ℕ, zero, suc, ◌+◌, ◌-◌, ◌*◌, ◌/◌, ◌%◌, ◌^◌, ◌<◌, ◌≤◌, ◌==◌, nat_le, List, [], ◌∷◌, ◌++◌, length, map, take, drop, get_or, flat_map, decimal, refl, ap, sym, subst, ◌∙◌, arith, lit≤, lit<, length-take-le, length-drop}
 use Rattle.std.specs.Prelude.{codes}
 use Rattle.std.specs.Int.Digits.{AllBelowBase}
@@ -40,7 +40,7 @@ dotted (a ∷ b ∷ c ∷ d ∷ e ∷ octets) four fit = absurd (omega (arith, f
 v4_length : (a : ℕ) → length (canonical_v4 a) ≤ 15
 v4_length a = dotted (octets_of a) refl (omega arith, (omega arith, (omega arith, (omega arith, tt))))
 
--- groups, each behind a colon
+-- groups, each after a colon
 behind_colons : (groups : List ℕ) → AllBelowBase (2 ^ 16) groups → length (flat_map (λ x. colon ∷ hex x) groups) ≤ 5 * length groups
 behind_colons [] fit = lit≤ tt
 behind_colons (g ∷ groups) fit =
@@ -99,7 +99,7 @@ address_texts (addresses.V6 a) fits = let most = v6_length a in omega (arith, mo
 
 -- ---- networks
 
--- a text and, behind a slash, a number of so many digits at the most
+-- a text and, after a slash, a number of at most so many digits
 suffixed : (text : List ℕ) (most digits p : ℕ) → length text ≤ most → 0 < digits → p < 10 ^ digits → p < 2 ^ 64 → length (text ++ slash ∷ decimal p) ≤ most + 1 + digits
 suffixed text most digits p short some fits small =
     let suffix = length-decimal-le digits p some fits small in

@@ -1,4 +1,4 @@
--- A truth as a byte, and an order as a number of 32 bits.
+-- A Boolean as a byte, and an order as a 32-bit number.
 use Rattle.std.proofs.Common.{◌≡◌, ◌↔◌, ℕ, ℤ, to_z, of_z, w32, Bool, true, false, IsTrue, arith, refl}
 use Rattle.std.specs.Prelude.{List}
 use Rattle.std.specs.List.{All}
@@ -22,6 +22,6 @@ order_kept Less z is = rw is refl
 order_kept Equal z is = rw is refl
 order_kept Greater z is = rw is refl
 
--- what is true of each row, said otherwise
+-- two equivalent statements about each row
 pub fits_too : {C : Type 0} (holds : C → Type 0) (held : C → Network) (w : ℕ) → ((c : C) → holds c ↔ PrefixFits w (held c)) → (list : List C) → All holds list → All (λ c. PrefixFits w (held c)) list
 fits_too holds held w same list all k d l = (same _).0 (all k d l)

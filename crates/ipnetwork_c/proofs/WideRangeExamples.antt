@@ -1,5 +1,5 @@
--- What the laws of ranges let one conclude of IPv6: in blocks of each prefix length from none to all 128, at the last
--- address that there is, in as many blocks as one likes, and in networks with host bits, which are no table.
+-- Conclusions from the laws of ranges for IPv6: with prefix lengths from 0 to 128, at the last address of all, with any
+-- number of blocks, and with networks with host bits, which are no table.
 use Rattle.std.proofs.Common.{◌^◌, ◌≡◌, ℕ, zero, suc, ◌+◌, ◌<◌, ◌⊎◌, List, [], ◌∷◌, ◌++◌, get_or, length, map, replicate, refl, inl, inr, subst, sym, ap, ◌∙◌, lit<, lit≤, arith}
 use Rattle.std.proofs.lemmas.List.{get_or-map, get_or-replicate, length-map, length-replicate}
 use Rattle.ipnetwork_family.specs.Network.{Network, IsCidrBlock, IsNetworkAtMost, Member}
@@ -23,7 +23,7 @@ elsewhere = 0x20010db9000000000000000000000000
 abbrev last_address : ℕ
 last_address = 0xffffffffffffffffffffffffffffffff
 
--- by the ranges of the list the network at the place is found; and by their places
+-- a search by the ranges of the list finds the network at the place; the ranges' places give it too
 abbrev AreFound : List Ipv6InC → ℕ → ℕ → Type 0
 AreFound list x place = (ranges : List Ipv6InC) (places : List ℕ) (before after code : ℕ)
     → AreRangesOf 128 (map v6_in list) (map v6_in ranges) places → RangeQuery v6_in ranges places x before after code → (code ≡ ok) × (after ≡ place)
@@ -40,7 +40,7 @@ stands : PlacesAreOfTheLongest 128 v6_in → (list : List Ipv6InC) (x place : �
 stands law list x place fits table has only ranges places told are query =
     stands_in_a_table 128 (map v6_in list) x place table has only told (law list ranges places x told are fits query)
 
--- ---- ::/0, 2001:db8::/32, 2001:db8:0:1::/64, and the last address alone
+-- ---- ::/0, 2001:db8::/32, 2001:db8:0:1::/64, and the block of only the last address
 
 abbrev all_in_c : Ipv6InC
 all_in_c = record { address = replicate 16 0; prefix = 0 }
@@ -87,7 +87,7 @@ are_a_table = record { blocks = are_blocks; ascending = ascend }
 all_has : (x : ℕ) → Member 128 all x → InUnion 128 nested x
 all_has x m = (all, (0, lit< tt, refl), m)
 
--- of networks that have the address the last one is found
+-- of the networks that have the address, the last is found
 only_the_site : (i : ℕ) → FindsLongest 128 nested in_site i → i ≡ 2
 only_the_site zero f = absurd (f.last are_a_table 2 all (lit< tt) (lit< tt) (lit< tt, refl))
 only_the_site (suc zero) f = absurd (f.last are_a_table 2 all (lit< tt) (lit< tt) (lit< tt, refl))
@@ -123,7 +123,7 @@ wide_places_are_of_the_longest law = (
   stands law nested_in_c elsewhere 0 (lit< tt) are_a_table (all_has elsewhere (lit< tt, refl)) only_all,
 )
 
--- ---- the same block, ::/0, any number of times: of these the last is found
+-- ---- the same block, ::/0, any number of times: the last of them is found
 
 abbrev alike_in_c : ℕ → List Ipv6InC
 alike_in_c more = replicate (more + 1) all_in_c
@@ -176,7 +176,7 @@ ranges_find_the_last_of_many law more = found law (alike_in_c more) last_address
 pub places_are_of_the_last_of_many : PlacesAreOfTheLongest 128 v6_in → (more : ℕ) → IsThePlace (alike_in_c more) last_address more
 places_are_of_the_last_of_many law more = stands law (alike_in_c more) last_address more (lit< tt) (alike_are_a_table more) (one_has_it more) (only_the_last_of_them more)
 
--- ---- 2001:db8::1/32 and ffff::1/16, with host bits: what is found of these has the address too
+-- ---- 2001:db8::1/32 and ffff::1/16, with host bits: the network that is found has the address too
 
 abbrev host_bits_in_c : List Ipv6InC
 host_bits_in_c =

@@ -9,12 +9,12 @@ use Rattle.ipnetwork_c.specs.Outcomes.{Writes, Needs}
 use Rattle.ipnetwork_c.specs.Answers.{IfFit}
 use Rattle.ipnetwork_c.specs.Lists.{PutsBlocks}
 
--- the least list of blocks of the addresses from first to last is put in a list; `no_range` if first comes after last
+-- the shortest list of blocks of the addresses from first to last is put in a list; `no_range` if first > last
 abbrev pub RangeOperation : {C : Type 0} → ℕ → (C → Network) → ℕ → ℕ → List C × ℕ → List C × ℕ → ℕ → Type 0
 RangeOperation w held first last = Needs (first ≤ last) no_range (PutsBlocks w held (FromTo first last))
 
--- the blocks of prefix length p within a network are numbered from 0: the one of number i is written; `prefix` if p is
--- none of the prefix lengths from the network's to w, and `no_member` if there are no more than i of them
+-- the block number i of prefix length p within a network, counted from 0, is written; `prefix` if p is less than the
+-- network's prefix length or greater than w, and `no_member` if there are at most i such blocks
 abbrev pub WritesSubnet : {C : Type 0} → ℕ → (C → Network → Type 0) → Network → ℕ → ℕ → C → C → ℕ → Type 0
 WritesSubnet w Holds n p i =
     IfFit (PrefixFits w n × (n.prefix ≤ p) × (p ≤ w))

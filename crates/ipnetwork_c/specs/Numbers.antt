@@ -1,4 +1,4 @@
--- The numbers that stand for faults and orders in C. The header has a name for each.
+-- The numbers of faults and orders in C. The header has a name for each fault.
 use Rattle.std.specs.Prelude.{ℕ, ℤ, pos, negsuc, List, [], ◌∷◌, get_or, codes}
 use Rattle.std.specs.declared.cmp.Ordering.{Ordering}
 use Rattle.std.specs.declared.cmp.Ordering.TheVariants.{Less, Equal, Greater}
@@ -13,11 +13,11 @@ ok = 0
 abbrev pub format : ℕ
 format = 1
 
--- what stands before the `/` is not an address
+-- the part before the `/` is not an address
 abbrev pub address : ℕ
 address = 2
 
--- not a prefix length of the family
+-- a value that is not a prefix length of the family
 abbrev pub prefix : ℕ
 prefix = 3
 
@@ -29,15 +29,15 @@ short_buffer = 4
 abbrev pub no_mask : ℕ
 no_mask = 5
 
--- a member that is not there
+-- a member number that the network does not have
 abbrev pub no_member : ℕ
 no_member = 6
 
--- neither of the two families
+-- a family that is neither IPv4 nor IPv6
 abbrev pub no_family : ℕ
 no_family = 7
 
--- offsets of a column that fall, or pass the end
+-- offsets of a column that decrease or exceed the length of its texts
 abbrev pub no_offsets : ℕ
 no_offsets = 8
 
@@ -45,17 +45,17 @@ no_offsets = 8
 abbrev pub no_range : ℕ
 no_range = 9
 
--- a list that is not that of a set
+-- a list that is not the list of a set
 abbrev pub no_set : ℕ
 no_set = 10
 
--- the cause for which a text is refused
+-- the number of the cause why a text is refused
 abbrev pub fault_number : CidrFault → ℕ
 fault_number Format = format
 fault_number Addr = address
 fault_number Prefix = prefix
 
--- what the faults say, in the order of their numbers, as bytes
+-- the texts of the faults, in the order of their numbers, as bytes
 abbrev pub fault_texts : List (List ℕ)
 fault_texts =
     codes "no fault"
@@ -71,11 +71,11 @@ fault_texts =
     ∷ codes "no list of a set"
     ∷ []
 
--- what a fault says; a number that is none has a text too
+-- the text of a fault; a number that is not a fault has a text too
 abbrev pub fault_text : ℕ → List ℕ
 fault_text fault = get_or fault_texts fault (codes "unknown fault")
 
--- which of two comes first: less than 0 for the first, 0 if they are equal
+-- the number of an order: -1 for less, 0 for equal, 1 for greater
 abbrev pub order_number : Ordering → ℤ
 order_number Less = negsuc 0
 order_number Equal = pos 0

@@ -1,31 +1,31 @@
--- The one shape of what a call of C does with the memory that it writes to: `before` and `after` are what stands there,
--- a pair if it has two parts, and `code` is the number that the call returns.
+-- The general form of what a C call does to the memory that it writes: `before` and `after` are the contents, a pair if
+-- there are two parts, and `code` is the number that the call returns.
 use Rattle.std.specs.Prelude.{◌≡◌, ℕ, ◌-◌, ◌^◌, min}
 use Rattle.ipnetwork_c.specs.Numbers.{ok, short_buffer}
 
--- a call is done, and the memory is as this says
+-- the call succeeds, and `Written` is true of the memory
 abbrev pub Writes : {M : Type 0} → (M → Type 0) → M → M → ℕ → Type 0
 Writes Written before after code = (code ≡ ok) × Written after
 
--- it returns a fault, which has its cause, and nothing in the memory has changed; or it goes on
+-- the call goes on, or it returns a fault that has its cause, and the memory is unchanged
 pub data Unless {M : Type 0} (Refuses : ℕ → Type 0) (GoesOn : M → M → ℕ → Type 0) (before after : M)
     (code : ℕ) : Type 0 where
   On : GoesOn before after code → Unless Refuses GoesOn before after code
   Nothing : Refuses code → after ≡ before → Unless Refuses GoesOn before after code
 
--- the fault is this one, for this cause
+-- the call returns this fault, and its cause holds
 abbrev pub IsFault : ℕ → Type 0 → ℕ → Type 0
 IsFault fault Cause code = Cause × (code ≡ fault)
 
--- it goes on exactly if this holds, and else returns the fault
+-- the call goes on exactly if `Holds` is true, and otherwise returns the fault
 abbrev pub Needs : {M : Type 0} → Type 0 → ℕ → (M → M → ℕ → Type 0) → M → M → ℕ → Type 0
 Needs Holds fault GoesOn = Unless (IsFault fault (¬ Holds)) (λ before after code. Holds × GoesOn before after code)
 
--- it goes on with what it finds
+-- the call goes on with a value that it finds, or returns a fault
 abbrev pub Finds : {A M : Type 0} → (A → Type 0) → (ℕ → Type 0) → (A → M → M → ℕ → Type 0) → M → M → ℕ → Type 0
 Finds {A} Is Refuses GoesOn = Unless Refuses (λ before after code. (a : A) × Is a × GoesOn a before after code)
 
--- what has room is put, and its size beside it; what has none is not, and its size is told as far as 64 bits go
+-- the data is put if there is room, and its size is written; without room only its size is written, at most 2^64 - 1
 abbrev pub Puts : {M : Type 0} → Type 0 → ℕ → (M → Type 0) → M × ℕ → M × ℕ → ℕ → Type 0
 Puts HasRoom size Put before after code =
     (after.1 ≡ min size (2 ^ 64 - 1)) × Needs HasRoom short_buffer

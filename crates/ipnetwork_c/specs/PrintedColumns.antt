@@ -1,5 +1,5 @@
--- Columns of networks and addresses printed: the bytes of all texts, one after the other, and the offsets at which each
--- begins and the last ends.
+-- Columns of printed networks and addresses: the bytes of all texts, one after the other, and the offsets at which each
+-- text begins and the last one ends.
 use Rattle.std.specs.Prelude.{◌≡◌, ℕ, ◌^◌, ◌<◌, ◌≤◌, List, [], ◌++◌, drop, take, length, get_or, slice_get, flat_map}
 use Rattle.std.specs.Prelude.{Some, option_map, unwrap_or}
 use Rattle.std.specs.List.{All}
@@ -19,8 +19,8 @@ use Rattle.ipnetwork_c.specs.Held.{PrefixFits, v4_in, v6_in}
 use Rattle.ipnetwork_c.specs.Outcomes.{Unless, IsFault, Puts}
 use Rattle.ipnetwork_c.specs.Either.{ip_in, StandsForIp, held_address}
 
--- the texts of rows stand in the front of a buffer, one after the other, and the offset of each place is the number of
--- the bytes before it, that after the last too; nothing else of the buffer or of the offsets has changed
+-- the texts of the rows are in the front of the buffer, one after the other. Each offset, the one after the last row
+-- too, is the number of bytes before it. The rest of the buffer and of the offsets is unchanged
 pub record PrintsRows {R : Type 0} (text : R → List ℕ) (rows : List R)
     (before after offsets_before offsets : List ℕ) : Type 0 where
   pub texts : after ≡ flat_map text rows ++ drop (length (flat_map text rows)) before
@@ -28,20 +28,20 @@ pub record PrintsRows {R : Type 0} (text : R → List ℕ) (rows : List R)
   pub offset : (i : ℕ) → i ≤ length rows → get_or offsets i 0 ≡ length (flat_map text (take i rows))
   pub rest : (i : ℕ) → length rows < i → slice_get offsets i ≡ slice_get offsets_before i
 
--- there is room for the texts and for an offset more than rows, and the texts have fewer than 2^31 bytes, as offsets of
--- 32 bits with a sign ask
+-- there is room for the texts and for one offset more than rows, and the texts have fewer than 2^31 bytes, as signed
+-- 32-bit offsets require
 pub record HasColumnRoom {R : Type 0} (text : R → List ℕ) (rows : List R)
     (before offsets_before : List ℕ) : Type 0 where
   pub texts : length (flat_map text rows) ≤ length before
   pub short : length (flat_map text rows) < 2 ^ 31
   pub offsets : length rows < length offsets_before
 
--- the first row that does not fit has this fault
+-- the fault is that of the first row that does not fit
 abbrev pub FirstRefused : {R : Type 0} → (R → Type 0) → (R → ℕ → Type 0) → List R → ℕ → Type 0
 FirstRefused {R} Fits Refused rows code = (i : ℕ) × (r : R) × (slice_get rows i ≡ Some r) × All Fits (take i rows)
     × Refused r code
 
--- a column is printed, row by row, and the number of its bytes is returned
+-- the column is printed row by row, and the number of its bytes is written
 abbrev pub PrintsColumn : {R : Type 0} → (R → Type 0) → (R → ℕ → Type 0) → (R → List ℕ) → List R → (List ℕ × List ℕ) × ℕ
     → (List ℕ × List ℕ) × ℕ → ℕ → Type 0
 PrintsColumn Fits Refused text rows =
@@ -49,8 +49,7 @@ PrintsColumn Fits Refused text rows =
     (λ before after code. All Fits rows × Puts (HasColumnRoom text rows before.0.0 before.0.1)
     (length (flat_map text rows)) (λ put. PrintsRows text rows before.0.0 put.0 before.0.1 put.1) before after code)
 
--- the prefix length of a struct fits its family, and the canonical text of its network, as the calls for one network
--- print it
+-- the struct's prefix length fits its family; the canonical text of its network, as the call for one network prints it
 abbrev pub v4_fits : Ipv4InC → Type 0
 v4_fits held = PrefixFits 32 (v4_in held)
 
@@ -63,21 +62,21 @@ v4_text held = network_text canonical_v4 (v4_in held)
 abbrev pub v6_text : Ipv6InC → List ℕ
 v6_text held = network_text canonical_v6 (v6_in held)
 
--- if the prefix length does not fit, the fault is `prefix`
+-- the fault is `prefix`, because the prefix length does not fit
 abbrev pub v4_refused : Ipv4InC → ℕ → Type 0
 v4_refused held = IsFault prefix (¬ (v4_fits held))
 
 abbrev pub v6_refused : Ipv6InC → ℕ → Type 0
 v6_refused held = IsFault prefix (¬ (v6_fits held))
 
--- a struct stands for a network of either family, and the canonical text of that network
+-- the struct represents a network of either family; the canonical text of that network
 abbrev pub ip_fits : IpInC → Type 0
 ip_fits held = (n : IpNetwork) × StandsForIp held n
 
 abbrev pub ip_text : IpInC → List ℕ
 ip_text held = unwrap_or (option_map ip_network_text (ip_in held)) []
 
--- a struct stands for an address of either family, and the canonical text of that address
+-- the struct represents an address of either family; the canonical text of that address
 abbrev pub address_fits : AddressInC → Type 0
 address_fits held = (a : IpAddr) × (held_address held ≡ Some a)
 

@@ -1,4 +1,4 @@
--- What the private functions promise each other.
+-- What the private functions promise one another.
 pub mod Texts
 pub mod Structs
 pub mod Sets

@@ -1,5 +1,5 @@
--- The ranges that the networks of a table cut the addresses into, in the caller's memory: each as a network of its
--- first address alone, and beside it the place of the longest network that has its addresses.
+-- The ranges into which the networks of a table divide the addresses, in the caller's memory: each range as a network
+-- of its first address only, with the place of the longest network that has the range's addresses.
 use Rattle.std.specs.Prelude.{◌≡◌, ℕ, ◌+◌, ◌-◌, ◌*◌, ◌^◌, ◌<◌, ◌≤◌, ◌⊎◌, List, [], ◌∷◌, drop, get_or, length, map, take}
 use Rattle.std.specs.List.{All, AllPairs, Contains}
 use Rattle.ipnetwork_family.specs.Network.{Network, low, high}
@@ -12,32 +12,32 @@ use Rattle.ipnetwork_c.specs.Columns.{AsksEach}
 use Rattle.ipnetwork_c.specs.Searches.{StandsAt}
 use Rattle.ipnetwork_c.specs.Tables.{IsTable, FindsLongest}
 
--- the place that stands for no network: the greatest number of 64 bits
+-- the place that means no network: 2^64 - 1
 abbrev pub no_place : ℕ
 no_place = 2 ^ 64 - 1
 
--- the place beside the last of the first i ranges, and that of no network if there is none
+-- the place of the last of the first i ranges, or `no_place` if i is 0
 abbrev pub place_before : List ℕ → ℕ → ℕ
 place_before places i = get_or (no_place ∷ places) i no_place
 
--- the first address of a network's set, or the one after its last
+-- a is the first address of a network's set, or the address after its last
 abbrev pub EndsAt : ℕ → Network → ℕ → Type 0
 EndsAt w n a = (a ≡ low w n) ⊎ (a ≡ high w n + 1)
 
--- some of the networks begins at the address, or has its last address right before it
+-- one of the networks begins at the address, or ends right before it
 abbrev pub IsCut : ℕ → List Network → ℕ → Type 0
 IsCut w networks a = (n : Network) × Contains networks n × EndsAt w n a
 
--- the place is that of the longest network with the address x, the last one of those that are equal; or it is that of
--- no network, and if the networks are a table, none has x
+-- the place is that of the longest network that has the address x, the last of equal ones; or it is `no_place`, and if
+-- the networks are a table, none has x
 abbrev pub IsLongestAt : ℕ → List Network → ℕ → ℕ → Type 0
 IsLongestAt w networks x place =
     ((place < no_place) × FindsLongest w networks x place)
     ⊎ ((place ≡ no_place) × (IsTable w networks → ¬ (InUnion w networks x)))
 
--- the ranges begin where the networks begin, and after their ends, and nowhere else; they are in ascending order, and
--- beside each stands the place of the longest network with any of its addresses. Before the first of them no network
--- has one
+-- the ranges begin at the first address of each network and right after its last, and nowhere else, in ascending order.
+-- The place of each range is that of the longest network that has its addresses. No network has an address before the
+-- first range
 pub record AreRangesOf (w : ℕ) (networks ranges : List Network) (places : List ℕ) : Type 0 where
   pub few : length ranges ≤ 2 * length networks
   pub rows : length places ≡ length ranges
@@ -47,8 +47,8 @@ pub record AreRangesOf (w : ℕ) (networks ranges : List Network) (places : List
   pub only : (a : ℕ) → Contains (map (λ n. n.address) ranges) a → IsCut w networks a
   pub answers : (x i : ℕ) → x < 2 ^ w → StandsAt ranges x i → IsLongestAt w networks x (place_before places i)
 
--- the ranges of a list are put in the front of two lists, if both have room for two of each network, and their number
--- beside
+-- the ranges of a list and their places are put in the front of two lists, if both have room for two for each network,
+-- and the number of ranges is written
 abbrev pub MakesRanges : {C : Type 0} → ℕ → (C → Network) → List C → (List C × List ℕ) × ℕ → (List C × List ℕ) × ℕ → ℕ
     → Type 0
 MakesRanges w held list before =
@@ -59,11 +59,11 @@ MakesRanges w held list before =
     × AreRangesOf w (map held list) (map held (take after.1 after.0.0)) (take after.1 after.0.1)
     × (drop after.1 after.0.0 ≡ drop after.1 before.0.0) × (drop after.1 after.0.1 ≡ drop after.1 before.0.1)))) before
 
--- the number at a place, and the place of no network if none stands there
+-- the number at a place, or `no_place` if there is none
 abbrev pub number_at : List ℕ → ℕ → ℕ
 number_at numbers place = get_or numbers place no_place
 
--- the same, but that the number at its place stands beside each range, if each network of the list has one
+-- the same, but with the number at its place in `numbers` for each range, if each network of the list has a number
 abbrev pub MakesNumberedRanges : {C : Type 0} → ℕ → (C → Network) → List C → List ℕ → (List C × List ℕ) × ℕ
     → (List C × List ℕ) × ℕ → ℕ → Type 0
 MakesNumberedRanges w held list numbers =
@@ -77,31 +77,30 @@ MakesNumberedRanges w held list numbers =
     × (drop after.1 after.0.0 ≡ drop after.1 before.0.0) × (drop after.1 after.0.1 ≡ drop after.1 before.0.1)))
     before))
 
--- the place is that beside the last range that begins at the address or before it, or that of no network if there is
--- none
+-- the place is that of the last range that begins at or before the address, or `no_place` if there is no such range
 abbrev pub PlaceQuery : {C : Type 0} → (C → Network) → List C → List ℕ → ℕ → ℕ → Type 0
 PlaceQuery held ranges places x place = (i : ℕ) × StandsAt (map held ranges) x i × (place ≡ place_before places i)
 
--- the place beside the last range that begins at the address or before it is returned, and `no_member` if it is that of
--- no network
+-- the place of the last range that begins at or before the address is written; `no_member` if there is no such range
+-- or its place is `no_place`
 abbrev pub RangeQuery : {C : Type 0} → (C → Network) → List C → List ℕ → ℕ → ℕ → ℕ → ℕ → Type 0
 RangeQuery held ranges places x before after code =
     (i : ℕ) × StandsAt (map held ranges) x i × Unless (IsFault no_member (place_before places i ≡ no_place))
     (Writes (λ place. (place < no_place) × (place ≡ place_before places i))) before after code
 
--- each address is asked as the call for one asks it, with a place and a fault of its own, if there is room for these
+-- each address gets the place and fault of the call for one address, if there is room for all of them
 abbrev pub RangeRows : {C : Type 0} → (C → Network) → List C → List ℕ → List (List ℕ) → List ℕ × List ℕ → List ℕ
     × List ℕ → ℕ → Type 0
 RangeRows held ranges places = AsksEach [] (λ octets. RangeQuery held ranges places (number_of_octets octets))
 
--- the place beside a range of a list is that of the longest network of the list
+-- the place found by the ranges of a list is that of the longest network of the list that has the address
 abbrev pub PlacesAreOfTheLongest : {C : Type 0} → ℕ → (C → Network) → Type 0
 PlacesAreOfTheLongest {C} w held =
     (list ranges : List C) (places : List ℕ) (x place : ℕ) → AreRangesOf w (map held list) (map held ranges) places
     → x < 2 ^ w
     → PlaceQuery held ranges places x place → IsLongestAt w (map held list) x place
 
--- what is found by the ranges of a list is the longest network of the list
+-- a search by the ranges of a list finds the longest network of the list that has the address
 abbrev pub RangesFindTheLongest : {C : Type 0} → ℕ → (C → Network) → Type 0
 RangesFindTheLongest {C} w held =
     (list ranges : List C) (places : List ℕ) (x before after code : ℕ)
@@ -110,7 +109,7 @@ RangesFindTheLongest {C} w held =
     → Unless (IsFault no_member (IsTable w (map held list) → ¬ (InUnion w (map held list) x)))
     (Writes (FindsLongest w (map held list) x)) before after code
 
--- the number beside a range of a list is that of the longest network of the list
+-- the number found by the numbered ranges of a list is that of the longest network of the list that has the address
 abbrev pub NumbersAreOfTheLongest : {C : Type 0} → ℕ → (C → Network) → Type 0
 NumbersAreOfTheLongest {C} w held =
     (list ranges : List C) (numbers places : List ℕ) (x number : ℕ) → length numbers ≤ no_place

@@ -1,4 +1,4 @@
--- Operations on two sets whose lists of blocks stand in the caller's memory.
+-- Operations on two sets whose lists of blocks are in the caller's memory.
 use Rattle.std.specs.Prelude.{ℕ, List, map}
 use Rattle.std.specs.List.{All}
 use Rattle.ipnetwork_family.specs.Network.{Network}
@@ -9,15 +9,16 @@ use Rattle.ipnetwork_c.specs.Outcomes.{Needs}
 use Rattle.ipnetwork_c.specs.Answers.{IfFit}
 use Rattle.ipnetwork_c.specs.Lists.{PutsBlocks}
 
--- each prefix length of both lists is one of addresses of w bits
+-- each prefix length of both lists is at most w
 abbrev pub BothFit : {C : Type 0} → ℕ → (C → Network) → List C → List C → Type 0
 BothFit w held first second = All (λ c. PrefixFits w (held c)) first × All (λ c. PrefixFits w (held c)) second
 
--- both lists are those of sets: the maximal blocks of their unions, in ascending order
+-- both lists are lists of sets: the maximal blocks of their unions, in ascending order
 abbrev pub BothAreSets : {C : Type 0} → ℕ → (C → Network) → List C → List C → Type 0
 BothAreSets w held first second = IsAddressSet w (map held first) × IsAddressSet w (map held second)
 
--- the least list of what an operation leaves of two sets is put in a list; `no_set` if one of the lists is that of none
+-- the shortest list of blocks of the operation's result is put in a list; `no_set` if one of the lists is not the list
+-- of a set
 abbrev pub SetOperation : {C : Type 0} → ℕ → (C → Network) → (List Network → List Network → ℕ → Type 0) → List C
     → List C → List C × ℕ → List C × ℕ → ℕ → Type 0
 SetOperation w held Leaves first second =

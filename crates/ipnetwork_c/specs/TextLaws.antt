@@ -1,4 +1,4 @@
--- Buffers of as many bytes as the header names are long enough: each text is shorter, so that the zero byte has room
+-- Buffers of the sizes that the header names are large enough: each text is shorter, so there is room for the zero byte
 -- too.
 use Rattle.std.specs.Prelude.{ℕ, ◌<◌, length}
 use Rattle.ipnetwork_addr.specs.Ipv4Text.{canonical_v4}
@@ -12,21 +12,21 @@ use Rattle.ipnetwork.specs.IpNetworks.{IsIpNetwork}
 use Rattle.ipnetwork.specs.IpNetworkText.{ip_network_text}
 use Rattle.ipnetwork_c.specs.Numbers.{fault_text}
 
--- the texts of networks of each family
+-- the texts of IPv4 networks fit, and those of IPv6 networks
 abbrev pub V4TextsFit : Type 0
 V4TextsFit = (n : Network) → IsNetwork 32 n → length (network_text canonical_v4 n) < 19
 
 abbrev pub V6TextsFit : Type 0
 V6TextsFit = (n : Network) → IsNetwork 128 n → length (network_text canonical_v6 n) < 44
 
--- of networks of either family
+-- the texts of networks of either family fit
 abbrev pub IpTextsFit : Type 0
 IpTextsFit = (n : IpNetwork) → IsIpNetwork n → length (ip_network_text n) < 44
 
--- of addresses of either family
+-- the texts of addresses of either family fit
 abbrev pub AddressTextsFit : Type 0
 AddressTextsFit = (a : IpAddr) → FitsIp a → length (canonical_ip a) < 40
 
--- of faults, and of numbers that are none
+-- the texts of faults fit, and of numbers that are not faults
 abbrev pub FaultTextsFit : Type 0
 FaultTextsFit = (fault : ℕ) → length (fault_text fault) < 40

@@ -11,18 +11,18 @@ use crate::structs::address_of;
 use crate::text;
 use ipnetwork::{IpAddr, Ipv4Addr};
 
-/// An address of either family as C holds it: its octets in network order, and how many they are.
+/// An address of either family as C holds it: its octets in network order, and their number.
 #[repr(C)]
 #[derive(Clone, Copy)]
 pub struct AddressInC {
-    /// The octets, the highest first, and zeros after those of an IPv4 address.
+    /// The octets, the highest first. After those of an IPv4 address come zeros.
     pub octets: [u8; 16],
-    /// 4 or 16.
+    /// The number of octets: 4 or 16.
     pub length: u8,
 }
 
 impl AddressInC {
-    /// The struct that holds an address.
+    /// Returns the struct that holds an address.
     pub(crate) fn of(address: IpAddr) -> Self
         ensures { HoldsAddress result address }
     {
@@ -41,7 +41,7 @@ impl AddressInC {
         }
     }
 
-    /// The address, if it has 4 or 16 octets.
+    /// Returns the address, or `None` if the number of octets is neither 4 nor 16.
     pub(crate) fn address(&self) -> Option<IpAddr>
         ensures { result ≡ held_address self.now }
     {
@@ -56,8 +56,8 @@ impl AddressInC {
     }
 }
 
-/// Reads the address of either family that a text names, as `IpAddr::read_bytes` does: `OK`, and the address is written
-/// to `address`. Any other text is `ADDRESS`.
+/// Reads the address of either family that a text names, as `IpAddr::read_bytes` does, and writes
+/// it to `address`. Returns `ADDRESS` if the text names none.
 #[unsafe(no_mangle)]
 pub extern "C" fn ipnetwork_address_read(text: &[u8], address: &mut AddressInC) -> u32
     ensures { ReadsAddress text.now address.old address.new result }
@@ -71,9 +71,10 @@ pub extern "C" fn ipnetwork_address_read(text: &[u8], address: &mut AddressInC) 
     }
 }
 
-/// Writes the canonical text of an address and a zero byte after it to `buffer`, of which 40 bytes are enough, and the
-/// length of the text, without the zero byte, to `length`. `SHORT_BUFFER` if the buffer has no room for both: then only
-/// the length is written. `NO_FAMILY` if the number of octets in the struct is neither 4 nor 16.
+/// Writes the canonical text of an address and a zero byte to `buffer`, for which 40 bytes are
+/// enough, and the length of the text, without the zero byte, to `length`. Returns `SHORT_BUFFER`
+/// if the buffer has no room for both, and then writes only the length; `NO_FAMILY` if the number
+/// of octets in the struct is neither 4 nor 16.
 #[unsafe(no_mangle)]
 pub extern "C" fn ipnetwork_address_canonical(
     address: &AddressInC,
@@ -89,8 +90,8 @@ pub extern "C" fn ipnetwork_address_canonical(
     }
 }
 
-/// Writes to `found` the address that an IPv4-mapped one, of `::ffff:0:0/96`, stands for, and any other as it is.
-/// `NO_FAMILY` if the number of octets in the struct is neither 4 nor 16.
+/// Writes to `found` the IPv4 address in an IPv4-mapped address, one of `::ffff:0:0/96`; any other
+/// address as it is. Returns `NO_FAMILY` if the number of octets in the struct is neither 4 nor 16.
 #[unsafe(no_mangle)]
 pub extern "C" fn ipnetwork_address_unmapped(address: &AddressInC, found: &mut AddressInC) -> u32
     ensures { Finds (λ a. held_address address.now ≡ Some a) (NoAddress address.now)
@@ -105,8 +106,8 @@ pub extern "C" fn ipnetwork_address_unmapped(address: &AddressInC, found: &mut A
     }
 }
 
-/// Writes to `found` the octets of the IPv4 address that an IPv4-mapped one, of `::ffff:0:0/96`, stands for.
-/// `NO_MEMBER` if the address is no such one.
+/// Writes to `found` the octets of the IPv4 address in an IPv4-mapped address, one of
+/// `::ffff:0:0/96`. Returns `NO_MEMBER` if the address is not IPv4-mapped.
 #[unsafe(no_mangle)]
 pub extern "C" fn ipnetwork_v6_unmapped(address: &[u8; 16], found: &mut [u8; 4]) -> u32
     ensures { WritesUnmapped (number_of_octets address.now) found.old found.new result }

@@ -1,4 +1,4 @@
-//! Lists of networks are replaced by the least list of blocks, in place.
+//! Replaces lists of networks by the shortest list of blocks, in place.
 ghost use Rattle.ipnetwork_c.specs.Held.{v4_in, v6_in};
 ghost use Rattle.ipnetwork_c.specs.Lists.{Aggregates};
 
@@ -8,9 +8,10 @@ use crate::structs::{Ipv4InC, Ipv6InC};
 use ipnetwork::{Ipv4Network, Ipv6Network};
 use ipnetwork_blocks::aggregate_held;
 
-/// Replaces the networks, which may have host bits, by their aggregate, at the front of the list: the fewest blocks
-/// with the same addresses, in ascending order. `count` is their number. The networks after them are unspecified.
-/// `PREFIX` if the prefix length of one is greater than 32.
+/// Replaces the networks, which may have host bits, by their aggregate, at the front of the list:
+/// the fewest blocks with the same addresses, in ascending order. Writes the number of blocks to
+/// `count`. The networks after the blocks are unspecified. Returns `PREFIX` if a prefix length is
+/// greater than 32.
 #[unsafe(no_mangle)]
 pub extern "C" fn ipnetwork_v4_aggregate(networks: &mut [Ipv4InC], count: &mut usize) -> u32
     ensures { Aggregates 32 v4_in (networks.old, count.old) (networks.new, count.new) result }

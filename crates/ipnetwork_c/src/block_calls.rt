@@ -1,4 +1,4 @@
-//! The blocks of a range of addresses, and the blocks within a network by their number.
+//! The blocks of a range of addresses, and the numbered blocks within a network.
 ghost use Rattle.std.specs.Prelude.{◌≡◌};
 ghost use Rattle.ipnetwork_c.specs.Blocks.{RangeOperation, WritesSubnet};
 ghost use Rattle.ipnetwork_c.specs.Held.{v4_in, v6_in, HoldsV4, HoldsV6, number_of_octets};
@@ -8,7 +8,7 @@ use crate::structs::{Ipv4InC, Ipv6InC, number_of};
 use crate::writing::{put_blocks, to_usize};
 use ipnetwork_blocks::{AddressSpace, HoldsNetwork, RangeBlocks, range_to_blocks, subnet_at};
 
-/// Puts the blocks of a range in the front of `blocks`, and their number in `count`.
+/// Puts the blocks of a range at the front of `blocks`, and their number in `count`.
 pub(crate) fn range<N: AddressSpace, H: HoldsNetwork<N>>(
     first: N::Addr,
     last: N::Addr,
@@ -33,9 +33,10 @@ pub(crate) fn range<N: AddressSpace, H: HoldsNetwork<N>>(
     OK
 }
 
-/// The block number `number` of this prefix length within the network, counted from 0 in ascending order. `PREFIX` if
-/// the network's prefix length is greater than 32, or if this one is, or is less than the network's; `NO_MEMBER` if the
-/// network has no more than `number` such blocks.
+/// Writes to `subnet` the block number `number` of this prefix length within the network, counted
+/// from 0 in ascending order. Returns `PREFIX` if the network's prefix length or this one is
+/// greater than 32, or this one is less than the network's; `NO_MEMBER` if the network has at most
+/// `number` such blocks.
 #[unsafe(no_mangle)]
 pub extern "C" fn ipnetwork_v4_subnet_at(
     network: &Ipv4InC,

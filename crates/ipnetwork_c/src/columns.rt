@@ -1,4 +1,4 @@
-//! A network asked about many addresses in one call, a row for each.
+//! Checks many addresses against one network in one call, a row for each.
 ghost use Rattle.std.specs.Prelude.{◌≡◌};
 ghost use Rattle.std.specs.Int.{from_bool};
 ghost use Rattle.ipnetwork_family.specs.Computed.Network.{is_member};
@@ -9,7 +9,7 @@ use crate::fault::{OK, PREFIX, SHORT_BUFFER};
 use crate::numbered::Numbered;
 use ipnetwork_blocks::AddressSpace;
 
-/// Writes for each address whether it lies in the network's set.
+/// For each address, writes 1 if it is in the network's set, else 0.
 #[inline(always)]
 pub(crate) fn contains_each<N: AddressSpace, H: Numbered<N>>(
     network: H,
@@ -32,7 +32,7 @@ pub(crate) fn contains_each<N: AddressSpace, H: Numbered<N>>(
     OK
 }
 
-// Whether the address lies in the network's set, as 1 or 0.
+// Returns 1 if the address is in the network's set, else 0.
 #[inline(always)]
 fn flag<N: AddressSpace, H: Numbered<N>>(network: H, address: &H::Octets) -> u8
     requires { H.holds network }

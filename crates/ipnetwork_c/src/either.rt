@@ -1,4 +1,4 @@
-//! The calls of networks of either family.
+//! The calls for networks of either family.
 ghost use Rattle.std.specs.Prelude.{◌≡◌, ◌<◌, length, slice_index, IfSome};
 ghost use Rattle.ipnetwork_family.specs.NetworkText.{slash};
 ghost use Rattle.ipnetwork_family.specs.Ipv6NetworkText.{NamesV6Network};
@@ -10,8 +10,9 @@ use crate::fault::{self, NO_FAMILY, OK, PREFIX};
 use crate::structs::{IpInC, V4, V6, address_of};
 use ipnetwork::{Address, CidrFault, IpAddr, IpNetwork, Ipv4Addr, Ipv6Addr, Ipv6Network, cause};
 
-/// Reads the network of either family that a text names, as `IpNetwork::read_bytes` does: `OK`, and the network is
-/// written, with the struct of the other family all zeros. Any other text is `ADDRESS`.
+/// Reads the network of either family that a text names, as `IpNetwork::read_bytes` does, and
+/// writes it to `network`, with the struct of the other family all zeros. Returns `ADDRESS` if the
+/// text names none.
 #[unsafe(no_mangle)]
 pub extern "C" fn ipnetwork_read(text: &[u8], network: &mut IpInC) -> u32
     ensures { ReadsInto ReadsIpNetwork HoldsIp text.now network.old network.new result }
@@ -25,8 +26,9 @@ pub extern "C" fn ipnetwork_read(text: &[u8], network: &mut IpInC) -> u32
     }
 }
 
-/// The same with the cause: any other text is `FORMAT` if it has two or more `/`, else `ADDRESS` if what stands before
-/// the `/` is an address of neither family, else `PREFIX`.
+/// The same with the cause. If the text names no network, returns `FORMAT` if it has two or more
+/// `/`, else `ADDRESS` if the part before the `/`, or the whole text without one, is an address of
+/// neither family, else `PREFIX`.
 #[unsafe(no_mangle)]
 #[inline(always)]
 pub extern "C" fn ipnetwork_read_with_cause(text: &[u8], network: &mut IpInC) -> u32
@@ -39,8 +41,8 @@ pub extern "C" fn ipnetwork_read_with_cause(text: &[u8], network: &mut IpInC) ->
     read_any(text, network)
 }
 
-/// The same of any text. It stands apart, so that what it needs costs the other texts of a column
-/// nothing.
+/// The same for any text. It is a separate function so that its cost does not fall on the other
+/// texts of a column.
 #[inline(never)]
 fn read_any(text: &[u8], network: &mut IpInC) -> u32
     ensures { ReadsInto ReadsWithCause HoldsIp text.now network.old network.new result }
@@ -61,8 +63,8 @@ fn read_any(text: &[u8], network: &mut IpInC) -> u32
     }
 }
 
-/// The IPv6 network that a text names, if `slash_before_two` finds its `/`: most texts are so, and
-/// read in few steps. `None` says nothing.
+/// Returns the IPv6 network that a text names, if `slash_before_two` finds its `/`, as in most
+/// texts, which are thus read in few steps. `None` says nothing about the text.
 #[inline(always)]
 fn v6_before_two_digits(text: &[u8]) -> Option<Ipv6Network>
     ensures { IfSome result (NamesV6Network text.now) }
@@ -78,7 +80,7 @@ fn v6_before_two_digits(text: &[u8]) -> Option<Ipv6Network>
     }
 }
 
-/// Where a `/` stands before the last two bytes of a text whose fifth byte is a colon.
+/// Returns the index of a `/` before the last two bytes of a text whose fifth byte is a colon.
 #[inline(always)]
 fn slash_before_two(text: &[u8]) -> Option<usize>
     ensures { IfSome result (λ at. (at < length text.now) × (slice_index text.now at ≡ slash)) }
@@ -91,8 +93,9 @@ fn slash_before_two(text: &[u8]) -> Option<usize>
     if text[at] == b'/' { Some(at) } else { None }
 }
 
-/// The IPv6 network that a text names, if its fifth byte is a colon, as behind four digits. `None`
-/// says nothing. Read so, it is stored once, and not as one of either family first.
+/// Returns the IPv6 network that a text names, if its fifth byte is a colon, as after four digits.
+/// `None` says nothing about the text. Read this way, the network is stored only once, and not
+/// first as one of either family.
 #[inline(always)]
 fn v6_behind_four_digits(text: &[u8]) -> Option<Ipv6Network>
     ensures { IfSome result (NamesV6Network text.now) }
@@ -106,8 +109,8 @@ fn v6_behind_four_digits(text: &[u8]) -> Option<Ipv6Network>
     }
 }
 
-/// Why a text names no network of either family, if it names none. It stands apart so that reading a text that names one
-/// is all that a column's loop has in it.
+/// Returns why a text names no network of either family, if it names none. It is a separate
+/// function so that a column's loop contains only the reading of texts that name one.
 #[inline(never)]
 fn refusal_of(text: &[u8]) -> Option<CidrFault>
     ensures { TellsIpCause text.now result }
@@ -115,9 +118,10 @@ fn refusal_of(text: &[u8]) -> Option<CidrFault>
     cause(text)
 }
 
-/// Whether an address of 4 or 16 octets lies in the network's set, as 1 or 0. No address of the other family does.
-/// `NO_FAMILY` if the family of the struct is neither 4 nor 6, or the address has neither 4 nor 16 octets; else
-/// `PREFIX` if the prefix length is greater than the family's width.
+/// Writes to `answer` 1 if an address of 4 or 16 octets is in the network, else 0. No address of
+/// the other family is. Returns `NO_FAMILY` if the family of the struct is neither 4 nor 6, or the
+/// address has neither 4 nor 16 octets; else `PREFIX` if the prefix length is greater than the
+/// family's width.
 #[unsafe(no_mangle)]
 pub extern "C" fn ipnetwork_contains(network: &IpInC, address: &[u8], answer: &mut u8) -> u32
     ensures { MemberQuery network.now address.now answer.old answer.new result }
@@ -142,7 +146,7 @@ pub extern "C" fn ipnetwork_contains(network: &IpInC, address: &[u8], answer: &m
     OK
 }
 
-/// The address of 4 or 16 octets.
+/// Returns the address of these octets, if there are 4 or 16.
 fn address_in(octets: &[u8]) -> Option<IpAddr>
     ensures { result ≡ address_in_c octets.now }
 {

@@ -28,7 +28,7 @@ pub(crate) const NO_RANGE: u32 = 9;
 
 pub(crate) const NO_SET: u32 = 10;
 
-/// The number of the cause for which a text is refused.
+/// Returns the number of the cause why a text is refused.
 pub(crate) fn number_of(fault: CidrFault) -> u32
     ensures number { result ≡ fault_number fault }
     ensures byte { result < 256 }
@@ -40,7 +40,7 @@ pub(crate) fn number_of(fault: CidrFault) -> u32
     }
 }
 
-/// The text of a fault.
+/// Returns the text of a fault.
 fn words_of(fault: u32) -> &'static str
     ensures { result.now ≡ fault_text fault }
 {
@@ -60,9 +60,10 @@ fn words_of(fault: u32) -> &'static str
     }
 }
 
-/// Writes the text of a fault, `unknown fault` for a number that no call returns, and a zero byte after it to `buffer`,
-/// of which 40 bytes are enough, and the length of the text, without the zero byte, to `length`. `SHORT_BUFFER` if the
-/// buffer has no room for both: then only the length is written.
+/// Writes the text of a fault, `unknown fault` for a number that no call returns, and a zero byte
+/// to `buffer`, for which 40 bytes are enough, and the length of the text, without the zero byte,
+/// to `length`. Returns `SHORT_BUFFER` if the buffer has no room for both, and then writes only the
+/// length.
 #[unsafe(no_mangle)]
 pub extern "C" fn ipnetwork_fault_text(fault: u32, buffer: &mut [u8], length: &mut usize) -> u32
     ensures { PutsText (fault_text fault) (buffer.old, length.old) (buffer.new, length.new) result }

@@ -1,5 +1,6 @@
-//! Sets of IPv6 asked for an address by the high halves of the numbers alone, where these tell the answer: most networks
-//! end in them, and numbers of 128 bits cost several times as much, most of all in WebAssembly.
+//! Searches IPv6 sets for an address by the high halves of the numbers only, if these decide the
+//! answer: most IPv6 prefixes end in the high half, and 128-bit numbers cost several times as much,
+//! most of all in WebAssembly.
 ghost use Rattle.std.specs.Prelude.{◌≡◌, ◌↔◌, ◌/◌, ◌%◌, ◌^◌, ◌≤◌, ℕ, IfSome, IsTrue, map, length};
 ghost use Rattle.ipnetwork_family.specs.Network.{Member};
 ghost use Rattle.ipnetwork_c.specs.Held.{v6_in, number_of_octets};
@@ -10,16 +11,17 @@ ghost use Rattle.ipnetwork_c.specs.Private.Sets.{EndFits, NextAfter};
 use crate::structs::{Ipv6InC, number_of};
 use ipnetwork_blocks::laws;
 
-/// How an index cuts the high halves into parts: from `first` on, 2^`shift` of them are a part.
+/// How an index divides the high halves into parts: from `first` on, each part has 2^`shift` of
+/// them.
 #[derive(Clone, Copy)]
 pub(crate) struct Parts {
     /// The high half of the first network's address.
     first: u64,
-    /// How many bits of a high half tell numbers of one part apart.
+    /// The number of low bits in which the high halves of one part differ.
     shift: u32,
 }
 
-/// The parts of an index of the list, if they are parts of high halves.
+/// Returns the parts of an index of the list, if they are parts of high halves.
 pub(crate) fn parts_of(list: &[Ipv6InC], index: &[u32]) -> Option<Parts> {
     if list.is_empty() || index.is_empty() || index[0] < 64 {
         return None;
@@ -30,9 +32,9 @@ pub(crate) fn parts_of(list: &[Ipv6InC], index: &[u32]) -> Option<Parts> {
     })
 }
 
-/// Whether an address lies in the set of a list, as 1 or 0, if one of the two networks before the end of its part tells it
-/// by the high half. As in `sets::contains`, the index says only where to look, and an address may be missed if the list
-/// is not that of a set.
+/// Returns 1 if an address is in the set of a list, else 0, if the high half decides it with one of
+/// the two networks before the end of the address's part. As in `sets::contains`, the index only
+/// says where to look, and an address may be missed if the list is not the list of a set.
 #[inline(always)]
 pub(crate) fn contains(
     list: &[Ipv6InC],
@@ -59,7 +61,7 @@ pub(crate) fn contains(
     answer_of(&list[end - 1], half)
 }
 
-// Where the part of a number ends, as the index says; the last one ends with the list.
+// Returns where the part of a number ends by the index. The last part ends with the list.
 #[inline(always)]
 fn end_of(index: &[u32], parts: Parts, half: u64, count: usize) -> usize {
     let part = half.saturating_sub(parts.first).wrapping_shr(parts.shift) as usize;
@@ -69,7 +71,8 @@ fn end_of(index: &[u32], parts: Parts, half: u64, count: usize) -> usize {
     index[part + 1] as usize
 }
 
-// Whether the network at `end` begins after the numbers of this high half, or there is none.
+// Returns whether the network at `end` begins after the numbers of this high half, or there is
+// none.
 #[inline(always)]
 fn begins_after(list: &[Ipv6InC], end: usize, half: u64) -> bool
     requires { end ≤ length list.now }
@@ -78,8 +81,8 @@ fn begins_after(list: &[Ipv6InC], end: usize, half: u64) -> bool
     end == list.len() || half < high_half(&list[end].address)
 }
 
-// What the network tells of the numbers of this high half, if its address and its prefix length are such that it tells the
-// same of them all.
+// Returns 1 if the numbers of this high half are in the network's set, else 0, if the network's
+// address and prefix length make the answer the same for all of them.
 #[inline(always)]
 fn answer_of(held: &Ipv6InC, half: u64) -> Option<u8>
     ensures { IfSome result (λ answer. (x : ℕ) → OfHalf x half → Tells (v6_in held.now) x answer) }
@@ -90,7 +93,8 @@ fn answer_of(held: &Ipv6InC, half: u64) -> Option<u8>
     Some(u8::from(has(held, half)))
 }
 
-// Whether the high half tells that the network's address comes up to each number with it. No branch depends on it.
+// Returns whether the high half shows that the network's address is at most each number with that
+// half. No branch depends on the result.
 #[inline(always)]
 fn begins_up_to(held: &Ipv6InC, half: u64) -> bool
     ensures { IsTrue result → (x : ℕ) → OfHalf x half → (v6_in held.now).address ≤ x }
@@ -99,7 +103,8 @@ fn begins_up_to(held: &Ipv6InC, half: u64) -> bool
     (own < half) | ((own == half) & (low_half(&held.address) == 0))
 }
 
-// Whether the numbers of this high half lie in the network's set, whose blocks are not smaller than them all.
+// Returns whether the numbers of this high half are in the network's set, which has either all or
+// none of them.
 #[inline(always)]
 fn has(held: &Ipv6InC, half: u64) -> bool
     requires some { 1 ≤ held.now.prefix }
@@ -110,7 +115,7 @@ fn has(held: &Ipv6InC, half: u64) -> bool
     high_half(&held.address) >> host_bits == half >> host_bits
 }
 
-// The first 64 bits of the number of 16 octets.
+// Returns the first 64 bits of the number of 16 octets.
 #[inline(always)]
 fn high_half(octets: &[u8; 16]) -> u64
     ensures { result ≡ number_of_octets octets.now / 2 ^ 64 }
@@ -118,7 +123,7 @@ fn high_half(octets: &[u8; 16]) -> u64
     (number_of(octets) >> 64) as u64
 }
 
-// The last 64 bits of the number of 16 octets.
+// Returns the last 64 bits of the number of 16 octets.
 #[inline(always)]
 fn low_half(octets: &[u8; 16]) -> u64
     ensures { result ≡ number_of_octets octets.now % 2 ^ 64 }

@@ -1,4 +1,5 @@
-//! The struct of an IPv4 network: the network that it holds, its order, and what lists and columns ask of it.
+//! The struct of an IPv4 network: the network that it holds, its order, and its use in lists and
+//! columns.
 ghost use Rattle.std.proofs.Common.{rules};
 ghost use Rattle.std.specs.Cmp.{partial_order_from_own_ties};
 ghost use Rattle.std.specs.Cmp.Rules.{comparing};
@@ -22,7 +23,7 @@ use ipnetwork_blocks::HoldsNetwork;
 use std::cmp::Ordering;
 
 impl Ipv4InC {
-    /// The struct that holds a network.
+    /// Returns the struct that holds a network.
     pub(crate) fn of(network: &Ipv4Network) -> Self
         ensures { HoldsV4 result network.now }
     {
@@ -32,7 +33,7 @@ impl Ipv4InC {
         }
     }
 
-    /// The network, if the prefix length is at most 32.
+    /// Returns the network, or `None` if the prefix length is greater than 32.
     pub(crate) fn network(&self) -> Option<Ipv4Network>
         ensures { SomeIff result (PrefixFits 32 (v4_in self.now)) (v4_in self.now) }
     {

@@ -1,4 +1,5 @@
-//! The struct of an IPv6 network: the network that it holds, its order, and what lists and columns ask of it.
+//! The struct of an IPv6 network: the network that it holds, its order, and its use in lists and
+//! columns.
 ghost use Rattle.std.proofs.Common.{rules};
 ghost use Rattle.std.specs.Cmp.{partial_order_from_own_ties};
 ghost use Rattle.std.specs.Cmp.Rules.{comparing};
@@ -23,7 +24,7 @@ use ipnetwork_blocks::HoldsNetwork;
 use std::cmp::Ordering;
 
 impl Ipv6InC {
-    /// The struct that holds a network.
+    /// Returns the struct that holds a network.
     pub(crate) fn of(network: &Ipv6Network) -> Self
         ensures { HoldsV6 result network.now }
     {
@@ -33,14 +34,15 @@ impl Ipv6InC {
         }
     }
 
-    /// The network, if the prefix length is at most 128.
+    /// Returns the network, or `None` if the prefix length is greater than 128.
     pub(crate) fn network(&self) -> Option<Ipv6Network>
         ensures { SomeIff result (PrefixFits 128 (v6_in self.now)) (v6_in self.now) }
     {
         Ipv6Network::new_checked(address_of(&self.address), self.prefix)
     }
 
-    /// Whether an address of 16 octets lies in the network's set, if the prefix length is at most 128.
+    /// Returns whether an address of 16 octets is in the network, or `None` if the prefix length is
+    /// greater than 128.
     pub(crate) fn contains(&self, address: &[u8; 16]) -> Option<bool>
         ensures { MatchOption result (¬ (PrefixFits 128 (v6_in self.now)))
             (λ answer. PrefixFits 128 (v6_in self.now)

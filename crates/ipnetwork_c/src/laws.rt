@@ -1,5 +1,5 @@
-//! The laws of the structs, texts and columns for C. Each function's contract is a law. It takes nothing and does nothing.
-//! They are not called from C.
+//! The laws of the structs, texts and columns for C. Each function's contract is a law: the
+//! function does nothing, and is not called from C.
 
 mod columns;
 mod ranges;

@@ -1,8 +1,8 @@
-//! The library for C: each call of networks of either family as a function that C can call.
+//! The library for C: functions for networks of either family that C can call.
 //!
 //! Nothing here allocates. A call that is given a struct whose prefix length is greater than the
-//! width returns `PREFIX`, or `NO_FAMILY` if the family is wrong too; only a search of a set or a
-//! table does not look at every struct, and one of ranges looks at no prefix length. A call that
+//! width returns `PREFIX`, or `NO_FAMILY` if the family is wrong too. The exceptions are searches:
+//! in a set or a table they do not check every struct, and in ranges no prefix length. A call that
 //! returns a fault writes nothing, except for the length or number that comes with `SHORT_BUFFER`.
 #![tactic(auto)]
 
@@ -48,8 +48,8 @@ mod writing;
 pub use address::AddressInC;
 pub use structs::{IpInC, IpWithCauseInC, Ipv4InC, Ipv6InC, PlaceInC};
 
-/// The version of what C relies on: the names, the structs and the numbers. A change of any of them
-/// changes it.
+/// Returns the version of what C relies on: the names, the structs and the numbers. A change of any
+/// of them changes the version.
 #[unsafe(no_mangle)]
 pub extern "C" fn ipnetwork_abi_version() -> u32
     ensures { result ≡ 3 }
@@ -57,8 +57,8 @@ pub extern "C" fn ipnetwork_abi_version() -> u32
     3
 }
 
-/// The minor version: each call that is added raises it, and a change of `ipnetwork_abi_version`
-/// begins it again at 0.
+/// Returns the minor version: each added call raises it, and a change of `ipnetwork_abi_version`
+/// resets it to 0.
 #[unsafe(no_mangle)]
 pub extern "C" fn ipnetwork_abi_minor_version() -> u32
     ensures { result ≡ 0 }

@@ -1,5 +1,5 @@
-//! The calls of lists of networks in the caller's memory: asked for an address, joined, and made of a range of
-//! addresses.
+//! The calls for lists of networks in the caller's memory: searches for an address, operations on
+//! sets, and the blocks of a range of addresses.
 ghost use Rattle.std.specs.Prelude.{All, Any};
 ghost use Rattle.ipnetwork_family.specs.Network.{Member};
 ghost use Rattle.ipnetwork_sets.specs.Sets.{InEither, InBoth, InFirstAlone};
@@ -18,8 +18,8 @@ use crate::structs::{Ipv4InC, Ipv6InC, PlaceInC, address_of};
 use crate::{lists, ranges, sets, tables};
 use ipnetwork::{Ipv4Addr, Ipv4Network, Ipv6Network};
 
-/// Whether an address lies in the set of one of these networks, as 1 or 0: 0 if there are no networks. `PREFIX` if the
-/// prefix length of one is greater than 32.
+/// Writes to `answer` 1 if an address is in one of these networks, else 0, also if there are no
+/// networks. Returns `PREFIX` if a prefix length is greater than 32.
 #[unsafe(no_mangle)]
 pub extern "C" fn ipnetwork_v4_list_contains(
     networks: &[Ipv4InC],
@@ -49,10 +49,11 @@ pub extern "C" fn ipnetwork_v6_list_contains(
     lists::contains::<Ipv6Network, Ipv6InC>(networks, address_of(address), answer)
 }
 
-/// Whether an address lies in the set of a list that is that of a set, as `ipnetwork_v4_aggregate` leaves it: 1 or 0.
-/// For any other list, 1 is right too, but 0 says nothing. The search ends at the last struct whose own address is this
-/// one or comes before it, if they ascend: `PREFIX` exactly if the prefix length of that struct is greater than 32,
-/// which is in the list of no set.
+/// Writes to `answer` 1 if an address is in the set of a list, else 0, for the list of a set, as
+/// `ipnetwork_v4_aggregate` leaves it. For any other list, 1 is right too, but 0 says nothing. If
+/// the structs ascend, the search ends at the last struct whose own address is at or before this
+/// one. Returns `PREFIX` exactly if the prefix length of the struct at which the search ends is
+/// greater than 32, which never occurs in the list of a set.
 #[unsafe(no_mangle)]
 pub extern "C" fn ipnetwork_v4_set_contains(
     blocks: &[Ipv4InC],
@@ -78,9 +79,9 @@ pub extern "C" fn ipnetwork_v6_set_contains(
     sets::contains::<Ipv6Network, Ipv6InC>(blocks, &[], address, answer)
 }
 
-/// What `ipnetwork_v4_set_contains` answers, by an index of the blocks, as `ipnetwork_v4_index_make` makes it. The index
-/// only says where the search begins: whatever it holds, the answer is the same, but another than that of the blocks
-/// makes the search slower.
+/// Writes and returns what `ipnetwork_v4_set_contains` does, by an index of the blocks, as
+/// `ipnetwork_v4_index_make` makes it. The index only says where the search begins: an index of
+/// another list makes the search slower, but the answer is the same if the blocks ascend.
 #[unsafe(no_mangle)]
 #[inline(always)]
 pub extern "C" fn ipnetwork_v4_index_contains(
@@ -95,7 +96,7 @@ pub extern "C" fn ipnetwork_v4_index_contains(
     sets::contains::<Ipv4Network, Ipv4InC>(blocks, index, address, answer)
 }
 
-/// The same for IPv6, of `ipnetwork_v6_set_contains`.
+/// The same for IPv6, as `ipnetwork_v6_set_contains`.
 #[unsafe(no_mangle)]
 #[inline(always)]
 pub extern "C" fn ipnetwork_v6_index_contains(
@@ -110,10 +111,12 @@ pub extern "C" fn ipnetwork_v6_index_contains(
     sets::contains::<Ipv6Network, Ipv6InC>(blocks, index, address, answer)
 }
 
-/// The index of the longest block that has the address, in a table: blocks without host bits in ascending order, as
-/// `ipnetwork_v4_compare` orders them, of which some may lie in others. `NO_MEMBER` if none has it. For any other list,
-/// the block at the index has the address too, but there may be a longer one, and `NO_MEMBER` says nothing. `PREFIX` at
-/// the first struct that the search comes to whose prefix length is greater than 32, which is in no table.
+/// Writes to `index` the index of the longest block of a table that has the address. A table is
+/// blocks without host bits in ascending order by `ipnetwork_v4_compare`, some of which may contain
+/// others. Returns `NO_MEMBER` if no block has the address. For any other list, the block at the
+/// index has the address too, but there may be a longer one, and `NO_MEMBER` says nothing. Returns
+/// `PREFIX` at the first struct that the search reaches whose prefix length is greater than 32,
+/// which never occurs in a table.
 #[unsafe(no_mangle)]
 pub extern "C" fn ipnetwork_v4_table_find(
     blocks: &[Ipv4InC],
@@ -139,8 +142,9 @@ pub extern "C" fn ipnetwork_v6_table_find(
     tables::find::<Ipv6Network, Ipv6InC>(blocks, &[], address_of(address), index)
 }
 
-/// What `ipnetwork_v4_table_find` finds, by an index of the blocks, as `ipnetwork_v4_index_make` makes it. Whatever the
-/// index holds, what is found is the same.
+/// Writes to `place` what `ipnetwork_v4_table_find` finds, with the same faults, by an index of the
+/// blocks, as `ipnetwork_v4_index_make` makes it. Whatever the index holds, the result is the same
+/// if the blocks ascend.
 #[unsafe(no_mangle)]
 #[inline(always)]
 pub extern "C" fn ipnetwork_v4_index_find(
@@ -155,7 +159,7 @@ pub extern "C" fn ipnetwork_v4_index_find(
     tables::find::<Ipv4Network, Ipv4InC>(blocks, index, Ipv4Addr::from(*address), place)
 }
 
-/// The same for IPv6, of `ipnetwork_v6_table_find`.
+/// The same for IPv6, as `ipnetwork_v6_table_find`.
 #[unsafe(no_mangle)]
 #[inline(always)]
 pub extern "C" fn ipnetwork_v6_index_find(
@@ -170,11 +174,11 @@ pub extern "C" fn ipnetwork_v6_index_find(
     tables::find::<Ipv6Network, Ipv6InC>(blocks, index, address_of(address), place)
 }
 
-/// The place beside the last of the ranges that begins at an address or before it, by an index of
-/// the ranges, as `ipnetwork_v4_index_make` makes it, or by none. Of the ranges and places of a
+/// Writes to `place` the place of the last range that begins at or before an address, by an index
+/// of the ranges, as `ipnetwork_v4_index_make` makes it, or by none. For the ranges and places of a
 /// table, as `ipnetwork_v4_ranges_make` makes them, it is the place that `ipnetwork_v4_table_find`
-/// finds in the table. `NO_MEMBER` if no range begins there, if it has no place beside it, or that
-/// of no block. Whatever the index holds, what is found is the same.
+/// finds in the table. Returns `NO_MEMBER` if there is no such range, or if its place is missing or
+/// `NO_PLACE`. Whatever the index holds, the result is the same if the ranges ascend.
 #[unsafe(no_mangle)]
 #[inline(always)]
 pub extern "C" fn ipnetwork_v4_ranges_find(
@@ -190,7 +194,7 @@ pub extern "C" fn ipnetwork_v4_ranges_find(
     ranges::find::<Ipv4Network, Ipv4InC>(address, ranges, places, index, place)
 }
 
-/// The same for IPv6, of what `ipnetwork_v6_ranges_make` makes.
+/// The same for IPv6, for what `ipnetwork_v6_ranges_make` makes.
 #[unsafe(no_mangle)]
 #[inline(always)]
 pub extern "C" fn ipnetwork_v6_ranges_find(
@@ -206,9 +210,8 @@ pub extern "C" fn ipnetwork_v6_ranges_find(
     ranges::find::<Ipv6Network, Ipv6InC>(address, ranges, places, index, place)
 }
 
-/// What `ipnetwork_v4_ranges_find` writes, returned: the place beside the last of the ranges that
-/// begins at an address or before it, and `NO_PLACE`, the greatest number of 64 bits, where it finds
-/// none.
+/// Returns what `ipnetwork_v4_ranges_find` writes: the place of the last range that begins at or
+/// before an address, or `NO_PLACE`, 2^64 - 1, if it finds none.
 #[unsafe(no_mangle)]
 #[inline(always)]
 pub extern "C" fn ipnetwork_v4_ranges_place(
@@ -240,10 +243,11 @@ pub extern "C" fn ipnetwork_v6_ranges_place(
     }
 }
 
-/// Writes the blocks of the addresses that are in one of two sets or in both, to the front of `blocks`: the fewest
-/// possible, in ascending order. `count` is their number, at most that of both lists together. `SHORT_BUFFER` if there
-/// is no room for them, and then only `count` is written. `PREFIX` if a prefix length of one list is greater than 32,
-/// else `NO_SET` if one of the lists is not that of a set, as `ipnetwork_v4_aggregate` leaves it.
+/// Writes to the front of `blocks` the blocks of the addresses that are in at least one of two
+/// sets: the fewest possible, in ascending order. `count` is their number, at most that of both
+/// lists together. Returns `PREFIX` if a prefix length is greater than 32, else `NO_SET` if one of
+/// the lists is not the list of a set, as `ipnetwork_v4_aggregate` leaves it, else `SHORT_BUFFER`
+/// if there is no room for the blocks, and then writes only `count`.
 #[unsafe(no_mangle)]
 pub extern "C" fn ipnetwork_v4_union(
     first: &[Ipv4InC],
@@ -271,7 +275,7 @@ pub extern "C" fn ipnetwork_v6_union(
     operate::<Ipv6Network, Ipv6InC>(Operation::Union, first, second, blocks, count)
 }
 
-/// Writes the blocks of the addresses that are in both sets, as `ipnetwork_v4_union` writes those of its own.
+/// Like `ipnetwork_v4_union`, but writes the blocks of the addresses that are in both sets.
 #[unsafe(no_mangle)]
 pub extern "C" fn ipnetwork_v4_intersection(
     first: &[Ipv4InC],
@@ -299,8 +303,8 @@ pub extern "C" fn ipnetwork_v6_intersection(
     operate::<Ipv6Network, Ipv6InC>(Operation::Intersection, first, second, blocks, count)
 }
 
-/// Writes the blocks of the addresses that are in the first set and not in the second, as `ipnetwork_v4_union` writes
-/// those of its own. There may be more of them than both lists have together.
+/// Like `ipnetwork_v4_union`, but writes the blocks of the addresses that are in the first set and
+/// not in the second. There may be more of them than in both lists together.
 #[unsafe(no_mangle)]
 pub extern "C" fn ipnetwork_v4_difference(
     first: &[Ipv4InC],
@@ -328,9 +332,10 @@ pub extern "C" fn ipnetwork_v6_difference(
     operate::<Ipv6Network, Ipv6InC>(Operation::Difference, first, second, blocks, count)
 }
 
-/// Writes the blocks whose addresses are those from the first to the last, both included, to the front of `blocks`: the
-/// fewest possible, in ascending order, and at most 62. `count` is their number. `SHORT_BUFFER` if there is no room for
-/// them, and then only `count` is written. `NO_RANGE` if the first comes after the last.
+/// Writes to the front of `blocks` the blocks of the addresses from `first` to `last`, both
+/// included: the fewest possible, in ascending order, and at most 62. `count` is their number.
+/// Returns `SHORT_BUFFER` if there is no room for them, and then writes only `count`; `NO_RANGE` if
+/// `first` comes after `last`.
 #[unsafe(no_mangle)]
 pub extern "C" fn ipnetwork_v4_range_to_blocks(
     first: &[u8; 4],

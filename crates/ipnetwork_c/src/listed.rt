@@ -1,25 +1,25 @@
-//! The structs of C as what a list in the caller's memory holds: nothing is known of their prefix lengths.
+//! The C structs as items of a list in the caller's memory: their prefix lengths are unchecked.
 ghost use Rattle.std.specs.Prelude.{◌≡◌, ◌↔◌, IsTrue};
 ghost use Rattle.std.specs.List.{All};
 ghost use Rattle.ipnetwork_c.specs.Held.{PrefixFits};
 
 use ipnetwork_blocks::{AddressSpace, HoldsNetwork};
 
-/// A struct of C in a list.
+/// A C struct in a list.
 pub(crate) trait Listed<N: AddressSpace>: HoldsNetwork<N> {
-    /// The address as it stands, whatever the prefix length is.
+    /// Returns the address, host bits kept, whatever the prefix length is.
     fn own_address(&self) -> N::Addr
         ensures { N.number result ≡ (Self.held self.now).address };
 
-    /// Whether the prefix length is one of the family.
+    /// Returns whether the prefix length is at most the family's width.
     fn fits(&self) -> bool
         ensures { IsTrue result ↔ Self.holds self.now };
 
-    // The prefix lengths of the family are those up to its width.
+    // A struct holds a network exactly if its prefix length is at most the family's width.
     ghost fitting: { (x : Self) → Self.holds x ↔ PrefixFits N.WIDTH (Self.held x) };
 }
 
-/// Whether each prefix length is one of the family.
+/// Returns whether each prefix length is at most the family's width.
 pub(crate) fn all_fit<N: AddressSpace, H: Listed<N>>(list: &[H]) -> bool
     ensures { IsTrue result ↔ All H.holds list.now }
 {

@@ -7,11 +7,12 @@ use crate::structs::{Ipv4InC, Ipv6InC};
 use crate::{range_making, table_making};
 use ipnetwork::{Ipv4Network, Ipv6Network};
 
-/// Makes a table of networks in any order, host bits or not: their blocks in ascending order to the front of `blocks`,
-/// and to the front of `places` the index in `networks` of each. Blocks that are equal come in the order of their
-/// networks, so that `ipnetwork_v4_table_find` finds that of the last one. What comes after them stays as it is.
-/// `PREFIX` if the prefix length of a network is greater than 32, else `SHORT_BUFFER` if there is room for fewer blocks
-/// or places than networks.
+/// Makes a table of networks, in any order and with or without host bits: writes their blocks in
+/// ascending order to the front of `blocks`, and for each block the index of its network to the
+/// front of `places`. Equal blocks are in the order of their networks, so that
+/// `ipnetwork_v4_table_find` finds the last of them. The rest of `blocks` and `places` is
+/// unchanged. Returns `PREFIX` if the prefix length of a network is greater than 32, else
+/// `SHORT_BUFFER` if there is room for fewer blocks or places than networks.
 #[unsafe(no_mangle)]
 pub extern "C" fn ipnetwork_v4_table_make(
     networks: &[Ipv4InC],
@@ -24,7 +25,7 @@ pub extern "C" fn ipnetwork_v4_table_make(
     table_making::make::<Ipv4Network, Ipv4InC>(networks, blocks, places)
 }
 
-/// The same of IPv6, for prefix lengths up to 128.
+/// The same for IPv6, for prefix lengths up to 128.
 #[unsafe(no_mangle)]
 pub extern "C" fn ipnetwork_v6_table_make(
     networks: &[Ipv6InC],
@@ -37,14 +38,14 @@ pub extern "C" fn ipnetwork_v6_table_make(
     table_making::make::<Ipv6Network, Ipv6InC>(networks, blocks, places)
 }
 
-/// Cuts the addresses into ranges where the blocks of a table begin and after their ends, so that
-/// all addresses of one have the same longest block: to the front of `ranges` the first address of
-/// each, as the network of it alone, in ascending order, to the front of `places` the place of that
-/// block, or the greatest number if there is none, and how many they are to `count`. An address
-/// before all of them has no block. What comes after them stays as it is. The index is that of the
-/// blocks, or empty; one of another list costs time, and changes nothing else. `PREFIX` if the
-/// prefix length of a struct is greater than 32, else `SHORT_BUFFER` if there is room for fewer
-/// ranges or places than two of each block.
+/// Divides the addresses into ranges where the blocks of a table begin and after they end, so that
+/// all addresses of a range have the same longest block. Writes the first address of each range, as
+/// a network of only that address, in ascending order, to the front of `ranges`; the place of that
+/// block, or `NO_PLACE` if there is none, to the front of `places`; and the number of ranges to
+/// `count`. An address before all ranges has no block. The rest of `ranges` and `places` is
+/// unchanged. `index` is the index of the blocks, or empty; one of another list only costs time.
+/// Returns `PREFIX` if the prefix length of a struct is greater than 32, else `SHORT_BUFFER` if
+/// there is room for fewer than two ranges or places for each block.
 #[unsafe(no_mangle)]
 pub extern "C" fn ipnetwork_v4_ranges_make(
     blocks: &[Ipv4InC],
@@ -59,7 +60,7 @@ pub extern "C" fn ipnetwork_v4_ranges_make(
     range_making::make::<Ipv4Network, Ipv4InC>(blocks, index, ranges, places, count)
 }
 
-/// The same of IPv6, for prefix lengths up to 128.
+/// The same for IPv6, for prefix lengths up to 128.
 #[unsafe(no_mangle)]
 pub extern "C" fn ipnetwork_v6_ranges_make(
     blocks: &[Ipv6InC],
@@ -74,9 +75,10 @@ pub extern "C" fn ipnetwork_v6_ranges_make(
     range_making::make::<Ipv6Network, Ipv6InC>(blocks, index, ranges, places, count)
 }
 
-/// What `ipnetwork_v4_ranges_make` makes, but that beside each range stands, in place of the place of
-/// its longest block, the number that `numbers` has at that place, such as the place of its network
-/// in the caller's list. `SHORT_BUFFER` if there are fewer numbers than blocks.
+/// Like `ipnetwork_v4_ranges_make`, but writes for each range, instead of the place of its longest
+/// block, the number that `numbers` has at that place, such as the place of the block's network in
+/// the caller's list. Returns `SHORT_BUFFER`, before any other fault, if there are fewer numbers
+/// than blocks.
 #[unsafe(no_mangle)]
 pub extern "C" fn ipnetwork_v4_ranges_make_numbered(
     blocks: &[Ipv4InC],
@@ -94,7 +96,7 @@ pub extern "C" fn ipnetwork_v4_ranges_make_numbered(
     )
 }
 
-/// The same of IPv6, for prefix lengths up to 128.
+/// The same for IPv6, for prefix lengths up to 128.
 #[unsafe(no_mangle)]
 pub extern "C" fn ipnetwork_v6_ranges_make_numbered(
     blocks: &[Ipv6InC],

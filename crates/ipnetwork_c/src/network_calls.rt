@@ -1,4 +1,4 @@
-//! The calls of networks of one family.
+//! The calls for networks of one family.
 ghost use Rattle.std.specs.Prelude.{◌≡◌, ◌≤◌};
 ghost use Rattle.ipnetwork_addr.specs.Computed.Ipv6Canonical.{canonical_v6};
 ghost use Rattle.ipnetwork_addr.specs.Digits.{octets_of, octets_of_v6};
@@ -20,8 +20,9 @@ use crate::text_columns::ReadsRow;
 use ipnetwork::Ipv4Addr;
 use ipnetwork_family::Address;
 
-/// Reads the network that a text names, as `Ipv4Network::read_bytes` does: `OK`, and the network is written. Else
-/// `FORMAT`, `ADDRESS` or `PREFIX`, the first that applies.
+/// Reads the network that a text names, as `Ipv4Network::read_bytes` does, and writes it to
+/// `network`. If the text names none, returns `FORMAT`, `ADDRESS` or `PREFIX`, the first that
+/// applies.
 #[unsafe(no_mangle)]
 pub extern "C" fn ipnetwork_v4_read(text: &[u8], network: &mut Ipv4InC) -> u32
     ensures { ReadsInto ReadsV4Network HoldsV4 text.now network.old network.new result }
@@ -37,7 +38,8 @@ pub extern "C" fn ipnetwork_v6_read(text: &[u8], network: &mut Ipv6InC) -> u32
     network.read_row(text)
 }
 
-/// The network of this address, host bits kept, and this prefix length; `PREFIX` if that is greater than 32.
+/// Writes to `network` the network of this address, host bits kept, and this prefix length. Returns
+/// `PREFIX` if the prefix length is greater than 32.
 #[unsafe(no_mangle)]
 pub extern "C" fn ipnetwork_v4_new(address: &[u8; 4], prefix: u8, network: &mut Ipv4InC) -> u32
     ensures { IfFit (prefix ≤ 32)
@@ -71,9 +73,10 @@ pub extern "C" fn ipnetwork_v6_new(address: &[u8; 16], prefix: u8, network: &mut
     OK
 }
 
-/// Writes the canonical text and a zero byte after it to `buffer`, of which 19 bytes are enough, and the length of the
-/// text, without the zero byte, to `length`. `SHORT_BUFFER` if the buffer has no room for both: then only the length is
-/// written. `PREFIX` if the prefix length is greater than 32.
+/// Writes the canonical text and a zero byte to `buffer`, for which 19 bytes are enough, and the
+/// length of the text, without the zero byte, to `length`. Returns `SHORT_BUFFER` if the buffer has
+/// no room for both, and then writes only the length; `PREFIX` if the prefix length is greater than
+/// 32.
 #[unsafe(no_mangle)]
 pub extern "C" fn ipnetwork_v4_canonical(
     network: &Ipv4InC,
@@ -107,7 +110,8 @@ pub extern "C" fn ipnetwork_v6_canonical(
     }
 }
 
-/// Whether an address lies in the network's set, as 1 or 0. `PREFIX` if the prefix length is greater than 32.
+/// Writes to `answer` 1 if an address is in the network, else 0. Returns `PREFIX` if the prefix
+/// length is greater than 32.
 #[unsafe(no_mangle)]
 pub extern "C" fn ipnetwork_v4_contains(
     network: &Ipv4InC,
@@ -143,7 +147,8 @@ pub extern "C" fn ipnetwork_v6_contains(
     OK
 }
 
-/// The least member: the address with its host bits cleared. `PREFIX` if the prefix length is greater than 32.
+/// Writes the least member: the address with its host bits cleared. Returns `PREFIX` if the prefix
+/// length is greater than 32.
 #[unsafe(no_mangle)]
 pub extern "C" fn ipnetwork_v4_network(network: &Ipv4InC, address: &mut [u8; 4]) -> u32
     ensures { IfFit (PrefixFits 32 (v4_in network.now))
@@ -171,7 +176,8 @@ pub extern "C" fn ipnetwork_v6_network(network: &Ipv6InC, address: &mut [u8; 16]
     OK
 }
 
-/// The greatest member: the address with its host bits set. `PREFIX` if the prefix length is greater than 32.
+/// Writes the greatest member: the address with its host bits set. Returns `PREFIX` if the prefix
+/// length is greater than 32.
 #[unsafe(no_mangle)]
 pub extern "C" fn ipnetwork_v4_broadcast(network: &Ipv4InC, address: &mut [u8; 4]) -> u32
     ensures { IfFit (PrefixFits 32 (v4_in network.now))
@@ -199,8 +205,8 @@ pub extern "C" fn ipnetwork_v6_broadcast(network: &Ipv6InC, address: &mut [u8; 1
     OK
 }
 
-/// The mask: as many ones at the front as the prefix length says, and zeros after them. `PREFIX` if the prefix length
-/// is greater than 32.
+/// Writes the mask: as many leading 1 bits as the prefix length, and zeros after them. Returns
+/// `PREFIX` if the prefix length is greater than 32.
 #[unsafe(no_mangle)]
 pub extern "C" fn ipnetwork_v4_mask(network: &Ipv4InC, mask: &mut [u8; 4]) -> u32
     ensures { IfFit (PrefixFits 32 (v4_in network.now))
@@ -228,7 +234,7 @@ pub extern "C" fn ipnetwork_v6_mask(network: &Ipv6InC, mask: &mut [u8; 16]) -> u
     OK
 }
 
-/// The prefix length of a mask; `NO_MASK` if the address is not one of the 33 masks.
+/// Writes the prefix length of a mask. Returns `NO_MASK` if the address is not one of the 33 masks.
 #[unsafe(no_mangle)]
 pub extern "C" fn ipnetwork_v4_prefix_of_mask(mask: &[u8; 4], prefix: &mut u8) -> u32
     ensures { WritesPrefix 32 (number_of_octets mask.now) prefix.old prefix.new result }
@@ -240,7 +246,7 @@ pub extern "C" fn ipnetwork_v4_prefix_of_mask(mask: &[u8; 4], prefix: &mut u8) -
     OK
 }
 
-/// The same for IPv6, of its 129 masks.
+/// The same for IPv6 and its 129 masks.
 #[unsafe(no_mangle)]
 pub extern "C" fn ipnetwork_v6_prefix_of_mask(mask: &[u8; 16], prefix: &mut u8) -> u32
     ensures { WritesPrefix 128 (number_of_octets mask.now) prefix.old prefix.new result }
@@ -252,8 +258,8 @@ pub extern "C" fn ipnetwork_v6_prefix_of_mask(mask: &[u8; 16], prefix: &mut u8) 
     OK
 }
 
-/// Whether each member of the first network is a member of the second, as 1 or 0. Host bits are ignored. `PREFIX` if a
-/// prefix length is greater than 32.
+/// Writes to `answer` 1 if each member of `inner` is a member of `outer`, else 0. Host bits are
+/// ignored. Returns `PREFIX` if a prefix length is greater than 32.
 #[unsafe(no_mangle)]
 pub extern "C" fn ipnetwork_v4_is_subnet_of(
     inner: &Ipv4InC,
@@ -293,7 +299,8 @@ pub extern "C" fn ipnetwork_v6_is_subnet_of(
     }
 }
 
-/// Whether some address is a member of both, as 1 or 0. `PREFIX` if a prefix length is greater than 32.
+/// Writes to `answer` 1 if some address is a member of both networks, else 0. Returns `PREFIX` if a
+/// prefix length is greater than 32.
 #[unsafe(no_mangle)]
 pub extern "C" fn ipnetwork_v4_overlaps(one: &Ipv4InC, other: &Ipv4InC, answer: &mut u8) -> u32
     ensures { IfFit (PrefixFits 32 (v4_in one.now) × PrefixFits 32 (v4_in other.now))
@@ -325,8 +332,9 @@ pub extern "C" fn ipnetwork_v6_overlaps(one: &Ipv6InC, other: &Ipv6InC, answer: 
     }
 }
 
-/// Which of two networks comes first, by address and then by prefix length: -1 the first, 1 the second, 0 if they are
-/// equal. `PREFIX` if a prefix length is greater than 32.
+/// Writes to `order` which of two networks comes first, by address, host bits included, and then by
+/// prefix length: -1 if `one` does, 1 if `other` does, 0 if they are equal. Returns `PREFIX` if a
+/// prefix length is greater than 32.
 #[unsafe(no_mangle)]
 pub extern "C" fn ipnetwork_v4_compare(one: &Ipv4InC, other: &Ipv4InC, order: &mut i32) -> u32
     ensures { IfFit (PrefixFits 32 (v4_in one.now) × PrefixFits 32 (v4_in other.now))

@@ -6,7 +6,7 @@ ghost use Rattle.ipnetwork_c.specs.Numbers.{order_number};
 use ipnetwork::IpNetwork;
 use std::cmp::Ordering;
 
-/// -1, 0 or 1 for less, equal or greater.
+/// Returns -1, 0 or 1 for less, equal or greater.
 pub(crate) fn number_of_order(order: Ordering) -> i32
     ensures { result ≡ order_number order }
 {
@@ -17,7 +17,7 @@ pub(crate) fn number_of_order(order: Ordering) -> i32
     }
 }
 
-/// The order of two networks of either family, as a number.
+/// Returns the order of two networks of either family, as a number.
 pub(crate) fn number_between(one: IpNetwork, other: IpNetwork) -> i32
     ensures { result ≡ order_number (ip_network_cmp one other) }
 {

@@ -1,5 +1,5 @@
-//! Columns of networks and addresses printed in one call, in the layout of Arrow: the bytes of all texts, one after the
-//! other, and the offsets at which each begins and the last ends.
+//! Prints columns of networks and addresses in one call, in Arrow's layout: the bytes of all texts,
+//! one after the other, and the offsets at which each text begins and the last one ends.
 ghost use Rattle.std.specs.Prelude.{◌≡◌, ◌≢◌, ◌+◌, ◌^◌, ◌<◌, ◌≤◌, ◌++◌, length as len, take, drop, flat_map};
 ghost use Rattle.std.specs.List.{All};
 ghost use Rattle.ipnetwork_c.specs.PrintedColumns.{PrintsRows, FirstRefused, PrintsColumn, ip_fits, ip_text, address_fits, address_text};
@@ -12,25 +12,25 @@ use crate::writing::to_usize;
 use arrayvec::ArrayString;
 use ipnetwork::NETWORK_TEXT_CAPACITY;
 
-/// What a row is printed of.
+/// A row that can be printed.
 pub(crate) trait PrintsRow {
     ghost use Rattle.std.specs.Prelude.{ℕ, List};
 
-    // Whether the row stands for something to print.
+    // The row represents something to print.
     ghost fits: { Self → Type 0 };
 
-    // By which faults it is refused if it does not.
+    // The row is refused by this fault if it does not.
     ghost refused: { Self → ℕ → Type 0 };
 
-    // The text of what it stands for.
+    // The text of what the row represents.
     ghost text: { Self → List ℕ };
 
-    /// The fault by which the row is refused, or 0.
+    /// Returns the fault by which the row is refused, or 0.
     fn row_fault(&self) -> u32
         ensures fits { result ≡ 0 → fits self.now }
         ensures refused { result ≢ 0 → refused self.now result };
 
-    /// The text of what it stands for.
+    /// Returns the text of what the row represents.
     fn row_text(&self) -> ArrayString<NETWORK_TEXT_CAPACITY>
         requires { fits self.now }
         ensures bytes { result.bytes ≡ text self.now }
@@ -83,7 +83,7 @@ impl PrintsRow for AddressInC {
     }
 }
 
-// The fault of the first row that is refused; 0 if none is.
+// Returns the fault of the first row that is refused, or 0 if none is.
 fn first_fault<R: PrintsRow>(rows: &[R]) -> u32
     ensures none { result ≡ 0 → All R.fits rows.now }
     ensures one { result ≢ 0 → FirstRefused R.fits R.refused rows.now result }
@@ -97,7 +97,7 @@ fn first_fault<R: PrintsRow>(rows: &[R]) -> u32
     OK
 }
 
-/// Prints each row into the texts, after the row before it, and writes the offsets.
+/// Prints each row into `texts`, after the row before it, and writes the offsets.
 pub(crate) fn print_rows<R: PrintsRow>(
     rows: &[R],
     texts: &mut [u8],
@@ -120,7 +120,7 @@ pub(crate) fn print_rows<R: PrintsRow>(
     OK
 }
 
-// How many bytes the texts have together.
+// Returns the total length of the texts in bytes.
 fn texts_length<R: PrintsRow>(rows: &[R]) -> u128
     requires { All R.fits rows.now }
     ensures { result ≡ len (flat_map R.text rows.now) }
@@ -132,7 +132,7 @@ fn texts_length<R: PrintsRow>(rows: &[R]) -> u128
     whole
 }
 
-// Puts the texts into the front of a buffer that has room for them, and the offsets beside them.
+// Puts the texts at the front of a buffer that has room for them, and writes their offsets.
 fn put_texts<R: PrintsRow>(rows: &[R], texts: &mut [u8], offsets: &mut [u32])
     requires fit { All R.fits rows.now }
     requires room { len (flat_map R.text rows.now) ≤ len texts.old }
@@ -148,7 +148,7 @@ fn put_texts<R: PrintsRow>(rows: &[R], texts: &mut [u8], offsets: &mut [u32])
     }
 }
 
-// Puts a text into a buffer from a place on, and returns the place after it.
+// Puts a text into a buffer from an index on, and returns the index after it.
 fn put_at(text: &[u8], texts: &mut [u8], at: usize) -> usize
     requires { at + len text.now ≤ len texts.old }
     ensures end { result ≡ at + len text.now }

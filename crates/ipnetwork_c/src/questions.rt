@@ -1,5 +1,6 @@
-//! The questions about networks of either family. Each is refused if a struct stands for no network: `NO_FAMILY` if its
-//! family is neither 4 nor 6, else `PREFIX` if its prefix length is greater than the family's width.
+//! The calls that ask about networks of either family. Each refuses a struct that represents no
+//! network: `NO_FAMILY` if its family is neither 4 nor 6, else `PREFIX` if its prefix length is
+//! greater than the family's width.
 ghost use Rattle.std.specs.Prelude.{◌≡◌};
 ghost use Rattle.ipnetwork.specs.IpNetworkText.{ip_network_text};
 ghost use Rattle.ipnetwork.specs.IpNetworks.{ip_low, ip_high, ip_mask_of, IpSubnet, IpOverlap, ip_network_cmp};
@@ -15,7 +16,7 @@ use crate::structs::IpInC;
 use crate::text;
 use ipnetwork::IpNetwork;
 
-// Writes what is told of the network that a struct stands for.
+// Writes what `told` returns for the network that a struct represents.
 #[inline(always)]
 fn tell<T: Copy, F: FnOnce(IpNetwork) -> T>(held: &IpInC, place: &mut T, told: F) -> u32
     requires { F.IsAlwaysCallable told }
@@ -30,7 +31,7 @@ fn tell<T: Copy, F: FnOnce(IpNetwork) -> T>(held: &IpInC, place: &mut T, told: F
     }
 }
 
-// The same of two.
+// The same for two structs.
 #[inline(always)]
 fn tell_both<T: Copy, F: FnOnce(IpNetwork, IpNetwork) -> T>(
     one: &IpInC,
@@ -55,9 +56,9 @@ fn tell_both<T: Copy, F: FnOnce(IpNetwork, IpNetwork) -> T>(
     }
 }
 
-/// Writes the canonical text and a zero byte after it to `buffer`, of which 44 bytes are enough, and the length of the
-/// text, without the zero byte, to `length`. `SHORT_BUFFER` if the buffer has no room for both: then only the length is
-/// written.
+/// Writes the canonical text and a zero byte to `buffer`, for which 44 bytes are enough, and the
+/// length of the text, without the zero byte, to `length`. Returns `SHORT_BUFFER` if the buffer has
+/// no room for both, and then writes only the length.
 #[unsafe(no_mangle)]
 pub extern "C" fn ipnetwork_canonical(network: &IpInC, buffer: &mut [u8], length: &mut usize) -> u32
     ensures { OfNetwork network.now (λ n. PutsText (ip_network_text n)) (buffer.old, length.old)
@@ -69,7 +70,7 @@ pub extern "C" fn ipnetwork_canonical(network: &IpInC, buffer: &mut [u8], length
     }
 }
 
-/// The least member: the address with its host bits cleared.
+/// Writes the least member: the address with its host bits cleared.
 #[unsafe(no_mangle)]
 pub extern "C" fn ipnetwork_network(network: &IpInC, address: &mut AddressInC) -> u32
     ensures { TellsAddress ip_low network.now address.old address.new result }
@@ -77,7 +78,7 @@ pub extern "C" fn ipnetwork_network(network: &IpInC, address: &mut AddressInC) -
     tell(network, address, |n| AddressInC::of(n.network()))
 }
 
-/// The greatest member: the address with its host bits set.
+/// Writes the greatest member: the address with its host bits set.
 #[unsafe(no_mangle)]
 pub extern "C" fn ipnetwork_broadcast(network: &IpInC, address: &mut AddressInC) -> u32
     ensures { TellsAddress ip_high network.now address.old address.new result }
@@ -85,7 +86,7 @@ pub extern "C" fn ipnetwork_broadcast(network: &IpInC, address: &mut AddressInC)
     tell(network, address, |n| AddressInC::of(n.broadcast()))
 }
 
-/// The mask, in the network's family.
+/// Writes the mask, an address of the network's family.
 #[unsafe(no_mangle)]
 pub extern "C" fn ipnetwork_mask(network: &IpInC, mask: &mut AddressInC) -> u32
     ensures { TellsAddress ip_mask_of network.now mask.old mask.new result }
@@ -93,8 +94,8 @@ pub extern "C" fn ipnetwork_mask(network: &IpInC, mask: &mut AddressInC) -> u32
     tell(network, mask, |n| AddressInC::of(n.mask()))
 }
 
-/// Whether each member of the first network is a member of the second, as 1 or 0: 0 if they are of different families.
-/// Host bits are ignored. The first struct is checked first.
+/// Writes to `answer` 1 if each member of `inner` is a member of `outer`, else 0, as it is for
+/// different families. Host bits are ignored. `inner` is checked first.
 #[unsafe(no_mangle)]
 pub extern "C" fn ipnetwork_is_subnet_of(inner: &IpInC, outer: &IpInC, answer: &mut u8) -> u32
     ensures { TellsOfBoth IpSubnet inner.now outer.now answer.old answer.new result }
@@ -102,7 +103,8 @@ pub extern "C" fn ipnetwork_is_subnet_of(inner: &IpInC, outer: &IpInC, answer: &
     tell_both(inner, outer, answer, |a, b| u8::from(a.is_subnet_of(b)))
 }
 
-/// Whether some address is a member of both, as 1 or 0. The first struct is checked first.
+/// Writes to `answer` 1 if some address is a member of both networks, else 0. `one` is checked
+/// first.
 #[unsafe(no_mangle)]
 pub extern "C" fn ipnetwork_overlaps(one: &IpInC, other: &IpInC, answer: &mut u8) -> u32
     ensures { TellsOfBoth IpOverlap one.now other.now answer.old answer.new result }
@@ -110,8 +112,9 @@ pub extern "C" fn ipnetwork_overlaps(one: &IpInC, other: &IpInC, answer: &mut u8
     tell_both(one, other, answer, |a, b| u8::from(a.overlaps(b)))
 }
 
-/// Which of two networks comes first: -1 the first, 1 the second, 0 if they are equal. Each IPv4 network is before each
-/// IPv6 network; in a family the address decides, then the prefix length. The first struct is checked first.
+/// Writes to `order` which of two networks comes first: -1 if `one` does, 1 if `other` does, 0 if
+/// they are equal. Each IPv4 network comes before each IPv6 network; within a family the address
+/// decides, then the prefix length. `one` is checked first.
 #[unsafe(no_mangle)]
 pub extern "C" fn ipnetwork_compare(one: &IpInC, other: &IpInC, order: &mut i32) -> u32
     ensures { OfBoth one.now other.now

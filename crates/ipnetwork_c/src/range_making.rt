@@ -1,4 +1,4 @@
-//! Tables cut into ranges of addresses that all have the same longest block, in the caller's
+//! Divides tables into ranges of addresses that all have the same longest block, in the caller's
 //! memory.
 ghost use Rattle.std.specs.Prelude.{◌≡◌, ◌+◌, ◌*◌, ◌<◌, ◌≤◌, ◌++◌, ◌∷◌, [], List, length, map, take};
 ghost use Rattle.std.specs.List.{All};
@@ -11,11 +11,11 @@ use crate::search_hint::SearchHint;
 use crate::tables::find;
 use ipnetwork_blocks::AddressSpace;
 
-/// The place that stands for no block.
+/// The place that means no block.
 pub(crate) const NO_PLACE: usize = usize::MAX;
 
-/// Sorts where the blocks begin and end, and asks the blocks, by an index of them or by none, for the
-/// first address of each range.
+/// Sorts the addresses at which the blocks begin and after which they end, and searches the blocks,
+/// by an index of them or by none, for the first address of each range.
 pub(crate) fn make<N: AddressSpace, H: SearchHint<N>>(
     blocks: &[H],
     index: &[u32],
@@ -39,7 +39,7 @@ pub(crate) fn make<N: AddressSpace, H: SearchHint<N>>(
     OK
 }
 
-/// The same, and then puts beside each range the number that stands where its place was.
+/// The same, and then replaces the place of each range by the number at that place.
 pub(crate) fn make_numbered<N: AddressSpace, H: SearchHint<N>>(
     blocks: &[H],
     numbers: &[usize],
@@ -61,7 +61,7 @@ pub(crate) fn make_numbered<N: AddressSpace, H: SearchHint<N>>(
     made
 }
 
-// Puts for each place the number that stands there, and for that of no block the place itself.
+// Replaces each place by the number at it; `NO_PLACE` stays.
 fn put_numbers(numbers: &[usize], places: &mut [usize])
     ensures { places.new ≡ map (number_at numbers.now) places.old }
 {
@@ -70,7 +70,7 @@ fn put_numbers(numbers: &[usize], places: &mut [usize])
     }
 }
 
-// The number at a place, or the place of no block if none stands there.
+// Returns the number at a place, or `NO_PLACE` if there is none.
 fn number_at(numbers: &[usize], place: usize) -> usize
     ensures { result ≡ number_at numbers.now place }
 {
@@ -81,7 +81,7 @@ fn number_at(numbers: &[usize], place: usize) -> usize
     }
 }
 
-// Puts where each block begins, and where it has ended, and returns how many these are.
+// Puts the first address of each block and the address after its last, and returns their number.
 fn put_cuts<N: AddressSpace, H: SearchHint<N>>(blocks: &[H], ranges: &mut [H]) -> usize
     requires held { All H.holds blocks.now }
     requires room { 2 * length blocks.now ≤ length ranges.old }
@@ -96,8 +96,8 @@ fn put_cuts<N: AddressSpace, H: SearchHint<N>>(blocks: &[H], ranges: &mut [H]) -
     count
 }
 
-// Puts after so many others where the block begins, and the address after its last, if there is
-// one.
+// Puts, from index `count` on, the first address of the block and the address after its last, if
+// there is one. Returns the index after them.
 fn put_ends<N: AddressSpace, H: SearchHint<N>>(block: N, ranges: &mut [H], count: usize) -> usize
     requires { count + 2 ≤ length ranges.old }
     ensures more { count ≤ result }
@@ -116,7 +116,7 @@ fn put_ends<N: AddressSpace, H: SearchHint<N>>(block: N, ranges: &mut [H], count
     }
 }
 
-// Puts the network of an address alone at a place.
+// Puts the network of only this address at a place.
 fn put_first<N: AddressSpace, H: SearchHint<N>>(address: N::Addr, ranges: &mut [H], place: usize)
     requires { place < length ranges.old }
     ensures written { IsWrittenUpTo ranges.old ranges.new (place + 1) }
@@ -128,7 +128,7 @@ fn put_first<N: AddressSpace, H: SearchHint<N>>(address: N::Addr, ranges: &mut [
     ranges[place] = H::holding(N::block_at(address, width));
 }
 
-// Puts beside each range the place of the longest block with its first address.
+// Puts for each range the place of the longest block with the range's first address.
 fn put_places<N: AddressSpace, H: SearchHint<N>>(
     blocks: &[H],
     index: &[u32],
@@ -146,7 +146,7 @@ fn put_places<N: AddressSpace, H: SearchHint<N>>(
     }
 }
 
-// The place of the longest block with the address, or that of no block.
+// Returns the place of the longest block with the address, or `NO_PLACE`.
 fn place_of<N: AddressSpace, H: SearchHint<N>>(
     blocks: &[H],
     index: &[u32],

@@ -1,5 +1,5 @@
-//! Ranges in the caller's memory, asked for the longest block with an address: one search, whatever
-//! lies in what.
+//! Searches ranges in the caller's memory for the longest block with an address: one search,
+//! however the blocks are nested.
 ghost use Rattle.std.specs.Prelude.{◌≡◌, ◌↔◌, ◌<◌, IsTrue};
 ghost use Rattle.ipnetwork_c.specs.Ranges.{PlaceQuery, RangeQuery, no_place, place_before};
 ghost use Rattle.ipnetwork_c.specs.Numbers.{no_member};
@@ -11,8 +11,8 @@ use crate::search_hint::SearchHint;
 use crate::upper_bound::{guess_by_three, upper_bound_at_once, upper_bound_by_halves};
 use ipnetwork_blocks::AddressSpace;
 
-/// The place beside the last of the ranges that begins at an address or before it, by an index of
-/// the ranges, or by none: that of no block if there is none.
+/// Returns the place of the last range that begins at or before an address, by an index of the
+/// ranges, or by none; `NO_PLACE` if there is no such range.
 #[inline(always)]
 pub(crate) fn place_of<N: AddressSpace, H: SearchHint<N>>(
     address: &H::Octets,
@@ -27,7 +27,7 @@ pub(crate) fn place_of<N: AddressSpace, H: SearchHint<N>>(
     place_by_guess::<N, H>(ranges, places, index, number, guess)
 }
 
-/// Puts that place in `place`, if it is that of a block.
+/// Puts that place in `place`, unless it is `NO_PLACE`.
 #[inline(always)]
 pub(crate) fn find<N: AddressSpace, H: SearchHint<N>>(
     address: &H::Octets,
@@ -44,7 +44,7 @@ pub(crate) fn find<N: AddressSpace, H: SearchHint<N>>(
     place_near::<N, H>(ranges, places, index, number, guess, place)
 }
 
-/// The same for the number of an address, with a guess of how many ranges begin up to it.
+/// The same for the number of an address, with a guess of how many ranges begin at or before it.
 #[inline(always)]
 pub(crate) fn place_near<N: AddressSpace, H: SearchHint<N>>(
     ranges: &[H],
@@ -62,8 +62,8 @@ pub(crate) fn place_near<N: AddressSpace, H: SearchHint<N>>(
     )
 }
 
-// The place beside the last of the ranges that begins at the number or before it, with a guess of
-// how many do.
+// Returns the place of the last range that begins at or before the number, with a guess of how many
+// ranges do.
 #[inline(always)]
 fn place_by_guess<N: AddressSpace, H: SearchHint<N>>(
     ranges: &[H],
@@ -80,8 +80,8 @@ fn place_by_guess<N: AddressSpace, H: SearchHint<N>>(
     }
 }
 
-// The same where the guess is none. It stands apart, so that what it needs costs the others
-// nothing.
+// The same if the guess is wrong. It is a separate function so that its cost does not fall on right
+// guesses.
 #[inline(never)]
 fn place_by_halves<N: AddressSpace, H: SearchHint<N>>(
     ranges: &[H],
@@ -95,7 +95,7 @@ fn place_by_halves<N: AddressSpace, H: SearchHint<N>>(
     found_before(places, count)
 }
 
-// The place beside the last of so many ranges, or that of no block.
+// Returns the place of the last of the first `count` ranges, or `NO_PLACE`.
 #[inline(always)]
 fn found_before(places: &[usize], count: usize) -> usize
     ensures { result ≡ place_before places.now count }
@@ -107,7 +107,7 @@ fn found_before(places: &[usize], count: usize) -> usize
     places[row]
 }
 
-// Puts what was found, unless it is the place of no block.
+// Puts the place that was found, unless it is `NO_PLACE`.
 #[inline(always)]
 fn put_found(found: usize, place: &mut usize) -> u32
     ensures { Unless (IsFault no_member (found ≡ no_place))
@@ -117,9 +117,9 @@ fn put_found(found: usize, place: &mut usize) -> u32
     put_or_pass(found != NO_PLACE, found, place, &mut beside)
 }
 
-// Puts the number at `place` if one was found, and else beside it, by one store, so that no branch
-// depends on the address. Not inlined: a compiler that sees that nothing reads what is put beside
-// leaves that out, by a branch that is often guessed wrong. The two reads at the end compile to
+// Puts the number in `place` if one was found, and else in `beside`, by one store, so that no
+// branch depends on the address. Not inlined: a compiler that sees that nothing reads `beside`
+// omits that store, by a branch that is often mispredicted. The two reads at the end compile to
 // nothing: they tell the proof which of the two references is `place`.
 #[inline(never)]
 fn put_or_pass(is_found: bool, number: usize, place: &mut usize, beside: &mut usize) -> u32
@@ -137,7 +137,7 @@ fn put_or_pass(is_found: bool, number: usize, place: &mut usize, beside: &mut us
     NO_MEMBER
 }
 
-// Both, the first one first if this holds, and else last.
+// Returns both references, in this order if `is_in_order`, else reversed.
 #[inline(always)]
 fn in_order<'a>(
     is_in_order: bool,

@@ -1,14 +1,14 @@
-//! Which structs of C seem to begin up to a number, by the first bits of their addresses: a search guesses by them where
-//! it ends, in few steps, and then looks whether it does.
+//! Whether a C struct seems to begin at or before a number, by the first bits of its address: a
+//! search uses this to guess in few steps where it ends, and then checks the guess.
 ghost use Rattle.std.specs.Prelude.{◌≤◌, IsTrue};
 
 use crate::numbered::Numbered;
 use ipnetwork_blocks::AddressSpace;
 
-/// A struct of C of which few bits tell mostly whether it begins up to a number.
+/// A C struct of which a few bits mostly decide whether it begins at or before a number.
 pub(crate) trait SearchHint<N: AddressSpace>: Numbered<N> {
-    /// Whether the first 64 bits of the address as it stands, or all that it has, are those of the number or come
-    /// before them: so it is for each address up to the number, and seldom for another.
+    /// Returns whether the first 64 bits of the address, or all bits if it has fewer, are at most
+    /// those of the number: true for each address up to the number, and rarely for another.
     fn seems_up_to(&self, number: Self::Number) -> bool
         ensures { (Self.held self.now).address ≤ Self.value number → IsTrue result };
 }

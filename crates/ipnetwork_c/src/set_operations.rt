@@ -1,4 +1,4 @@
-//! The union, the common part and the difference of two sets, as lists in the caller's memory.
+//! The union, intersection and difference of two sets, as lists in the caller's memory.
 ghost use Rattle.std.specs.Prelude.{map};
 ghost use Rattle.ipnetwork_sets.specs.Sets.{HoldSet};
 ghost use Rattle.ipnetwork_c.specs.Sets.{SetOperation};
@@ -14,15 +14,15 @@ use ipnetwork_sets::{Difference, Intersection, Union, is_address_set};
 /// An operation on two sets.
 #[derive(Clone, Copy)]
 pub(crate) enum Operation {
-    /// What is in one of the two sets or in both.
+    /// The addresses in at least one of the two sets.
     Union,
-    /// What is in both sets.
+    /// The addresses in both sets.
     Intersection,
-    /// What is in the first set and not in the second.
+    /// The addresses in the first set and not in the second.
     Difference,
 }
 
-/// Puts the blocks of what an operation leaves of two sets in the front of `blocks`, and their number in `count`.
+/// Puts the blocks of an operation's result at the front of `blocks`, and their number in `count`.
 pub(crate) fn operate<N: AddressSpace, H: Listed<N>>(
     operation: Operation,
     first: &[H],
@@ -48,8 +48,8 @@ pub(crate) fn operate<N: AddressSpace, H: Listed<N>>(
     OK
 }
 
-// Puts the blocks of the addresses that the operation keeps into the front of the list, as far as there is room.
-// Returns how many there are, and 2^128 - 1 if there are more.
+// Puts the blocks of the addresses that the operation keeps at the front of the list, as far as
+// there is room. Returns how many there are, at most 2^128 - 1.
 fn put_kept<N: AddressSpace, H: Listed<N>>(
     operation: Operation,
     first: &[H],

@@ -1,4 +1,5 @@
-//! How many members a network has, and which of them has a number, also of the network of all addresses.
+//! The number of members of a network, and its numbered members, even for the network of all
+//! addresses.
 ghost use Rattle.std.specs.Prelude.{◌≡◌, ◌+◌, ◌^◌, ◌<◌, ◌≤◌, ◌++◌, ◌∷◌, [], length, MatchOption};
 ghost use Rattle.ipnetwork_addr.specs.Digits.{octets_of, octets_of_v6};
 ghost use Rattle.ipnetwork_family.specs.Network.{low, high, members};
@@ -11,13 +12,13 @@ use crate::structs::{Ipv4InC, Ipv6InC, address_of};
 use ipnetwork::{Ipv4Addr, Ipv4Network, Ipv6Addr, Ipv6Network};
 use ipnetwork_family::{Address, Network};
 
-/// An address as a number that every address fits.
+/// An address as a number of a type that every address fits.
 pub(crate) trait Numbered: Address {
-    /// The number that the address means.
+    /// Returns the number of the address.
     fn to_number(self) -> u128
         ensures { result ≡ Self.number self };
 
-    /// The address that a number of `WIDTH` bits means.
+    /// Returns the address of a number of `WIDTH` bits.
     fn from_number(number: u128) -> Self
         requires { number < 2 ^ Self.WIDTH }
         ensures { Self.number result ≡ number };
@@ -43,7 +44,7 @@ impl Numbered for Ipv6Addr {
     }
 }
 
-/// The least and the greatest member as numbers.
+/// Returns the least and the greatest member as numbers.
 fn ends<A: Numbered>(network: &Network<A>) -> (u128, u128)
     ensures least { result.0 ≡ low A.WIDTH network.now }
     ensures greatest { result.1 ≡ high A.WIDTH network.now }
@@ -54,7 +55,7 @@ fn ends<A: Numbered>(network: &Network<A>) -> (u128, u128)
     (network.network().to_number(), greatest.to_number())
 }
 
-/// The number of the last member, counted from 0: one less than there are.
+/// Returns the index of the last member, counted from 0: one less than the number of members.
 #[tactic(auto, using(crate::proofs::MemberCounts::ends_apart))]
 fn last_index<A: Numbered>(network: &Network<A>) -> u128
     ensures count { result + 1 ≡ length (members A.WIDTH network.now) }
@@ -64,7 +65,7 @@ fn last_index<A: Numbered>(network: &Network<A>) -> u128
     greatest - least
 }
 
-// The member number `n`, counted from 0 in ascending order.
+// Returns member number `n`, counted from 0 in ascending order.
 #[tactic(auto, using(crate::proofs::MemberCounts::ends_apart))]
 fn nth<A: Numbered>(network: &Network<A>, n: u128) -> Option<A>
     ensures { MatchOption result (length (members A.WIDTH network.now) ≤ n)
@@ -77,14 +78,14 @@ fn nth<A: Numbered>(network: &Network<A>, n: u128) -> Option<A>
     Some(A::from_number(least + n))
 }
 
-// The number of members of an IPv4 network.
+// Returns the number of members of an IPv4 network.
 fn v4_size(network: &Ipv4Network) -> u64
     ensures { HasSize 32 network.now result }
 {
     last_index(network) as u64 + 1
 }
 
-// The number of members of an IPv6 network as 17 octets, the highest first.
+// Returns the number of members of an IPv6 network as 17 octets, the highest first.
 fn v6_size(network: &Ipv6Network) -> [u8; 17]
     ensures { HasSize 128 network.now (number_of_octets result) }
 {
@@ -95,7 +96,7 @@ fn v6_size(network: &Ipv6Network) -> [u8; 17]
     followed_by(front.octets(), (next % 256) as u8)
 }
 
-/// Sixteen octets and one after them.
+/// Returns 16 octets followed by one more.
 fn followed_by(front: [u8; 16], lowest: u8) -> [u8; 17]
     ensures { result ≡ front ++ lowest ∷ [] }
 {
@@ -104,7 +105,8 @@ fn followed_by(front: [u8; 16], lowest: u8) -> [u8; 17]
     octets
 }
 
-/// The number of members, 2^32 at prefix length 0. `PREFIX` if the prefix length is greater than 32.
+/// Writes the number of members, 2^32 for prefix length 0. Returns `PREFIX` if the prefix length is
+/// greater than 32.
 #[unsafe(no_mangle)]
 pub extern "C" fn ipnetwork_v4_size(network: &Ipv4InC, size: &mut u64) -> u32
     ensures { IfFit (PrefixFits 32 (v4_in network.now))
@@ -117,8 +119,8 @@ pub extern "C" fn ipnetwork_v4_size(network: &Ipv4InC, size: &mut u64) -> u32
     OK
 }
 
-/// The number of members of an IPv6 network, 2^128 at prefix length 0, as 17 octets, the highest first. `PREFIX` if the
-/// prefix length is greater than 128.
+/// Writes the number of members of an IPv6 network, 2^128 for prefix length 0, as 17 octets, the
+/// highest first. Returns `PREFIX` if the prefix length is greater than 128.
 #[unsafe(no_mangle)]
 pub extern "C" fn ipnetwork_v6_size(network: &Ipv6InC, size: &mut [u8; 17]) -> u32
     ensures { IfFit (PrefixFits 128 (v6_in network.now))
@@ -132,8 +134,8 @@ pub extern "C" fn ipnetwork_v6_size(network: &Ipv6InC, size: &mut [u8; 17]) -> u
     OK
 }
 
-/// The member number `n`, counted from 0 in ascending order; `NO_MEMBER` if the network has no more than `n` members.
-/// `PREFIX` if the prefix length is greater than 32.
+/// Writes member number `n`, counted from 0 in ascending order. Returns `PREFIX` if the prefix
+/// length is greater than 32, else `NO_MEMBER` if the network has at most `n` members.
 #[unsafe(no_mangle)]
 pub extern "C" fn ipnetwork_v4_nth(network: &Ipv4InC, n: u32, address: &mut [u8; 4]) -> u32
     ensures { WritesMember 32 octets_of (v4_in network.now) n address.old address.new result }

@@ -1,4 +1,4 @@
-//! The structs of the header, and the networks that they stand for.
+//! The structs of the header, and the networks that they represent.
 ghost use Rattle.std.specs.Prelude.{◌≡◌};
 ghost use Rattle.ipnetwork_addr.specs.Digits.{octets_of_v6};
 ghost use Rattle.ipnetwork_c.specs.Held.{number_of_octets};
@@ -9,7 +9,7 @@ use crate::fault::{NO_FAMILY, PREFIX};
 use ipnetwork::{IpNetwork, Ipv6Addr, Ipv6Network};
 use std::simd::prelude::*;
 
-/// An IPv4 network as C holds it. Nothing is known of its prefix length.
+/// An IPv4 network as C holds it. Its prefix length is unchecked.
 #[repr(C)]
 #[derive(Clone, Copy)]
 pub struct Ipv4InC {
@@ -19,7 +19,7 @@ pub struct Ipv4InC {
     pub prefix: u8,
 }
 
-/// An IPv6 network as C holds it. Nothing is known of its prefix length.
+/// An IPv6 network as C holds it. Its prefix length is unchecked.
 #[repr(C)]
 #[derive(Clone, Copy)]
 pub struct Ipv6InC {
@@ -29,11 +29,11 @@ pub struct Ipv6InC {
     pub prefix: u8,
 }
 
-/// What a search by ranges returns. As a struct it is not taken for a truth value, or for a fault.
+/// What a search by ranges returns. As a struct, it cannot be mistaken for a Boolean or a fault.
 #[repr(C)]
 #[derive(Clone, Copy)]
 pub struct PlaceInC {
-    /// What stands beside the range that was found, or the greatest number if there is none.
+    /// The place of the range that was found, or `NO_PLACE`, 2^64 - 1, if there is none.
     pub place: usize,
 }
 
@@ -43,11 +43,11 @@ pub(crate) const V4: u8 = 4;
 /// The family of an `IpInC` whose network is an IPv6 network.
 pub(crate) const V6: u8 = 6;
 
-/// A network of either family as C holds it: the struct of its family. Nothing is known of the family.
+/// A network of either family as C holds it. Its family and prefix length are unchecked.
 #[repr(C)]
 #[derive(Clone, Copy)]
 pub struct IpInC {
-    /// 4 or 6.
+    /// The family: 4 or 6.
     pub family: u8,
     /// The network, if the family is 4.
     pub v4: Ipv4InC,
@@ -56,7 +56,7 @@ pub struct IpInC {
 }
 
 impl IpInC {
-    /// The struct that holds a network.
+    /// Returns the struct that holds a network.
     pub(crate) fn of(network: &IpNetwork) -> Self
         ensures { HoldsIp result network.now }
     {
@@ -80,7 +80,7 @@ impl IpInC {
         }
     }
 
-    /// The struct that holds an IPv6 network.
+    /// Returns the struct that holds an IPv6 network.
     #[inline(always)]
     pub(crate) fn of_v6(network: &Ipv6Network) -> Self
         ensures { HoldsIp result (IpNetwork.V6 network.now) }
@@ -98,8 +98,8 @@ impl IpInC {
         }
     }
 
-    /// The network of the family that the struct names. `NO_FAMILY` if that is neither 4 nor 6, else `PREFIX` if the
-    /// prefix length is greater than the family's width.
+    /// Returns the network that the struct represents, or a fault: `NO_FAMILY` if the family is
+    /// neither 4 nor 6, else `PREFIX` if the prefix length is greater than the family's width.
     pub(crate) fn network(&self) -> Result<IpNetwork, u32>
         ensures { HeldNetwork self.now result }
     {
@@ -119,7 +119,7 @@ impl IpInC {
     }
 }
 
-/// The same in a column whose texts are read with the cause. C has the struct of the network in its place.
+/// The same in a column whose texts are read with the cause. In C it is the struct of the network.
 #[repr(C)]
 #[derive(Clone, Copy)]
 pub struct IpWithCauseInC {
@@ -127,7 +127,8 @@ pub struct IpWithCauseInC {
     pub held: IpInC,
 }
 
-/// The IPv6 address of 16 octets, made of its segments: to write a number and read its segments costs more.
+/// Returns the IPv6 address of 16 octets, made from its segments: to make a number and read its
+/// segments costs more.
 pub(crate) fn address_of(octets: &[u8; 16]) -> Ipv6Addr
     ensures { result ≡ number_of_octets octets.now }
 {
@@ -144,14 +145,15 @@ pub(crate) fn address_of(octets: &[u8; 16]) -> Ipv6Addr
     )
 }
 
-/// The number of 4 octets.
+/// Returns the number of 4 octets.
 pub(crate) fn number_of_four(octets: &[u8; 4]) -> u32
     ensures { result ≡ number_of_octets octets.now }
 {
     u32::from_be_bytes(*octets)
 }
 
-/// The 16 octets of an address, as one vector: so they are stored at once, and else one by one.
+/// Returns the 16 octets of an address, as one vector, so that they are stored at once and not one
+/// by one.
 #[inline(always)]
 fn octets_of(address: Ipv6Addr) -> [u8; 16]
     ensures { result ≡ octets_of_v6 address }
@@ -161,7 +163,7 @@ fn octets_of(address: Ipv6Addr) -> [u8; 16]
     u64x2::from_array(halves).to_le_bytes().reverse().to_array()
 }
 
-/// The number of 16 octets.
+/// Returns the number of 16 octets.
 pub(crate) fn number_of(octets: &[u8; 16]) -> u128
     ensures { result ≡ number_of_octets octets.now }
 {

@@ -1,4 +1,4 @@
-//! Tables made of networks in any order.
+//! Makes tables of networks in any order.
 ghost use Rattle.std.specs.Prelude.{◌≡◌, ℕ, ◌<◌, length, map, slice_index, slice_index_or};
 ghost use Rattle.std.specs.List.{All, range_with_len};
 ghost use Rattle.std.specs.List.Sorted.{IsPermutation, IsSorted};
@@ -11,7 +11,7 @@ use crate::listed::{Listed, all_fit};
 use ipnetwork_blocks::AddressSpace;
 use std::cmp::Ordering;
 
-/// Sorts the places of the networks by their blocks, and puts these in that order.
+/// Sorts the places of the networks by their blocks, and puts the blocks in that order.
 pub(crate) fn make<N: AddressSpace, H: Listed<N>>(
     networks: &[H],
     blocks: &mut [H],
@@ -33,7 +33,7 @@ pub(crate) fn make<N: AddressSpace, H: Listed<N>>(
     OK
 }
 
-// Puts the number of each place into it.
+// Sets each place to its own index.
 fn put_places(places: &mut [usize])
     ensures { places.new ≡ range_with_len 0 (length places.old) }
 {
@@ -42,7 +42,7 @@ fn put_places(places: &mut [usize])
     }
 }
 
-// Sorts places by the blocks of the networks that stand there.
+// Sorts places by the blocks of the networks at them.
 fn sort_places<N: AddressSpace, H: Listed<N>>(networks: &[H], places: &mut [usize])
     requires { All H.holds networks.now }
     ensures permutation { IsPermutation places.old places.new }
@@ -51,7 +51,7 @@ fn sort_places<N: AddressSpace, H: Listed<N>>(networks: &[H], places: &mut [usiz
     places.sort_unstable_by(|first, second| order_between::<N, H>(networks, *first, *second));
 }
 
-// Which of two places comes first: by the blocks of their networks, and where these are equal, by the places.
+// Returns the order of two places: by the blocks of their networks, and then by the places.
 fn order_between<N: AddressSpace, H: Listed<N>>(
     networks: &[H],
     first: usize,
@@ -65,7 +65,7 @@ fn order_between<N: AddressSpace, H: Listed<N>>(
     one.cmp(&other).then(first.cmp(&second))
 }
 
-// The block of the network at a place; of a place past the last the network of all addresses.
+// Returns the block of the network at a place; past the last place, the network of all addresses.
 fn block_in<N: AddressSpace, H: Listed<N>>(networks: &[H], place: usize) -> N
     requires { All H.holds networks.now }
     ensures made { N.pair result ≡ row_block N.WIDTH (map H.held networks.now) place }
@@ -78,7 +78,7 @@ fn block_in<N: AddressSpace, H: Listed<N>>(networks: &[H], place: usize) -> N
     N::block_at(network.ip(), network.prefix())
 }
 
-// Puts the blocks of the networks at these places, one after the other.
+// Puts the blocks of the networks at these places into `blocks`, one after the other.
 fn put_rows<N: AddressSpace, H: Listed<N>>(networks: &[H], places: &[usize], blocks: &mut [H])
     requires held { All H.holds networks.now }
     requires room { length blocks.old ≡ length places.now }

@@ -1,5 +1,5 @@
-//! Columns of texts read in one call, in the layout of Arrow: the bytes of all texts, one after the other, and the
-//! offsets at which each begins and the last ends.
+//! Reads columns of texts in one call, in Arrow's layout: the bytes of all texts, one after the
+//! other, and the offsets at which each text begins and the last one ends.
 ghost use Rattle.std.specs.Prelude.{◌↔◌, ◌<◌, IsTrue};
 ghost use Rattle.ipnetwork_c.specs.Either.{ReadsAddress};
 ghost use Rattle.ipnetwork_c.specs.TextColumns.{AreOffsets, ReadsColumn, ip_reads, ip_reads_with_cause};
@@ -9,14 +9,14 @@ use crate::either::{ipnetwork_read, ipnetwork_read_with_cause};
 use crate::fault::{NO_OFFSETS, OK, SHORT_BUFFER};
 use crate::structs::{IpInC, IpWithCauseInC};
 
-/// What a row is read into.
+/// A row that a text can be read into.
 pub(crate) trait ReadsRow {
     ghost use Rattle.std.specs.Prelude.{ℕ, List};
 
-    // What the call for one text leaves, and the number of its fault.
+    // What the call for one text leaves, and the fault that it returns.
     ghost reads: { List ℕ → Self → Self → ℕ → Type 0 };
 
-    /// Reads a text, and returns the number of its fault.
+    /// Reads a text, and returns the fault.
     fn read_row(&mut self, text: &[u8]) -> u32
         ensures read { reads text.now self.old self.new result }
         ensures byte { result < 256 };
@@ -46,11 +46,11 @@ impl ReadsRow for AddressInC {
     }
 }
 
-/// Whether no offset is past the end of the texts, and none is less than the one before.
+/// Returns whether no offset is past the end of the texts, and none is less than the one before.
 fn are_offsets(texts: &[u8], offsets: &[u32]) -> bool
     ensures { IsTrue result ↔ AreOffsets texts.now offsets.now }
 {
-    // No branch leaves the loop, so that several offsets are compared at once.
+    // No branch leaves the loop, so several offsets are compared at once.
     let mut last = 0;
     let mut falls = false;
     for offset in offsets {
@@ -65,7 +65,7 @@ fn are_offsets(texts: &[u8], offsets: &[u32]) -> bool
     last as usize <= texts.len()
 }
 
-/// Reads each text into the row of its place, and its fault into the fault of that place.
+/// Reads each text into the row of the same number, and writes the fault of each.
 pub(crate) fn read_rows<R>(texts: &[u8], offsets: &[u32], rows: &mut [R], faults: &mut [u8]) -> u32
 where
     R: ReadsRow,

@@ -1,4 +1,4 @@
-//! How many structs of a list begin up to a number: by a binary search, or by an index of the list.
+//! Finds how many structs of a list begin at or before a number, by a binary search or an index.
 ghost use Rattle.std.specs.Prelude.{◌≡◌, ◌↔◌, ◌+◌, ◌<◌, ◌≤◌, IfSome, IsTrue, get_or, map, length};
 ghost use Rattle.ipnetwork_c.specs.Searches.{StandsAt};
 ghost use Rattle.ipnetwork_c.specs.Private.Sets.{LastUpTo, NextAfter, IsBetween};
@@ -7,9 +7,9 @@ use crate::numbered::Numbered;
 use crate::search_hint::SearchHint;
 use ipnetwork_blocks::AddressSpace;
 
-/// How many of a list in ascending order begin at the number or before it. Of any other list, a
-/// number of structs of which the last does, and the next one does not. The index only says where
-/// the search begins: one that is not that of the list costs time, and changes nothing else.
+/// Returns how many structs of an ascending list begin at or before the number; for any other list,
+/// a number of structs of which the last does, and the next does not. The index only says where the
+/// search begins: the index of another list only costs time.
 #[inline(always)]
 pub(crate) fn upper_bound<N: AddressSpace, H: SearchHint<N>>(
     list: &[H],
@@ -26,8 +26,8 @@ pub(crate) fn upper_bound<N: AddressSpace, H: SearchHint<N>>(
     }
 }
 
-/// A guess of how many begin up to the number, by the last struct of its part: for lists of which a
-/// part mostly has one. No branch depends on whether it begins up to the number.
+/// Guesses how many structs begin at or before the number, by the last struct of its part: for
+/// lists with mostly one struct in a part. No branch depends on whether that struct does.
 #[inline(always)]
 pub(crate) fn guess_by_last<N: AddressSpace, H: SearchHint<N>>(
     list: &[H],
@@ -43,7 +43,7 @@ pub(crate) fn guess_by_last<N: AddressSpace, H: SearchHint<N>>(
     last + one_up_to::<N, H>(list, last, number)
 }
 
-/// The same by the first three of its part: for lists of which a part often has several.
+/// The same by the first three structs of the part: for lists with often several structs in a part.
 #[inline(always)]
 pub(crate) fn guess_by_three<N: AddressSpace, H: SearchHint<N>>(
     list: &[H],
@@ -60,7 +60,7 @@ pub(crate) fn guess_by_three<N: AddressSpace, H: SearchHint<N>>(
     from + first + second + one_up_to::<N, H>(list, from + 2, number)
 }
 
-/// How many begin up to the number, if that is the guess.
+/// Returns how many structs begin at or before the number, if that is the guess.
 #[inline(always)]
 pub(crate) fn upper_bound_at_once<N: AddressSpace, H: Numbered<N>>(
     list: &[H],
@@ -78,8 +78,8 @@ pub(crate) fn upper_bound_at_once<N: AddressSpace, H: Numbered<N>>(
     Some(guess)
 }
 
-/// The same by halves: of the part of the number, and of the whole list if that is not in the
-/// index.
+/// Returns the same by a binary search of the number's part, extended to the start or end of the
+/// list where the bounds in the index are wrong.
 #[inline(never)]
 pub(crate) fn upper_bound_by_halves<N: AddressSpace, H: Numbered<N>>(
     list: &[H],
@@ -97,9 +97,9 @@ pub(crate) fn upper_bound_by_halves<N: AddressSpace, H: Numbered<N>>(
     upper_bound_between::<N, H>(list, from, to, number)
 }
 
-// The same, of which is known that the structs before `begin` begin up to the number, and that at
-// `end` after it. A step leaves a number of structs and not an end, so that it is compiled to no
-// branch that depends on the list.
+// The same between `begin` and `end`, if the struct before `begin` begins at or before the number,
+// and the one at `end` after it. Each step keeps a count of structs and not an end, so that it
+// compiles to no branch that depends on the list.
 fn upper_bound_between<N: AddressSpace, H: Numbered<N>>(
     list: &[H],
     begin: usize,
@@ -125,7 +125,7 @@ fn upper_bound_between<N: AddressSpace, H: Numbered<N>>(
     from
 }
 
-// Whether the struct's own address is that of the number, or comes before it.
+// Returns whether the struct's own address is at or before the number.
 #[inline(always)]
 fn begins_up_to<N: AddressSpace, H: Numbered<N>>(held: H, number: H::Number) -> bool
     ensures { IsTrue result ↔ ((H.held held).address ≤ H.value number) }
@@ -133,7 +133,7 @@ fn begins_up_to<N: AddressSpace, H: Numbered<N>>(held: H, number: H::Number) -> 
     H::is_up_to(held.own_number(), number)
 }
 
-// In which part of the index the number lies.
+// Returns the part of the index in which the number lies.
 #[inline(always)]
 fn part_of<N: AddressSpace, H: Numbered<N>>(list: &[H], index: &[u32], number: H::Number) -> usize
     requires list { 1 ≤ length list.now }
@@ -145,7 +145,7 @@ fn part_of<N: AddressSpace, H: Numbered<N>>(list: &[H], index: &[u32], number: H
     part.min(index.len() - 1)
 }
 
-// Where the part begins, as the index says.
+// Returns where the part begins by the index.
 #[inline(always)]
 fn start_of(index: &[u32], part: usize) -> usize
     requires { part < length index.now }
@@ -158,7 +158,7 @@ fn start_of(index: &[u32], part: usize) -> usize
     index[part] as usize
 }
 
-// Where the part ends, as the index says, and the last one with the list.
+// Returns where the part ends by the index. The last part ends with the list.
 #[inline(always)]
 fn part_end(index: &[u32], part: usize, count: usize) -> usize
     requires { part < length index.now }
@@ -171,7 +171,7 @@ fn part_end(index: &[u32], part: usize, count: usize) -> usize
     index[part + 1] as usize
 }
 
-// 1 if the struct there seems to begin up to the number, and 0 if not.
+// Returns 1 if the struct there seems to begin at or before the number, else 0.
 #[inline(always)]
 fn one_up_to<N: AddressSpace, H: SearchHint<N>>(
     list: &[H],
@@ -184,7 +184,7 @@ fn one_up_to<N: AddressSpace, H: SearchHint<N>>(
     usize::from(list[place].seems_up_to(number))
 }
 
-// Whether the struct after so many begins after the number, or there is none.
+// Returns whether the struct at index `at` begins after the number, or there is none.
 #[inline(always)]
 fn next_is_after<N: AddressSpace, H: Numbered<N>>(list: &[H], at: usize, number: H::Number) -> bool
     requires { at ≤ length list.now }
@@ -196,7 +196,7 @@ fn next_is_after<N: AddressSpace, H: Numbered<N>>(list: &[H], at: usize, number:
     !begins_up_to::<N, H>(list[at], number)
 }
 
-// Whether the last of so many structs begins up to the number, or there is none.
+// Returns whether the struct before index `at` begins at or before the number, or there is none.
 #[inline(always)]
 fn last_is_up_to<N: AddressSpace, H: Numbered<N>>(list: &[H], at: usize, number: H::Number) -> bool
     requires { at ≤ length list.now }
@@ -209,8 +209,8 @@ fn last_is_up_to<N: AddressSpace, H: Numbered<N>>(list: &[H], at: usize, number:
     begins_up_to::<N, H>(list[last], number)
 }
 
-// The start, or the end of the list if that comes first, unless the struct before begins after the
-// number: then 0.
+// Returns `start`, or the end of the list if that comes first; but 0 if the struct before it begins
+// after the number.
 fn from_start<N: AddressSpace, H: Numbered<N>>(list: &[H], start: usize, number: H::Number) -> usize
     ensures within { result ≤ length list.now }
     ensures last { LastUpTo (map H.held list.now) (H.value number) result }
@@ -222,8 +222,8 @@ fn from_start<N: AddressSpace, H: Numbered<N>>(list: &[H], start: usize, number:
     0
 }
 
-// Up to where structs are looked at, from `from` on: to the start of the next part, if the one
-// there begins after the number, and else to the last.
+// Returns the end of the search that begins at `from`: the start of the next part if the struct
+// there begins after the number, else the end of the list.
 fn end_of<N: AddressSpace, H: Numbered<N>>(
     list: &[H],
     index: &[u32],

@@ -1,11 +1,11 @@
-//! Blocks put into a list in the caller's memory, one after the other, and counted.
+//! Puts blocks into a list in the caller's memory, one after the other, and counts them.
 ghost use Rattle.std.specs.Prelude.{◌≡◌, ◌-◌, ◌^◌, min};
 ghost use Rattle.std.specs.Iterator.{IsFinite};
 ghost use Rattle.ipnetwork_c.specs.Private.Writing.{AddsBlock, PutsItems};
 
 use ipnetwork_blocks::{AddressSpace, HoldsNetwork};
 
-/// The number, or the greatest one of 64 bits if that is less.
+/// Returns the number, or 2^64 - 1 if that is less.
 pub(crate) fn to_usize(number: u128) -> usize
     ensures { result ≡ min number (2 ^ 64 - 1) }
 {
@@ -15,7 +15,7 @@ pub(crate) fn to_usize(number: u128) -> usize
     number as usize
 }
 
-// Puts the block after the `count` ones that were put, if there is room.
+// Puts the block at index `count`, if there is room.
 fn put<N: AddressSpace, H: HoldsNetwork<N>>(list: &mut [H], count: u128, block: N)
     ensures { AddsBlock H.held (N.pair block) list.old list.new count }
 {
@@ -25,8 +25,8 @@ fn put<N: AddressSpace, H: HoldsNetwork<N>>(list: &mut [H], count: u128, block: 
     list[count as usize] = H::holding(block);
 }
 
-/// Puts the blocks of the iterator into the front of the list, as far as there is room. Returns how many there are, and
-/// 2^128 - 1 if there are more.
+/// Puts the blocks of the iterator at the front of the list, as far as there is room. Returns how
+/// many there are, at most 2^128 - 1.
 pub(crate) fn put_blocks<N: AddressSpace, H: HoldsNetwork<N>, I: Iterator<Item = N> + Drop>(
     blocks: I,
     list: &mut [H],

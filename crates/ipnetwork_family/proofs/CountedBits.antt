@@ -1,4 +1,4 @@
--- The counts of bits: those that two numbers share in front, and the zeros at the end of one.
+-- Counts of bits: the leading bits that two numbers share, and the trailing zeros of a number.
 use Rattle.std.proofs.Common.{◌≡◌, ◌↔◌, ℕ, zero, suc, ◌+◌, ◌-◌, ◌*◌, ◌/◌, ◌%◌, ◌^◌, ◌<◌, ◌≤◌, bit_xor, refl, sym, ap, ◌∙◌, inl, inr, arith}
 use Rattle.std.specs.Int.Bits.{xor_add_and, xor_self}
 use Rattle.std.specs.Int.Count.{count_leading_zeros, count_trailing_zeros, under}
@@ -7,12 +7,12 @@ use Rattle.std.proofs.lemmas.Bool.{cases_lt}
 use Rattle.std.proofs.lemmas.Nat.{pow_pos, pow-add, mul-le, xor_shr, xor_lt, and_le_l, and_le_r, leading_length, mod-pow-add}
 use Rattle.ipnetwork_family.specs.Bits.{SharesBits, EndsInZeros}
 
--- ---- bits in front
+-- ---- leading bits
 
 pub no_difference : (a b : ℕ) → bit_xor a b ≡ 0 → a ≡ b
 no_difference a b e = omega (arith, xor_add_and a b, and_le_l a b, and_le_r a b)
 
--- two numbers agree before their last k bits exactly if they differ in these alone
+-- two numbers agree before their last k bits exactly if they differ only in those k bits
 agree_before : (a b k : ℕ) → (a / 2 ^ k ≡ b / 2 ^ k) ↔ (bit_xor a b < 2 ^ k)
 agree_before a b k =
     let one : (bit_xor a b / 2 ^ k < 1) ↔ (bit_xor a b < 1 * 2 ^ k) = div-lt_iff_lt-mul (pow_pos k) in (
@@ -41,7 +41,7 @@ shared_bits w a b h k =
       ];
     }
 
--- ---- zeros at the end
+-- ---- trailing zeros
 
 one_bit_more : (n j : ℕ) → n % 2 ^ suc j ≡ n / 2 % 2 ^ j * 2 + n % 2
 one_bit_more n j = let e : suc j ≡ j + 1 = omega arith in ap (λ i. n % 2 ^ i) e ∙ mod-pow-add n j 1

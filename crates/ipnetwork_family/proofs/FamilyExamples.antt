@@ -1,5 +1,5 @@
--- At the two families the words over any family are those of the family. And counts of bits at which a misreading of
--- their definitions would show.
+-- For IPv4 and IPv6, the definitions for any family agree with those of the family. Counts of bits for which a
+-- misreading of their definitions would show.
 use Rattle.std.proofs.Common.{◌≡◌, ◌↔◌, ℕ, ◌≤◌, List, Result, refl, lit<, lit≤, arith}
 use Rattle.std.specs.Int.Count.{count_leading_zeros, count_trailing_zeros}
 use Rattle.ipnetwork_addr.specs.Ipv4Text.{canonical_v4}
@@ -16,7 +16,7 @@ use Rattle.ipnetwork_family.specs.declared.error.CidrFault.{CidrFault}
 use Rattle.ipnetwork_family.specs.declared.error.IpNetworkError.{IpNetworkError}
 use Rattle.ipnetwork_family.proofs.CountedBits.{shared_bits, trailing_zeros}
 
--- ---- the words of each family
+-- ---- the definitions of each family
 
 pub v4_named : (text : List ℕ) (n : Network) → NamesNetworkOf v4_family text n ↔ NamesV4Network text n
 v4_named text n = ((λ h. h), (λ h. h))
@@ -42,7 +42,7 @@ v4_printed n = refl
 pub v6_printed : (n : Network) → text_of v6_family n ≡ network_text canonical_v6 n
 v6_printed n = refl
 
--- 255.255.255.255/32, and of IPv6 eight groups of four digits with /128
+-- the length of 255.255.255.255/32, and for IPv6 that of eight groups of four digits with /128
 pub v4_longest : text_length_of v4_family ≡ 18
 v4_longest = refl
 
@@ -57,14 +57,14 @@ v6_refused = refl
 
 -- ---- counts of bits
 
--- an address shares all its bits with itself, and no fewer
+-- an address shares all its bits with itself, and not only fewer
 pub all_bits_shared : SharesBits 32 5 5 32
 all_bits_shared = record { within = lit≤ tt; agree = refl; greatest = λ q le e. le }
 
 pub no_fewer_shared : ¬ (SharesBits 32 5 5 31)
 no_fewer_shared h = let more : 32 ≤ 31 = h.greatest 32 (lit≤ tt) refl in omega arith
 
--- 1 and 2 differ in the last bit but one
+-- 1 and 2 differ in the second to last bit
 pub differing_bit_not_shared : ¬ (SharesBits 32 1 2 31)
 differing_bit_not_shared h = let e : 0 ≡ 1 = h.agree in omega arith
 
@@ -73,7 +73,7 @@ pub first_bits_shared : SharesBits 32 167772415 167772416 23
 unfolding count_leading_zeros
 first_bits_shared = shared_bits 32 167772415 167772416 (lit< tt) (lit< tt)
 
--- the bits of 0 are zeros, all of them
+-- all bits of 0 are zeros
 pub zero_ends_in_all : EndsInZeros 32 0 32
 zero_ends_in_all = record { within = lit≤ tt; divides = refl; greatest = λ j le e. le }
 

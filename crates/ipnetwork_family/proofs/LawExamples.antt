@@ -1,4 +1,4 @@
--- What the laws of sets let one conclude, where a weaker law would not.
+-- What follows from the laws of sets but would not from weaker ones.
 use Rattle.std.proofs.Common.{◌≡◌, ℕ, ◌<◌, ◌⊎◌, inl, inr, ⊎_elim, refl, arith, Contains, List, Some, Ok, Err, Result}
 use Rattle.std.specs.Fmt.{digits}
 use Rattle.std.specs.Prelude.{◌↔◌, slice_get, codes, IsTrue, String, string_bytes}
@@ -68,7 +68,7 @@ half_fits = record { address_fits = omega arith; prefix_fits = omega arith }
 region_fits : IsNetwork 32 region
 region_fits = record { address_fits = omega arith; prefix_fits = omega arith }
 
--- the ends are members, and no member lies past either
+-- the ends are members, and no member lies beyond them
 pub least_is_listed : EndsLaw → Member 32 office 167837696
 least_is_listed law =
     (law 32 office office_is_network).low_is_member
@@ -87,16 +87,16 @@ pub none_below : EndsLaw → (w : ℕ) (n : Network) → IsNetwork w n → (x : 
 none_below law w n fits x below member =
     absurd (omega (arith, ((law w n fits).within x member).0, below))
 
--- one set
+-- a set is a subset of itself
 pub in_itself : SubnetReflexive → Subnet 128 office office
 in_itself law = law 128 office
 
--- three sets of three prefix lengths
+-- three sets with three prefix lengths
 pub half_is_in_region : SubnetTransitive → Subnet 32 half office_block → Subnet 32 office_block region
     → Subnet 32 half region
 half_is_in_region law = law 32 half office_block region
 
--- host bits make no other set, a prefix length does
+-- host bits do not change the set, but a prefix length does
 pub same_set : SameSet → Subnet 32 office office_block × Subnet 32 office_block office
 same_set law =
     (law 32 office office_block office_is_network office_block_fits).1 (refl, refl)
@@ -105,11 +105,11 @@ pub other_set : SameSet → ¬ (Subnet 32 half office_block × Subnet 32 office_
 other_set law both =
     absurd (omega (arith, ((law 32 half office_block half_fits office_block_fits).0 both).0))
 
--- without host bits it is still a network, and of the same addresses
+-- without host bits, it is still a network with the same addresses
 pub block_fits : BlockFits → IsNetwork 32 office_block
 block_fits law = law 32 office office_is_network
 
--- nor has it host bits, whatever the network is: 2^32 + 5 with the prefix length 30, and 5 with 40
+-- the block has no host bits, whatever the network is: 2^32 + 5 with prefix length 30, and 5 with 40
 pub block_has_no_host_bits : BlockHasNoHostBits
     → HostBitsAreZero 32 (block_of 32 (record { address = 4294967301; prefix = 30 }))
     × HostBitsAreZero 32 (block_of 32 (record { address = 5; prefix = 40 }))
@@ -126,7 +126,7 @@ block_has_no_more law x = (law 32 office x).0
 pub block_has_all : BlockHasSameSet → (x : ℕ) → Member 32 office x → Member 32 office_block x
 block_has_all law x = (law 32 office x).1
 
--- two sets of two prefix lengths that share an address, from either side
+-- two sets with two prefix lengths that share an address, in either order
 pub nested : Nesting → Overlap 32 half region → Subnet 32 half region ⊎ Subnet 32 region half
 nested law = law 32 half region half_fits region_fits
 
@@ -151,7 +151,7 @@ pub wide_by_its_end : OverlapByEnds → Overlap 32 half region
 wide_by_its_end law =
     (law 32 half region half_fits region_fits).1 (inr (inr (omega arith, refl)))
 
--- in order, a block comes before what lies in it, and all between lies in it too
+-- in order, a block comes before the blocks that lie in it, and all between them lie in it too
 pub wide_comes_first : SubnetComesAfter → Subnet 32 half region → IsNetworkAtMost region half
 wide_comes_first law = law 32 region half region_fits half_fits refl refl
 
@@ -160,7 +160,7 @@ pub between_lies_in_wide : BetweenIsSubnet → Subnet 32 half region → IsNetwo
 between_lies_in_wide law =
     law 32 region office_block half region_fits office_block_fits half_fits refl refl refl
 
--- the tests say so, and nothing else
+-- the tests are true for members, and for nothing else
 pub greatest_passes : MembershipComputed → IsTrue (is_member 32 office 167903231)
 greatest_passes law = (law 32 office 167903231).1 (omega arith, refl)
 
@@ -174,7 +174,7 @@ half_passes law = (law 32 half region half_fits region_fits).1
 pub passes_as_subnet : SubnetComputed → IsTrue (is_subnet 32 half region) → Subnet 32 half region
 passes_as_subnet law = (law 32 half region half_fits region_fits).0
 
--- the list ascends, has every member, and nothing else
+-- the list ascends, and has every member and nothing else
 pub ascends : MembersLaw → IsStrictlyIncreasing (members 32 office)
 ascends law = (law 32 office office_is_network).ascending
 
@@ -189,7 +189,7 @@ has_no_more law w n fits x out listed = out ((law w n fits).each x listed)
 pub stands_at : MembersLaw → slice_get (members 32 office) 65535 ≡ Some 167903231
 stands_at law = (law 32 office office_is_network).at 65535 (omega arith)
 
--- the masks of no prefix length and of the longest
+-- the masks of prefix length 0 and of the greatest one
 pub longest_mask_differs : MasksDiffer → ¬ (mask_of 128 0 ≡ mask_of 128 128)
 longest_mask_differs law same =
     absurd (omega (arith, law 128 0 128 (omega arith) (omega arith) same))
@@ -200,7 +200,7 @@ longest_mask_is_computed law = law 128 128 (omega arith)
 pub no_mask_is_computed : MaskIsComputed → prefix_of_mask 32 (mask_of 32 0) ≡ Some 0
 no_mask_is_computed law = law 32 0 (omega arith)
 
--- and what the conversion of a mask gives
+-- the result of converting a mask
 pub mask_gives : MaskIsConverted → GivesPrefixOfMask 128 (mask_of 128 48) (Ok 48)
 mask_gives law = (law 128 48 (Ok 48) (omega arith)).1 refl
 
@@ -208,8 +208,7 @@ pub mask_gives_no_more : MaskIsConverted → (result : Result ℕ IpNetworkError
     → GivesPrefixOfMask 128 (mask_of 128 48) result → result ≡ Ok 48
 mask_gives_no_more law result = (law 128 48 result (omega arith)).0
 
--- parsing returns the network that reading returns, and the error for the cause that reading
--- returns
+-- parsing returns the network that reading returns, or the error for the cause that reading returns
 pub network_is_parsed : ParsesAsItReads ReadsV6Network kinds.Ipv6 ParsesV6Network
     → (text : List ℕ) (n : Network)
     → ParsesV6Network text (Ok n) ↔ ReadsV6Network text (Ok n)
@@ -221,7 +220,7 @@ pub prefix_is_refused : ParsesAsItReads ReadsV4Network kinds.Ipv4 ParsesV4Networ
 prefix_is_refused law text reads =
     (law text (Err IpNetworkError.InvalidPrefix)).1 (CidrFault.Prefix, reads, refl)
 
--- what is printed is read again with its host bits, in either family
+-- in either family, a printed network is read with its host bits
 pub v4_is_read : CanonicalReadsBack v4_family → (result : Result Network CidrFault)
     → ReadsV4Network (codes "10.1.9.32/16") result → result ≡ Ok office
 unfolding digits
@@ -234,7 +233,7 @@ v6_is_read law =
     let n : Network = record { address = 1; prefix = 64 } in
     (law n (Ok n) (record { address_fits = omega arith; prefix_fits = omega arith })).1 refl
 
--- errors that print one text are one, and the kinds of errors print apart
+-- errors that print the same text are the same, and different kinds of errors print different texts
 pub one_text : SameErrorPrintsTheSame → (a b : String Global)
     → refusal_text (BadFormat (string_bytes a)) ≡ refusal_text (BadFormat (string_bytes b))
     → string_bytes a ≡ string_bytes b
@@ -248,7 +247,7 @@ two_kinds law a b e =
     let same = (law (IpNetworkError.InvalidAddr a) (IpNetworkError.InvalidCidrFormat b)).1 e in
     cc
 
--- whichever kind of address was asked for
+-- the printed text is the same for every kind of address that was expected
 pub format_is_printed : FormatFaultIsPrinted → (kind : AddrParseError) (error : IpNetworkError)
     → IsRefusal (fault_of CidrFault.Format kind (codes "10/8/")) error
     → ¬ (refusal_of error ≡ RanOutOfMemory) → refusal_text (refusal_of error)

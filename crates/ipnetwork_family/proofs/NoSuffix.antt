@@ -1,4 +1,4 @@
--- Why a text with an address before its slash names nothing: what stands after the slash is no suffix.
+-- Why a text with an address before its slash names no network: the part after the slash is not a suffix.
 use Rattle.std.proofs.Common.{◌≡◌, ℕ, ◌⊎◌, inl, inr, List, ◌∷◌, ◌++◌, refl, sym, ap, ◌∙◌, subst}
 use Rattle.ipnetwork_family.specs.Network.{Network}
 use Rattle.ipnetwork_family.specs.NetworkText.{slash, slashes, before_slash, HasNoSuffix, NamesNetwork, Alone, Suffixed}

@@ -1,8 +1,8 @@
--- What two addresses of w bits share in front, and how many zeros an address ends with.
+-- How many leading bits two addresses of w bits share, and how many trailing zeros an address has.
 use Rattle.std.specs.Prelude.{◌≡◌, ℕ, ◌/◌, ◌%◌, ◌^◌, ◌≤◌}
 use Rattle.ipnetwork_family.specs.Network.{block_size}
 
--- a and b agree in their first p bits, and in no more
+-- the first p bits of a and b agree, and p is the greatest such number
 pub record SharesBits (w a b p : ℕ) : Type 0 where
   pub within : p ≤ w
   pub agree : a / block_size w p ≡ b / block_size w p

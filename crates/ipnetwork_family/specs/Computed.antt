@@ -1,4 +1,4 @@
--- Functions that compute what relations of the folder above say. The laws say that the two agree.
+-- Functions that compute what the relations of the folder above state. The laws say that the two agree.
 pub mod Ipv4NetworkText
 pub mod Ipv6NetworkText
 pub mod Network

@@ -1,5 +1,5 @@
--- What a family of addresses brings to its networks: how its addresses and its prefix lengths are
--- spelled, and which error a text gets that spells none.
+-- What differs between the networks of address families: how addresses and prefix lengths are spelled, and the error
+-- for a text that is not an address.
 use Rattle.std.specs.Prelude.{◌≡◌, ℕ, ◌+◌, ◌^◌, ◌<◌, ◌≤◌, List, Result, decimal}
 use Rattle.std.specs.List.{AllByRecursion}
 use Rattle.ipnetwork_addr.specs.Texts.{IsAddressByte}
@@ -16,37 +16,37 @@ use Rattle.ipnetwork_family.specs.Parsing.{Parses}
 use Rattle.ipnetwork_family.specs.declared.error.CidrFault.{CidrFault}
 use Rattle.ipnetwork_family.specs.declared.error.IpNetworkError.{IpNetworkError}
 
--- a family of addresses of w bits
+-- an address family with addresses of w bits
 pub record Family (w : ℕ) : Type 1 where
   -- the text names the address of this number
   pub NamesAddress : List ℕ → ℕ → Type 0
   -- after a `/`, the text gives this prefix length
   pub IsSuffix : List ℕ → ℕ → Type 0
-  -- the one text that the address of a number is printed as
+  -- the text printed for the address of this number
   pub canonical : ℕ → List ℕ
   -- the error for a text that names no address
   pub refusal : AddrParseError
-  -- how many bytes a canonical text has at most, and how many digits a prefix length has
+  -- the greatest length of a canonical text in bytes, and that of a prefix length in digits
   pub address_length : ℕ
   pub prefix_digits : ℕ
 
--- the texts of a family are clear: each tells one address or prefix length at most, and what is
--- printed tells its own
+-- the texts of a family are unambiguous: each names at most one address or prefix length, and a printed text names what
+-- was printed
 pub record HasClearTexts (w : ℕ) (family : Family w) : Type 0 where
-  -- a text names one address at most, and its bytes are those of addresses
+  -- a text names at most one address, and has only bytes that occur in addresses
   pub one_address : (text : List ℕ) (a b : ℕ) → family.NamesAddress text a
       → family.NamesAddress text b → a ≡ b
   pub address_bytes : (text : List ℕ) (a : ℕ) → family.NamesAddress text a
       → AllByRecursion IsAddressByte text
-  -- a suffix gives one prefix length at most, and contains no `/`
+  -- a suffix gives at most one prefix length, and contains no `/`
   pub one_length : (text : List ℕ) (p q : ℕ) → family.IsSuffix text p
       → family.IsSuffix text q → p ≡ q
   pub no_slash : (text : List ℕ) (p : ℕ) → family.IsSuffix text p → slashes text ≡ 0
-  -- what is printed names the address, or gives the prefix length
+  -- a printed address names that address, and a printed prefix length gives that prefix length
   pub canonical_names : (a : ℕ) → a < 2 ^ w → family.NamesAddress (family.canonical a) a
   pub decimal_gives : (p : ℕ) → p ≤ w → family.IsSuffix (decimal p) p
 
--- IPv4 and IPv6
+-- the families of IPv4 and IPv6
 abbrev pub v4_family : Family 32
 v4_family = record {
   NamesAddress = NamesV4;
@@ -67,28 +67,28 @@ v6_family = record {
   prefix_digits = 3;
 }
 
--- ---- the words of texts, for the networks of a family. At the two families they are those of
+-- ---- the definitions for texts of networks, for any family. For IPv4 and IPv6 they are the same as those of
 -- Ipv4NetworkText, Ipv6NetworkText and Parsing
 
 -- the text names the network
 abbrev pub NamesNetworkOf : {w : ℕ} → Family w → List ℕ → Network → Type 0
 NamesNetworkOf {w} family text n = NamesNetwork w family.NamesAddress family.IsSuffix text n
 
--- what reading returns
+-- the result of reading the text
 abbrev pub ReadsNetworkOf : {w : ℕ} → Family w → List ℕ → Result Network CidrFault → Type 0
 ReadsNetworkOf {w} family text result =
     ReadsNetwork w family.NamesAddress family.IsSuffix text result
 
--- what parsing returns
+-- the result of parsing the text
 abbrev pub ParsesNetworkOf : {w : ℕ} → Family w → List ℕ → Result Network IpNetworkError → Type 0
 ParsesNetworkOf family text result =
     Parses (NamesNetworkOf family) (IsCause family.NamesAddress family.IsSuffix) family.refusal
     text result
 
--- the one text that a network is printed as
+-- the text printed for a network
 abbrev pub text_of : {w : ℕ} → Family w → Network → List ℕ
 text_of family n = network_text family.canonical n
 
--- how many bytes it has at most: those of an address, the `/` and the digits
+-- the greatest length in bytes of the text of a network: the address, the `/` and the digits
 abbrev pub text_length_of : {w : ℕ} → Family w → ℕ
 text_length_of family = family.address_length + 1 + family.prefix_digits

@@ -6,7 +6,7 @@ use Rattle.ipnetwork_family.specs.NetworkText.{NamesNetwork, ReadsNetwork}
 use Rattle.ipnetwork_family.specs.PrefixNumber.{IsPrefixNumber}
 use Rattle.ipnetwork_family.specs.declared.error.CidrFault.{CidrFault}
 
--- the prefix length as a number
+-- a prefix length of at most 128, as a number
 abbrev pub IsV6Suffix : List ℕ → ℕ → Type 0
 IsV6Suffix text p = (p ≤ 128) × IsPrefixNumber text p
 
@@ -14,6 +14,6 @@ IsV6Suffix text p = (p ≤ 128) × IsPrefixNumber text p
 abbrev pub NamesV6Network : List ℕ → Network → Type 0
 NamesV6Network text n = NamesNetwork 128 NamesV6 IsV6Suffix text n
 
--- what reading returns
+-- the result of reading the text as an IPv6 network
 abbrev pub ReadsV6Network : List ℕ → Result Network CidrFault → Type 0
 ReadsV6Network text result = ReadsNetwork 128 NamesV6 IsV6Suffix text result

@@ -15,7 +15,7 @@ pub record IsNetwork (w : ℕ) (n : Network) : Type 0 where
   pub address_fits : n.address < 2 ^ w
   pub prefix_fits : n.prefix ≤ w
 
--- how many addresses share their first p of w bits
+-- the number of addresses of w bits that have the same first p bits
 abbrev pub block_size : ℕ → ℕ → ℕ
 block_size w p = 2 ^ (w - p)
 
@@ -39,11 +39,11 @@ high w n = low w n + block_size w n.prefix - 1
 abbrev pub block_of : ℕ → Network → Network
 block_of w n = record { address = low w n; prefix = n.prefix }
 
--- the block of prefix length p that x lies in
+-- the block of prefix length p that contains x
 abbrev pub block_at : ℕ → ℕ → ℕ → Network
 block_at w x p = block_of w (record { address = x; prefix = p })
 
--- the address has no host bits: those past the prefix length are 0
+-- the host bits, those after the prefix length, are all 0
 abbrev pub HostBitsAreZero : ℕ → Network → Type 0
 HostBitsAreZero w n = n.address ≡ low w n
 
@@ -52,7 +52,7 @@ pub record IsCidrBlock (w : ℕ) (n : Network) : Type 0 where
   pub network : IsNetwork w n
   pub block : HostBitsAreZero w n
 
--- count numbers in a row, from start on
+-- count consecutive numbers, beginning with start
 unfoldable pub count_up : ℕ → ℕ → List ℕ
 count_up start count = range_with_len start count
 
@@ -72,7 +72,7 @@ Subnet w a b = (x : ℕ) → Member w a x → Member w b x
 abbrev pub Overlap : ℕ → Network → Network → Type 0
 Overlap w a b = (x : ℕ) × Member w a x × Member w b x
 
--- in order, a comes before b: by address, then by prefix length
+-- a comes before b in the order by address, then by prefix length
 abbrev pub IsNetworkBefore : Network → Network → Type 0
 IsNetworkBefore a b = (a.address < b.address) ⊎ ((a.address ≡ b.address) × (a.prefix < b.prefix))
 
@@ -80,7 +80,7 @@ IsNetworkBefore a b = (a.address < b.address) ⊎ ((a.address ≡ b.address) × 
 abbrev pub IsNetworkAtMost : Network → Network → Type 0
 IsNetworkAtMost a b = (a.address < b.address) ⊎ ((a.address ≡ b.address) × (a.prefix ≤ b.prefix))
 
--- which of the two comes first, or that they are equal: by address, then by prefix length
+-- how a and b compare in the order by address, then by prefix length
 abbrev pub network_cmp : Network → Network → Ordering
 network_cmp a b = ordering_then (nat_cmp a.address b.address) (nat_cmp a.prefix b.prefix)
 

@@ -1,5 +1,5 @@
--- Which texts name a network, and why a text is refused: CIDR notation, an address, `/` and a
--- suffix (RFC 4632, section 3.1; RFC 4291, section 2.3), of either family.
+-- Which texts name a network, and why a text is refused, for either family. CIDR notation is an address, `/` and a
+-- suffix (RFC 4632, section 3.1; RFC 4291, section 2.3).
 use Rattle.std.specs.Prelude.{◌≡◌, ℕ, ◌≤◌, ◌⊎◌, ◌==◌, List, ◌∷◌, ◌++◌, Option, None, Some, Result, MatchResult, decimal}
 use Rattle.std.specs.Prelude.{count_by}
 use Rattle.std.specs.List.{before_first}
@@ -12,7 +12,7 @@ use Rattle.ipnetwork_family.specs.declared.error.CidrFault.TheVariants.{Format, 
 abbrev pub slash : ℕ
 slash = 47
 
--- how many `/` a text contains
+-- the number of `/` in a text
 abbrev pub slashes : List ℕ → ℕ
 slashes text = count_by (λ byte. byte == slash) text
 
@@ -38,20 +38,20 @@ pub data NamesNetwork (w : ℕ) (NamesAddress IsSuffix : List ℕ → ℕ → Ty
       → NamesAddress address n.address → IsSuffix suffix n.prefix
       → NamesNetwork w NamesAddress IsSuffix text n
 
--- the text contains a `/`, and what stands after the first one is not a suffix
+-- the text contains a `/`, and the part after the first one is not a suffix
 abbrev pub HasNoSuffix : (List ℕ → ℕ → Type 0) → List ℕ → Type 0
 HasNoSuffix IsSuffix text =
     (suffix : List ℕ) × (text ≡ before_slash text ++ slash ∷ suffix)
     × ((p : ℕ) → ¬ (IsSuffix suffix p))
 
--- why a text that names nothing is refused. The first that applies is the cause
+-- why a text that names no network is refused: the first cause that applies
 abbrev pub IsCause : (List ℕ → ℕ → Type 0) → (List ℕ → ℕ → Type 0) → List ℕ → CidrFault → Type 0
--- it contains two or more `/`
+-- the text contains two or more `/`
 IsCause NamesAddress IsSuffix text Format = HasSeveralSlashes text
--- else what stands before the `/` is not an address
+-- otherwise, the part before the `/` is not an address
 IsCause NamesAddress IsSuffix text Addr =
     (slashes text ≤ 1) × ((a : ℕ) → ¬ (NamesAddress (before_slash text) a))
--- else what stands after the `/` is not a suffix
+-- otherwise, the part after the `/` is not a suffix
 IsCause NamesAddress IsSuffix text Prefix =
     (slashes text ≤ 1) × ((a : ℕ) × NamesAddress (before_slash text) a) × HasNoSuffix IsSuffix text
 
@@ -63,7 +63,7 @@ ReadsNetwork w NamesAddress IsSuffix text result =
     (λ fault. IsCause NamesAddress IsSuffix text fault
     × ((n : Network) → ¬ (NamesNetwork w NamesAddress IsSuffix text n)))
 
--- the one text that a network is printed as: the canonical address, `/` and the shortest decimal of
+-- the text printed for a network: the canonical address, `/` and the shortest decimal of
 -- the prefix length
 abbrev pub network_text : (ℕ → List ℕ) → Network → List ℕ
 network_text canonical n = canonical n.address ++ slash ∷ decimal n.prefix

@@ -1,4 +1,4 @@
--- Which texts name a number, in the spelling of prefix lengths.
+-- Which texts are numbers as prefix lengths are written.
 use Rattle.std.specs.Prelude.{◌≡◌, ℕ, ◌≤◌, ◌⊎◌, List, ◌∷◌}
 use Rattle.std.specs.Str.Parse.{IsNumeral, digits_value}
 
@@ -6,12 +6,12 @@ use Rattle.std.specs.Str.Parse.{IsNumeral, digits_value}
 abbrev pub plus : ℕ
 plus = 43
 
--- one or more decimal digits of this value
+-- one or more decimal digits with this value
 pub record IsNumeralOf (text : List ℕ) (value : ℕ) : Type 0 where
   pub digits : IsNumeral 10 text
   pub is_value : digits_value 10 text ≡ value
 
--- an optional `+`, and one or more decimal digits of this value
+-- an optional `+`, and one or more decimal digits with this value
 pub record IsPrefixNumber (text : List ℕ) (value : ℕ) : Type 0 where
   pub digits : List ℕ
   pub spelled : (text ≡ digits) ⊎ (text ≡ plus ∷ digits)

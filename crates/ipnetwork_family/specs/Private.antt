@@ -1,4 +1,4 @@
--- What the private functions promise each other.
+-- Definitions for the contracts of private functions.
 pub mod Numerals
 pub mod Slashes
 pub mod Suffixes

@@ -1,4 +1,4 @@
-//! What networks need of an address.
+//! What networks need from their addresses.
 ghost use Rattle.std.specs.Prelude.{◌≡◌, ◌↔◌, ℕ, ◌+◌, ◌-◌, ◌/◌, ◌^◌, ◌<◌, ◌≤◌, length, IsTrue, MatchOption};
 ghost use Rattle.std.specs.Ordering.{nat_cmp};
 ghost use Rattle.ipnetwork_addr.specs.Reading.{Reads};
@@ -11,8 +11,8 @@ use ipnetwork_addr::{ADDRESS_TEXT_CAPACITY, AddrParseError};
 use std::fmt::Debug;
 use std::hash::Hash;
 
-/// The addresses of one family. An address means a number of `WIDTH` bits and is ordered by it; a
-/// prefix length says how many of its first bits are compared. No call allocates.
+/// The addresses of one family. An address stands for a number of `WIDTH` bits and is ordered by
+/// it; a prefix length is the number of leading bits that are compared. No call allocates.
 ///
 /// ```
 /// assert_eq!(rt; <Ipv4Addr as Address>::WIDTH, 32);
@@ -28,16 +28,16 @@ pub trait Address: Copy + Ord + Hash + Debug {
     // How addresses and prefix lengths are spelled.
     ghost family: { Family WIDTH };
 
-    // The number that an address means.
+    // The number that an address stands for.
     ghost number: { Self → ℕ };
 
-    // The address that a number means.
+    // The address that stands for a number.
     ghost of_number: { ℕ → Self };
 
-    // So an address is known by its number,
+    // An address is determined by its number.
     ghost back: { (a : Self) → of_number (number a) ≡ a };
 
-    // and each number by its address.
+    // The address of a number has that number.
     ghost forth: { (n : ℕ) → number (of_number n) ≡ n };
 
     /// The address that a text names, or `refusal` if it names none.
@@ -50,8 +50,8 @@ pub trait Address: Copy + Ord + Hash + Debug {
         ensures { Reads (λ name address. family.NamesAddress name (number address)) family.refusal
             text.now result };
 
-    /// The prefix length that a text gives after the `/` of a network, if it gives one: as a number
-    /// and, for IPv4, also as a mask in the form of an address.
+    /// The prefix length that a text after the `/` of a network gives, or `None` if it gives none:
+    /// a number or, for IPv4 only, a mask written as an address.
     ///
     /// ```
     /// assert_eq!(rt; Ipv4Addr::read_suffix(b"255.255.240.0"), Some(20));
@@ -69,7 +69,7 @@ pub trait Address: Copy + Ord + Hash + Debug {
     fn refusal() -> AddrParseError
         ensures { result ≡ family.refusal };
 
-    /// The canonical text.
+    /// The canonical text of the address.
     ///
     /// ```
     /// let address = Ipv4Addr::new(192, 0, 2, 1);
@@ -80,18 +80,18 @@ pub trait Address: Copy + Ord + Hash + Debug {
         ensures short { (length result.bytes ≤ family.address_length)
             × (family.address_length ≤ ADDRESS_TEXT_CAPACITY) };
 
-    /// Does nothing. A proof learns from it what is true of the texts of addresses and of suffixes.
+    /// Does nothing. Its contract tells a proof that the texts of the family are unambiguous.
     #[doc(hidden)]
     fn law_texts()
         ensures { HasClearTexts WIDTH family };
 
-    /// Does nothing. A proof learns from it that the number has `WIDTH` bits.
+    /// Does nothing. Its contract tells a proof that the address's number has `WIDTH` bits.
     #[doc(hidden)]
     fn law_of_width(self)
         ensures { number self < 2 ^ WIDTH };
 
-    /// The mask of a prefix length, which must be at most `WIDTH`: as many ones in front, and zeros
-    /// after them.
+    /// The mask of a prefix length, which must be at most `WIDTH`: that many leading ones, followed
+    /// by zeros.
     ///
     /// ```
     /// assert_eq!(rt; Ipv4Addr::mask(20), Ipv4Addr::new(255, 255, 240, 0));
@@ -141,7 +141,7 @@ pub trait Address: Copy + Ord + Hash + Debug {
         ensures { IsTrue result
             ↔ (number self / block_size WIDTH prefix ≡ number other / block_size WIDTH prefix) };
 
-    /// The address after this one, which must not be the last.
+    /// The next address. This one must not be the last.
     ///
     /// ```
     /// assert_eq!(rt; Ipv4Addr::new(192, 0, 2, 255).next(), Ipv4Addr::new(192, 0, 3, 0));
@@ -150,7 +150,7 @@ pub trait Address: Copy + Ord + Hash + Debug {
         requires { number self + 1 < 2 ^ WIDTH }
         ensures { number result ≡ number self + 1 };
 
-    /// The address before this one, which must not be the first.
+    /// The previous address. This one must not be the first.
     ///
     /// ```
     /// assert_eq!(rt; Ipv4Addr::new(192, 0, 3, 0).previous(), Ipv4Addr::new(192, 0, 2, 255));
@@ -159,7 +159,7 @@ pub trait Address: Copy + Ord + Hash + Debug {
         requires { 0 < number self }
         ensures { number result ≡ number self - 1 };
 
-    /// The address `offset` addresses after this one. It must not be past the last address of the
+    /// The address `offset` places after this one. It must not exceed the last address of the
     /// family.
     ///
     /// ```
@@ -169,8 +169,8 @@ pub trait Address: Copy + Ord + Hash + Debug {
         requires { number self + offset < 2 ^ WIDTH }
         ensures { number result ≡ number self + offset };
 
-    /// How many of their first bits two addresses share: the greatest prefix length with which they
-    /// lie in one block.
+    /// The number of leading bits that two addresses share: the greatest prefix length of a block
+    /// that holds both.
     ///
     /// ```
     /// let address = Ipv4Addr::new(192, 0, 2, 77);
@@ -187,13 +187,13 @@ pub trait Address: Copy + Ord + Hash + Debug {
     fn trailing_zeros(self) -> u8
         ensures { EndsInZeros WIDTH (number self) result };
 
-    // Addresses are ordered by their numbers,
+    // Addresses are ordered by their numbers.
     ghost address_order: { (x y : Self) → Self.cmp x y ≡ nat_cmp (number x) (number y) };
 
-    // a prefix length has few digits,
+    // A prefix length has at most `prefix_digits` digits, which is 1 to 3.
     ghost few_digits: { (1 ≤ family.prefix_digits) × (family.prefix_digits ≤ 3)
         × (WIDTH < 10 ^ family.prefix_digits) };
 
-    // and a number has at most 128 bits.
+    // An address has at most 128 bits.
     ghost few_bits: { WIDTH ≤ 128 };
 }

@@ -7,8 +7,9 @@ use crate::{Address, Network};
 
 /// A network of addresses of `WIDTH` bits, for code that is generic over both families.
 ///
-/// An address means a number of `WIDTH` bits and is ordered by it. A network means its address, host bits
-/// included, and its prefix length, and is ordered by these two. No call allocates.
+/// An address stands for a number of `WIDTH` bits and is ordered by it. A network is an address,
+/// host bits included, and a prefix length, and is ordered by address, then by prefix length. No
+/// call allocates.
 ///
 /// ```
 /// fn hosts_hidden<N: CidrNetwork>(network: N) -> bool {
@@ -26,13 +27,13 @@ pub trait CidrNetwork: Copy + Ord {
     // The number of bits, as contracts see it.
     ghost WIDTH: { ℕ };
 
-    // The number that an address means.
+    // The number that an address stands for.
     ghost number: { Self.Addr → ℕ };
 
-    // The address and the prefix length that a network means.
+    // The address and the prefix length of a network.
     ghost pair: { Self → Pair };
 
-    /// The address as made, host bits included.
+    /// The address as given, host bits included.
     ///
     /// ```
     /// let network: Ipv6Network = "2001:db8::7/126".parse()?;
@@ -70,7 +71,7 @@ pub trait CidrNetwork: Copy + Ord {
     fn broadcast(&self) -> Self::Addr
         ensures { number result ≡ high WIDTH (pair self.now) };
 
-    /// Whether an address lies in the network's set.
+    /// Whether an address is in the network's set.
     ///
     /// ```
     /// let network: Ipv6Network = "2001:db8::7/126".parse()?;
@@ -88,7 +89,7 @@ pub trait CidrNetwork: Copy + Ord {
     fn is_subnet_of(self, other: Self) -> bool
         ensures { IsTrue result ↔ Subnet WIDTH (pair self) (pair other) };
 
-    /// Whether some address is a member of both.
+    /// Whether some address is a member of both networks.
     ///
     /// ```
     /// let network: Ipv6Network = "2001:db8::7/126".parse()?;
@@ -97,8 +98,8 @@ pub trait CidrNetwork: Copy + Ord {
     fn overlaps(self, other: Self) -> bool
         ensures { IsTrue result ↔ Overlap WIDTH (pair self) (pair other) };
 
-    /// The network without host bits of this prefix length that holds the address; `None` if the prefix length is
-    /// greater than `WIDTH`.
+    /// The network without host bits that has this prefix length and holds the address; `None` if
+    /// the prefix length is greater than `WIDTH`.
     ///
     /// ```
     /// let block = <Ipv6Network as CidrNetwork>::block("2001:db8::7".parse()?, 126);

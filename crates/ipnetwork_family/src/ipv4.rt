@@ -1,4 +1,4 @@
-//! IPv4 addresses as networks need them, and what only IPv4 networks have.
+//! IPv4: the implementation of `Address`, the number of members and the nth member, and masks.
 ghost use Rattle.std.specs.Prelude.{◌≡◌, ℕ, ◌+◌, ◌-◌, ◌^◌, ◌<◌, ◌≤◌};
 ghost use Rattle.std.specs.Option.{SomeIff};
 ghost use Rattle.ipnetwork_family.specs.Family.{v4_family};
@@ -118,18 +118,18 @@ impl Address for Ipv4Addr {
     ghost few_bits = { Prim.search rules };
 }
 
-/// The ones after the first `prefix` bits.
+/// The number with ones in all bits after the first `prefix`.
 fn host_ones(prefix: u8) -> u32
     requires { prefix ≤ 32 }
     ensures { result ≡ 2 ^ (32 - prefix) - 1 }
 {
-    // In 64 bits a shift by 32 needs no case of its own.
+    // In 64 bits, a shift by 32 needs no special case.
     (u64::from(u32::MAX) >> prefix) as u32
 }
 
 impl Network<Ipv4Addr> {
-    /// The number of members. At prefix length 0, where that would need 33 bits, it is one less:
-    /// 4,294,967,295.
+    /// The number of members. At prefix length 0, where that would need 33 bits, the result is one
+    /// less: 4,294,967,295.
     ///
     /// ```
     /// let network: Ipv4Network = "192.0.2.77/26".parse()?;
@@ -141,7 +141,7 @@ impl Network<Ipv4Addr> {
         host_ones(self.prefix()).saturating_add(1)
     }
 
-    /// The member number `n`, counted from 0 in ascending order; `None` if `n` is not less than
+    /// The member at index `n`, counted from 0 in ascending order; `None` if `n` is not less than
     /// `size`.
     ///
     /// ```

@@ -1,4 +1,4 @@
-//! IPv6 addresses as networks need them, and what only IPv6 networks have.
+//! IPv6: the implementation of `Address`, the number of members and the nth member, and masks.
 ghost use Rattle.std.specs.Prelude.{◌≡◌, ℕ, ◌+◌, ◌-◌, ◌^◌, ◌<◌, ◌≤◌};
 ghost use Rattle.std.specs.Option.{SomeIff};
 ghost use Rattle.ipnetwork_family.specs.Family.{v6_family};
@@ -111,7 +111,7 @@ impl Address for Ipv6Addr {
     ghost few_bits = { Prim.search rules };
 }
 
-/// The ones after the first `prefix` bits.
+/// The number with ones in all bits after the first `prefix`.
 fn host_ones(prefix: u8) -> u128
     requires { prefix ≤ 128 }
     ensures { result ≡ 2 ^ (128 - prefix) - 1 }
@@ -120,8 +120,8 @@ fn host_ones(prefix: u8) -> u128
 }
 
 impl Network<Ipv6Addr> {
-    /// The number of members. At prefix length 0, where that would need 129 bits, it is one less:
-    /// 2^128 - 1.
+    /// The number of members. At prefix length 0, where that would need 129 bits, the result is one
+    /// less: 2^128 - 1.
     ///
     /// ```
     /// let network: Ipv6Network = "2001:db8::/64".parse()?;
@@ -133,7 +133,7 @@ impl Network<Ipv6Addr> {
         host_ones(self.prefix()).saturating_add(1)
     }
 
-    /// The member number `n`, counted from 0 in ascending order; `None` if `n` is not less than
+    /// The member at index `n`, counted from 0 in ascending order; `None` if `n` is not less than
     /// `size`.
     ///
     /// ```

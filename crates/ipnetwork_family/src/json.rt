@@ -1,4 +1,4 @@
-//! Networks to and from values of JSON (RFC 8259): a network is the string of its canonical text.
+//! Networks to and from JSON values (RFC 8259): a network is a string, its canonical text.
 ghost use Rattle.std.specs.Prelude.{IfOk};
 ghost use Rattle.serde_json.specs.Find.{as_str};
 ghost use Rattle.serde_json.specs.View.{view};
@@ -17,14 +17,14 @@ use std::alloc::{AllocError, Global};
 /// ```
 #[derive(Debug, PartialEq, Eq, Drop)]
 pub enum JsonFault {
-    /// The value is not a string: null, a boolean, a number, a list or an object.
+    /// The value is not a string: null, a Boolean, a number, an array or an object.
     NotAString,
-    /// The value is a string, and parsing refuses it with this error.
+    /// The value is a string, which parsing refuses with this error.
     Refused(IpNetworkError),
 }
 
 impl<A: Address> Network<A> {
-    /// The string value of the canonical text. Allocates once; `AllocError` when out of memory.
+    /// The canonical text as a string value. Allocates once; `AllocError` when out of memory.
     ///
     /// ```
     /// let network: Ipv4Network = "10.1.9.32/8".parse()?;
@@ -37,9 +37,10 @@ impl<A: Address> Network<A> {
         Value::try_from_str(alloc, self.canonical().as_str())
     }
 
-    /// The network that a string value names. A string is read as `parse` reads it, and one that it refuses is
-    /// `Refused` with its error; any other value is `NotAString`. Allocates at most once, only for a refusal whose
-    /// error carries a text: if that is out of memory, the result is `Refused(IpNetworkError::OutOfMemory)`.
+    /// The network that a string value names, read as by `parse`. A string that `parse` refuses is
+    /// `Refused` with its error, and any other value is `NotAString`. Allocates at most once, for
+    /// an error that carries a text; without memory for it, the error is
+    /// `Refused(IpNetworkError::OutOfMemory)`.
     ///
     /// ```
     /// let value = serde_json::Value::try_from_str(rt.alloc(), "10.1.9.32/8")?;

@@ -1,7 +1,7 @@
-//! Networks of one family in CIDR notation (RFC 4632, section 3.1): read from texts, printed, and
-//! asked about the set of addresses that they stand for.
+//! Networks of one family in CIDR notation (RFC 4632, section 3.1): parsing, printing, and queries
+//! about the set of addresses that a network stands for.
 //!
-//! Only calls that are given an allocator allocate. A text is a slice of bytes, of any length and any bytes.
+//! Only calls that take an allocator allocate. A text is any slice of bytes.
 #![tactic(auto)]
 
 mod address;

@@ -15,9 +15,9 @@ use std::fmt;
 use std::marker::Model;
 use std::str::FromStr;
 
-/// An address, host bits included, and a prefix length of 0 to `A::WIDTH`: 32 for IPv4, 128 for
-/// IPv6. It stands for the set of all addresses that agree with the address in their first bits, as
-/// many as the prefix length says. Ordered by address, then by prefix length.
+/// An address, host bits included, and a prefix length from 0 to `A::WIDTH`: 32 for IPv4, 128 for
+/// IPv6. It stands for the set of all addresses that have the same leading bits as the address, as
+/// many as the prefix length. Networks are ordered by address, then by prefix length.
 ///
 /// ```
 /// let network: Network<Ipv4Addr> = "192.0.2.77/26".parse()?;
@@ -57,11 +57,11 @@ impl<A: Address> Clone for Network<A> {
     }
 }
 
-// The clause `network` tells a proof in another crate what is true of each network: both fields are
-// private, so nothing else says it. It stands on the calls that such proofs begin with.
+// The clause `network` tells a proof in another crate that each network is valid: such a proof
+// cannot see the private fields. The calls that these proofs begin with have the clause.
 impl<A: Address> Network<A> {
-    /// The network of this address, host bits kept, and this prefix length; `None` if that is
-    /// greater than `A::WIDTH`.
+    /// The network with this address, host bits kept, and this prefix length; `None` if the prefix
+    /// length is greater than `A::WIDTH`.
     ///
     /// ```
     /// let address = Ipv4Addr::new(10, 1, 9, 32);
@@ -82,8 +82,8 @@ impl<A: Address> Network<A> {
         })
     }
 
-    /// The network without host bits of this prefix length that holds the address; `None` if the
-    /// prefix length is greater than `A::WIDTH`.
+    /// The network without host bits that has this prefix length and holds the address; `None` if
+    /// the prefix length is greater than `A::WIDTH`.
     ///
     /// ```
     /// let block = Ipv4Network::block(Ipv4Addr::new(10, 1, 9, 32), 8);
@@ -100,8 +100,8 @@ impl<A: Address> Network<A> {
         Network::new_checked(network.network(), prefix)
     }
 
-    /// The network of this address, host bits kept, and this prefix length; `InvalidPrefix` if that
-    /// is greater than `A::WIDTH`.
+    /// The network with this address, host bits kept, and this prefix length; `InvalidPrefix` if
+    /// the prefix length is greater than `A::WIDTH`.
     ///
     /// ```
     /// let network = Ipv4Network::new(Ipv4Addr::new(10, 1, 9, 32), 8)?;
@@ -118,8 +118,8 @@ impl<A: Address> Network<A> {
         }
     }
 
-    /// The network of this address, host bits kept, and the prefix length of this mask;
-    /// `InvalidPrefix` if that is not one of the `A::WIDTH` + 1 masks.
+    /// The network with this address, host bits kept, and the prefix length of this mask;
+    /// `InvalidPrefix` if it is not one of the `A::WIDTH` + 1 masks.
     ///
     /// ```
     /// let mask = Ipv4Addr::new(255, 255, 240, 0);
@@ -139,7 +139,7 @@ impl<A: Address> Network<A> {
         }
     }
 
-    /// The address as made, host bits included.
+    /// The address as given, host bits included.
     ///
     /// ```
     /// let network: Ipv4Network = "192.0.2.77/26".parse()?;
@@ -165,7 +165,7 @@ impl<A: Address> Network<A> {
         self.prefix
     }
 
-    /// The mask: as many ones in front as the prefix length says, and zeros after them.
+    /// The mask: as many leading ones as the prefix length, followed by zeros.
     ///
     /// ```
     /// let network: Ipv4Network = "192.0.2.77/26".parse()?;
@@ -202,7 +202,7 @@ impl<A: Address> Network<A> {
         self.ip().greatest(self.prefix())
     }
 
-    /// Whether an address lies in the network's set.
+    /// Whether an address is in the network's set.
     ///
     /// ```
     /// let network: Ipv4Network = "192.0.2.77/26".parse()?;
@@ -240,7 +240,7 @@ impl<A: Address> Network<A> {
         other.is_subnet_of(self)
     }
 
-    /// Whether some address is a member of both.
+    /// Whether some address is a member of both networks.
     ///
     /// ```
     /// let network: Ipv4Network = "192.0.2.77/26".parse()?;
@@ -266,10 +266,10 @@ impl<A: Address> Network<A> {
         NetworkIterator::between(self.network(), self.broadcast())
     }
 
-    /// The network that a text names: an address of the family, host bits kept, and after a `/` its
-    /// suffix: a prefix length of at most `A::WIDTH` or, for IPv4 only, one of the 33 masks as an
-    /// IPv4 address; without a `/` the prefix length is `A::WIDTH`. Any other text is refused with
-    /// its cause.
+    /// The network that a text names: an address of the family, host bits kept, optionally followed
+    /// by `/` and a suffix. The suffix is a prefix length of at most `A::WIDTH` or, for IPv4 only,
+    /// one of the 33 masks as an IPv4 address; without a `/` the prefix length is `A::WIDTH`. Any
+    /// other text is refused with its cause.
     ///
     /// ```
     /// let network = Ipv4Network::read_bytes(b"10.1.9.32/255.0.0.0")?;
@@ -286,10 +286,10 @@ impl<A: Address> Network<A> {
         }
     }
 
-    /// The network that a text names, as `read_bytes` reads it. If it names none, the error is what
-    /// `IpNetworkError::from_fault` returns for the cause, for the family's address error
-    /// (`AddrParseError::Ipv4` or `Ipv6`) and for the text. Allocates at most once, for an error
-    /// that carries a text, and returns `OutOfMemory` only in place of one.
+    /// The network that a text names, as `read_bytes` reads it. If it names none, the error is the
+    /// one that `IpNetworkError::from_fault` returns for the cause, the family's address error
+    /// (`AddrParseError::Ipv4` or `Ipv6`) and the text. Allocates at most once, for an error that
+    /// carries a text, and returns `OutOfMemory` only in place of such an error.
     ///
     /// ```
     /// let network = Ipv6Network::parse(rt.alloc(), "2001:db8::1/64")?;
@@ -323,7 +323,7 @@ impl<A: Address> Network<A> {
         text
     }
 
-    /// The canonical text as a `String`. Allocates once.
+    /// The canonical text as a `String`. Allocates once; `AllocError` when out of memory.
     ///
     /// ```
     /// let network: Ipv4Network = "192.0.2.77/26".parse()?;
@@ -336,7 +336,7 @@ impl<A: Address> Network<A> {
     }
 }
 
-/// The network that a text names, by the parts before and after its `/`, or the cause.
+/// The network that a text names, read from the parts before and after its `/`, or the cause.
 #[inline(never)]
 fn read_parts<A: Address>(text: &[u8]) -> Result<Network<A>, CidrFault>
     ensures { ReadsNetworkOf A.family text.now result }
@@ -354,7 +354,8 @@ fn read_parts<A: Address>(text: &[u8]) -> Result<Network<A>, CidrFault>
     Ok(Network { address, prefix })
 }
 
-/// The network that a text names, if its suffix has one to three bytes. `None` says nothing of the text.
+/// The network that a text names, if its suffix has one to three bytes. `None` says nothing about
+/// the text.
 #[inline(always)]
 fn read_suffixed<A: Address>(text: &[u8]) -> Option<Network<A>>
     ensures { IfSome result (NamesNetworkOf A.family text.now) }
@@ -368,7 +369,7 @@ fn read_suffixed<A: Address>(text: &[u8]) -> Option<Network<A>>
     Some(Network { address, prefix })
 }
 
-/// The prefix length that stands after the `/`, or that of an address without one.
+/// The prefix length that a suffix gives, if any, or `A::WIDTH` if there is no suffix.
 fn prefix_length<A: Address>(suffix: Option<&[u8]>) -> Option<u8>
     ensures { MatchOption result
         (GivesNoPrefix A.WIDTH A.family.IsSuffix (option_copied suffix.entry))
@@ -395,7 +396,7 @@ impl<A: Address> From<A> for Network<A> {
     ghost from_gives = { λ address network.
         network ≡ record { address = A.number address; prefix = A.WIDTH } };
 
-    /// The network that has only this address, of prefix length `A::WIDTH`.
+    /// The network of prefix length `A::WIDTH` whose only member is this address.
     fn from(addr: A) -> Self {
         addr.law_of_width();
         Network {

@@ -1,4 +1,4 @@
--- One answer serves a whole range.
+-- One answer holds for a whole range.
 use Rattle.std.proofs.Common.{◌≡◌, ◌↔◌, ℕ, ◌+◌, ◌-◌, ◌^◌, ◌<◌, ◌≤◌, ◌⊎◌, min, List, [], ◌∷◌, ◌++◌, length, get_or, arith, inl, inr, sym, refl, ap, subst, ◌∙◌, ⊎_elim, Option, None, Some, IsSome, is_some, length-append}
 use Rattle.std.specs.List.{Contains}
 use Rattle.std.specs.FinMap.{FinMap, get}
@@ -13,9 +13,9 @@ use Rattle.ipnetwork_index.specs.Private.Edges.{IsCutOut, CutsOut}
 use Rattle.ipnetwork_index.specs.Private.Answers.{IsFound, Tells, TellsAt, IsMadeOf, AreAnswersUpTo, AreNone, AreAnswers, IsAnswered}
 use Rattle.ipnetwork_index.proofs.RangeCounts.{cut_by_blocks}
 
--- ---- the last number of a range is in the same networks as its others
+-- ---- the last number of a range is in the same networks as the other numbers of the range
 
--- the last number of a range is before x, or not before that of the range of x
+-- the last number of a range is either less than x, or not less than that of the range of x
 end_apart : (w : ℕ) (lasts : List ℕ) (x at e : ℕ) → IsPartition w lasts → LiesAt lasts x at
     → Contains lasts e → (e < x) ⊎ (get_or lasts at 0 ≤ e)
 end_apart w lasts x at e p h c =
@@ -33,7 +33,7 @@ end_apart w lasts x at e p h c =
     (cases_lt at c.0))
     (cases_lt c.0 at)
 
--- each is a number of w bits
+-- the last number of each range has w bits
 pub end_fits : (w : ℕ) (lasts : List ℕ) (at : ℕ) → IsPartition w lasts → at < length lasts
     → get_or lasts at 0 < 2 ^ w
 end_fits w lasts at p l =
@@ -79,9 +79,9 @@ same_members w lasts x at n p h c nn =
           (cases_lt x (low w n))),
     )
 
--- ---- what is told of a number
+-- ---- what an answer says about a number
 
--- what is found is told by its prefix length
+-- the answer follows from the prefix length of what is found
 pub told : {V : Type 0} (w : ℕ) (t : FinMap network_cmp V) (x prefix : ℕ) (n : Network) (value : V)
     → w ≤ 128 → HasOnlyBlocks w t → IsLongest w t x n value → prefix ≡ n.prefix
     → Tells w t x prefix value
@@ -101,7 +101,7 @@ pub none_told : {V : Type 0} (w : ℕ) (t : FinMap network_cmp V) (x : ℕ) (val
     → NoneHolds w t x → Tells w t x 255 value
 none_told w t x value h = record { none = λ _. h; found = λ ne. absurd (ne refl) }
 
--- ---- what is told of a number is told of those in the same blocks
+-- ---- an answer for a number also holds for the numbers in the same blocks
 
 told_moves : {V : Type 0} (w : ℕ) (t : FinMap network_cmp V) (prefixes : List ℕ) (values : List V)
     (at x y : ℕ)
@@ -154,7 +154,7 @@ answered w t lasts prefixes values blocks c a =
     })
     a
 
--- ---- and an answer that is made of it is what a look-up finds
+-- ---- the entry made from an answer is what a look-up finds
 
 pub made_finds : {N V : Type 0} (pair : N → Network) (w : ℕ) (t : FinMap network_cmp V)
     (prefixes : List ℕ) (values : List V) (x at : ℕ) (answer : Option (N × V))
@@ -170,7 +170,7 @@ made_finds pair w t prefixes values x at (Some f) h m =
     subst (λ (n : Network). IsLongest w t x n f.1) is
     (subst (λ v. IsLongest w t x (block_at w x p) v) m.2 found.longest)
 
--- ---- one answer more
+-- ---- one more answer
 
 pub answers_more : {V : Type 0} (w : ℕ) (t : FinMap network_cmp V) (lasts prefixes : List ℕ)
     (values : List V) (count prefix : ℕ) (value : V)

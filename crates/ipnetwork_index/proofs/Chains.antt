@@ -1,4 +1,4 @@
--- Blocks that are open at once are nested, and so at most one of them has each prefix length.
+-- The blocks that are open at once are nested, so at most one of them has each prefix length.
 use Rattle.std.proofs.Common.{◌≡◌, ℕ, zero, suc, ◌+◌, ◌-◌, ◌<◌, ◌≤◌, List, [], ◌∷◌, ◌++◌, length, get_or, arith, sym, ap, subst, ◌∙◌, ⊎_elim, Some, slice_get, length-append}
 use Rattle.std.specs.Option.{unwrap_or}
 use Rattle.std.proofs.lemmas.Bool.{cases_lt}
@@ -8,13 +8,13 @@ use Rattle.ipnetwork_family.specs.Network.{Network, IsCidrBlock, IsNetworkBefore
 use Rattle.ipnetwork_family.proofs.Blocks.{size_pos, has_ends, within_member, member_within, subnet_from, shares_address}
 use Rattle.ipnetwork_index.specs.Private.Sweeps.{AreListed, AreNested, AreOpen, IsLongerWithin, LastEndsFrom}
 
--- what is read at one place is one thing
+-- what is read at one place is always the same
 pub same_item : {A : Type 0} (xs : List A) (i j : ℕ) (a b : A) → i ≡ j → slice_get xs i ≡ Some a
     → slice_get xs j ≡ Some b → a ≡ b
 same_item xs i j a b e g h =
     ap (λ o. unwrap_or o a) (sym g ∙ ap (slice_get xs) e ∙ h)
 
--- a block lies in one before it that has its first number
+-- a block lies in any block before it that has its first number
 pub within_before : (w : ℕ) (d e : Network) → IsCidrBlock w d → IsCidrBlock w e
     → IsNetworkBefore d e → low w e ≤ high w d → IsLongerWithin w d e
 within_before w d e hd he before to =
@@ -54,7 +54,7 @@ further_in w a b c h k = record {
 module _ {V : Type 0} (w : ℕ) (es : List (Network × V)) (listed : AreListed w es) (count x : ℕ)
     (opened : List ℕ) (e : Network × V) (h : AreOpen w es count x opened)
     (g : slice_get es count ≡ Some e) (ends : LastEndsFrom w es (low w e.0) opened) where
-  -- it lies in the last block that is open,
+  -- the new block lies in the last open block
   in_last : (k : ℕ) (d : Network × V) → k + 1 ≡ length opened
       → slice_get es (get_or opened k 0) ≡ Some d → IsLongerWithin w d.0 e.0
   in_last k d last q =
@@ -62,7 +62,7 @@ module _ {V : Type 0} (w : ℕ) (es : List (Network × V)) (listed : AreListed w
       within_before w d.0 e.0 (listed.blocks (get_or opened k 0) d q) (listed.blocks count e g)
       (listed.ascending (get_or opened k 0) count d e q g early) (ends k d last q)
 
-  -- and in each
+  -- the new block lies in each open block
   in_each : (k : ℕ) (d : Network × V) → k < length opened
       → slice_get es (get_or opened k 0) ≡ Some d → IsLongerWithin w d.0 e.0
   in_each k d own q =
@@ -100,9 +100,9 @@ module _ {V : Type 0} (w : ℕ) (es : List (Network × V)) (listed : AreListed w
       subst (λ (b : Network × V). IsLongerWithin w d.0 b.0) one (in_each k d own first))
       (cases_lt m (length opened))
 
--- ---- how many there are
+-- ---- how many blocks are open
 
--- the prefix lengths rise from 0 at least
+-- the prefix lengths of the open blocks ascend, beginning with 0 or more
 rises : {V : Type 0} (w : ℕ) (es : List (Network × V)) (count x : ℕ) (opened : List ℕ)
     → AreOpen w es count x opened → (k : ℕ) (e : Network × V) → k < length opened
     → slice_get es (get_or opened k 0) ≡ Some e → k ≤ e.0.prefix
@@ -117,7 +117,7 @@ rises {V} w es count x opened h (suc k) e own q =
     let more = rises w es count x opened h k d (omega arith) at in
     omega arith
 
--- so they are as many as there are prefix lengths, at most
+-- there are at most as many open blocks as prefix lengths
 pub few_open : {V : Type 0} (w : ℕ) (es : List (Network × V)) (count x : ℕ) (opened : List ℕ)
     → AreListed w es → AreOpen w es count x opened → length opened ≤ w + 1
 few_open w [] count x opened listed h = ⊎_elim
@@ -141,7 +141,7 @@ few_open {V} w (b ∷ bs) count x opened listed h = ⊎_elim
     (λ (none : length opened ≤ 0). omega arith)
     (cases_lt 0 (length opened))
 
--- and there is room for the next one
+-- there is room to open the next block
 pub room_for_next : {V : Type 0} (w : ℕ) (es : List (Network × V)) (count x : ℕ) (opened : List ℕ)
     → AreListed w es → AreOpen w es (count + 1) x (opened ++ count ∷ []) → w ≤ 128
     → length opened < 129

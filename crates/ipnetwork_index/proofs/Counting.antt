@@ -1,4 +1,4 @@
--- How many numbers there are: those that ranges end with but for the greatest, and those that ranges are cut by.
+-- Counts of numbers: the last numbers of ranges except the greatest, and the cuts of ranges.
 use Rattle.std.proofs.Common.{◌≡◌, ℕ, zero, suc, ◌+◌, ◌-◌, ◌*◌, ◌<◌, ◌≤◌, List, [], ◌∷◌, ◌++◌, length, get_or, take, arith, sym, subst, ◌∙◌, length-append}
 use Rattle.std.specs.List.{flat_map}
 use Rattle.std.proofs.lemmas.List.{length-take, get_or-take, get_or_default}
@@ -6,7 +6,7 @@ use Rattle.ipnetwork_sets.specs.Counts.{HasCount}
 use Rattle.ipnetwork_index.specs.Private.Partitions.{IsPartition}
 use Rattle.ipnetwork_index.specs.Private.Cuts.{before, cuts_of}
 
--- what the last numbers but the greatest are, and no others
+-- the set has exactly the last numbers of ranges except the greatest
 pub has_all_but_last : (set : ℕ → Type 0) (w : ℕ) (lasts : List ℕ) → IsPartition w lasts
     → ((k : ℕ) → k + 1 < length lasts → set (get_or lasts k 0))
     → ((x : ℕ) → set x → (k : ℕ) × (k + 1 < length lasts) × (get_or lasts k 0 ≡ x))
@@ -47,7 +47,7 @@ before_length : (n : ℕ) → length (before n) ≤ 1
 before_length zero = omega arith
 before_length (suc n) = omega arith
 
--- at most two for each range
+-- each range has at most two cuts
 pub cuts_length : {A : Type 0} (range : A → ℕ × ℕ) (all : List A)
     → length (flat_map (λ a. cuts_of (range a)) all) ≤ 2 * length all
 cuts_length {A} range [] = omega arith

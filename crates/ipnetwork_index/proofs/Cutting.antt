@@ -24,7 +24,7 @@ Range = ℕ × ℕ
 abbrev Gap : Range → Range → Type 0
 Gap r s = r.1 + 1 < s.0
 
--- ---- numbers that rise
+-- ---- numbers that ascend
 
 rises_from : (least : ℕ) (xs : List ℕ) → Rises least xs → (k : ℕ) → k < length xs
     → least ≤ get_or xs k 0
@@ -85,7 +85,7 @@ closes_pushed w cuts top h e is =
       either = inr (top, is, refl);
     }
 
--- ---- the cuts of ranges rise
+-- ---- the cuts of ranges ascend
 
 piece_rises : (first last least : ℕ) (rest : List ℕ) → first ≤ last → least ≤ first - 1
     → Rises (last + 1) rest
@@ -109,12 +109,12 @@ pub set_cuts_rise : (set : ℕ → Type 0) (cuts : List ℕ) → AreCutsOf set c
 set_cuts_rise set cuts h = subst (λ (xs : List ℕ). Rises 0 xs) (sym h.cuts_are)
     (cuts_rise 0 h.ranges h.all.ordered h.all.apart (λ k d l. omega arith))
 
--- ---- and tell the set
+-- ---- the cuts determine the set
 
 all_tail : (r : Range) (rs : List Range) → All (λ s. s.0 ≤ s.1) (r ∷ rs) → All (λ s. s.0 ≤ s.1) rs
 all_tail r rs o k d l = o (suc k) d (omega arith)
 
--- no address of the ranges is before the first of them
+-- no address of the ranges comes before the first range
 none_before : (r : Range) (rs : List Range) (x : ℕ) → All (λ s. s.0 ≤ s.1) (r ∷ rs)
     → AllPairs Gap (r ∷ rs) → InRanges (r ∷ rs) x → r.0 ≤ x
 none_before r rs x o a c =
@@ -127,7 +127,7 @@ none_before r rs x o a c =
     omega arith)
     ((ranges_cons r rs x).0 c)
 
--- after the first range, the others tell
+-- after the first range, the other ranges determine the set
 after_first : (r : Range) (rs : List Range) (x : ℕ) {P : Type 0} → r.1 < x → P ↔ InRanges rs x
     → P ↔ InRanges (r ∷ rs) x
 after_first r rs x l h =
@@ -165,7 +165,7 @@ piece_tells n last rs rest x o a later =
     ))
     (cases_lt n x)
 
--- ranges none of which begins with 0, and no others
+-- ranges none of which begins with 0
 later_tell : (rs : List Range) (tail : List ℕ) (x : ℕ) → All (λ r. r.0 ≤ r.1) rs → AllPairs Gap rs
     → ((k : ℕ) (d : Range) → k < length rs → 1 ≤ (get_or rs k d).0) → is_inside false tail x ≡ false
     → (is_inside false (flat_map cuts_of rs ++ tail) x ≡ true) ↔ InRanges rs x
@@ -179,7 +179,7 @@ later_tell ((suc n, last) ∷ rs) tail x o a p t =
     (λ _. later_tell rs tail x (all_tail (suc n, last) rs o) (pairs_tail Gap (suc n, last) rs a)
     (λ k d l. p (suc k) d (omega arith)) t)
 
--- those after a range begin after 0
+-- the ranges after the first begin after 0
 later_begin : (r : Range) (rs : List Range) → AllPairs Gap (r ∷ rs) → (k : ℕ) (d : Range)
     → k < length rs → 1 ≤ (get_or rs k d).0
 later_begin r rs a k d l =
@@ -227,7 +227,7 @@ all_tell ((suc n, last) ∷ rs) first tail x o a i t =
     (λ _. later_tell rs tail x (all_tail (suc n, last) rs o) (pairs_tail Gap (suc n, last) rs a)
     (later_begin (suc n, last) rs a) t))
 
--- so the closed cuts tell it
+-- the closed cuts determine the set
 pub closed_tell : (w : ℕ) (set : ℕ → Type 0) (first : Bool) (cuts lasts : List ℕ) (x : ℕ)
     → AreCutsOf set cuts → ((first ≡ true) ↔ set 0) → Closes w cuts lasts
     → x < 2 ^ w → (is_inside first lasts x ≡ true) ↔ set x
@@ -249,7 +249,7 @@ closed_tell w set first cuts lasts x h i c small =
     c.either in
     ((λ t. (h.all.addresses x).0 (told.0 t)), (λ s. told.1 ((h.all.addresses x).1 s)))
 
--- and the blocks of what they tell are those of the set
+-- the blocks of the set that the cuts determine are those of the set
 pub blocks_back : (w : ℕ) (set : List Network) (first : Bool) (cuts lasts : List ℕ)
     → IsAddressSet w set → AreCutsOf (InUnion w set) cuts
     → ((first ≡ true) ↔ InUnion w set 0) → Closes w cuts lasts

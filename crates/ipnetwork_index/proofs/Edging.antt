@@ -50,7 +50,7 @@ edge_into first last x e =
     (λ (l : first ≡ x + 1). end_before first last x (sym l))
     e
 
--- and each edge is of a block
+-- each edge belongs to a block
 edge_of : (first last x : ℕ) → Contains (cuts_of (first, last)) x → (last ≡ x) ⊎ (first ≡ x + 1)
 edge_of zero last x c =
     ⊎_elim (λ (e : last ≡ x). inl e) (λ (d : Contains [] x). absurd (contains_nil x d))
@@ -73,7 +73,7 @@ edge_back {V} w (e ∷ es) x c =
     let r = edge_back w es x d in (suc r.0, r.1, r.2, r.3))
     (Contains-append_cases (cuts_of (low w e.0, high w e.0)) (edges_of w es) x c)
 
--- the first items of a list, and the next one
+-- the first items of a list, followed by the next one
 pub next_taken : {A : Type 0} (xs : List A) (i : ℕ) (x : A) → i < length xs → x ≡ get_or xs i x
     → take (i + 1) xs ≡ take i xs ++ x ∷ []
 next_taken xs i x l is = take_more xs i x l ∙ ap (λ y. take i xs ++ y ∷ []) (sym is)
@@ -93,7 +93,7 @@ closes_keeps w cuts lasts y h c =
     c))
     h.either
 
--- and the last numbers but the greatest are cuts
+-- all last numbers except the greatest are cuts
 closes_only : (w : ℕ) (cuts lasts : List ℕ) (x : ℕ) → Closes w cuts lasts → Contains lasts x
     → x + 1 < 2 ^ w → Contains cuts x
 closes_only w cuts lasts x h c small =
@@ -108,9 +108,9 @@ closes_only w cuts lasts x h c small =
     (Contains-append_cases cuts (more.0 ∷ []) x (subst (λ (xs : List ℕ). Contains xs x) more.2 c)))
     h.either
 
--- ---- sorted, and each once
+-- ---- sorted and without duplicates
 
--- what is read through a function
+-- an item of a mapped list is the image of an item
 pub contains_of_map : {A B : Type 0} (f : A → B) (xs : List A) (y : B) → Contains (map f xs) y → (a : A)
     × Contains xs a × (f a ≡ y)
 contains_of_map f [] y c = let l = c.1 in absurd (omega arith)
@@ -127,7 +127,7 @@ map_of_contains f (x ∷ xs) a (suc k, l, e) =
     let rest = map_of_contains f xs a (k, omega arith, e) in
     (suc rest.0, omega (arith, rest.1), rest.2)
 
--- addresses, which are ordered by their numbers
+-- addresses ordered by their numbers
 module _ {A : Type 0} (R : A → A → Ordering) (E : A → A → Bool) (f : A → ℕ) (by_number : (x y : A)
     → R x y ≡ nat_cmp (f x) (f y)) (ties : (x y : A) → E x y ≡ eq_by_cmp R x y) where
   above : (x : A) (xs : List A) → AllByRecursion (λ y. R x y ≡ Less) xs
@@ -162,7 +162,7 @@ module _ {A : Type 0} (R : A → A → Ordering) (E : A → A → Bool) (f : A �
       subst (λ (n : ℕ). Contains (map f (dedup E xs)) n) (sym same
       ∙ a.2) (map_of_contains f (dedup E xs) z (k.0, k.2, k.3))
 
-  -- ---- so each block is cut out
+  -- ---- each block is cut out
 
   pub all_cut_out : {V : Type 0} (w : ℕ) (t : FinMap network_cmp V) (edges sorted : List A)
       (lasts : List ℕ) → IsEquivalence E → StoredIsListed V
@@ -198,7 +198,7 @@ module _ {A : Type 0} (R : A → A → Ordering) (E : A → A → Bool) (f : A �
             (r.1.0, ap is_some (stored t r.0 r.1.0 r.1.1 r.2), r.3);
       }
 
--- the edges of one block more
+-- the edges with those of one more block
 pub edges_more : {V : Type 0} (w : ℕ) (es : List (Network × V)) (e : Network × V)
     → edges_of w (es ++ e ∷ []) ≡ edges_of w es ++ cuts_of (low w e.0, high w e.0)
 edges_more w [] e = append-nil (cuts_of (low w e.0, high w e.0))
@@ -207,7 +207,7 @@ edges_more w (d ∷ es) e =
     ∙ sym (append_assoc (cuts_of (low w d.0, high w d.0)) (edges_of w es)
     (cuts_of (low w e.0, high w e.0)))
 
--- what stands before a block, if anything does
+-- the number before a block, if any
 pub before_some : (first x : ℕ) → x + 1 ≡ first → before first ≡ x ∷ []
 before_some zero x e = absurd (omega arith)
 before_some (suc n) x e = let same : n ≡ x = omega arith in ap (λ y. y ∷ []) same
@@ -216,7 +216,7 @@ pub before_none : (first : ℕ) → first ≡ 0 → before first ≡ []
 before_none zero e = refl
 before_none (suc n) e = absurd (omega arith)
 
--- the edges of one entry more, which are put in two steps
+-- the edges with those of one more entry, which are added in two steps
 module _ {A N V : Type 0} (f : A → ℕ) (pair : N → Network) (w : ℕ) (es : List (N × V)) (i : ℕ)
     (e : N × V) where
   edges_taken : take (i + 1) es ≡ take i es ++ e ∷ []

@@ -1,4 +1,4 @@
--- What the marks of eight numbers tell: those that are not less than another have one.
+-- The marks of eight numbers: those that are not less than another number have one.
 use Rattle.std.proofs.Common.{◌≡◌, ℕ, ◌+◌, ◌-◌, ◌%◌, ◌^◌, ◌<◌, ◌≤◌, ◌∙◌, true, cond, eqb, leb, not, List, length, map, replicate, arith, refl, subst, ap, w16}
 use Rattle.std.proofs.lemmas.Bool.{agree_below_at, eqb-true, leb-true, leb-false}
 use Rattle.std.proofs.lemmas.List.{length-map}
@@ -17,7 +17,7 @@ marks_are xs n y long few =
     (tops_compared w16 leb (replicate n y) xs ∙ zip2_splat_left leb y n xs long)
     ∙ mask_l-mod (map (λ x. leb y x) xs) 64 (omega (arith, length-map xs (λ x. leb y x), long))
 
--- the place of the first of eight marks, and 8 if there is none, is that with a ninth one
+-- the place of the first of eight marks, or 8 if there is none, is found with a ninth mark after them
 ended : (marks : ℕ) → marks < 256
     → count_trailing_zeros 64 (marks + 256)
     ≡ cond (eqb marks 0) 8 (count_trailing_zeros 64 marks)

@@ -1,4 +1,4 @@
--- The table of two entries with one block, over addresses of 3 bits: the value of the last counts.
+-- The table of two entries with one block, over addresses of 3 bits: the value of the last entry counts.
 use Rattle.std.proofs.Common.{◌≡◌, ℕ, ◌++◌, List, [], ◌∷◌, length, refl, ap, subst, arith}
 use Rattle.std.specs.Prelude.{None, Some, Option, MatchOption}
 use Rattle.std.specs.FinMap.{FinMap, get}
@@ -14,7 +14,7 @@ net address prefix = record { address = address; prefix = prefix }
 abbrev entries : List (Network × ℕ)
 entries = (net 5 2, 7) ∷ (net 4 2, 9) ∷ []
 
--- what a table tells of the block of both
+-- what a table says about the block of both entries
 abbrev Told : Option ℕ → Type 0
 Told found = MatchOption found (NoneHasBlock 3 (net 4 2) entries) (IsLastValue 3 (net 4 2) entries)
 

@@ -1,4 +1,4 @@
--- Numbers that are searched by their high halves first.
+-- Numbers that are searched first by their high halves.
 use Rattle.std.proofs.Common.{◌≡◌, ℕ, ◌+◌, ◌-◌, ◌<◌, ◌≤◌, Bool, true, false, List, length, map, get_or, arith, sym, subst, ⊎_elim, true≢false}
 use Rattle.std.proofs.lemmas.Bool.{cases_lt}
 use Rattle.std.proofs.lemmas.List.{get_or-map, length-map}
@@ -47,7 +47,7 @@ module _ (high : ℕ → ℕ) (up : (x y : ℕ) → x ≤ y → high x ≤ high 
             (omega arith);
       }
 
-  -- the search among the high halves leads to a place that the search among the numbers may begin at,
+  -- the search among the high halves leads to a place where the search among the numbers may begin
   pub come_by_high : (padded : List ℕ) (x at : ℕ) → Ascends padded → IsWithin padded x
       → IsPlaceOf (map high padded) (high x) at → HasComeTo padded x at
   come_by_high padded x at up within p =
@@ -58,7 +58,7 @@ module _ (high : ℕ → ℕ) (up : (x y : ℕ) → x ≤ y → high x ≤ high 
       let less : get_or (map high padded) k 0 < high x = p.after k l in
       less_by_high (get_or padded k 0) x (omega arith))
 
-  -- and to the place of the number, if each number is the last that has its high half
+  -- if each number is the last with its high half, the search among the high halves leads to the number's place
   pub place_by_high : (padded : List ℕ) (x at : ℕ) → Ascends padded → IsWithin padded x → AllAreLast high padded
       → IsPlaceOf (map high padded) (high x) at → IsPlaceOf padded x at
   place_by_high padded x at up within last p =
@@ -111,7 +111,7 @@ whole w high bits high_bits padded starts highs base shift high_base tells i s n
   is_halved = λ t. absurd (true≢false (sym t));
 }
 
--- ---- one number more is the last that has its high half
+-- ---- one more number is the last with its high half
 
 pub all_last_more : {X : Type 0} (high : ℕ → ℕ) (f : X → ℕ) (xs : List X) (at : ℕ) (x : X)
     → ((k : ℕ) → k < at → IsLastOf high (get_or (map f xs) k 0))

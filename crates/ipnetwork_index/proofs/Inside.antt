@@ -1,4 +1,4 @@
--- What the range of a number tells of a set.
+-- What the range of a number says about a set.
 use Rattle.std.proofs.Common.{◌≡◌, ◌↔◌, ℕ, zero, suc, ◌%◌, ◌^◌, ◌<◌, ◌≤◌, ◌⊎◌, Bool, true, false, cond, List, [], ◌∷◌, arith, inl, inr, sym, refl, ap, ◌∙◌, subst, ⊎_elim, true≢false, ◌≢◌}
 use Rattle.std.proofs.Math.Bool.{not, beq}
 use lib.Dec.{eqb}
@@ -24,9 +24,9 @@ pub inside_after : (first : Bool) (last : ℕ) (lasts : List ℕ) (x : ℕ) → 
 inside_after first last lasts x l = ap (λ t. cond t first (is_inside (not first) lasts x))
     (lt-leb x last l)
 
--- ---- and by the place of the range
+-- ---- the test by the place of the range
 
--- whether the range at this place is in
+-- whether the range at this place is in the set
 abbrev pub is_in : Bool → ℕ → Bool
 is_in first zero = first
 is_in first (suc n) = is_in (not first) n
@@ -49,7 +49,7 @@ inside_at first (last ∷ lasts) x (suc at) h =
     inside_after first last lasts x after
     ∙ inside_at (not first) lasts x at (place_after last lasts x at h)
 
--- if the first range is in, those at even places are, and else those at odd places
+-- if the first range is in the set, so are those at even places, and otherwise those at odd places
 both_in : (n : ℕ) → ((is_in true n ≡ true) ↔ (n % 2 ≡ 0)) × ((is_in false n ≡ true) ↔ (n % 2 ≡ 1))
 both_in zero = (
   ((λ _. refl), (λ _. refl)),
@@ -118,7 +118,7 @@ blocks_tell w test x small =
     least in
     ((λ t. (short.addresses x).1 (small, t)), (λ u. ((short.addresses x).0 u).1))
 
--- so the place of an address tells whether it is in the set
+-- the place of an address determines whether it is in the set
 pub place_tells : (w : ℕ) (first : Bool) (lasts : List ℕ) (x at : ℕ) → x < 2 ^ w → LiesAt lasts x at
     → (not (beq (eqb (at % 2) 1) first) ≡ true) ↔ InUnion w (least_blocks w (is_inside first lasts))
     x

@@ -1,4 +1,4 @@
--- The values of the entries of a list in a table.
+-- The values of a list's entries in a table.
 use Rattle.std.proofs.Common.{◌≡◌, ◌+◌, ◌≤◌, ⊎_elim, ℕ, length, take, true, false, cond, List, [], ◌∷◌, ◌++◌, refl, sym, ap, subst, ◌∙◌, append_assoc, true≢false}
 use Rattle.std.specs.Prelude.{None, Some, Option, MatchOption}
 use Rattle.std.specs.FinMap.{FinMap, get, insert, empty, get-empty, get-insert}
@@ -67,7 +67,7 @@ module _ {V : Type 0} (w : ℕ) (t : FinMap network_cmp V) (entries : List (Netw
             (kept block (λ same. true≢false (sym (subst (λ (x : Network). eq_by_cmp network_cmp block x ≡ true) (sym same) ((eq_by_cmp_equiv total).refl block)) ∙ apart)) (get t block) (has block))
       ] refl (get-insert total t key v block)
 
--- so is the next of some entries
+-- the last values with one more entry of a list
 module _ {V N : Type 0} (pair : N → Network) (w : ℕ) (entries : List (N × V)) where
   pub one_entry_more : (t new : FinMap network_cmp V) (i : ℕ) (e : N × V) → take (i + 1) entries ≡ take i entries ++ e ∷ [] → new ≡ insert t (block_of w (pair e.0)) e.1
       → HasLastValues w (by_pair pair (take i entries)) t → HasLastValues w (by_pair pair (take (i + 1) entries)) new

@@ -1,5 +1,5 @@
--- What the laws let one conclude, where weaker laws would not: over addresses of 3, 32 and 128 bits, of none to four
--- blocks. Two cut the addresses into five ranges if there are gaps before, between and after them.
+-- What follows from the laws but would not from weaker ones: over addresses of 3, 32 and 128 bits, for none to four
+-- blocks. Two blocks cut the addresses into five ranges if there are gaps before, between and after them.
 use Rattle.std.proofs.Common.{◌≡◌, ℕ, ◌+◌, ◌-◌, ◌*◌, ◌^◌, ◌≤◌, List, [], ◌∷◌, arith}
 use Rattle.std.specs.FinMap.{FinMap, len}
 use Rattle.ipnetwork_family.specs.Network.{Network, network_cmp}
@@ -10,7 +10,7 @@ use Rattle.ipnetwork_index.specs.Turns.{CutInto, CutByBlocks, SetHasFewRanges, T
 abbrev net : ℕ → ℕ → Network
 net address prefix = record { address = address; prefix = prefix }
 
--- 1, and 4 and 5; and over 128 bits one block at each end and two between
+-- the addresses 1, 4 and 5; and over 128 bits, one block at each end and two between
 abbrev a : List Network
 a = net 1 3 ∷ net 4 2 ∷ []
 
@@ -22,7 +22,7 @@ pub few_ranges : SetHasFewRanges → (n : ℕ) → (IsAddressSet 3 a → CutInto
     × (IsAddressSet 128 a6 → CutInto 128 (InUnion 128 a6) n → n ≤ 9)
 few_ranges law n = (law 3 a n, law 32 (net 0 0 ∷ []) n, law 128 a6 n)
 
--- a set of no addresses is one range
+-- a set without addresses is one range
 pub one_range : SetHasFewRanges → (n : ℕ) → IsAddressSet 128 [] → CutInto 128 (InUnion 128 []) n → n ≤ 1
 one_range law n = law 128 [] n
 

@@ -25,7 +25,7 @@ both_hold : (a b : Bool) → T a → T b → T (a && b)
 both_hold true b p q = q
 both_hold false b p q = p
 
--- ---- networks that were sorted, each once, with a value
+-- ---- networks sorted and without duplicates, with a value
 
 module _ {N V : Type 0} (R : N → N → Ordering) (E : N → N → Bool) (pair : N → Network) (value : V)
     (order : (x y : N) → R x y ≡ network_cmp (pair x) (pair y))
@@ -52,7 +52,7 @@ module _ {N V : Type 0} (R : N → N → Ordering) (E : N → N → Bool) (pair 
   keyed [] = refl
   keyed (y ∷ ys) = ap (λ es. (pair y, value) ∷ es) (keyed ys)
 
-  -- what stays is of the networks
+  -- what remains is among the networks
   module _ (xs sorted : List N) (p : IsPermutation xs sorted) where
     from_kept : (n : Network) → Contains (map pair (dedup E sorted)) n → Contains (map pair xs) n
     from_kept n c =
@@ -101,7 +101,7 @@ module _ {N V : Type 0} (R : N → N → Ordering) (E : N → N → Bool) (pair 
         );
       }
 
--- ---- what an entry tells
+-- ---- what an entry says
 
 module _ {V : Type 0} (value : V) where
   of_entry : (keys : List Network) (i : ℕ) (n : Network) (v : V)

@@ -1,4 +1,4 @@
--- Numbers known by the part that they lie in and by their last 16 bits.
+-- Numbers represented by the part that they lie in and by their last 16 bits.
 use Rattle.std.proofs.Common.{◌≡◌, ℕ, ◌+◌, ◌-◌, ◌/◌, ◌%◌, ◌^◌, ◌<◌, ◌≤◌, ◌∙◌, List, [], ◌∷◌, ◌++◌, length, get_or, map, take, arith, sym, ap, subst, ⊎_elim}
 use Rattle.std.proofs.lemmas.Bool.{cases_lt}
 use Rattle.std.proofs.lemmas.List.{get_or_read, map-append, take_more}
@@ -25,7 +25,7 @@ part_of_part a shift narrow =
     div-div-eq-div-mul a (2 ^ shift) (2 ^ (16 - shift))
     ∙ ap (λ (n : ℕ). a / n) (sym (pow-add 2 shift (16 - shift)) ∙ ap (λ (n : ℕ). 2 ^ n) all)
 
--- all but the last 16 bits of the numbers of a part are the same
+-- the numbers of a part agree in all but their last 16 bits
 same_rest : (a x shift : ℕ) → shift ≤ 16 → a / 2 ^ shift ≡ x / 2 ^ shift → a / 65536 ≡ x / 65536
 same_rest a x shift narrow same =
     sym (part_of_part a shift narrow) ∙ ap (λ (n : ℕ). n / 2 ^ (16 - shift)) same
@@ -55,7 +55,7 @@ module _ (w : ℕ) (lows starts : List ℕ) (shift : ℕ) (numbers : List ℕ)
   next_start : IsFirstOf numbers shift (x / 2 ^ shift + 1) (get_or starts (x / 2 ^ shift + 1) 0)
   next_start = h.known.firsts (x / 2 ^ shift + 1) next_part
 
-  -- what is read as the start of the part and as that of the next one
+  -- the start of the part and that of the next one, as they are read
   pub starts_read : (start end : ℕ) → start ≡ get_or starts (x / 2 ^ shift) start
       → end ≡ get_or starts (x / 2 ^ shift + 1) end
       → (start ≡ get_or starts (x / 2 ^ shift) 0) × (end ≡ get_or starts (x / 2 ^ shift + 1) 0)
@@ -82,7 +82,7 @@ module _ (w : ℕ) (lows starts : List ℕ) (shift : ℕ) (numbers : List ℕ)
       (λ (ok : start ≤ end). ok)
       (cases_lt end start)
 
-  -- the numbers between the start of a part and the next one lie in it
+  -- the numbers between the start of a part and that of the next one lie in the part
   own_part : (k : ℕ) → get_or starts (x / 2 ^ shift) 0 ≤ k
       → k < get_or starts (x / 2 ^ shift + 1) 0
       → get_or numbers k 0 / 2 ^ shift ≡ x / 2 ^ shift
@@ -167,7 +167,7 @@ module _ (w : ℕ) (lows starts : List ℕ) (shift : ℕ) (numbers : List ℕ)
             (cases_lt p (get_or starts (x / 2 ^ shift + 1) 0));
       }
 
-  -- with the first eight numbers of a part,
+  -- the number is found among the first eight of its part
   pub found_in_eight : (start end less more : ℕ) → start ≡ get_or starts (x / 2 ^ shift) 0
       → end ≡ get_or starts (x / 2 ^ shift + 1) 0 → IsRunOfLess lows start (x % 65536) less
       → more ≤ less → start + more ≤ end → (start + more < end → more ≡ less) → more < 8
@@ -179,7 +179,7 @@ module _ (w : ℕ) (lows starts : List ℕ) (shift : ℕ) (numbers : List ℕ)
       let e : more ≡ less = all (omega arith) in
       subst (λ (n : ℕ). x % 65536 ≤ get_or lows (start + n) 0) (sym e) (r.next (omega arith)))
 
-  -- or among those behind them
+  -- the number is found among those after the first eight
   pub found_behind : (start end less p : ℕ) → start ≡ get_or starts (x / 2 ^ shift) 0
       → end ≡ get_or starts (x / 2 ^ shift + 1) 0 → IsRunOfLess lows start (x % 65536) less
       → 8 ≤ less → IsFirstFrom lows (start + 8) end (x % 65536) p → x < 2 ^ w
@@ -207,7 +207,7 @@ word_pushed f xs words i x word so_far own is e =
     (ap (λ (l : List ℕ). l ++ word ∷ []) so_far
     ∙ ap (λ (n : ℕ). map f (take i xs) ++ n ∷ []) e)
 
--- numbers of few bits are numbers of 32 bits, and their own last 32 bits
+-- numbers of few bits have 32 bits, and are their own last 32 bits
 fits_word : (w x : ℕ) → w ≤ 32 → x < 2 ^ w → x < 2 ^ 32
 fits_word w x short small = omega (arith, pow_mono short)
 

@@ -1,4 +1,4 @@
--- How many parts there are for so many ranges.
+-- The number of parts for a number of ranges.
 use Rattle.std.proofs.Common.{◌≡◌, ℕ, suc, ◌+◌, ◌-◌, ◌*◌, ◌^◌, ◌<◌, ◌≤◌, arith, sym, subst, ⊎_elim, min}
 use Rattle.std.specs.Int.Count.{count_leading_zeros}
 use Rattle.std.proofs.lemmas.Bool.{cases_lt}
@@ -6,7 +6,7 @@ use Rattle.std.proofs.lemmas.Nat.{leading_top, mul-le, pow-add, pow_pos}
 use Rattle.std.proofs.Math.Nat.{mul-suc, mul-zero, pow-le-pow_right, two-pow-succ}
 use Rattle.ipnetwork_index.specs.Parts.{HasParts}
 
--- a number from 1 on has so many bits
+-- n is at least 1 and has this number of bits
 pub record HasBits (n bits : ℕ) : Type 0 where
   pub some : 1 ≤ bits
   pub from : 2 ^ bits ≤ 2 * n
@@ -23,7 +23,7 @@ has_bits n l m =
       to = top.3;
     })
 
--- a number below 2 ^ k has at most k bits, and one from there on has more
+-- a number less than 2 ^ k has at most k bits, and any other has more
 pub few_bits : (n bits k : ℕ) → HasBits n bits → n < 2 ^ k → bits ≤ k
 few_bits n bits k h l = ⊎_elim
     (λ (more : k < bits).
@@ -58,7 +58,7 @@ two_to_four n bits h =
       within = omega (arith, twice, h.from);
     }
 
--- between these two, up to 2 ^ 20
+-- the number of parts is between these two, and at most 2 ^ 20
 capped : (least most bits : ℕ) → least < 2 ^ bits → 2 ^ bits ≤ most
     → HasParts least most (min bits 20)
 capped least most bits more within = ⊎_elim
@@ -77,7 +77,7 @@ capped least most bits more within = ⊎_elim
 pub one_to_two : (n bits : ℕ) → HasBits n bits → HasParts n (2 * n) (min bits 20)
 one_to_two n bits h = capped n (2 * n) bits h.to h.from
 
--- ---- the numbers of 32 bits in one of them
+-- ---- how many of n 32-bit numbers a part has on average
 
 pub two_in_each : (n bits shift : ℕ) → HasBits n bits → 34 ≤ shift + bits
     → 2 * 2 ^ 32 ≤ 2 ^ shift * n

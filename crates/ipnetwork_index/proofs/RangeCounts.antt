@@ -17,7 +17,7 @@ use Rattle.ipnetwork_index.proofs.Edging.{some_value, edge_in, edge_into}
 
 module _ {V : Type 0} (w : ℕ) (t : FinMap network_cmp V) (lasts : List ℕ) (c : CutsOut w t lasts)
   where
-    -- the last numbers but the greatest are the edges
+    -- the last numbers except the greatest are the edges
     edge_at : (k : ℕ) → k + 1 < length lasts → IsEdge w t (get_or lasts k 0)
     edge_at k l =
         let p = c.partition in
@@ -64,7 +64,7 @@ module _ {V : Type 0} (w : ℕ) (t : FinMap network_cmp V) (lasts : List ℕ) (c
 
 -- ---- at most two for each block
 
--- numbers that ascend, each of which a list has, are at most as many as the list has
+-- ascending numbers that are all in a list are at most as many as the list has
 ascending_fit : (xs ys : List ℕ) → AllPairs (λ x y. x < y) xs
     → ((x : ℕ) → Contains xs x → Contains ys x) → length xs ≤ length ys
 ascending_fit xs ys up h =

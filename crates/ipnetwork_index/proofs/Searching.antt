@@ -1,34 +1,34 @@
--- The search for a number among ascending ones.
+-- The search for a number among ascending numbers.
 use Rattle.std.proofs.Common.{◌≡◌, ◌↔◌, Bool, IsTrue, false, true≢false, ◌∙◌, ℕ, zero, suc, [], ◌∷◌, map, ap, ◌+◌, ◌-◌, ◌*◌, ◌^◌, ◌<◌, ◌≤◌, List, length, get_or, arith, sym, subst, ⊎_elim}
 use Rattle.std.proofs.lemmas.Bool.{cases_lt}
 use Rattle.ipnetwork_index.specs.Parts.{IsPart}
 use Rattle.ipnetwork_index.specs.Searches.{Ascends, IsSearchable, IsWithin, IsPlaceOf}
 use Rattle.ipnetwork_index.specs.Private.Steps.{IsOneIfLess, IsStep, HasComeTo, IsBetween}
 
--- what is read from a list of bare numbers
+-- what is read from a list of plain numbers
 pub read_number : {X : Type 0} (f : X → ℕ) (xs : List X) (k : ℕ) (x : X) → k < length xs
     → x ≡ get_or xs k x → get_or (map f xs) k 0 ≡ f x
 read_number f [] k x l e = absurd (omega arith)
 read_number f (y ∷ ys) zero x l e = ap f (sym e)
 read_number f (y ∷ ys) (suc k) x l e = read_number f ys k x (omega arith) e
 
--- what a comparison tells
+-- what a comparison says
 pub at_most : (b : Bool) (a x : ℕ) → (IsTrue b ↔ (a < x)) → b ≡ false → x ≤ a
 at_most b a x h e = ⊎_elim
     (λ (l : a < x). absurd (true≢false (sym (h.1 l) ∙ e)))
     (λ (g : x ≤ a). g)
     (cases_lt a x)
 
--- numbers that are compared by others
+-- numbers that are compared through others
 pub not_before : (u v a b : ℕ) → v ≤ u → u ≡ a → v ≡ b → b ≤ a
 not_before u v a b l p r = omega arith
 
 pub is_before : (u v a b c : ℕ) → u < v → u ≡ a → v ≡ b → b ≤ c → a < c
 is_before u v a b c l p r m = omega arith
 
--- ---- where a search begins, and how it goes on
+-- ---- where a search begins and how it continues
 
--- where the keys before `at` are less than x, three more follow that of `at`
+-- if the keys before `at` are less than x, three more keys follow the one at `at`
 pub come : (keys : List ℕ) (x at : ℕ) → Ascends keys → IsWithin keys x
     → ((k : ℕ) → k < at → get_or keys k 0 < x) → HasComeTo keys x at
 come keys x at up i h =
@@ -51,7 +51,7 @@ come_within keys x at h =
     let room = h.room in
     record { some = omega arith; most = h.most }
 
--- it begins where the part of the number says,
+-- the search begins where the part of the number says
 pub begins : (keys starts : List ℕ) (base shift x part : ℕ)
     → IsSearchable keys starts base shift → IsWithin keys x
     → IsPart x base shift (length starts - 1) part → HasComeTo keys x (get_or starts part 0)
@@ -64,7 +64,7 @@ begins keys starts base shift x part i within p =
     let less : get_or keys k 0 < base + part * 2 ^ shift = f.1 in
     let from : base + part * 2 ^ shift ≤ x = p.from f.0 in omega arith)
 
--- goes on after four keys,
+-- the search continues after four keys
 goes_on : (keys : List ℕ) (x at below : ℕ) → HasComeTo keys x at → IsStep keys x at 0 below
     → HasComeTo keys x (at + below)
 goes_on keys x at below h s =
@@ -78,7 +78,7 @@ goes_past keys x at below h s all =
     let e : at + below ≡ at + 4 = omega arith in
     subst (λ (j : ℕ). HasComeTo keys x j) e (goes_on keys x at below h s)
 
--- and may end there
+-- the search may end at the first key that is not less
 pub found : (keys : List ℕ) (x at below : ℕ) → HasComeTo keys x at → IsStep keys x at 0 below
     → below < 4 → IsPlaceOf keys x (at + below)
 found keys x at below h s few =
@@ -90,7 +90,7 @@ found keys x at below h s few =
       room = n.room;
     }
 
--- ---- in steps that grow
+-- ---- in growing steps
 
 pub reaches_past : (keys : List ℕ) (x at end : ℕ) → HasComeTo keys x at
     → end < length keys → get_or keys end 0 < x → HasComeTo keys x (end + 1)
@@ -98,9 +98,9 @@ reaches_past keys x at end h own less =
     come keys x (end + 1) h.ascending (come_within keys x at h) (λ k l.
     let o : get_or keys k 0 ≤ get_or keys end 0 = h.ascending.order k end (omega arith) own in omega arith)
 
--- ---- and then in steps that shrink
+-- ---- in shrinking steps
 
--- each round leaves the places of one step, or those behind four of them
+-- each round leaves the places of one step, or those after four steps
 pub narrows : (keys : List ℕ) (x at left step below : ℕ) → Ascends keys
     → IsBetween keys x at (at + left) → 5 * step + 4 ≤ left → IsStep keys x at step below
     → IsBetween keys x (at + below * (step + 1)) (at + below * (step + 1) + (left - 4 * (step + 1)))
@@ -130,7 +130,7 @@ narrows keys x at left step below up h fifth s =
       room = omega arith;
     }
 
--- at the end there are five places at most
+-- at the end there are at most five places
 pub narrowed_to : (keys : List ℕ) (x at left below : ℕ) → IsBetween keys x at (at + left)
     → left ≤ 4 → IsStep keys x at 0 below → IsPlaceOf keys x (at + below)
 narrowed_to keys x at left below h last s =

@@ -1,4 +1,4 @@
--- The fields that a partition is built with.
+-- The fields of a new partition.
 use Rattle.std.proofs.Common.{◌≡◌, ◌≢◌, ℕ, zero, suc, ◌+◌, ◌-◌, ◌*◌, ◌^◌, ◌<◌, ◌≤◌, List, [], ◌∷◌, ◌++◌, length, get_or, take, slice_set, arith, sym, refl, ◌∙◌, subst, ⊎_elim, append_assoc, length-append}
 use Rattle.std.proofs.lemmas.Bool.{cases_lt, cases_eq}
 use Rattle.std.proofs.lemmas.List.{get_or_append_left, get_or-append-add, get_or-set_same, get_or-set_other, get_or-take, length-take}
@@ -53,7 +53,7 @@ start_next lasts base shift part at s =
           let l : get_or lasts k 0 < base + part * 2 ^ shift = f.1 in (omega arith, omega arith);
     }
 
--- none of the numbers is before the first part
+-- no number comes before the first part
 pub starts_none : (lasts starts : List ℕ) (base shift : ℕ)
     → AreStartsSoFar lasts starts base shift 0 0
 starts_none lasts starts base shift = record {
@@ -61,7 +61,7 @@ starts_none lasts starts base shift = record {
   next = record { within = omega arith; less = λ k l. absurd (omega arith) };
 }
 
--- the place of one more part
+-- the start of one more part
 pub starts_more : (lasts starts : List ℕ) (base shift part before at start : ℕ)
     → AreStartsSoFar lasts starts base shift part before → part < length starts
     → IsStart lasts base shift part at → start ≤ at
@@ -164,7 +164,7 @@ padded_is w lasts top h is =
       top = subst (λ (j : ℕ). get_or all j 0 + 1 ≡ 2 ^ w) e (omega arith);
     }
 
--- pushed one after the other
+-- three numbers pushed one after the other
 pushed : (lasts : List ℕ) (top : ℕ) → ((lasts ++ top ∷ []) ++ top ∷ []) ++ top ∷ [] ≡ lasts ++
     (top ∷ top ∷ top ∷ [])
 pushed lasts top = simp append_assoc
@@ -191,7 +191,7 @@ is_within w padded x i small =
     let q = i.top in
     record { some = i.some; most = omega arith }
 
--- and the place of it is that of its range
+-- the place of a number is that of its range
 pub lies : (lasts : List ℕ) (x at : ℕ) → IsPlaceOf lasts x at → LiesAt (unpadded lasts) x at
 lies lasts x at h =
     let room = h.room in

@@ -1,4 +1,4 @@
--- What is open tells what a look-up finds.
+-- The open blocks determine what a look-up finds.
 use Rattle.std.proofs.Common.{◌≡◌, ◌≢◌, ◌↔◌, Bool, false, IsTrue, ℕ, ◌+◌, ◌-◌, ◌<◌, ◌≤◌, List, [], ◌∷◌, ◌++◌, length, get_or, arith, sym, refl, ap, subst, ◌∙◌, ⊎_elim, Option, None, Some, is_some, slice_get, length-append}
 use Rattle.std.specs.List.{Contains}
 use Rattle.std.specs.Option.{option_map, option_to_list}
@@ -19,7 +19,7 @@ use Rattle.ipnetwork_index.proofs.Edging.{some_value}
 use Rattle.ipnetwork_index.proofs.Searching.{at_most}
 use Rattle.ipnetwork_index.proofs.Answering.{told, none_told}
 
--- what is read of a list of entries
+-- what is read from a list of entries
 pub entry_read : {N V : Type 0} (pair : N → Network) (xs : List (N × V)) (i : ℕ) (e : N × V)
     → i < length xs → e ≡ get_or xs i e → slice_get (by_pair pair xs) i ≡ Some (pair e.0, e.1)
 entry_read pair xs i e l is =
@@ -30,7 +30,7 @@ pub entries_length : {N V : Type 0} (pair : N → Network) (xs : List (N × V))
     → length (by_pair pair xs) ≡ length xs
 entries_length {N} {V} pair xs = length-map {B = Network × V} xs (λ d. (pair d.0, d.1))
 
--- the last of some places, as a call tells it
+-- the last of some places, as a call returns it
 pub top_read : (opened seen : List ℕ) (copied last : Option ℕ) (j : ℕ) → seen ≡ opened
     → last ≡ slice_get seen (length seen - 1) → copied ≡ last → copied ≡ Some j
     → slice_get opened (length opened - 1) ≡ Some j
@@ -138,7 +138,7 @@ module _ {V : Type 0} (w : ℕ) (es : List (Network × V)) where
             (ap (slice_get es) (left m n) ∙ r);
       }
 
--- the next block begins at `first`, and those that end before that have been closed
+-- the next block begins at `first`, and the blocks that end before that have been closed
 pub opens_next : {N V : Type 0} (pair : N → Network) (w : ℕ) (xs : List (N × V))
     (count x first u v : ℕ) (b : Bool) (before opened : List ℕ) (e : N × V)
     → AreListed w (by_pair pair xs) → AreOpen w (by_pair pair xs) count x before
@@ -173,7 +173,7 @@ pub top_within : {N V : Type 0} (pair : N → Network) (xs : List (N × V)) (ope
 top_within pair xs opened j h top =
     omega (arith, last_within (by_pair pair xs) opened j h top, entries_length pair xs)
 
--- the block that was opened last stands at this place, and it ends with `end`
+-- the block that was opened last is at this place, and `end` is its last number
 pub record IsTop {V : Type 0} (es : List (Network × V)) (w : ℕ) (opened : List ℕ) (j end : ℕ)
     : Type 0 where
   pub entry : Network × V
@@ -255,7 +255,7 @@ innermost_is {V} es opened j prefix n value top g is =
           (n, ap (slice_get es) (sym place) ∙ g, sym is);
     }
 
--- the entries of a table are listed
+-- the entries of a table satisfy `AreListed`
 pub entries_listed : {V : Type 0} (w : ℕ) (t : FinMap network_cmp V) (es : List (Network × V))
     → HasOnlyBlocks w t → ListedIsStored V → EntriesAscend V → es ≡ entries t → AreListed w es
 entries_listed {V} w t es blocks stored ascend is =
@@ -301,7 +301,7 @@ module _ {V : Type 0} (w : ℕ) (t : FinMap network_cmp V) (blocks : HasOnlyBloc
       (cases_lt count i))
       (cases_lt i count)
 
-  -- and is open
+  -- each stored block that holds x is open
   is_open : (i : ℕ) (n : Network) (v : V) → slice_get (entries t) i ≡ Some (n, v) → Member w n x
       → Contains opened i
   is_open i n v g holds =
@@ -316,7 +316,7 @@ module _ {V : Type 0} (w : ℕ) (t : FinMap network_cmp V) (blocks : HasOnlyBloc
       let l = c.1 in
       absurd (omega arith)
 
-  -- the last of them is the longest
+  -- the last open block is the longest
   last_found : (k : ℕ) (n : Network) (value : V) → k + 1 ≡ length opened
       → slice_get (entries t) (get_or opened k 0) ≡ Some (n, value) → x ≤ high w n
       → IsLongest w t x n value
@@ -357,7 +357,7 @@ module _ {V : Type 0} (w : ℕ) (t : FinMap network_cmp V) (blocks : HasOnlyBloc
             (cases_lt c.0 k);
       }
 
-  -- so it is told
+  -- the last open block is what a look-up finds
   pub open_tells : (prefix : ℕ) (value : V) → w ≤ 128 → LastEndsFrom w (entries t) x opened
       → IsInnermost (entries t) opened prefix value → Tells w t x prefix value
   open_tells prefix value few ends inner =
@@ -373,7 +373,7 @@ module _ {V : Type 0} (w : ℕ) (t : FinMap network_cmp V) (blocks : HasOnlyBloc
       (last_found k own.0 value last own.1 (ends k (own.0, value) last own.1)) (sym own.2))
       (cases_eq (length opened) 0)
 
--- the same of a list that is that of the entries
+-- the same for a list that equals the entries
 pub swept_tells : {V : Type 0} (w : ℕ) (t : FinMap network_cmp V) (es : List (Network × V))
     → HasOnlyBlocks w t → ListedIsStored V → StoredIsListed V → EntriesAscend V
     → WiderBlocksFirst V → es ≡ entries t → w ≤ 128

@@ -5,7 +5,7 @@ use Rattle.std.proofs.lemmas.List.{length-map, length-set, get_or-set_same, get_
 use Rattle.ipnetwork_index.specs.Columns.{AreAnsweredUpTo}
 use Rattle.ipnetwork_index.proofs.Searching.{read_number}
 
--- one answer more
+-- one more answer
 answered_more : {A : Type 0} (IsAnswer : ℕ → A → Type 0) (other : A) (addresses : List ℕ)
     (answers : List A) (at : ℕ) (answer : A)
     → AreAnsweredUpTo IsAnswer other addresses answers at → at < length addresses
@@ -27,7 +27,7 @@ answered_more IsAnswer other addresses answers at answer h l own =
           (cases_lt k at);
     }
 
--- so it is with the answers to a column of addresses
+-- one more answer to a column of addresses
 module _ {A X : Type 0} (IsAnswer : ℕ → A → Type 0) (other : A) (f : X → ℕ) (addrs : List X) where
   pub none_answered : (answers : List A) → length answers ≡ length addrs
       → AreAnsweredUpTo IsAnswer other (map f addrs) answers 0

@@ -73,7 +73,7 @@ place w lasts x p small =
     absurd (omega arith))
     (place_or_after lasts x)
 
--- ---- a range and the next one are on two sides of the set
+-- ---- of a range and the next one, exactly one is in the set
 
 next_is_other : (first : Bool) (n : ℕ) → is_in first (suc n) ≡ not (is_in first n)
 next_is_other first zero = refl
@@ -118,7 +118,7 @@ module _ (w : ℕ) (lasts : List ℕ) (first : Bool) (set : ℕ → Type 0) (p :
             (inside_at first lasts (x + 1) (suc k) next ∙ next_is_other first k),
       )
 
-  -- within a range there is no turn
+  -- there is no turn within a range
   no_turn : (x at : ℕ) → LiesAt lasts x at → LiesAt lasts (x + 1) at → IsTurn w set x → ⊥
   no_turn x at h next t =
       let small : x + 1 < 2 ^ w = t.0 in
@@ -165,7 +165,7 @@ module _ (w : ℕ) (lasts : List ℕ) (first : Bool) (set : ℕ → Type 0) (p :
   pub cut_into : CutInto w set (length lasts)
   cut_into = let some = p.some in (length lasts - 1, turns_are, omega arith)
 
--- ---- few blocks have few ranges
+-- ---- few blocks give few ranges
 
 front_length : (r : Range) (rs : List Range) → length (put_in_front r rs) ≤ length rs + 1
 unfolding put_in_front

@@ -1,4 +1,4 @@
--- Entries of a list: networks with values. Of those with the same block the last counts.
+-- Entries of a list: networks with values. Of several with the same block, the last one counts.
 use Rattle.std.specs.Prelude.{◌≡◌, ◌↔◌, ℕ, List, ◌∷◌, ◌++◌, Some, IsSome, MatchOption}
 use Rattle.std.specs.FinMap.{FinMap, get}
 use Rattle.std.specs.List.{Contains}
@@ -17,7 +17,7 @@ pub record IsLastValue {V : Type 0} (w : ℕ) (block : Network) (entries : List 
   pub has_block : block_of w network ≡ block
   pub is_last : NoneHasBlock w block behind
 
--- the keys of a table are the blocks of the entries, and each has the value of its last entry
+-- the keys of a table are the blocks of the entries, and each has the value of the last entry with that block
 abbrev pub HasLastValues : {V : Type 0} → ℕ → List (Network × V) → FinMap network_cmp V → Type 0
 HasLastValues w entries table = (block : Network)
     → MatchOption (get table block) (NoneHasBlock w block entries) (IsLastValue w block entries)
@@ -27,6 +27,6 @@ abbrev pub HasBlocksOf : {V : Type 0} → ℕ → List Network → FinMap networ
 HasBlocksOf w networks table = (block : Network)
     → IsSome (get table block) ↔ ((network : Network) × Contains networks network × (block_of w network ≡ block))
 
--- and each has this value
+-- each block of the table has this value
 abbrev pub HasValue : {V : Type 0} → V → FinMap network_cmp V → Type 0
 HasValue {V} value table = (block : Network) (own : V) → get table block ≡ Some own → own ≡ value

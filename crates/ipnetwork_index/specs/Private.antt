@@ -1,4 +1,4 @@
--- What the private functions promise each other, and how contracts see private fields.
+-- Definitions for the contracts of private functions, and how contracts view private fields.
 pub mod Answers
 pub mod Cuts
 pub mod Edges

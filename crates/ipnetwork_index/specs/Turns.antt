@@ -6,32 +6,32 @@ use Rattle.ipnetwork_blocks.specs.Aggregate.{InUnion}
 use Rattle.ipnetwork_sets.specs.Counts.{HasCount}
 use Rattle.ipnetwork_sets.specs.Sets.{IsAddressSet}
 
--- of the number x of w bits and the next one, one is in the set and the other is not
+-- of the numbers x and x + 1 of w bits, one is in the set and the other is not
 abbrev pub IsTurn : ℕ → (ℕ → Type 0) → ℕ → Type 0
 IsTurn w set x = (x + 1 < 2 ^ w) × ((set x × ¬ (set (x + 1))) ⊎ (¬ (set x) × set (x + 1)))
 
--- the turns of the set cut the numbers of w bits into n ranges, each in the set whole or not at all
+-- the turns of the set cut the numbers of w bits into n ranges, each entirely inside the set or entirely outside it
 abbrev pub CutInto : ℕ → (ℕ → Type 0) → ℕ → Type 0
 CutInto w set n = (turns : ℕ) × HasCount (IsTurn w set) turns × (n ≡ turns + 1)
 
--- the addresses of a set with n blocks are cut into at most 2 n + 1 ranges
+-- a set of k blocks cuts the addresses into at most 2 k + 1 ranges
 abbrev pub SetHasFewRanges : Type 0
 SetHasFewRanges = (w : ℕ) (blocks : List Network) (n : ℕ) → IsAddressSet w blocks
     → CutInto w (InUnion w blocks) n → n ≤ 2 * length blocks + 1
 
--- a block of the table ends with x, or one begins with the number after it
+-- a block of the table ends at x, or one begins at x + 1
 abbrev pub HasEdge : {V : Type 0} → ℕ → FinMap network_cmp V → ℕ → Type 0
 HasEdge w t x = (n : Network) × IsSome (get t n) × ((high w n ≡ x) ⊎ (low w n ≡ x + 1))
 
--- so it is, and x is not the last number of w bits
+-- x is not the greatest number of w bits, and a block of the table ends at x or begins at x + 1
 abbrev pub IsEdge : {V : Type 0} → ℕ → FinMap network_cmp V → ℕ → Type 0
 IsEdge w t x = (x + 1 < 2 ^ w) × HasEdge w t x
 
--- where blocks of the table begin and end cuts the numbers of w bits into n ranges
+-- the starts and ends of the table's blocks cut the numbers of w bits into n ranges
 abbrev pub CutByBlocks : {V : Type 0} → ℕ → FinMap network_cmp V → ℕ → Type 0
 CutByBlocks w t n = (edges : ℕ) × HasCount (IsEdge w t) edges × (n ≡ edges + 1)
 
--- n blocks cut the numbers into at most 2 n + 1 ranges
+-- a table of k blocks cuts the numbers into at most 2 k + 1 ranges
 abbrev pub TableHasFewRanges : Type 0 → Type 0
 TableHasFewRanges V = (w : ℕ) (t : FinMap network_cmp V) (n : ℕ) → CutByBlocks w t n
     → n ≤ 2 * len t + 1

@@ -1,4 +1,4 @@
-//! The index over a set of addresses.
+//! The index of a set of addresses.
 ghost use Rattle.std.specs.Prelude.{◌≡◌, ◌↔◌, IfOk, IsTrue, length, map};
 ghost use Rattle.ipnetwork_blocks.specs.Aggregate.{InUnion, IsAggregate};
 ghost use Rattle.ipnetwork_index.specs.Columns.{AreTold};
@@ -12,7 +12,7 @@ use ipnetwork_sets::AddressSet;
 use std::alloc::{AllocError, Global};
 use std::marker::Model;
 
-/// A set of addresses of one family that is asked for addresses and does not change.
+/// A set of addresses of one family that is searched for addresses and does not change.
 ///
 /// ```
 /// let networks = ["10.0.0.0/8".parse::<Ipv4Network>()?, "192.0.2.0/24".parse()?];
@@ -25,7 +25,7 @@ use std::marker::Model;
 pub struct AddressIndex<N: IndexedNetwork> {
     // The addresses, cut where the set begins or ends.
     partition: Partition<N>,
-    // Whether the first range is in the set. Of each two neighbours one alone is.
+    // Whether the first range is in the set. Of two neighbours, exactly one is.
     first_is_in: bool,
 }
 
@@ -44,7 +44,7 @@ impl<N: IndexedNetwork> Model for AddressIndex<N> {
 }
 
 impl<N: IndexedNetwork> AddressIndex<N> {
-    /// The index over a set. Goes over its blocks once; the set is left as it is.
+    /// The index of a set. Goes over its blocks once. `AllocError` when out of memory.
     ///
     /// ```
     /// let networks = vec![in rt.alloc(); "2001:db8::/32".parse::<Ipv6Network>()?]?;
@@ -68,8 +68,8 @@ impl<N: IndexedNetwork> AddressIndex<N> {
         })
     }
 
-    /// The index over the addresses of networks, which may have host bits and stand in any order.
-    /// Sorts them in their list.
+    /// The index of the addresses of networks, which may have host bits and be in any order. Sorts
+    /// them in place. `AllocError` when out of memory.
     ///
     /// ```
     /// let networks = vec![in rt.alloc(); "192.0.2.9/25".parse::<Ipv4Network>()?]?;
@@ -84,8 +84,8 @@ impl<N: IndexedNetwork> AddressIndex<N> {
         Ok(index)
     }
 
-    /// Whether the address is in the set. Takes a few reads if the blocks lie spread, and else about
-    /// as many as a search that halves its list.
+    /// Whether the address is in the set. Takes a few reads if the blocks are spread out, and
+    /// otherwise about as many as a binary search.
     ///
     /// ```
     /// let networks = vec![in rt.alloc(); "192.0.2.0/25".parse::<Ipv4Network>()?]?;
@@ -101,8 +101,8 @@ impl<N: IndexedNetwork> AddressIndex<N> {
         odd != self.first_is_in
     }
 
-    /// Whether each of the addresses is in the set: its answer is put at the same place. There must
-    /// be as many answers as addresses.
+    /// Writes whether each address is in the set to the same place in `answers`. There must be as
+    /// many answers as addresses.
     ///
     /// ```
     /// let networks = vec![in rt.alloc(); "192.0.2.0/25".parse::<Ipv4Network>()?]?;
@@ -122,11 +122,11 @@ impl<N: IndexedNetwork> AddressIndex<N> {
         }
     }
 
-    /// The number of ranges that the set cuts the addresses into: each is in it whole or not at
-    /// all. There are at most one more than twice the set's blocks (`laws::few_ranges`). The index
-    /// has the last number of each range, of 4 bytes in IPv4 and 16 in IPv6, of which it may keep
-    /// the high half by itself, of 8, and places of 4 bytes: two to four for each range, or one to
-    /// two from 2^14 ranges on (`part_bits`), but no more than 2^20 of them.
+    /// The number of ranges that the set cuts the addresses into: each lies entirely inside or
+    /// entirely outside the set. There are at most one more than twice as many ranges as blocks
+    /// (`laws::few_ranges`). The index has the last number of each range, of 4 bytes for IPv4 and
+    /// 16 for IPv6, for IPv6 possibly its high half again, of 8, and places of 4 bytes: two to four
+    /// for each range, or one to two from 2^14 ranges on (`part_bits`), but no more than 2^20.
     ///
     /// ```
     /// let networks = vec![in rt.alloc(); "192.0.2.0/25".parse::<Ipv4Network>()?]?;

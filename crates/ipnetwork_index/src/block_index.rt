@@ -1,4 +1,4 @@
-//! The index over the blocks of a list.
+//! The index of the blocks of a list.
 ghost use Rattle.std.specs.Prelude.{IfOk, map};
 ghost use Rattle.ipnetwork_table.specs.Table.{HasOnlyBlocks, Finds};
 ghost use Rattle.ipnetwork_index.specs.Entries.{HasBlocksOf, HasValue};
@@ -10,8 +10,8 @@ use ipnetwork_table::laws;
 use std::alloc::{AllocError, Global};
 use std::marker::Model;
 
-/// The blocks of a list of networks, which is asked for the longest block of addresses and does not
-/// change: a `RouteIndex` that is made without a table.
+/// The blocks of a list of networks, which is searched for the longest block of addresses and does
+/// not change: a `RouteIndex` that is made without a table.
 ///
 /// ```
 /// let networks = ["10.1.9.32/16".parse::<Ipv4Network>()?, "10.0.0.0/8".parse()?];
@@ -20,7 +20,7 @@ use std::marker::Model;
 /// ```
 #[derive(Drop)]
 pub struct BlockIndex<N: IndexedNetwork, V: Copy> {
-    // The blocks in their order, each once.
+    // The blocks in order, each once.
     entries: Vec<(N, V)>,
     ranges: Ranges<N, V>,
 }
@@ -43,8 +43,9 @@ impl<N: IndexedNetwork, V: Copy> Model for BlockIndex<N, V> {
 }
 
 impl<N: IndexedNetwork, V: Copy> BlockIndex<N, V> {
-    /// The index over the blocks of networks, which may have host bits and stand in any order, and
-    /// of which each has this value. Sorts the blocks, and where they begin and end.
+    /// The index of the blocks of networks, which may have host bits and be in any order; each
+    /// block gets this value. Sorts the blocks, and where they begin and end. `AllocError` when out
+    /// of memory.
     ///
     /// ```
     /// let networks = ["2001:db8::1/32".parse::<Ipv6Network>()?];
@@ -62,8 +63,8 @@ impl<N: IndexedNetwork, V: Copy> BlockIndex<N, V> {
         Ok(BlockIndex { entries, ranges })
     }
 
-    /// The block of greatest prefix length whose set holds the address, with the value; `None` if
-    /// no block holds it.
+    /// The block with the greatest prefix length that holds the address, and the value; `None` if
+    /// no block holds the address.
     ///
     /// ```
     /// let networks = ["10.0.0.0/8".parse::<Ipv4Network>()?];

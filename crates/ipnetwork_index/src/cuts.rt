@@ -7,7 +7,7 @@ use crate::indexed_network::IndexedNetwork;
 use ipnetwork_sets::AddressSet;
 use std::alloc::{AllocError, Global};
 
-// For each range of the set, the last address before it, if there is one, and its own last address.
+// For each range of the set, the last address before it, if any, and its own last address.
 pub(crate) fn cuts_of<N: IndexedNetwork>(
     alloc: Global,
     set: &AddressSet<N>,
@@ -25,7 +25,7 @@ pub(crate) fn cuts_of<N: IndexedNetwork>(
     Ok(cuts)
 }
 
-// The cuts, and the last address of all after them unless they end with it.
+// The cuts and, unless they end with it, the last address of all.
 pub(crate) fn closed<N: IndexedNetwork>(mut cuts: Vec<N::Addr>) -> Result<Vec<N::Addr>, AllocError>
     requires { Rises 0 (map N.number cuts.items) }
     ensures { IfOk result

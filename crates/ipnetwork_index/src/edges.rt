@@ -8,8 +8,8 @@ use crate::indexed_network::IndexedNetwork;
 use ipnetwork_table::laws;
 use std::alloc::{AllocError, Global};
 
-// The last addresses of ranges, each of which lies in a block of the table with these entries whole
-// or not at all.
+// The last addresses of ranges, each of which lies entirely inside or entirely outside each block
+// of the table with these entries.
 pub(crate) fn ranges_of<N: IndexedNetwork, V: Copy>(
     alloc: Global,
     entries: &[(N, V)],
@@ -25,7 +25,7 @@ pub(crate) fn ranges_of<N: IndexedNetwork, V: Copy>(
     Ok(lasts)
 }
 
-// For each block, the last address before it, if there is one, and its own last address.
+// For each block, the last address before it, if any, and its own last address.
 fn edges_of<N: IndexedNetwork, V: Copy>(
     alloc: Global,
     entries: &[(N, V)],

@@ -7,7 +7,7 @@ use crate::indexed_network::IndexedNetwork;
 use ipnetwork_table::PrefixTable;
 use std::alloc::{AllocError, Global};
 
-/// The table of the blocks of the entries. Of those with the same block the last counts.
+/// The table of the blocks of the entries. Of several with the same block, the last one counts.
 pub(crate) fn table_of<N: IndexedNetwork, V: Copy>(
     alloc: Global,
     entries: &[(N, V)],

@@ -1,4 +1,4 @@
-//! The search for a number by its high half first.
+//! The search for a number, first by its high half.
 ghost use Rattle.std.specs.Prelude.{◌≡◌, ◌^◌, ◌<◌, IfOk, IsTrue, map};
 ghost use Rattle.ipnetwork_index.specs.Searches.{IsPlaceOf};
 ghost use Rattle.ipnetwork_index.specs.Private.Halved.{AllAreLast, IsHalved};
@@ -9,8 +9,8 @@ use crate::key::Key;
 use crate::search::{place_from, place_of};
 use std::alloc::{AllocError, Global};
 
-// The place of the first number that is not less than this one: it is searched for among the high
-// halves, and then, unless these tell the place, from there on among the whole numbers.
+// The place of the first number that is not less than this one: searched for among the high halves
+// and then, unless these determine the place, from there on among the whole numbers.
 pub(crate) fn place_by_halves<N: IndexedNetwork>(
     lasts: &[N::Number],
     highs: &[N::High],
@@ -50,7 +50,7 @@ pub(crate) fn highs_of<N: IndexedNetwork>(
 }
 
 // Whether enough of the high halves differ from the one before: every fourth or more. The contract
-// leaves the answer open: another would cost time and change no answer.
+// leaves the result open: another would cost time but change no look-up.
 pub(crate) fn are_worth_it<K: Key>(highs: &[K]) -> bool {
     let mut differ = 0usize;
     for place in 1..highs.len() {
@@ -61,7 +61,7 @@ pub(crate) fn are_worth_it<K: Key>(highs: &[K]) -> bool {
     differ.saturating_mul(4) >= highs.len()
 }
 
-// Whether each number is the greatest of those that have its high half.
+// Whether each number is known to be the greatest with its high half.
 pub(crate) fn all_end<N: IndexedNetwork>(lasts: &[N::Number]) -> bool
     ensures { IsTrue result → AllAreLast N.high (map N.Number.value lasts.now) }
 {

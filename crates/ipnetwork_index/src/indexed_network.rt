@@ -1,4 +1,4 @@
-//! What an index needs of a family of addresses.
+//! What an index needs from a family of addresses.
 ghost use Rattle.std.specs.Prelude.{◌≡◌, ℕ, ◌+◌, ◌/◌, ◌%◌, ◌^◌, ◌<◌, ◌≤◌, IsTrue};
 ghost use Rattle.ipnetwork_index.specs.Halves.{IsLastOf, halves_ascend};
 
@@ -7,20 +7,20 @@ use ipnetwork_addr::{Ipv4Addr, Ipv6Addr};
 use ipnetwork_blocks::AddressSpace;
 use ipnetwork_family::{Ipv4Network, Ipv6Network};
 
-/// Networks whose addresses can be indexed: as bare numbers, which are compared all at once. No
-/// call allocates.
+/// Networks whose addresses can be indexed as plain numbers, which are compared as a whole. No call
+/// allocates.
 ///
 /// ```
 /// assert_eq!(rt; Ipv4Network::number_of(Ipv4Addr::new(0, 0, 1, 2)), 258);
 /// ```
 pub trait IndexedNetwork: AddressSpace {
-    /// The bare numbers of the family.
+    /// The plain numbers of the family.
     type Number: Key;
 
-    /// Their high halves.
+    /// The high halves of these numbers.
     type High: Key;
 
-    // What the high half of a number means.
+    // The high half of a number.
     ghost high: { ℕ → ℕ };
 
     /// The number of an address.
@@ -49,7 +49,7 @@ pub trait IndexedNetwork: AddressSpace {
     fn high_of(number: Self::Number) -> Self::High
         ensures { Self.High.value result ≡ high (Self.Number.value number) };
 
-    /// Whether the number is known to be the greatest of those that have its high half.
+    /// Whether the number is known to be the greatest with its high half.
     ///
     /// ```
     /// assert!(rt; Ipv6Network::ends_high((5 << 64) - 1));
@@ -58,7 +58,7 @@ pub trait IndexedNetwork: AddressSpace {
     fn ends_high(number: Self::Number) -> bool
         ensures { IsTrue result → IsLastOf high (Self.Number.value number) };
 
-    /// The last 32 bits of a number: all that the number of an IPv4 address has.
+    /// The last 32 bits of a number, which are all bits of an IPv4 address.
     ///
     /// ```
     /// assert_eq!(rt; Ipv6Network::low_word(5 << 32 | 7), 7);
@@ -67,7 +67,7 @@ pub trait IndexedNetwork: AddressSpace {
     fn low_word(number: Self::Number) -> u32
         ensures { result ≡ Self.Number.value number % 2 ^ 32 };
 
-    /// Whether numbers are to be compared by halves: those of an IPv6 address are, since most
+    /// Whether numbers are to be compared by halves. Those of IPv6 addresses are, since most
     /// networks end where a high half does.
     ///
     /// ```
@@ -75,7 +75,7 @@ pub trait IndexedNetwork: AddressSpace {
     /// ```
     fn has_halves() -> bool;
 
-    // A greater number has no lesser high half.
+    // A greater number does not have a smaller high half.
     ghost high_ascends: { (x y : ℕ) → x ≤ y → high x ≤ high y };
 }
 

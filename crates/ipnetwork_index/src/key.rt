@@ -1,20 +1,20 @@
-//! Bare numbers that are searched for.
+//! Plain numbers to search for.
 ghost use Rattle.std.specs.Prelude.{◌↔◌, ℕ, ◌<◌, IsTrue};
 ghost use Rattle.ipnetwork_index.specs.Parts.{IsPart};
 
-/// A bare number that is searched for among others: `u32`, `u64` and `u128`. No call allocates.
+/// A plain number that is searched for among others: `u32`, `u64` or `u128`. No call allocates.
 ///
 /// ```
 /// assert!(rt; 1u32.is_less(2));
 /// ```
 pub trait Key: Copy {
-    // How many bits it has.
+    // The number of bits.
     ghost BITS: { ℕ };
 
-    // What it means.
+    // The number that the key stands for.
     ghost value: { Self → ℕ };
 
-    /// Whether it is less than the other.
+    /// Whether this number is less than `other`.
     ///
     /// ```
     /// assert!(rt; !2u64.is_less(2));
@@ -22,8 +22,9 @@ pub trait Key: Copy {
     fn is_less(self, other: Self) -> bool
         ensures { IsTrue result ↔ (value self < value other) };
 
-    /// In which part of the numbers from `base` on it lies, if each has 2^`shift` numbers: the
-    /// first for the numbers before `base`, and the part `last` for those after it.
+    /// The part in which this number lies, if the parts begin at `base` and have 2^`shift` numbers
+    /// each: the first for the numbers before `base`, and the part `last` for those after it.
+    /// `shift` must be less than the number of bits.
     ///
     /// ```
     /// assert_eq!(rt; 259u32.part_of(3, 6, 9), 4);
@@ -33,8 +34,8 @@ pub trait Key: Copy {
         requires { shift < BITS }
         ensures { IsPart (value self) (value base) shift last result };
 
-    /// How large parts are, as a power of two, if about 2^`bits` of them reach from `base` to this
-    /// number. The contract leaves the size open: another would cost time and change no answer.
+    /// The size of parts, as a power of two, if about 2^`bits` of them extend from `base` to this
+    /// number. The contract leaves the size open: another would cost time but change no result.
     ///
     /// ```
     /// assert_eq!(rt; 259u32.part_size(3, 4), 5);

@@ -1,5 +1,5 @@
-//! The laws of indexes. Each function's contract is a law. One that takes nothing does nothing; a
-//! proof whose function calls it may use the law.
+//! The laws of indexes: each function's contract is a law. The functions that take nothing do
+//! nothing; the proof of a function that calls one may use its law.
 ghost use Rattle.std.specs.Prelude.{◌≡◌, ◌↔◌, IsTrue};
 ghost use Rattle.ipnetwork_blocks.specs.Aggregate.{InUnion};
 ghost use Rattle.ipnetwork_table.specs.Table.{Finds, found_by_pair};
@@ -13,22 +13,23 @@ use ipnetwork_sets::AddressSet;
 use ipnetwork_table::PrefixTable;
 use ipnetwork_table::laws::{listing, one_answer};
 
-/// A set of n blocks cuts the addresses into at most 2 n + 1 ranges: as many as the blocks, and one
-/// more between them.
+/// A set of n blocks cuts the addresses into at most 2 n + 1 ranges: at most n in the set, and at
+/// most one more outside it.
 pub fn few_ranges()
     ensures { SetHasFewRanges }
 {
     laws::one_block();
 }
 
-/// A table of n blocks cuts the addresses into at most 2 n + 1 ranges: each block begins and ends one.
+/// A table of n blocks cuts the addresses into at most 2 n + 1 ranges: each block begins and ends
+/// one.
 pub fn few_routed_ranges<V: Copy>()
     ensures { TableHasFewRanges V }
 {
     listing::<V>();
 }
 
-/// What a set and its index say of an address: the same.
+/// A set and its index say the same of an address.
 pub fn set_and_index_agree<N: IndexedNetwork>(
     set: &AddressSet<N>,
     index: &AddressIndex<N>,
@@ -41,8 +42,8 @@ pub fn set_and_index_agree<N: IndexedNetwork>(
     (set.contains(addr), index.contains(addr))
 }
 
-/// What a table and its index find for an address: the same block, as its address and its prefix
-/// length, and the same value.
+/// A table and its index find the same for an address: the same block, as its address and its
+/// prefix length, and the same value.
 pub fn table_and_index_agree<N: IndexedNetwork, V: Copy>(
     table: &PrefixTable<N, V>,
     index: &RouteIndex<N, V>,

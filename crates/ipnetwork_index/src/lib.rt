@@ -1,9 +1,9 @@
-//! Indexes for look-ups that are made again and again: a set of addresses that is only asked, and a
-//! table of which only the longest block of an address is asked. A look-up takes a few reads in a
-//! row if the networks lie spread, and else about as many as a search that halves its list.
+//! Indexes for repeated look-ups: of addresses in a set that does not change, and of the longest
+//! block of an address in a table that does not change. A look-up takes a few reads in a row if the
+//! networks are spread out, and otherwise about as many as a binary search.
 //!
-//! Only what makes an index allocates. `place_of`, by which all indexes search, and `write_starts`,
-//! which tells it where to begin, work on slices, in whatever memory these lie.
+//! Only the calls that make an index allocate. `place_of`, the search of most indexes, and
+//! `write_starts`, which tells it where to begin, work on slices, in any memory.
 #![tactic(auto)]
 
 mod address_index;

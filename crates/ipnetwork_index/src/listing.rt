@@ -1,4 +1,4 @@
-//! The blocks of a list of networks, in their order.
+//! The blocks of a list of networks, in order.
 ghost use Rattle.std.specs.Prelude.{◌≡◌, IfOk, map};
 ghost use Rattle.std.specs.List.{All};
 ghost use Rattle.ipnetwork_family.specs.Network.{IsCidrBlock, block_of};
@@ -9,7 +9,7 @@ use crate::indexed_network::IndexedNetwork;
 use ipnetwork_blocks::block;
 use std::alloc::{AllocError, Global};
 
-/// The blocks of the networks in their order, each once with this value.
+/// The blocks of the networks in order, each once and with this value.
 pub(crate) fn entries_of_list<N: IndexedNetwork, V: Copy>(
     alloc: Global,
     networks: &[N],

@@ -12,19 +12,19 @@ use crate::starts::{span_of, write_starts};
 use std::alloc::{AllocError, Global};
 use std::marker::Model;
 
-/// The addresses, cut into ranges.
+/// The addresses of a family, cut into ranges.
 #[derive(Drop)]
 pub(crate) struct Partition<N: IndexedNetwork> {
-    // The last number of each range, and three times more that of the last range.
+    // The last number of each range, and three more times that of the last range.
     lasts: Vec<N::Number>,
     // For each part of the numbers or of the high halves from a base on, how many ranges end before
-    // it. A greater part has more.
+    // it. The counts do not decrease.
     starts: Vec<u32>,
     base: N::Number,
     // Each part has 2 ^ shift numbers or high halves.
     shift: u32,
-    // Whether the high halves are searched first, of which these are those of the last numbers, and
-    // whether all of the last numbers end their high halves: then the place is known by these.
+    // Whether the high halves are searched first; these are then those of the last numbers. If each
+    // last number is the greatest with its high half, the high halves determine the place.
     by_halves: bool,
     highs: Vec<N::High>,
     high_base: N::High,
@@ -56,7 +56,7 @@ impl<N: IndexedNetwork> Partition<N> {
         Self::of_padded(alloc, lasts, bits)
     }
 
-    // The ranges with these last numbers, which are searched by halves if these differ.
+    // The ranges with these last numbers, searched by high halves if enough of these differ.
     fn of_padded(alloc: Global, lasts: Vec<N::Number>, bits: u32) -> Result<Self, AllocError>
         requires parts { bits ≤ 20 }
         requires padded { IsPadded N.WIDTH (map N.Number.value lasts.items) }
@@ -71,7 +71,7 @@ impl<N: IndexedNetwork> Partition<N> {
         Self::of_wholes(alloc, lasts, bits)
     }
 
-    // The same, searched by whole numbers.
+    // The ranges with these last numbers, searched by whole numbers.
     fn of_wholes(alloc: Global, lasts: Vec<N::Number>, bits: u32) -> Result<Self, AllocError>
         requires parts { bits ≤ 20 }
         requires padded { IsPadded N.WIDTH (map N.Number.value lasts.items) }
@@ -91,7 +91,7 @@ impl<N: IndexedNetwork> Partition<N> {
         })
     }
 
-    // The same, searched by these high halves first.
+    // The ranges with these last numbers, searched first by these high halves.
     fn of_halves(
         alloc: Global,
         lasts: Vec<N::Number>,
@@ -120,20 +120,20 @@ impl<N: IndexedNetwork> Partition<N> {
         })
     }
 
-    /// How many ranges there are.
+    /// The number of ranges.
     pub(crate) fn len(&self) -> usize
         ensures { result ≡ length self.now }
     {
         self.lasts.len() - 3
     }
 
-    /// At which place the range stands that the number lies in.
+    /// The place of the range that the number lies in.
     pub(crate) fn place_of(&self, number: N::Number) -> usize
         requires { N.Number.value number < 2 ^ N.WIDTH }
         ensures { LiesAt self.now (N.Number.value number) result }
     {
         let lasts = self.lasts.as_slice();
-        // One range has all numbers.
+        // A single range has all numbers.
         if lasts.len() == 4 {
             return 0;
         }
@@ -170,7 +170,7 @@ fn numbers_of<N: IndexedNetwork>(
     Ok(numbers)
 }
 
-// The last numbers of ranges, and three times more that of the last of them.
+// The last numbers of ranges, and three more times the last of them.
 fn padded<N: IndexedNetwork>(mut lasts: Vec<N::Number>) -> Result<Vec<N::Number>, AllocError>
     requires { IsPartition N.WIDTH (map N.Number.value lasts.items) }
     ensures { IfOk result (λ padded. Pads N.WIDTH (map N.Number.value lasts.items)
@@ -183,7 +183,7 @@ fn padded<N: IndexedNetwork>(mut lasts: Vec<N::Number>) -> Result<Vec<N::Number>
     Ok(lasts)
 }
 
-// Where the search for the numbers of each of so many parts begins.
+// Where the search for the numbers of each of `count` parts begins.
 fn starts_of<K: Key>(
     alloc: Global,
     keys: &[K],

@@ -1,4 +1,4 @@
-//! Where an index of routes looks up the ranges of a table.
+//! The places of a table's ranges in an index of routes.
 ghost use Rattle.std.specs.Prelude.{◌≡◌, ℕ, ◌^◌, ◌<◌, ◌≤◌, IfOk, IsTrue, List, length, map};
 ghost use Rattle.ipnetwork_index.specs.Private.LowHalves.{ArePlacesOf, HavePlaces};
 ghost use Rattle.ipnetwork_index.specs.Private.Partitions.{IsPartition, LiesAt};
@@ -9,11 +9,11 @@ use crate::partition::Partition;
 use crate::starts::{low_shift, route_bits};
 use std::alloc::{AllocError, Global};
 
-/// The ranges, as a partition or, if there are many that lie spread, by the low halves of their last
-/// numbers: these take half the memory, and one read of eight.
+/// The ranges, as a partition or, if there are many that are spread out, by the low halves of their
+/// last numbers, which take half the memory and one read of eight numbers.
 #[derive(Drop)]
 pub(crate) struct Places<N: IndexedNetwork> {
-    // The addresses cut into ranges, unless these are known by low halves.
+    // The addresses cut into ranges, unless low halves represent these.
     pub(crate) partition: Option<Partition<N>>,
     pub(crate) halves: LowHalves,
 }
@@ -43,7 +43,7 @@ impl<N: IndexedNetwork> Places<N> {
         })
     }
 
-    /// How many ranges there are.
+    /// The number of ranges.
     pub(crate) fn len(&self) -> usize
         requires { HavePlaces N.WIDTH self.now.partition self.now.halves.lows.items
             self.now.halves.starts.items self.now.halves.shift }
@@ -57,7 +57,7 @@ impl<N: IndexedNetwork> Places<N> {
         }
     }
 
-    /// At which place the range stands that the address lies in.
+    /// The place of the range that the address lies in.
     #[inline(always)]
     pub(crate) fn place_of(&self, addr: N::Addr) -> usize
         requires { HavePlaces N.WIDTH self.now.partition self.now.halves.lows.items
@@ -74,8 +74,8 @@ impl<N: IndexedNetwork> Places<N> {
 }
 
 // Whether there are so many ranges that low halves are worth it, and those without a 64th at either
-// end reach over a fourth of all numbers: else most of them could lie in one part. Only numbers of 32
-// bits or fewer have low halves.
+// end extend over a fourth of all numbers: otherwise most of them could lie in one part. Only
+// numbers of at most 32 bits have low halves.
 fn are_many_and_spread<N: IndexedNetwork>(lasts: &[N::Addr]) -> bool
     ensures short { IsTrue result → N.WIDTH ≤ 32 }
     ensures few { IsTrue result → length lasts.now < 2 ^ 32 }
@@ -92,7 +92,7 @@ fn are_many_and_spread<N: IndexedNetwork>(lasts: &[N::Addr]) -> bool
     last.saturating_sub(first) >= 1 << 30
 }
 
-// The numbers of the addresses, which have 32 bits at most.
+// The numbers of the addresses, which have at most 32 bits.
 fn words_of<N: IndexedNetwork>(alloc: Global, addresses: &[N::Addr]) -> Result<Vec<u32>, AllocError>
     requires { N.WIDTH ≤ 32 }
     ensures { IfOk result (λ words. words.items ≡ map N.number addresses.now) }

@@ -11,12 +11,12 @@ use crate::places::Places;
 use ipnetwork_table::laws;
 use std::alloc::{AllocError, Global};
 
-/// The ranges that the blocks of a table cut the addresses into, with what a look-up finds in each.
+/// The ranges that a table's blocks cut the addresses into, with what a look-up finds in each.
 #[derive(Drop)]
 pub(crate) struct Ranges<N: IndexedNetwork, V: Copy> {
     // The addresses, cut where a block begins or ends.
     pub(crate) places: Places<N>,
-    // The longest block of the addresses of each range.
+    // The longest block that holds the addresses of each range.
     pub(crate) answers: Answers<V>,
 }
 
@@ -25,7 +25,7 @@ impl<N: IndexedNetwork, V: Copy> Ranges<N, V> {
     ghost use Rattle.ipnetwork_family.specs.Network.{network_cmp};
     ghost use Rattle.ipnetwork_index.specs.Private.Ranges.{IsIndexed, IsIndexedForSome, IsIndexedForAll};
 
-    /// Those of a table with these entries.
+    /// The ranges of a table with these entries.
     pub(crate) fn of(alloc: Global, entries: &[(N, V)]) -> Result<Self, AllocError>
         requires { (t : FinMap network_cmp V)
             × HasEntries N.WIDTH t (by_pair N.pair entries.now) }
@@ -40,7 +40,7 @@ impl<N: IndexedNetwork, V: Copy> Ranges<N, V> {
         Ok(Ranges { places, answers })
     }
 
-    /// How many there are.
+    /// The number of ranges.
     pub(crate) fn len(&self) -> usize
         requires { IsIndexedForSome N.WIDTH self.now.places.partition self.now.places.halves
             self.now.answers }
@@ -50,7 +50,7 @@ impl<N: IndexedNetwork, V: Copy> Ranges<N, V> {
         self.places.len()
     }
 
-    /// The longest block that has the address, with its value.
+    /// The longest block that holds the address, with its value.
     #[inline(always)]
     pub(crate) fn lookup(&self, addr: N::Addr) -> Option<(N, V)>
         requires { IsIndexedForSome N.WIDTH self.now.places.partition self.now.places.halves

@@ -1,4 +1,4 @@
-//! The index over a table.
+//! The index of a table.
 ghost use Rattle.std.specs.Prelude.{◌≡◌, IfOk, length, map};
 ghost use Rattle.ipnetwork_table.specs.Table.{HasOnlyBlocks, Finds, by_pair};
 ghost use Rattle.ipnetwork_index.specs.Columns.{AreFound};
@@ -13,9 +13,9 @@ use ipnetwork_table::PrefixTable;
 use std::alloc::{AllocError, Global};
 use std::marker::Model;
 
-/// A table that is asked for the longest block of addresses, and does not change meanwhile: the
-/// index takes it over, and `into_table` gives it back. The answers are copied, so a look-up does
-/// not read the table.
+/// A table that is searched for the longest block of addresses and does not change: the index takes
+/// it over, and `into_table` returns it. The results are copied, so a look-up does not read the
+/// table.
 ///
 /// ```
 /// let mut table = PrefixTable::new(rt.alloc());
@@ -48,9 +48,10 @@ impl<N: IndexedNetwork, V: Copy> Model for RouteIndex<N, V> {
 }
 
 impl<N: IndexedNetwork, V: Copy> RouteIndex<N, V> {
-    /// The index over a table. Sorts where its blocks begin and end, and goes over the blocks and
-    /// the ranges between in their order. At most one block of each prefix length is open at once,
-    /// so no memory is asked for these. If memory runs out, the table is dropped.
+    /// The index of a table. Sorts the places where its blocks begin and end, and goes over the
+    /// blocks and the ranges between them in order. At most one block of each prefix length is open
+    /// at once, so the open blocks need no allocation. If memory runs out, the result is
+    /// `AllocError` and the table is dropped.
     ///
     /// ```
     /// let mut table = PrefixTable::new(rt.alloc());
@@ -66,8 +67,9 @@ impl<N: IndexedNetwork, V: Copy> RouteIndex<N, V> {
         Ok(RouteIndex { table, ranges })
     }
 
-    /// The index over networks with values, which may have host bits and stand in any order: over a
-    /// table of their blocks. Of several with the same block the last counts.
+    /// The index of networks with values, which may have host bits and be in any order: that of a
+    /// table of their blocks. Of several with the same block, the last one counts. `AllocError`
+    /// when out of memory.
     ///
     /// ```
     /// let entries = [("10.0.0.0/8".parse::<Ipv4Network>()?, 2), ("10.1.9.32/16".parse()?, 3)];
@@ -83,9 +85,9 @@ impl<N: IndexedNetwork, V: Copy> RouteIndex<N, V> {
         Ok(index)
     }
 
-    /// The stored block of greatest prefix length whose set holds the address, with its value;
-    /// `None` if no stored block holds it. Takes a few reads if the blocks lie spread, and else about
-    /// as many as a search that halves its list.
+    /// The stored block with the greatest prefix length that holds the address, and its value;
+    /// `None` if no stored block holds the address. Takes a few reads if the blocks are spread out,
+    /// and otherwise about as many as a binary search.
     ///
     /// ```
     /// let mut table = PrefixTable::new(rt.alloc());
@@ -101,8 +103,8 @@ impl<N: IndexedNetwork, V: Copy> RouteIndex<N, V> {
         self.ranges.lookup(addr)
     }
 
-    /// What a look-up of each of the addresses finds, put at the same place. There must be as many
-    /// answers as addresses.
+    /// Writes what a look-up of each address finds to the same place in `answers`. There must be as
+    /// many answers as addresses.
     ///
     /// ```
     /// let mut table = PrefixTable::new(rt.alloc());
@@ -122,7 +124,7 @@ impl<N: IndexedNetwork, V: Copy> RouteIndex<N, V> {
         }
     }
 
-    /// The table, to ask what an index does not answer.
+    /// The table, for what an index cannot be asked.
     ///
     /// ```
     /// let mut table = PrefixTable::new(rt.alloc());
@@ -136,7 +138,7 @@ impl<N: IndexedNetwork, V: Copy> RouteIndex<N, V> {
         &self.table
     }
 
-    /// The table, to change it. What else the index has is dropped.
+    /// Returns the table, so that it can be changed. The rest of the index is dropped.
     ///
     /// ```
     /// let table = PrefixTable::<Ipv4Network, u8>::new(rt.alloc());
@@ -149,14 +151,15 @@ impl<N: IndexedNetwork, V: Copy> RouteIndex<N, V> {
         self.table
     }
 
-    /// The number of ranges that the table's blocks cut the addresses into, where one begins or ends:
-    /// what a look-up finds is the same for all addresses of one. There are at most one more than
-    /// twice the blocks (`laws::few_routed_ranges`). Beside the last numbers of the ranges, as an
-    /// `AddressIndex` has them, the index has the table, and of each range a byte and a value. It
-    /// has two to four places of 4 bytes for each range, or at most one from 2^16 ranges on, but no
-    /// more than 2^20. From 2^16 IPv4 ranges on it has of each range 2 bytes in place of 4, if all
-    /// but a 32nd of them reach over a fourth of the addresses, and one place for one or more ranges,
-    /// for fewer than eight unless there are 2^23 or more, but no more than 2^20 and one.
+    /// The number of ranges that the table's blocks cut the addresses into: a look-up finds the
+    /// same for all addresses of a range. There are at most one more than twice as many ranges as
+    /// blocks (`laws::few_routed_ranges`). Besides the last numbers of the ranges, as in an
+    /// `AddressIndex`, the index has the table, and a byte and a value for each range. It has two
+    /// to four places of 4 bytes for each range, or at most one from 2^16 ranges on, but no more
+    /// than 2^20. From 2^16 IPv4 ranges on, if all but a 32nd of them extend over a fourth of the
+    /// addresses, it has 2 bytes instead of 4 for each range, and one place for one or more ranges,
+    /// on average for fewer than eight unless there are 2^23 or more, but no more than 2^20 + 1
+    /// places.
     ///
     /// ```
     /// let mut table = PrefixTable::new(rt.alloc());

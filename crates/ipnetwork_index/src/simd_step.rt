@@ -5,8 +5,8 @@ ghost use Rattle.ipnetwork_index.specs.Private.Steps.{IsStep, IsOneIfLess};
 
 use crate::key::Key;
 
-// From `at` on each fourth of so many keys and one more is the last of a step: how many of the ends
-// of the next four steps are less than this key. No branch depends on what they are.
+// How many of the next four steps from `at` on, each over `step` + 1 keys, end with a key that is
+// less than `key`. No branch depends on the keys.
 pub(crate) fn below_of_four<K: Key>(keys: &[K], at: usize, step: usize, key: K) -> usize
     requires within { at + (4 * step + 3) < length keys.now }
     requires ascending { Ascends (map K.value keys.now) }
@@ -19,7 +19,7 @@ pub(crate) fn below_of_four<K: Key>(keys: &[K], at: usize, step: usize, key: K) 
     first + second + third + fourth
 }
 
-// 1 if the first is less than the second, and 0 if not.
+// 1 if the first is less than the second, and 0 otherwise.
 fn one_if_less<K: Key>(first: K, second: K) -> usize
     ensures { IsOneIfLess (K.value first) (K.value second) result }
 {

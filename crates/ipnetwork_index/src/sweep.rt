@@ -1,7 +1,7 @@
-//! What a table finds in ranges, by one sweep over its blocks in their order. Those that are open
-//! are on a stack: the sweep has come to their first address, and not past their last one. Each is
-//! within the one below it and longer, so that the last of them is the longest, and there is at
-//! most one of each prefix length.
+//! What a table finds in ranges, by one sweep over its blocks in order. The open blocks are on a
+//! stack: those whose first address the sweep has reached and whose last address it has not passed.
+//! Each lies in the one below it and is longer, so the top one is the longest, and there is at most
+//! one of each prefix length.
 ghost use Rattle.std.specs.Prelude.{◌≡◌, ◌+◌, ◌<◌, ◌≤◌, IfOk, length, map};
 ghost use Rattle.ipnetwork_table.specs.Table.{by_pair};
 ghost use Rattle.ipnetwork_index.specs.Private.Partitions.{IsPartition};
@@ -14,7 +14,7 @@ use arrayvec::ArrayVec;
 use ipnetwork_table::laws;
 use std::alloc::{AllocError, Global};
 
-// How many blocks are open at once, at most: one of each prefix length from 0 to 128.
+// The greatest number of open blocks: one of each prefix length from 0 to 128.
 const MOST_OPEN: usize = 129;
 
 /// What a table with these entries, at least one, finds for the last address of each range.
@@ -45,7 +45,7 @@ pub(crate) fn answers_by_sweep<N: IndexedNetwork, V: Copy>(
 }
 
 // Opens the blocks after the first `count` that begin at the address or before it, each after
-// closing those that end before it: how many of the blocks have been opened then.
+// closing those that end before it. Returns how many of the blocks have then been opened.
 fn open_up_to<N: IndexedNetwork, V: Copy>(
     entries: &[(N, V)],
     count: usize,
@@ -73,7 +73,7 @@ fn open_up_to<N: IndexedNetwork, V: Copy>(
     at
 }
 
-// Closes the last blocks that end before the address.
+// Closes blocks from the top of the stack while they end before the address.
 fn close_before<N: IndexedNetwork, V: Copy>(
     entries: &[(N, V)],
     opened: &mut ArrayVec<usize, MOST_OPEN>,
@@ -94,7 +94,7 @@ fn close_before<N: IndexedNetwork, V: Copy>(
     }
 }
 
-// The prefix length of the last block, and its value.
+// The prefix length and the value of the last open block, or `NO_BLOCK` and any value.
 fn innermost<N: IndexedNetwork, V: Copy>(entries: &[(N, V)], opened: &[usize]) -> (u8, V)
     requires some { 1 ≤ length entries.now }
     requires places { ArePlaces (by_pair N.pair entries.now) opened.now }

@@ -1,4 +1,4 @@
--- The laws of networks that are added to a set and taken from it.
+-- The laws of adding networks to a set and removing them.
 use Rattle.std.proofs.Common.{inl, inr, ⊎_elim, [], ◌∷◌, ◌++◌}
 use Rattle.ipnetwork_family.specs.Network.{Member}
 use Rattle.ipnetwork_blocks.specs.Aggregate.{InUnion, SameUnion}

@@ -1,4 +1,4 @@
--- The pass of `is_address_set`.
+-- The loop of `is_address_set`.
 use Rattle.std.proofs.Common.{◌≡◌, ℕ, ◌+◌, ◌-◌, ◌<◌, ◌≤◌, sym, ap, subst, ◌∙◌, arith, List, [], ◌∷◌, ◌++◌, length, get_or, take}
 use Rattle.std.specs.List.{All}
 use Rattle.std.proofs.lemmas.List.{get_or_default, get_or-take, length-take-le, take_all, take_more}
@@ -9,7 +9,7 @@ use Rattle.ipnetwork_blocks.proofs.AggregateFront.{joined_push, after_all}
 use Rattle.ipnetwork_sets.specs.Sets.{IsAddressSet}
 use Rattle.ipnetwork_sets.proofs.Lists.{set_is_joined, joined_is_set}
 
--- one network more, that follows the one before it if there is one
+-- one more network, which follows the one before it if there is one
 pub check_goes_on : (w : ℕ) (ns : List Network) (i : ℕ) (b : Network) → AreJoined w (take i ns) → i < length ns → b ≡ get_or ns i b → IsNetwork w b → HostBitsAreZero w b
     → ((a : Network) → 0 < i → a ≡ get_or ns (i - 1) a → Follows w a b) → AreJoined w (take (i + 1) ns)
 check_goes_on w ns i b h l is net block last =
@@ -36,7 +36,7 @@ check_goes_on w ns i b h l is net block last =
 pub checked : (w : ℕ) (ns : List Network) (i : ℕ) → AreJoined w (take i ns) → length ns ≤ i → IsAddressSet w ns
 checked w ns i h l = joined_is_set w ns (subst (λ (t : List Network). AreJoined w t) (take_all i ns l) h)
 
--- a set's networks have no host bits, and each follows the one before it
+-- the networks of a set have no host bits, and each follows the one before it
 pub set_has_block : (w : ℕ) (ns : List Network) (i : ℕ) (b : Network) → AggregateIsApart → IsAddressSet w ns → i < length ns → b ≡ get_or ns i b → HostBitsAreZero w b
 set_has_block w ns i b law h l is =
     let j = set_is_joined w ns law h in

@@ -1,4 +1,4 @@
--- Blocks that are collected.
+-- Blocks collected in a list.
 use Rattle.std.proofs.Common.{◌≡◌, ◌⊎◌, ◌+◌, ◌<◌, ◌≤◌, ℕ, arith, length, length-append, ap, sym, subst, ◌∙◌, List, [], ◌∷◌, ◌++◌, map, inl, inr, ⊎_elim, append_assoc, Result, Ok, Err, OnErr}
 use Rattle.std.proofs.lemmas.List.{append-nil, length-map, map-append}
 use Rattle.ipnetwork_family.specs.Network.{Network}
@@ -6,7 +6,7 @@ use Rattle.ipnetwork_blocks.specs.LeastList.{IsLeastList}
 use Rattle.ipnetwork_blocks.proofs.LeastLists.{least_unique}
 use Rattle.ipnetwork_sets.specs.Sets.{IsAddressSet}
 
--- what was collected, with what is left, are all; and once some was collected, all are known to be those of a set
+-- the blocks collected and the blocks left are all blocks; once a block has been collected, all are known to be a set's
 pub record IsCollected (w : ℕ) (items left all : List Network) : Type 0 where
   pub together : items ++ left ≡ all
   pub known : (items ≡ []) ⊎ IsAddressSet w all
@@ -14,7 +14,7 @@ pub record IsCollected (w : ℕ) (items left all : List Network) : Type 0 where
 pub collecting_starts : (w : ℕ) (items left : List Network) → items ≡ [] → IsCollected w items left left
 collecting_starts w items left e = record { together = ap (λ l. l ++ left) e; known = inl e }
 
--- if what is left are the blocks of a set, so are all
+-- if the blocks left are those of a set, so are all blocks
 pub all_are_set : (w : ℕ) (items left all : List Network) → IsCollected w items left all → IsAddressSet w left → IsAddressSet w all
 all_are_set w items left all h set =
     ⊎_elim
@@ -37,19 +37,19 @@ collecting_goes_on pair w items more block left after all h set step e = record 
 pub collecting_ends : (w : ℕ) (items left all : List Network) → IsCollected w items left all → left ≡ [] → items ≡ all
 collecting_ends w items left all h none = sym (append-nil items) ∙ ap (λ t. items ++ t) (sym none) ∙ h.together
 
--- what is known if the list could not grow
+-- what is known if the list cannot grow
 pub failed : {T E P : Type 0} (result : Result T E) → P → OnErr result P
 failed (Ok value) p = tt
 failed (Err error) p = p
 
--- if a list of so many had no room for one more, it had none for all
+-- a list without room for one more block has no room for all blocks
 pub collecting_had_no_room : {X : Type 0} (pair : X → Network) (w : ℕ) (items : List X) (block : X) (left after all : List Network) (room capacity count : ℕ)
     → IsCollected w (map pair items) left all → left ≡ pair block ∷ after → count ≡ length items → room ≤ capacity → capacity ≤ count → room < length all
 collecting_had_no_room pair w items block left after all room capacity count h step is le full =
     let parts : length (map pair items ++ left) ≡ length all = ap length h.together in
     omega (arith, parts, length-append (map pair items) left, length-map items pair, ap length step)
 
--- the same of blocks that follow others
+-- the same for blocks that follow others
 pub pushing_had_no_room : {X : Type 0} (pair : X → Network) (w : ℕ) (S : ℕ → Type 0) (items before : List X) (block : X) (left after blocks others : List Network) (room capacity count old : ℕ)
     → map pair items ++ left ≡ map pair before ++ blocks → IsLeastList w S blocks → IsLeastList w S others → left ≡ pair block ∷ after
     → count ≡ length items → old ≡ length before → room ≤ capacity → capacity ≤ count → room < old + length others

@@ -1,4 +1,4 @@
--- The steps of the common part of two sets.
+-- The steps of the intersection of two sets.
 use Rattle.std.proofs.Common.{◌≡◌, ℕ, ◌<◌, ◌≤◌, inl, inr, sym, subst, ap, ◌∙◌, arith, ⊎_elim, List, [], ◌∷◌}
 use Rattle.ipnetwork_family.specs.Network.{Network, Member, Subnet, high}
 use Rattle.ipnetwork_family.proofs.Blocks.{within_member}
@@ -12,14 +12,14 @@ use Rattle.ipnetwork_sets.proofs.LeastBlocks.{common_is_least}
 use Rattle.ipnetwork_sets.proofs.Lists.{set_block}
 use Rattle.ipnetwork_sets.proofs.Steps.{smaller_inside, tail_is_set, first_and_rest, same_list, union_cons, union_nil, union_behind, union_from, first_is_maximal, maximal_in_part}
 
--- ---- where one of the two is at its end
+-- ---- one of the two lists is empty
 
 pub common_none_first : (w : ℕ) (second : List Network) → common_blocks w [] second ≡ []
 common_none_first w second =
     least_unique w (InBoth w [] second) (common_blocks w [] second) [] (common_is_least w [] second)
     (least_of_none w (InBoth w [] second) (λ x s. union_nil w x s.0))
 
--- the order of the two changes nothing
+-- the intersection does not depend on the order of the two sets
 common_swaps : (w : ℕ) (first second : List Network) → common_blocks w first second ≡ common_blocks w second first
 common_swaps w first second =
     same_list w (InBoth w first second) (InBoth w second first) (common_blocks w first second) (common_blocks w second first) (common_is_least w first second) (common_is_least w second first)
@@ -61,7 +61,7 @@ module _ (w : ℕ) (a b : Network) (others rest : List Network) (apart : Aggrega
       (λ x s. union_behind w a others apart ha x s.0)
       (common_is_least w others (b ∷ rest))
 
--- ---- the steps, at lists that are a first block and others
+-- ---- the steps, for lists given by their first block and the others
 
 module _ (w : ℕ) (a b : Network) (first second others rest : List Network) (apart : AggregateIsApart) (e : first ≡ a ∷ others) (f : second ≡ b ∷ rest)
     (hf : IsAddressSet w first) (hs : IsAddressSet w second) where
@@ -88,7 +88,7 @@ module _ (w : ℕ) (a b : Network) (first second others rest : List Network) (ap
         ∙ ap (λ t. a ∷ common_blocks w others t) (sym f),
   )
 
--- and where the two change places
+-- the steps with the two lists exchanged
 
 module _ (w : ℕ) (a b : Network) (first second others rest : List Network) (apart : AggregateIsApart) (e : first ≡ a ∷ others) (f : second ≡ b ∷ rest)
     (hf : IsAddressSet w first) (hs : IsAddressSet w second) where

@@ -23,12 +23,12 @@ use Rattle.ipnetwork_sets.proofs.Totals.{kept_sum, total_push, counted, total_is
 abbrev Less : ℕ → ℕ → Type 0
 Less x y = x < y
 
--- the first of an ascending list is the least
+-- the first element of an ascending list is the least
 least_first : (x : ℕ) (xs : List ℕ) (y : ℕ) → AllPairs Less (x ∷ xs) → Contains (x ∷ xs) y → x ≤ y
 least_first x xs y h c =
     ⊎_elim (λ (e : x ≡ y). let r : x ≤ y = omega arith in r) (λ (d : Contains xs y). let l = pairs_head Less x xs h y d in let r : x ≤ y = omega arith in r) (contains_cons x xs y c)
 
--- what is behind the first of one is behind the first of the other
+-- an element after the first of one list is after the first of the other
 behind_first : (x y : ℕ) (xs ys : List ℕ) → x ≡ y → AllPairs Less (x ∷ xs) → ((z : ℕ) → Contains (x ∷ xs) z → Contains (y ∷ ys) z) → (z : ℕ) → Contains xs z → Contains ys z
 behind_first x y xs ys e h to z c =
     ⊎_elim
@@ -47,7 +47,7 @@ ascending_is_one_list (x ∷ xs) (y ∷ ys) h k same =
     ∙ ap (λ zs. y ∷ zs) (ascending_is_one_list xs ys (pairs_tail Less x xs h) (pairs_tail Less y ys k)
     (λ z. (behind_first x y xs ys e h (λ v. (same v).0) z, behind_first y x ys xs (sym e) k (λ v. (same v).1) z)))
 
--- sets with the same addresses have one count
+-- sets with the same addresses have the same count
 pub one_count : (S T : ℕ → Type 0) (m n : ℕ) → ((x : ℕ) → S x ↔ T x) → HasCount S m → HasCount T n → m ≡ n
 one_count S T m n same h k =
     sym h.count
@@ -69,7 +69,7 @@ Gap r s = r.1 + 1 < s.0
 abbrev Goes : Range → Type 0
 Goes r = r.0 ≤ r.1
 
--- the ranges are ordered, and apart
+-- no range is empty, and the ranges ascend with gaps between them
 record AreApart (rs : List Range) : Type 0 where
   pub ordered : All Goes rs
   pub apart : AllPairs Gap rs
@@ -86,7 +86,7 @@ tail_apart r rs h = record {
   apart = pairs_tail Gap r rs h.apart;
 }
 
--- an address of the ranges is not before the first, and behind the first it comes after a gap
+-- no address of the ranges is before the first range, and those of the other ranges come after a gap
 behind_range : (r : Range) (rs : List Range) (x : ℕ) → AreApart (r ∷ rs) → InRanges rs x → r.1 + 1 < x
 behind_range r rs x h c = let g = pairs_head Gap r rs h.apart c.0 c.1 in let f = c.2.0 in omega arith
 
@@ -95,11 +95,11 @@ from_first r rs x h c =
     let goes = head_goes r rs h in
     ⊎_elim (λ (f : FromTo r.0 r.1 x). f.0) (λ (d : InRanges rs x). let l = behind_range r rs x h d in let m : r.0 ≤ x = omega arith in m) ((ranges_cons r rs x).0 c)
 
--- the first address is one of them
+-- the first address of the first range is an address of the ranges
 own_first : (r : Range) (rs : List Range) → AreApart (r ∷ rs) → InRanges (r ∷ rs) r.0
 own_first r rs h = let goes = head_goes r rs h in (r, contains_head r rs, (omega arith, goes))
 
--- the first range of the one goes at least as far as that of the other
+-- the first range of one list ends no earlier than that of the other
 goes_as_far : (r s : Range) (rs ss : List Range) → AreApart (r ∷ rs) → AreApart (s ∷ ss) → r.0 ≡ s.0 → HasAddresses (s ∷ ss) (r ∷ rs) → s.1 ≤ r.1
 goes_as_far r s rs ss h k e to =
     let goes_r = head_goes r rs h in
@@ -112,7 +112,7 @@ goes_as_far r s rs ss h k e to =
     ((ranges_cons r rs (r.1 + 1)).0 (to (r.1 + 1) inside)))
     (λ (l : s.1 ≤ r.1). l) (cases_lt r.1 s.1)
 
--- what is behind the first of the one is behind the first of the other
+-- an address after the first range of one list is after that of the other
 others_too : (r s : Range) (rs ss : List Range) → AreApart (r ∷ rs) → r.1 ≡ s.1 → HasAddresses (r ∷ rs) (s ∷ ss) → HasAddresses rs ss
 others_too r s rs ss h e to x c =
     let b = behind_range r rs x h c in
@@ -149,7 +149,7 @@ ranges_are_one_list rs ss h k =
 pub union_has_one_range_list : UnionHasOneRangeList
 union_has_one_range_list w a b rs ss same h k = same_range_list (InUnion w a) (InUnion w b) rs ss same h k
 
--- ---- the addresses of blocks, added up
+-- ---- the sizes of blocks, added up
 
 pub set_adds_up : AggregateIsApart → SetAddsUp
 set_adds_up apart w blocks h = (counted w blocks apart h, total_is_within w blocks apart h)

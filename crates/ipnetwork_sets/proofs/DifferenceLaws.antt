@@ -1,4 +1,4 @@
--- The laws of differences, and of what settles the result of an operation.
+-- The laws of differences, and of what determines the result of an operation.
 use Rattle.std.proofs.Common.{inl, inr, ⊎_elim, []}
 use Rattle.ipnetwork_blocks.specs.Aggregate.{InUnion}
 use Rattle.ipnetwork_blocks.proofs.LeastLists.{least_unique, least_of_none}

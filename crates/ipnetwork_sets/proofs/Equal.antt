@@ -21,7 +21,7 @@ network_decides a b = (
 pub same_blocks_are_equal : SameBlocksAreEqual
 same_blocks_are_equal a b = slice_eq-Decides network_decides a b (same_blocks a b) refl
 
--- a test of elements that is the test of their networks
+-- if values are compared by their networks, lists of values are compared by their lists of networks
 pub pointwise_pairs : {X : Type 0} (eq : X → X → Bool) (pair : X → Network) → ((x y : X) → eq x y ≡ same_network (pair x) (pair y)) → (xs ys : List X)
     → pointwise eq xs ys ≡ same_blocks (map pair xs) (map pair ys)
 pointwise_pairs eq pair h [] [] = refl

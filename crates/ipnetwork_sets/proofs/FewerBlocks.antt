@@ -1,4 +1,4 @@
--- The blocks of a set are fewer than there are addresses.
+-- A set has fewer blocks than there are addresses.
 use Rattle.std.proofs.Common.{◌≡◌, ℕ, ◌-◌, ◌+◌, ◌^◌, ◌<◌, ◌≤◌, inl, inr, ap, subst, arith, ⊎_elim, List, [], ◌∷◌, length}
 use Rattle.std.proofs.Math.Pow.{pow_mono}
 use Rattle.std.proofs.lemmas.Bool.{cases_lt}
@@ -15,12 +15,12 @@ use Rattle.ipnetwork_sets.proofs.Steps.{tail_is_set, union_cons, union_behind, f
 use Rattle.ipnetwork_sets.proofs.Totals.{total_fits, total_is_within}
 use Rattle.ipnetwork_sets.proofs.WholeSpace.{whole, whole_has_all}
 
--- each block has an address
+-- each block has at least one address
 at_least_one : (w : ℕ) (bs : List Network) → length bs ≤ total w bs
 at_least_one w [] = omega arith
 at_least_one w (b ∷ bs) = let rest = at_least_one w bs in let pos = size_pos w b.prefix in omega (arith, rest, pos)
 
--- where there are as many blocks as addresses, each of these is in one
+-- if there are as many blocks as addresses from `from` on, each of these addresses is in a block
 filled : (w : ℕ) (bs : List Network) (from : ℕ) → AggregateIsApart → IsAddressSet w bs → ((x : ℕ) → InUnion w bs x → from ≤ x) → 2 ^ w ≤ from + length bs → (x : ℕ) → from ≤ x → x < 2 ^ w
     → InUnion w bs x
 filled w [] from apart h all many x le l = absurd (omega arith)

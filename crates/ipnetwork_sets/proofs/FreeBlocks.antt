@@ -1,4 +1,4 @@
--- The first free block of a prefix length: in the first of the blocks that are left that is wide enough.
+-- The first free block of a prefix length lies in the first block of the free part that is wide enough.
 use Rattle.std.proofs.Common.{◌≡◌, ℕ, ◌<◌, ◌≤◌, sym, refl, ap, subst, ◌∙◌, arith, ⊎_elim, List, [], ◌∷◌, ◌++◌, append_assoc, Option, None, Some, MatchOption}
 use Rattle.std.specs.List.{AllPairs, Contains}
 use Rattle.std.proofs.lemmas.List.Elements.{Contains-append_cases, Contains-append_right}
@@ -13,7 +13,7 @@ use Rattle.ipnetwork_sets.specs.FreeBlocks.{IsFreeBlock, NoBlockIsFree, IsFirstF
 use Rattle.ipnetwork_sets.specs.Sets.{IsAddressSet, InNetworkAlone}
 use Rattle.ipnetwork_sets.proofs.SetLaws.{free_is_shortest, least_is_set}
 
--- of the blocks, those that are passed have a longer prefix length, and these are left
+-- the blocks passed have a longer prefix length, and `left` are the blocks after them
 pub record IsPassing (all : List Network) (p : ℕ) (left : List Network) : Type 0 where
   pub passed : List Network
   pub parts : all ≡ passed ++ left
@@ -50,7 +50,7 @@ module _ (w : ℕ) (n : Network) (a all : List Network) (p : ℕ) (networks : Ag
   maximal : (b : Network) → Contains all b → IsMaximalIn w (InNetworkAlone w n a) b
   maximal b c = (h.maximal b).0 c
 
-  -- a free block lies in one of the blocks that are left of the network
+  -- a free block lies in one of the blocks of the free part
   in_one : (o : Network) → IsFreeBlock w n a p o → (b : Network) × Contains all b × Subnet w o b
   in_one o f =
       let shortest = free_is_shortest w n a all h in
@@ -58,7 +58,7 @@ module _ (w : ℕ) (n : Network) (a all : List Network) (p : ℕ) (networks : Ag
       let lies : LiesInUnion w o all = λ x m. (shortest.addresses x).1 (f.within x m, λ u. f.free (x, m, u)) in
       (networks w all all set o f.block.network).0 lies
 
-  -- which is no longer, and does not begin behind it
+  -- the block that it lies in has a prefix length of at most p, and begins no later
   as_wide : (o b : Network) → IsFreeBlock w n a p o → Contains all b → Subnet w o b → b.prefix ≤ p
   as_wide o b f c sub =
       let l = subnet_prefix w o b f.block.network (maximal b c).network sub in
@@ -71,7 +71,7 @@ module _ (w : ℕ) (n : Network) (a all : List Network) (p : ℕ) (networks : Ag
       let z = (maximal b c).block in
       omega (arith, i.0, z)
 
-  -- those that are passed have none
+  -- the block that it lies in is not one of those passed
   not_passed : (left : List Network) (o b : Network) → IsPassing all p left → IsFreeBlock w n a p o → Contains all b → Subnet w o b → Contains left b
   not_passed left o b k f c sub =
       ⊎_elim
@@ -87,7 +87,7 @@ module _ (w : ℕ) (n : Network) (a all : List Network) (p : ℕ) (networks : Ag
   pub none_so_long : w < p → NoBlockIsFree w n a p
   none_so_long l o f = let e = f.as_long in let fits = f.block.network.prefix_fits in omega (arith, e, fits, l)
 
-  -- the first that is as wide has the first
+  -- the first block that is wide enough has the first free block
   pub first_in : (left after : List Network) (b : Network) → IsPassing all p left → left ≡ b ∷ after → b.prefix ≤ p → p ≤ w → IsFirstFree w n a p (block_at w b.address p)
   first_in left after b k e wide fits =
       let here : Contains all b = subst (λ (t : List Network). Contains t b) (sym k.parts)
@@ -117,7 +117,7 @@ module _ (w : ℕ) (n : Network) (a all : List Network) (p : ℕ) (networks : Ag
             (contains_cons b after c (subst (λ (t : List Network). Contains t c) e (not_passed left o c k f held.1 held.2)));
       }
 
-  -- which the call of `block` gives, or None
+  -- the call of `block` returns the first free block, or `None` if there is none
   pub answers : (left after : List Network) (b : Network) {X : Type 0} (pair : X → Network) (found : Option X) (x : ℕ) → IsPassing all p left → left ≡ b ∷ after → b.prefix ≤ p
       → x ≡ b.address → MatchOption found (w < p) (λ n. (p ≤ w) × (pair n ≡ block_at w x p))
       → MatchOption found (NoBlockIsFree w n a p) (λ d. IsFirstFree w n a p (pair d))

@@ -1,4 +1,4 @@
--- Sets made of ranges.
+-- Sets made from ranges.
 use Rattle.std.proofs.Common.{◌≡◌, ◌↔◌, ℕ, ◌+◌, ◌^◌, ◌<◌, ◌≤◌, ◌⊎◌, inl, inr, sym, ap, subst, ◌∙◌, arith, ⊎_elim, List, [], ◌∷◌, ◌++◌, length, get_or, take, drop, map, Result, Ok, Err, true≢false}
 use Rattle.std.proofs.lemmas.List.{append-nil, append_assoc, map-append, length-append, length-map, length-take, drop_more, take_more, take_all, take-append-le}
 use Rattle.std.proofs.Math.Nat.{min-le_right}
@@ -31,14 +31,14 @@ pub adds_all : (w first last : ℕ) (before items left blocks : List Network) �
 adds_all w first last before items left blocks h e none =
     (blocks, h, sym (append-nil items) ∙ ap (λ t. items ++ t) (sym none) ∙ e)
 
--- one block more has been added
+-- one more block has been added
 pub adds_one : {X : Type 0} (pair : X → Network) (items more : List X) (block : X) (left rest blocks : List Network) → more ≡ items ++ block ∷ [] → left ≡ pair block ∷ rest
     → map pair items ++ left ≡ blocks → map pair more ++ rest ≡ blocks
 adds_one pair items more block left rest blocks added steps h =
     ap (λ t. map pair t ++ rest) added ∙ ap (λ t. t ++ rest) (map-append pair items (block ∷ [])) ∙ append_assoc (map pair items) (pair block ∷ []) rest
     ∙ ap (λ t. map pair items ++ t) (sym steps) ∙ h
 
--- of all blocks, some come after those that were there, and the others are left
+-- of all blocks, some were appended to `before`, and the others are left
 abbrev pub IsPushed : List Network → List Network → List Network → List Network → Type 0
 IsPushed before items all left = (some : List Network) × (all ≡ some ++ left) × (items ≡ before ++ some)
 
@@ -50,7 +50,7 @@ pushing_goes_on pair items more block before all left rest added steps h = (
   ap (map pair) added ∙ map-append pair items (block ∷ []) ∙ ap (λ t. t ++ pair block ∷ []) h.2 ∙ append_assoc before h.0 (pair block ∷ []),
 )
 
--- so far as it goes, the first blocks of the least list are added
+-- the blocks appended so far are the first blocks of the least list
 pub adds_first : (w first last : ℕ) (before items all left : List Network) → IsLeastList w (FromTo first last) all → IsPushed before items all left
     → AddsFirstOfLeastList w (FromTo first last) before items
 adds_first w first last before items all left h p = (p.0, left, subst (IsLeastList w (FromTo first last)) p.1 h, p.2)
@@ -58,13 +58,13 @@ adds_first w first last before items all left h p = (p.0, left, subst (IsLeastLi
 pub adds_first_of_none : (w first last : ℕ) (items : List Network) → last < first → AddsFirstOfLeastList w (FromTo first last) items items
 adds_first_of_none w first last items l = ([], [], least_of_none w (FromTo first last) (λ x f. let a = f.0 in let b = f.1 in omega arith), sym (append-nil items))
 
--- one item more leaves the front as it is
+-- appending one more item leaves the front unchanged
 pub front_stays : {X : Type 0} (before items more : List X) (block : X) → more ≡ items ++ block ∷ [] → take (length before) items ≡ before → take (length before) more ≡ before
 front_stays before items more block added h =
     let short : length before ≤ length items = subst (λ n. n ≤ length items) (sym (length-take (length before) items) ∙ ap length h) (min-le_right (length before) (length items)) in
     ap (take (length before)) added ∙ take-append-le (length before) items (block ∷ []) short ∙ h
 
--- nothing is said if the list could not grow
+-- after an error, the clause for success holds trivially
 pub adds_in_vain : {T E : Type 0} (result : Result T E) (P : T → Type 0) → IsErr result → IfOk result P
 adds_in_vain (Ok value) P e = absurd (true≢false (sym e))
 adds_in_vain (Err error) P e = tt
@@ -122,7 +122,7 @@ pub set_of_ranges : (w : ℕ) (ns set : List Network) (rs : List Range) (i : ℕ
 set_of_ranges w ns set rs i h l k =
     least_of_same w (InUnion w ns) (InRanges rs) set (subst (λ (t : List Range). HasRanges w ns t) (take_all i rs l) h) k
 
--- of the blocks of all ranges, the list has so many, and the others are those of the ranges that are left
+-- of the blocks of all ranges, the list has `count`, and the others are those of the ranges left
 abbrev pub IsOnTheWay : ℕ → List Range → List Range → ℕ → Type 0
 IsOnTheWay w rs left count = (blocks : List Network) → AreBlocksOf w rs blocks → (others : List Network) × AreBlocksOf w left others × (length blocks ≡ count + length others)
 
@@ -141,7 +141,7 @@ way_goes_on pair w i rs r items more count next l is h adds was now blocks k =
     let split : length way.0 ≡ length (parts.0 ++ parts.1) = ap length parts.4 in
     (parts.1, parts.3, omega (arith, way.2, same, grown, split, was, now, length-append (map pair items) adds.0, length-append parts.0 parts.1, length-map items pair, length-map more pair))
 
--- a list that had no room for the blocks of one range more had none for those of all
+-- a list without room for the blocks of one more range has no room for the blocks of all ranges
 pub way_had_no_room : (w i : ℕ) (rs : List Range) (r : Range) (room capacity count : ℕ) → i < length rs → r ≡ get_or rs i r → IsOnTheWay w rs (drop i rs) count → room ≤ capacity
     → ((blocks : List Network) → IsLeastList w (FromTo r.0 r.1) blocks → capacity < count + length blocks) → (blocks : List Network) → AreBlocksOf w rs blocks → room < length blocks
 way_had_no_room w i rs r room capacity count l is h le full blocks k =

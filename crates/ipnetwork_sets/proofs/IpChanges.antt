@@ -1,4 +1,4 @@
--- A network that is added to the set of its family, or taken from it.
+-- Adding a network to the set of its family, or removing it.
 use Rattle.std.proofs.Common.{◌≡◌, ◌↔◌, ℕ, ◌<◌, inl, ⊎_elim, sym, refl, ap, ◌∙◌, arith, Bool, IsTrue, List, [], ◌∷◌, length, Option, Result, OnErr, OnOk, IfOk}
 use Rattle.std.proofs.lemmas.Result.{on_ok_weaker, on_err_weaker, IfOk-weaker}
 use Rattle.std.specs.List.{filter_map}
@@ -20,7 +20,7 @@ use Rattle.ipnetwork_sets.proofs.IpQuestions.{length_by_family}
 
 -- ---- the changes
 
--- with no network, and without one, a set is as it was
+-- adding or removing no network leaves a set unchanged
 either_none : (w : ℕ) (bs : List Network) → IsAddressSet w bs → IsLeastList w (InEither w bs []) bs
 either_none w bs h =
     least_of_same w (InUnion w bs) (InEither w bs []) bs
@@ -33,7 +33,7 @@ alone_none w bs h =
     (λ x. ((λ c. (c, λ d. contains_nil d.0 d.1)), (λ p. p.0)))
     h
 
--- an operation on a set of one family and one network, the same of either family, and what is told of the network
+-- an operation on a set and a network of one family, the same for either family, and what the result tells
 pub record IsChange (F : ℕ → List Network → List Network → ℕ → Type 0) (G : List IpNetwork → List IpNetwork → IpAddr → Type 0)
     (P : ℕ → Network → List Network → Type 0) (Q : IpNetwork → List IpNetwork → Type 0) : Type 0 where
   operation : IsOperation F G
@@ -52,7 +52,7 @@ adding = record {
 pub taking : IsChange InFirstAlone InIpFirstAlone MeetsUnion MeetsIpUnion
 taking = record { operation = alone; none = alone_none; v4_told = meets_in_family v4_family; v6_told = meets_in_family v6_family }
 
--- ---- a network of one family, and the set of these two
+-- ---- a network of one family, and the set of two lists
 
 module _ {F : ℕ → List Network → List Network → ℕ → Type 0} {G : List IpNetwork → List IpNetwork → IpAddr → Type 0}
     {P : ℕ → Network → List Network → Type 0} {Q : IpNetwork → List IpNetwork → Type 0} (change : IsChange F G P Q)
@@ -63,7 +63,7 @@ module _ {F : ℕ → List Network → List Network → ℕ → Type 0} {G : Lis
   own_v6 : v6 ≡ filter_map as_v6 old
   own_v6 = v6_own old v4 v6 (sym was)
 
-  -- what it makes of the set, and returns, is that of its own family: `joined` puts the list of the family beside the other
+  -- the changed set and the result are those of the network's family; `joined` adds the other family's list
   one_family : {E : Type 0} (w : ℕ) (own : IpNetwork → Option Network) (a : IpNetwork) (joined : List Network → List IpNetwork) (mine r : List Network) (result : Result Bool E)
       → mine ≡ filter_map own old → joined mine ≡ old → P w n (filter_map own old) ↔ Q a old
       → (IsLeastList w (F w mine (n ∷ [])) r → IsIpLeastList (G old (a ∷ [])) (joined r))

@@ -1,4 +1,4 @@
--- Lists of networks of either family, and those of each family in them.
+-- Lists of networks of either family, and the networks of each family in them.
 use Rattle.std.proofs.Common.{◌≡◌, ◌↔◌, ℕ, suc, ◌<◌, sym, refl, ap, subst, ◌∙◌, List, [], ◌∷◌, ◌++◌, map, length, get_or, take, Option}
 use Rattle.std.proofs.lemmas.List.{map-id}
 use Rattle.std.proofs.lemmas.List.Elements.{filter_map-append}
@@ -20,7 +20,7 @@ use Rattle.ipnetwork_sets.specs.IpSets.{v4_then_v6, IsIpLeastList, IsIpAddressSe
 
 -- ---- the addresses of each family
 
--- some address of a network of a family lies in the union exactly if one lies in that of its family's networks
+-- a network shares an address with the union exactly if it shares one with the union of its family's networks
 pub meets_in_family : {w : ℕ} {own : IpNetwork → Option Network} {put : Network → IpNetwork} {address : ℕ → IpAddr} → IsFamily w own put address → (ns : List IpNetwork) (n : Network)
     → MeetsUnion w n (filter_map own ns) ↔ MeetsIpUnion (put n) ns
 meets_in_family {w} {own} {put} {address} family ns n = (
@@ -36,13 +36,13 @@ in_v6 = in_family v6_family
 
 -- ---- least lists
 
--- the least list of a set is that of its IPv4 addresses, and after it that of its IPv6 addresses
+-- the least list of a set is that of its IPv4 addresses, followed by that of its IPv6 addresses
 pub put_together : (S : IpAddr → Type 0) (S4 S6 : ℕ → Type 0) (v4 v6 : List Network) → ((x : ℕ) → S4 x ↔ S (addresses.V4 x)) → ((x : ℕ) → S6 x ↔ S (addresses.V6 x))
     → IsLeastList 32 S4 v4 → IsLeastList 128 S6 v6 → IsIpLeastList S (v4_then_v6 v4 v6)
 put_together S S4 S6 v4 v6 same4 same6 h k =
     (v4, v6, refl, least_of_same 32 S4 (λ x. S (addresses.V4 x)) v4 same4 h, least_of_same 128 S6 (λ x. S (addresses.V6 x)) v6 same6 k)
 
--- and the blocks of each family in it are the least list of the family
+-- the blocks of each family in the least list of a set are the least list of the family's addresses
 pub v4_part : (S : IpAddr → Type 0) (S4 : ℕ → Type 0) (r : List IpNetwork) → ((x : ℕ) → S4 x ↔ S (addresses.V4 x)) → IsIpLeastList S r → IsLeastList 32 S4 (filter_map as_v4 r)
 v4_part S S4 r same h =
     subst (IsLeastList 32 S4) (v4_own r h.0 h.1 h.2)
@@ -53,13 +53,13 @@ v6_part S S6 r same h =
     subst (IsLeastList 128 S6) (v6_own r h.0 h.1 h.2)
     (least_of_same 128 (λ x. S (addresses.V6 x)) S6 h.1 (λ x. ((same x).1, (same x).0)) h.4)
 
--- so two lists that are put together so are equal if their blocks of each family are
+-- two lists, each IPv4 followed by IPv6, are equal if their blocks of each family are equal
 pub both_equal : (r s : List IpNetwork) (a b c d : List Network) → r ≡ v4_then_v6 a b → s ≡ v4_then_v6 c d
     → filter_map as_v4 r ≡ filter_map as_v4 s → filter_map as_v6 r ≡ filter_map as_v6 s → r ≡ s
 both_equal r s a b c d er es e4 e6 =
     own_parts r a b er ∙ ap (λ l. v4_then_v6 l (filter_map as_v6 r)) e4 ∙ ap (λ l. v4_then_v6 (filter_map as_v4 s) l) e6 ∙ sym (own_parts s c d es)
 
--- a list of networks of neither family has none
+-- a list without networks of either family is empty
 pub none_of_either : (ns : List IpNetwork) → filter_map as_v4 ns ≡ [] → filter_map as_v6 ns ≡ [] → ns ≡ []
 none_of_either [] e f = refl
 none_of_either (V4 n ∷ ns) e f = cc
@@ -76,7 +76,7 @@ set_of_families v4 v6 h k = (
   subst (λ (l : List Network). IsAggregate 128 l v6) (sym (v6_of_both v4 v6)) k,
 )
 
--- of the networks of two lists
+-- the aggregate of the networks of two lists
 pub aggregate_of_lists : (v4 v6 r4 r6 : List Network) (r : List IpNetwork) → IsAggregate 32 (map (λ n. n) v4) r4 → IsAggregate 128 (map (λ n. n) v6) r6 → r ≡ v4_then_v6 r4 r6
     → IsIpAggregate (v4_then_v6 v4 v6) r
 aggregate_of_lists v4 v6 r4 r6 r h k e = (
@@ -87,7 +87,7 @@ aggregate_of_lists v4 v6 r4 r6 r h k e = (
   subst (λ (l : List Network). IsAggregate 128 l r6) (map-id v6 ∙ sym (v6_of_both v4 v6)) k,
 )
 
--- of those of one list, taken apart
+-- the aggregate of the networks of one list, split by family
 pub aggregate_of_parts : (ns r : List IpNetwork) (v4 v6 : List Network) → v4 ≡ filter_map as_v4 ns → v6 ≡ filter_map as_v6 ns → IsIpAggregate (v4_then_v6 v4 v6) r → IsIpAggregate ns r
 aggregate_of_parts ns r v4 v6 e f h = (
   h.0,
@@ -97,7 +97,7 @@ aggregate_of_parts ns r v4 v6 e f h = (
   subst (λ (l : List Network). IsAggregate 128 l h.1) (v6_of_both v4 v6 ∙ f) h.4,
 )
 
--- one network more of a list that is taken apart
+-- one more network of a list that is split by family
 pub one_more : (own : IpNetwork → Option Network) (ns : List IpNetwork) (i : ℕ) (n : IpNetwork) (before after : List Network) → i < length ns → get_or ns i n ≡ n
     → before ≡ filter_map own (take i ns) → after ≡ before ++ filter_map own (n ∷ []) → after ≡ filter_map own (take (suc i) ns)
 one_more own ns i n before after l is e f =

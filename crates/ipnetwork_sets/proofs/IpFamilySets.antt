@@ -32,7 +32,7 @@ not_iff p = ((λ n q. n (p.1 q)), (λ n q. n (p.0 q)))
 
 -- ---- the operations
 
--- an operation on two sets of one family, and the same on sets of either
+-- an operation on two sets of one family, and the same on sets of either family
 pub record IsOperation (F : ℕ → List Network → List Network → ℕ → Type 0) (G : List IpNetwork → List IpNetwork → IpAddr → Type 0) : Type 0 where
   pub v4 : (a b : List IpNetwork) (x : ℕ) → F 32 (filter_map as_v4 a) (filter_map as_v4 b) x ↔ G a b (addresses.V4 x)
   pub v6 : (a b : List IpNetwork) (x : ℕ) → F 128 (filter_map as_v6 a) (filter_map as_v6 b) x ↔ G a b (addresses.V6 x)
@@ -50,7 +50,7 @@ pub either : IsOperation InEither InIpEither
 either = record { v4 = λ a b x. or_iff (in_v4 a x) (in_v4 b x); v6 = λ a b x. or_iff (in_v6 a x) (in_v6 b x) }
 
 module _ {F : ℕ → List Network → List Network → ℕ → Type 0} {G : List IpNetwork → List IpNetwork → IpAddr → Type 0} (op : IsOperation F G) where
-  -- the blocks that an operation leaves of each family, put together
+  -- the result of an operation is its results for each family, put together
   pub least_of_families : (a b : List IpNetwork) (a4 b4 a6 b6 r4 r6 : List Network) (r : List IpNetwork)
       → a4 ≡ filter_map as_v4 a → b4 ≡ filter_map as_v4 b → a6 ≡ filter_map as_v6 a → b6 ≡ filter_map as_v6 b
       → IsLeastList 32 (F 32 a4 b4) r4 → IsLeastList 128 (F 128 a6 b6) r6 → r ≡ v4_then_v6 r4 r6 → IsIpLeastList (G a b) r
@@ -59,7 +59,7 @@ module _ {F : ℕ → List Network → List Network → ℕ → Type 0} {G : Lis
       (put_together (G a b) (F 32 (filter_map as_v4 a) (filter_map as_v4 b)) (F 128 (filter_map as_v6 a) (filter_map as_v6 b)) r4 r6 (op.v4 a b) (op.v6 a b)
       (rw (ea4, eb4) at h) (rw (ea6, eb6) at k))
 
-  -- and those of each family among them
+  -- the blocks of each family in the result of an operation are the result for that family
   pub parts : (a b r : List IpNetwork) → IsIpLeastList (G a b) r
       → IsLeastList 32 (F 32 (filter_map as_v4 a) (filter_map as_v4 b)) (filter_map as_v4 r) × IsLeastList 128 (F 128 (filter_map as_v6 a) (filter_map as_v6 b)) (filter_map as_v6 r)
   parts a b r h = (
@@ -67,9 +67,9 @@ module _ {F : ℕ → List Network → List Network → ℕ → Type 0} {G : Lis
     v6_part (G a b) (F 128 (filter_map as_v6 a) (filter_map as_v6 b)) r (op.v6 a b) h,
   )
 
--- ---- questions of two sets
+-- ---- queries on two sets
 
--- a question of two sets of either family is that of each family
+-- a query on two sets of either family holds exactly if it holds for each family
 pub record IsQuestion (F : ℕ → List Network → List Network → Type 0) (Q : List IpNetwork → List IpNetwork → Type 0) : Type 0 where
   pub by_family : (a b : List IpNetwork) → (F 32 (filter_map as_v4 a) (filter_map as_v4 b) × F 128 (filter_map as_v6 a) (filter_map as_v6 b)) ↔ Q a b
 

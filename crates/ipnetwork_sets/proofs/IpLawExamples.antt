@@ -1,4 +1,4 @@
--- What the laws let one conclude, where a weaker law would not: of sets with addresses of both families.
+-- What the laws imply and weaker laws would not, for sets with addresses of both families.
 use Rattle.std.proofs.Common.{◌≡◌, ◌↔◌, ◌-◌, ◌^◌, ◌<◌, ◌≤◌, sym, refl, ap, arith, List, [], ◌∷◌, length}
 use Rattle.std.specs.Prelude.{IsTrue}
 use Rattle.std.specs.List.{All, Contains}
@@ -18,8 +18,8 @@ use Rattle.ipnetwork_sets.specs.IpSets.{v4_then_v6, IsIpLeastList, IsIpAddressSe
 use Rattle.ipnetwork_sets.specs.IpLaws.{EachFamilyKeepsItsAddresses, IpAggregateIsLeastList, IpCommonPartIsShortest, IpDifferenceIsShortest, IpComplementIsShortest, IpUnionIsShortest, SameIpAddressesAreOneSet, SameIpBlocksAreEqual, IpCommonPartCommutes, IpUnionCommutes, IpCommonPartOfOne, IpUnionOfOne, IpDifferenceIsDisjoint, IpPartsMakeTheWhole}
 use Rattle.ipnetwork_sets.specs.IpQuestionLaws.{IpNetworkMeetsUnion, IpWithinIfNothingIsLeft, IpDisjointIfNothingIsCommon, IpComplementIsDisjoint, IpComplementMakesTheWhole}
 
--- the last four addresses of each family; of IPv4 the first two of them and a block of eight before, of IPv6 the last
--- two
+-- the last four addresses of each family; and for IPv4 the first two of these and a block of eight before them, for
+-- IPv6 the last two
 abbrev last4 : Network
 last4 = net (2 ^ 32 - 4) 30
 
@@ -55,7 +55,7 @@ aggregate_as_least_list law networks blocks = (law networks blocks).0
 pub least_list_as_aggregate : IpAggregateIsLeastList → (networks : List IpNetwork) → IsIpLeastList (InIpUnion networks) a → IsIpAggregate networks a
 least_list_as_aggregate law networks = (law networks a).1
 
--- ---- each operation has the fewest blocks, apart, and no other list
+-- ---- the blocks of each operation are the fewest, and are apart, and no other list is the least
 
 pub common_shortest : IpCommonPartIsShortest → (r networks : List IpNetwork) → IsIpLeastList (InIpBoth a b) r → All IsIpNetwork networks → ((x : IpAddr) → InIpUnion networks x ↔ InIpBoth a b x) → length r ≤ length networks
 common_shortest law r networks h all same = (law a b r h).shortest networks all same
@@ -104,7 +104,7 @@ pub parts_of_two : IpPartsMakeTheWhole → (common alone r : List IpNetwork) →
     → IsIpLeastList (InIpEither common alone) r → r ≡ a
 parts_of_two law = law a b
 
--- ---- questions
+-- ---- queries
 
 pub meets_the_first : IpNetworkMeetsUnion → IpOverlap (V4 (net (2 ^ 32 - 1) 0)) (V4 last4) → MeetsIpUnion (V4 (net (2 ^ 32 - 1) 0)) a
 meets_the_first law o = (law (V4 (net (2 ^ 32 - 1) 0)) a).1 (V4 last4, contains_head (V4 last4) (V6 last6 ∷ []), o)

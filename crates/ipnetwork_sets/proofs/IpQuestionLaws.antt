@@ -1,4 +1,4 @@
--- The laws of questions to sets of addresses of either family, and of complements, from those of one family.
+-- The laws of queries on sets of addresses of either family, and of complements, from those of one family.
 use Rattle.std.proofs.Common.{◌≡◌, ◌↔◌, ℕ, refl, ap, List, [], ◌∷◌}
 use Rattle.std.specs.List.{filter_map}
 use Rattle.ipnetwork_addr.specs.declared.ip.IpAddr.{IpAddr}
@@ -19,7 +19,7 @@ ip_network_meets_union n networks = (
   (λ o. (o.2.0, o.2.1, (o.0, o.1, o.2.2))),
 )
 
--- a question that is answered yes exactly if an operation leaves nothing
+-- a query that holds exactly if the result of an operation is empty
 nothing_left : {F : ℕ → List Network → List Network → ℕ → Type 0} {G : List IpNetwork → List IpNetwork → IpAddr → Type 0} → IsOperation F G
     → {P : ℕ → List Network → List Network → Type 0} {Q : List IpNetwork → List IpNetwork → Type 0} → IsQuestion P Q
     → ((w : ℕ) (a b r : List Network) → IsLeastList w (F w a b) r → P w a b ↔ (r ≡ [])) → (a b r : List IpNetwork) → IsIpLeastList (G a b) r → Q a b ↔ (r ≡ [])

@@ -1,4 +1,4 @@
--- Lists of the caller's that have too little room.
+-- Lists of the caller that have too little room.
 use Rattle.std.proofs.Common.{◌≡◌, ◌⊎◌, inl, inr, ⊎_elim, ℕ, suc, ◌+◌, ◌<◌, ◌≤◌, arith, sym, ap, subst, ◌∙◌, List, [], ◌∷◌, ◌++◌, length, length-append, get_or, take, drop, Option}
 use Rattle.std.proofs.lemmas.List.{take-append-drop}
 use Rattle.std.proofs.lemmas.List.Elements.{filter_map-append}
@@ -10,14 +10,14 @@ use Rattle.ipnetwork_blocks.specs.AggregateIp.{as_v4, as_v6}
 use Rattle.ipnetwork_sets.specs.IpSets.{v4_then_v6, HasTooLittleRoom}
 use Rattle.ipnetwork_blocks.proofs.Families.{v4_own, v6_own}
 
--- for the blocks of two sets, the list of the one family
+-- the list of one family has too little room for its blocks
 pub too_little_v4 : (v4 v6 : List Network) (a b : ℕ) (blocks : List IpNetwork) → blocks ≡ v4_then_v6 v4 v6 → a < length v4 → HasTooLittleRoom a b blocks
 too_little_v4 v4 v6 a b blocks e l = inl (subst (λ (ns : List Network). a < length ns) (v4_own blocks v4 v6 e) l)
 
 pub too_little_v6 : (v4 v6 : List Network) (a b : ℕ) (blocks : List IpNetwork) → blocks ≡ v4_then_v6 v4 v6 → b < length v6 → HasTooLittleRoom a b blocks
 too_little_v6 v4 v6 a b blocks e l = inr (subst (λ (ns : List Network). b < length ns) (v6_own blocks v4 v6 e) l)
 
--- those of a family among the first networks, and one more, are no more than those among all
+-- the networks of a family among the first `i`, and one more, are no more than those among all
 so_far : (own : IpNetwork → Option Network) (ns : List IpNetwork) (i : ℕ) (n : IpNetwork) → i < length ns → get_or ns i n ≡ n
     → length (filter_map own (take i ns)) + length (filter_map own (n ∷ [])) ≤ length (filter_map own ns)
 so_far own ns i n l is =
@@ -28,7 +28,7 @@ so_far own ns i n l is =
     ap length (ap (filter_map own) (sym (take-append-drop (suc i) ns)) ∙ filter_map-append own (take (suc i) ns) (drop (suc i) ns)) in
     omega (arith, front, all, length-append (filter_map own (take i ns)) (filter_map own (n ∷ [])), length-append (filter_map own (take (suc i) ns)) (filter_map own (drop (suc i) ns)))
 
--- a list that had too little for one network more had too little for all
+-- a list with too little room for one more network has too little for all
 pub too_little_for_all : (ns : List IpNetwork) (i : ℕ) (n : IpNetwork) (v4 v6 : List Network) (a b c4 c6 k4 k6 : ℕ) → i < length ns → get_or ns i n ≡ n
     → v4 ≡ filter_map as_v4 (take i ns) → v6 ≡ filter_map as_v6 (take i ns) → k4 ≡ length v4 → k6 ≡ length v6 → a ≤ c4 → b ≤ c6
     → (c4 < k4 + length (filter_map as_v4 (n ∷ []))) ⊎ (c6 < k6 + length (filter_map as_v6 (n ∷ []))) → HasTooLittleRoom a b ns

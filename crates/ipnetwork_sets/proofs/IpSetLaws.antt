@@ -53,14 +53,14 @@ from_least ns r h = (
 pub ip_aggregate_is_least_list : IpAggregateIsLeastList
 ip_aggregate_is_least_list ns r = (to_least ns r, from_least ns r)
 
--- the blocks of each family of a set are a set
+-- the blocks of each family of a set are those of a set
 v4_set : (a : List IpNetwork) → IsIpAddressSet a → IsAddressSet 32 (filter_map as_v4 a)
 v4_set a h = v4_part (InIpUnion a) (InUnion 32 (filter_map as_v4 a)) a (in_v4 a) (to_least a a h)
 
 v6_set : (a : List IpNetwork) → IsIpAddressSet a → IsAddressSet 128 (filter_map as_v6 a)
 v6_set a h = v6_part (InIpUnion a) (InUnion 128 (filter_map as_v6 a)) a (in_v6 a) (to_least a a h)
 
--- ---- the least list of a set; that of an operation has its addresses, since that of each family has those of the family
+-- ---- the least list of a set; it has the set's addresses, since that of each family has those of the family
 
 pub one_ip_list : (S : IpAddr → Type 0) (r s : List IpNetwork) → IsIpLeastList S r → IsIpLeastList S s → r ≡ s
 one_ip_list S r s h k =
@@ -143,7 +143,7 @@ module _ {F : ℕ → List Network → List Network → ℕ → Type 0} {G : Lis
       let own = parts op a a r k in
       both_equal r a k.0 k.1 h.0 h.1 k.2 h.2 (law 32 (filter_map as_v4 a) (filter_map as_v4 r) (v4_set a h) own.0) (law 128 (filter_map as_v6 a) (filter_map as_v6 r) (v6_set a h) own.1)
 
--- ---- a difference, and the common part
+-- ---- a difference and the intersection
 
 pub ip_difference_is_disjoint : sets.DifferenceIsDisjoint → IpDifferenceIsDisjoint
 ip_difference_is_disjoint law a b r h =

@@ -1,4 +1,4 @@
--- A network that is added to a set: the block that takes its place, joined with those beside it.
+-- Adding a network to a set: the block that replaces it, joined with those beside it.
 use Rattle.std.proofs.Common.{◌≡◌, ◌↔◌, ℕ, ◌+◌, ◌-◌, ◌<◌, ◌≤◌, ◌⊎◌, inl, inr, sym, ap, subst, ◌∙◌, arith, ⊎_elim, List, [], ◌∷◌, ◌++◌, length, get_or, take, drop, Option, None, Some, MatchOption}
 use Rattle.std.proofs.lemmas.Bool.{cases_lt}
 use Rattle.std.specs.List.{Contains}
@@ -47,14 +47,14 @@ at_back xs n x c =
     let l = c.1 in
     (n + c.0, omega arith, omega (arith, size, l), sym (get_or-drop n xs c.0 x) ∙ c.2)
 
--- the union of one network has its members
+-- the union of a single network has the addresses of the network
 pub union_of_one_network : (w : ℕ) (n : Network) (x : ℕ) → InUnion w (n ∷ []) x ↔ Member w n x
 union_of_one_network w n x = (
   (λ c. ⊎_elim (λ (m : Member w n x). m) (λ (d : InUnion w [] x). absurd (union_nil w x d)) ((union_cons w n [] x).0 c)),
   (λ m. (n, contains_head n [], m)),
 )
 
--- two joined lists, of which the second follows the first
+-- two joined lists, the second of which follows the first
 pub joined_append : (w : ℕ) (xs ys : List Network) → AreJoined w xs → AreJoined w ys → ((a b : Network) → Contains xs a → Contains ys b → Follows w a b) → AreJoined w (xs ++ ys)
 joined_append w xs ys h k across = record {
   blocks = All-append (IsCidrBlock w) xs ys h.blocks k.blocks;
@@ -70,10 +70,10 @@ joined_drop w n bs h = record {
       (subst (λ (v : Network). Follows w (get_or bs (n + i) d) v) (sym (get_or-drop n bs j d)) (h.pairs (n + i) (n + j) d (omega arith) (omega (arith, size, m))));
 }
 
--- ---- the way to the block
+-- ---- joining the block step by step
 
--- the blocks before the first index, this block, and those from the second index on have the addresses of the set and
--- those of the network
+-- the blocks before the index `first`, the block `b`, and those from the index `behind` on have the addresses of the
+-- set and those of the network
 pub record IsJoinedTo (w : ℕ) (bs : List Network) (n : Network) (first behind : ℕ) (b : Network) : Type 0 where
   pub ordered : first ≤ behind
   pub within : behind ≤ length bs
@@ -82,7 +82,7 @@ pub record IsJoinedTo (w : ℕ) (bs : List Network) (n : Network) (first behind 
   pub after : (k : ℕ) (d : Network) → behind ≤ k → k < length bs → high w b < (get_or bs k d).address
   pub union : (x : ℕ) → InEither w bs (n ∷ []) x ↔ (InUnion w (take first bs) x ⊎ (Member w b x ⊎ InUnion w (drop behind bs) x))
 
--- the wider block is one, begins with the first half and ends with the second
+-- the parent of two halves is a block that begins with the first and ends with the second
 wider_block : (w : ℕ) (a b : Network) → IsCidrBlock w a → IsCidrBlock w b → high w a < b.address → AreHalves w a b → IsCidrBlock w (parent w a)
 wider_block w a b ha hb l s =
     let fits = ha.network.prefix_fits in
@@ -111,7 +111,7 @@ module _ (w : ℕ) (bs : List Network) (n : Network) (law : AggregateIsApart) (h
   joined : AreJoined w bs
   joined = set_is_joined w bs law h
 
-  -- a block that shares an address with the network lies in it, where the network does not lie in the set
+  -- if the network does not lie in the set, a block that shares an address with it lies in it
   lies_in : ¬ (LiesInUnion w n bs) → (c : Network) → Contains bs c → IsNetwork w c → Overlap w c n → Subnet w c n
   lies_in new c held cn o =
       ⊎_elim
@@ -160,7 +160,7 @@ module _ (w : ℕ) (bs : List Network) (n : Network) (law : AggregateIsApart) (h
           let same : (block_of w n).address ≡ low w (block_of w n) = block_begins w n in
           omega (arith, same)
 
-  -- one more before it
+  -- one more block before it is joined
   pub joining_before : (first behind : ℕ) (b wider : Network) → IsJoinedTo w bs n first behind b → JoinsBefore w bs first b wider → IsJoinedTo w bs n (first - 1) behind wider
   joining_before first behind b wider j s =
       let t : Network = Here (first - 1) b in
@@ -210,7 +210,7 @@ module _ (w : ℕ) (bs : List Network) (n : Network) (law : AggregateIsApart) (h
       } in
       subst (λ (v : Network). IsJoinedTo w bs n (first - 1) behind v) (sym (s.joined b)) step
 
-  -- one more after it
+  -- one more block after it is joined
   pub joining_behind : (first behind : ℕ) (b wider : Network) → IsJoinedTo w bs n first behind b → JoinsBehind w bs b behind wider → IsJoinedTo w bs n first (behind + 1) wider
   joining_behind first behind b wider j s =
       let t : Network = Here behind b in
@@ -258,7 +258,7 @@ module _ (w : ℕ) (bs : List Network) (n : Network) (law : AggregateIsApart) (h
       } in
       subst (λ (v : Network). IsJoinedTo w bs n first (behind + 1) v) (sym s.joined) step
 
-  -- where neither is a half, the list is that of the set with the network
+  -- if neither the block before nor the one after is the other half, the list is that of the set with the network added
   pub joining_ends : (first behind : ℕ) (b : Network) → IsJoinedTo w bs n first behind b → NoHalfBefore w bs first b → NoHalfBehind w bs b behind
       → IsLeastList w (InEither w bs (n ∷ [])) (take first bs ++ b ∷ drop behind bs)
   joining_ends first behind b j none_before none_behind =
@@ -281,7 +281,7 @@ module _ (w : ℕ) (bs : List Network) (n : Network) (law : AggregateIsApart) (h
         pairs = λ i k d l m. absurd (omega arith);
       }
 
-      -- each of the front follows nothing of the others but what it should
+      -- the block `b` follows each block of the front
       front : (a : Network) → Contains (take first bs) a → Follows w a b
       front a c =
           let p = at_front bs first a c in
@@ -325,7 +325,7 @@ module _ (w : ℕ) (bs : List Network) (n : Network) (law : AggregateIsApart) (h
                 (cases_lt behind p.0),
           )
 
-      -- those of the front and those of the back
+      -- each block of the back follows each block of the front
       over : (a c : Network) → Contains (take first bs) a → Contains (drop behind bs) c → Follows w a c
       over a c in_front in_back =
           let p = at_front bs first a in_front in
@@ -348,7 +348,7 @@ module _ (w : ℕ) (bs : List Network) (n : Network) (law : AggregateIsApart) (h
           (λ (e : b ≡ c). subst (λ (t : Network). Follows w a t) e (front a ca))
           (λ (d : Contains (drop behind bs) c). over a c ca d) (contains_cons b (drop behind bs) c cc))
 
--- ---- what the two steps tell
+-- ---- the results of the two steps
 
 pub told_before : {X : Type 0} (pair : X → Network) (w : ℕ) (bs : List Network) (first : ℕ) (t b : Network) (found : Option X) → 0 < first → first ≤ length bs → t ≡ get_or bs (first - 1) t
     → MatchOption found (¬ (AreHalves w t b)) (λ x. AreHalves w t b × (pair x ≡ parent w t))

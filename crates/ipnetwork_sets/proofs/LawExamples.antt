@@ -1,5 +1,5 @@
--- What the laws let one conclude, where a weaker law would not: over addresses of 3 bits and of 128, up to the last one,
--- of sets of several blocks, of lists of networks in any order, with host bits, and of prefix length 0.
+-- What the laws imply and weaker laws would not: for addresses of 3 bits and of 128, up to the last one, for sets of
+-- several blocks, and for lists of networks in any order, with host bits and of prefix length 0.
 use Rattle.std.proofs.Common.{◌≡◌, ◌↔◌, ℕ, ◌+◌, ◌^◌, ◌-◌, ◌<◌, ◌≤◌, ◌⊎◌, ◌++◌, sym, refl, ap, arith, List, [], ◌∷◌, length}
 use Rattle.std.specs.Prelude.{min, IsTrue}
 use Rattle.std.specs.List.{AllPairs, Contains}
@@ -40,16 +40,16 @@ c = net 4 2 ∷ []
 abbrev n : Network
 n = net 1 1
 
--- over 128 bits: 0:0:0:1::/64, 8000::/2, and of the last four addresses all but the third; ::/1, and of the last 32 the
--- first 16, 4 and 2 further on, and the last two
+-- over 128 bits: 0:0:0:1::/64, 8000::/2, and all but the third of the last four addresses; ::/1 and, of the last 32,
+-- the first 16, 4 and 2 further on, and the last two
 abbrev a6 : List Network
 a6 = net (2 ^ 64) 64 ∷ net (2 ^ 127) 2 ∷ net (2 ^ 128 - 4) 127 ∷ net (2 ^ 128 - 1) 128 ∷ []
 
 abbrev b6 : List Network
 b6 = net 0 1 ∷ net (2 ^ 128 - 32) 124 ∷ net (2 ^ 128 - 12) 126 ∷ net (2 ^ 128 - 6) 127 ∷ net (2 ^ 128 - 2) 127 ∷ []
 
--- lists in no order, of networks with host bits, some of which lie in others: those of the first; ::/1 and the last two;
--- and two of the last four
+-- unordered lists of networks with host bits, some of which lie in others: the addresses of the first; ::/1 and the
+-- last two; and two of the last four
 abbrev x6 : List Network
 x6 = net (2 ^ 128 - 1) 128 ∷ net (2 ^ 128 - 3) 127 ∷ net (2 ^ 127 + 5) 2 ∷ net (2 ^ 64 + 7) 66 ∷ net (2 ^ 64 + 9) 64 ∷ []
 
@@ -63,7 +63,7 @@ z6 = net (2 ^ 128 - 3) 127 ∷ []
 abbrev n6 : Network
 n6 = net (2 ^ 128 - 1) 0
 
--- what is said of sets, and what of any lists, over 3 bits and over 128
+-- statements about sets, and about any lists, over 3 bits and over 128
 abbrev OfSets : (ℕ → List Network → List Network → Type 0) → Type 0
 OfSets P = P 3 a b × P 128 a6 b6
 
@@ -140,7 +140,7 @@ pub parts_of_two : PartsMakeTheWhole → OfSets (λ w x y. (common alone r : Lis
     → IsLeastList w (InEither w common alone) r → r ≡ x)
 parts_of_two law = (law 3 a b, law 128 a6 b6)
 
--- what is out of a union (or a common part) of two lists, and what is out of each of the two, together
+-- the addresses outside a union (or an intersection) of two lists, and those outside each of the two, combined
 abbrev Outside : ℕ → (Out : List Network → ℕ → Type 0) (Of Together : ℕ → List Network → List Network → ℕ → Type 0) (xs ys : List Network) → Type 0
 Outside w Out Of Together xs ys = (u out out_of_xs out_of_ys both : List Network) → IsLeastList w (Of w xs ys) u → IsLeastList w (Out u) out
     → IsLeastList w (Out xs) out_of_xs → IsLeastList w (Out ys) out_of_ys → IsLeastList w (Together w out_of_xs out_of_ys) both → out ≡ both
@@ -159,7 +159,7 @@ without_both law = (law 3 a b c, law 128 x6 y6 z6)
 
 -- ---- other lists with the same addresses
 
--- two lists have one least list of what they have and one of what others have with the same addresses
+-- an operation has the same result for two lists as for two others with the same addresses
 abbrev Settled : ℕ → (ℕ → List Network → List Network → ℕ → Type 0) → List Network → List Network → Type 0
 Settled w Of x y = (d e r s : List Network) → SameUnion w x d → SameUnion w y e → IsLeastList w (Of w x y) r → IsLeastList w (Of w d e) s → r ≡ s
 
@@ -175,7 +175,7 @@ free_of_the_same law = (law 3 n a, law 128 n6 x6)
 pub union_of_the_same : UnionIsSettled → OfLists (λ w k x y z. Settled w InEither x y)
 union_of_the_same law = (law 3 a b, law 128 x6 y6)
 
--- ---- questions
+-- ---- queries
 
 pub meets_one_of_them : NetworkMeetsUnion → OfLists (λ w k x y z. (b : Network) → Contains x b → Overlap w k b → MeetsUnion w k x)
 meets_one_of_them law = (λ m i o. (law 3 n a).1 (m, i, o), λ m i o. (law 128 n6 x6).1 (m, i, o))
@@ -204,7 +204,7 @@ all_together law = (law 3 b, law 128 y6)
 pub free_as_a_difference : FreePartIsADifference → OfLists (λ w k x y z. (r s : List Network) → IsLeastList w (InNetworkAlone w k x) r → IsLeastList w (InFirstAlone w (k ∷ []) x) s → r ≡ s)
 free_as_a_difference law = (law 3 n a, law 128 n6 x6)
 
--- the network less another one, as an exclusion and as a difference
+-- a network minus another one, as an exclusion and as a difference
 abbrev OneExclusion : ℕ → Network → Network → Type 0
 OneExclusion w k inner = (r s : List Network) → IsLeastList w (InDifference w k inner) r → IsLeastList w (InFirstAlone w (k ∷ []) (inner ∷ [])) s → r ≡ s
 
@@ -251,7 +251,7 @@ no_more_than_there_are law = (
   λ h. let few : 2 ^ 128 + 1 ≤ 2 ^ 128 = (law 128 (net 0 0 ∷ net (2 ^ 128 - 1) 128 ∷ []) h).1 in omega (arith, few),
 )
 
--- if the blocks are the least list of a set of addresses of w bits, it has i of them, which are not too many
+-- if the blocks are the least list of a set of addresses of w bits, the set has `i` addresses, at most 2 ^ w
 abbrev Counts : ℕ → (ℕ → Type 0) → List Network → ℕ → Type 0
 Counts w set blocks i = IsLeastList w set blocks → HasCount set i × (i ≤ 2 ^ w)
 
@@ -288,7 +288,7 @@ as_many_as_both =
     least_of_same 4 (InUnion 4 (net 4 2 ∷ net 8 2 ∷ [])) (InEither 4 (net 4 2 ∷ []) (net 8 2 ∷ [])) (net 4 2 ∷ net 8 2 ∷ [])
     (union_append 4 (net 4 2 ∷ []) (net 8 2 ∷ [])) no_halves
 
--- ---- networks added and taken
+-- ---- adding and removing networks
 
 pub pushed : UnionOfPushed → OfLists (λ w k x y z. (i : ℕ) → InUnion w (x ++ k ∷ []) i ↔ (InUnion w x i ⊎ Member w k i))
 pushed law = (law 3 a n, law 128 x6 n6)
@@ -302,7 +302,7 @@ added_has_more law = (law 3 b n, law 128 y6 n6)
 pub taken_has_less : TakenHas → OfLists (λ w k x y z. (r : List Network) → IsLeastList w (InFirstAlone w y (k ∷ [])) r → (i : ℕ) → InUnion w r i ↔ (InUnion w y i × ¬ (Member w k i)))
 taken_has_less law = (law 3 b n, law 128 y6 n6)
 
--- a network that is put into a set and taken out of it, and one that is taken out and put back
+-- a network that is added to a set and removed again, and one that is removed and added again
 abbrev ThereAndBack : ℕ → List Network → Network → Type 0
 ThereAndBack w x k = (r s : List Network) → IsAddressSet w x → ¬ (MeetsUnion w k x) → IsLeastList w (InEither w x (k ∷ [])) r → IsLeastList w (InFirstAlone w r (k ∷ [])) s → s ≡ x
 

@@ -1,4 +1,4 @@
--- The list by halves is the least list of the set that the test tells.
+-- The list computed by halving is the least list of the addresses that pass the test.
 use Rattle.std.proofs.Common.{◌≡◌, ◌↔◌, ℕ, zero, suc, ◌+◌, ◌-◌, ◌^◌, ◌<◌, ◌≤◌, ◌⊎◌, inl, inr, sym, refl, ap, subst, ◌∙◌, arith, ⊎_elim, List, [], ◌∷◌, ◌++◌, Bool, true, false, ◌&&◌, ◌||◌, not, leb, Option, None, Some}
 use Rattle.std.proofs.lemmas.Bool.{cases_lt, and_parts, true≢false, leb-true, le-leb}
 use Rattle.std.proofs.lemmas.List.Folds.{Any-from_list_any, list_any-from_Any}
@@ -15,7 +15,7 @@ use Rattle.ipnetwork_sets.specs.Sets.{InBoth, InEither}
 use Rattle.ipnetwork_sets.specs.Private.LeastBlocks.{all_from, least_within, least_blocks, in_union, common_blocks, either_blocks, is_from, left_blocks}
 use Rattle.ipnetwork_sets.specs.Private.Remainder.{IsFrom, InLeft}
 
--- ---- the test of addresses in a row
+-- ---- testing consecutive addresses
 
 all_from_true : (test : ℕ → Bool) (start count : ℕ) → all_from test start count ≡ true → (x : ℕ) → start ≤ x → x < start + count → test x ≡ true
 unfolding all_from
@@ -34,7 +34,7 @@ true_all_from test start (suc count) all =
     ap (λ b. b && all_from test start count) (all (start + count) (omega arith) (omega arith))
     ∙ true_all_from test start count (λ x l m. all x l (omega arith))
 
--- ---- the list by halves
+-- ---- the list computed by halving
 
 -- the addresses that pass the test
 abbrev Passes : (ℕ → Bool) → ℕ → Type 0
@@ -56,7 +56,7 @@ within_is_least test w (suc k) base h =
     (within_is_least test w k base (lower_begins w k base h))
     (within_is_least test w k (base + 2 ^ k) (upper_begins w k base h)))
 
--- the blocks of a set of addresses of w bits, where the test tells the set
+-- the blocks of a set of addresses of w bits, if exactly its addresses pass the test
 pub least_blocks_of : (w : ℕ) (test : ℕ → Bool) (S : ℕ → Type 0) → ((x : ℕ) → S x → x < 2 ^ w) → ((x : ℕ) → x < 2 ^ w → (test x ≡ true) ↔ S x)
     → IsLeastList w S (least_blocks w test)
 unfolding least_blocks
@@ -68,7 +68,7 @@ least_blocks_of w test S fits tells =
     ))
     (within_is_least test w w 0 (record { times = 0; multiple = omega arith; bits = omega arith; fits = omega arith }))
 
--- ---- the sets of this crate, told by tests
+-- ---- the sets of this crate, as tests
 
 pub union_told : (w : ℕ) (networks : List Network) (x : ℕ) → (in_union w networks x ≡ true) ↔ InUnion w networks x
 unfolding in_union

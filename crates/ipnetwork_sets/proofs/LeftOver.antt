@@ -1,5 +1,5 @@
--- A network that is taken from a set: what is left of the first block that shares an address with it, between the blocks
--- before and after it.
+-- Removing a network from a set: what is left of the first block that shares an address with it, between the blocks
+-- before and after.
 use Rattle.std.proofs.Common.{◌≡◌, ℕ, ◌-◌, ◌<◌, ◌≤◌, ◌⊎◌, inl, inr, sym, ap, subst, ◌∙◌, arith, ⊎_elim, List, [], ◌∷◌, ◌++◌, length, get_or, take, drop, append_assoc}
 use Rattle.std.proofs.lemmas.Bool.{cases_lt, cases_order}
 use Rattle.std.proofs.lemmas.List.{get_or_default}
@@ -22,7 +22,7 @@ module _ (w : ℕ) (bs : List Network) (n : Network) (from to : ℕ) (law : Aggr
   abbrev Here : ℕ → Network → Network
   Here k d = get_or bs k d
 
-  -- where no block shares an address with it, the set has none of its addresses
+  -- if no block shares an address with the network, the set has none of its addresses
   pub meets_none : from ≡ to → ¬ (MeetsUnion w n bs)
   meets_none e m =
       let c = m.2 in
@@ -46,10 +46,10 @@ module _ (w : ℕ) (bs : List Network) (n : Network) (from to : ℕ) (law : Aggr
       let o : Overlap w b n = subst (λ (t : Network). Overlap w t n) (sym is) (place.shared from b (omega arith) some) in
       (o.0, o.2, (b, (from, omega arith, sym is), o.1))
 
-  -- the whole is the first of the blocks that share an address with it, and what is left of it are these blocks
+  -- `whole` is the first of the blocks that share an address with the network, and `left` are the blocks left of it
   module _ (whole : Network) (left : List Network) (networks : AggregateHasNetworks) (some : from < to) (is : whole ≡ get_or bs from whole)
       (rest : IsLeastList w (InDifference w whole n) left) where
-    -- what is left are the addresses of the blocks before it, of what is left of the whole, and of those after
+    -- the addresses left: those of the blocks before, those left of the whole, and those of the blocks after
     abbrev Front : ℕ → Type 0
     Front x = InUnion w (take from bs) x
 
@@ -71,7 +71,7 @@ module _ (w : ℕ) (bs : List Network) (n : Network) (from to : ℕ) (law : Aggr
     whole_is_block : IsCidrBlock w whole
     whole_is_block = subst (λ (t : Network). IsCidrBlock w t) (sym is) (block_of_set w bs from whole h fits)
 
-    -- it has as many more blocks as the network's prefix length is longer
+    -- one block is left for each bit by which the network's prefix length is longer
     pub left_length : (Subnet w whole n → left ≡ []) → (Subnet w n whole → length left ≡ n.prefix - whole.prefix) → length left ≡ n.prefix - whole.prefix
     left_length none longer =
         let hw = whole_is_block in
@@ -85,7 +85,7 @@ module _ (w : ℕ) (bs : List Network) (n : Network) (from to : ℕ) (law : Aggr
         (λ (s : Subnet w n whole). longer s)
         (nested w whole n hw.network nn o)
 
-    -- the others that share an address with it lie in it: a block that has all of it has an address of the whole
+    -- the other blocks that share an address with the network lie in it: one that had all of it would meet the whole
     inner : (k : ℕ) (c : Network) → from < k → k < to → get_or bs k c ≡ c → Subnet w c n
     inner k c more less held =
         let within = place.within in
@@ -104,7 +104,7 @@ module _ (w : ℕ) (bs : List Network) (n : Network) (from to : ℕ) (law : Aggr
         r)
         (nested w c n hc.network nn o)
 
-    -- where a block of the set stands
+    -- the place of a block of the set: before the network, the whole itself, within the network, or after it
     abbrev Stands : Network → Type 0
     Stands c = Contains (take from bs) c ⊎ ((c ≡ whole) ⊎ (Subnet w c n ⊎ Contains (drop to bs) c))
 
@@ -133,7 +133,7 @@ module _ (w : ℕ) (bs : List Network) (n : Network) (from to : ℕ) (law : Aggr
         let g : high w c.0 < whole.address = subst (λ (t : Network). high w c.0 < t.address) same (subst (λ (t : Network). high w t < (Here from c.0).address) p.3 e) in
         (omega (arith, i.1, f), omega (arith, i.1, g))
 
-    -- those of the back after both
+    -- the addresses of the back come after the network and after the whole
     back_behind : (x : ℕ) → Back x → (high w n < x) × (high w whole < x)
     back_behind x c =
         let p = at_back bs to c.0 c.1 in
@@ -153,7 +153,7 @@ module _ (w : ℕ) (bs : List Network) (n : Network) (from to : ℕ) (law : Aggr
     not_in : (x : ℕ) → Left x → ¬ (Member w n x)
     not_in x s m = s.1 ((union_of_one_network w n x).1 m)
 
-    -- the set of what is left is these three
+    -- the addresses left are those of the three parts
     from_left : (x : ℕ) → Left x → Front x ⊎ Behind x
     from_left x s =
         let c : Network = s.0.0 in
@@ -198,7 +198,7 @@ module _ (w : ℕ) (bs : List Network) (n : Network) (from to : ℕ) (law : Aggr
         let g = back_behind y c in
         omega (arith, i.1, g.1)
 
-    -- a network of what is left lies in one of the three
+    -- a network whose addresses are all left lies in one of the three parts
     in_one : (m : Network) → IsNetwork w m → LiesIn w Left m → LiesIn w Front m ⊎ (LiesIn w Middle m ⊎ LiesIn w Back m)
     in_one m mm lies =
         let o = (networks w bs bs h m mm).0 (λ x k. (lies x k).0) in

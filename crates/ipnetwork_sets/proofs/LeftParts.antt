@@ -1,4 +1,4 @@
--- The pieces of a block that a cut set leaves.
+-- The pieces of a block that are not in a cut set.
 use Rattle.std.proofs.Common.{◌≡◌, ℕ, ◌+◌, ◌-◌, ◌*◌, ◌/◌, ◌^◌, ◌<◌, ◌≤◌, ◌⊎◌, inl, inr, sym, ap, subst, ◌∙◌, arith, ⊎_elim, List, ◌∷◌}
 use Rattle.std.proofs.lemmas.Bool.{cases_lt}
 use Rattle.std.proofs.lemmas.Nat.{mul-le}
@@ -17,13 +17,13 @@ use Rattle.ipnetwork_sets.specs.Private.Remainder.{IsPiece, IsLeftIn, IsWidest, 
 use Rattle.ipnetwork_sets.proofs.Lists.{set_block}
 use Rattle.ipnetwork_sets.proofs.Steps.{smaller_inside, tail_is_set, union_cons, union_from}
 
--- the block of one bit less around a network
+-- the parent of a network is a network
 parent_network : (w : ℕ) (n : Network) → IsNetwork w n → IsNetwork w (parent w n)
 parent_network w n h = (block_at_network w n.address (n.prefix - 1) h.address_fits (omega (arith, h.prefix_fits))).network
 
--- ---- from piece to piece: what is passed
+-- ---- from piece to piece: the addresses passed
 
--- a block of the cut set that ends before what is left
+-- skipping a block of the cut set that ends before what is left
 skips_first : (w : ℕ) (whole b : Network) (from : ℕ) (cut : List Network) (next : ℕ) (bs : List Network) → Skips w whole from cut next (b ∷ bs) → high w b < next
     → Skips w whole from cut next bs
 skips_first w whole b from cut next bs h l = record {
@@ -38,7 +38,7 @@ skips_first w whole b from cut next bs h l = record {
   );
 }
 
--- a piece that lies in a block of the cut set
+-- skipping a piece that lies in a block of the cut set
 skips_piece : (w : ℕ) (whole piece b : Network) (from : ℕ) (cut : List Network) (next : ℕ) (bs : List Network) → IsPiece w whole piece
     → Skips w whole from cut piece.address (b ∷ bs) → Subnet w piece b → next ≡ high w piece + 1 → Skips w whole from cut next (b ∷ bs)
 skips_piece w whole piece b from cut next bs p h sub is =
@@ -59,7 +59,7 @@ pub skips_to : (w : ℕ) (whole : Network) (from : ℕ) (cut : List Network) (ne
     → Skips w whole from cut at left
 skips_to w whole from cut next left at h e = subst (λ (k : ℕ). Skips w whole from cut k left) (sym e) h
 
--- ---- that a piece is widest
+-- ---- a piece is widest
 
 pub widest_whole : (w : ℕ) (whole piece : Network) (cut : List Network) → piece ≡ whole → IsWidest w whole piece cut
 widest_whole w whole piece cut e = inl (ap (λ n. n.prefix) e)
@@ -90,7 +90,7 @@ widest_behind w whole piece next cut h =
     let upper = h.upper in
     omega arith)
 
--- the lower half of a block without host bits
+-- the lower half of a block has no host bits
 half_address : (s a x : ℕ) → 0 < s → x ≡ x / (s + s) * (s + s) → x / s * s ≡ x
 half_address s a x pos e =
     let q : ℕ = x / (s + s) in
@@ -120,7 +120,7 @@ half_is w whole piece half p l is =
       record { whole_is = p.whole_is; piece_is = record { network = hn; block = hb }; within = λ x m. p.within x (sub x m) },
     )
 
--- the lower half of a piece that has an address of the cut set
+-- the lower half of a piece that has an address of the cut set is widest
 widest_half : (w : ℕ) (whole piece half b : Network) (bs : List Network) → IsPiece w whole piece → half.address ≡ piece.address → half.prefix ≡ piece.prefix + 1
     → IsNetwork w b → Member w piece b.address → IsWidest w whole half (b ∷ bs)
 widest_half w whole piece half b bs p at long nb inside =
@@ -133,14 +133,14 @@ widest_half w whole piece half b bs p at long nb inside =
     let s = lies b.address (subst (λ (n : Network). Member w n b.address) (sym up) inside) in
     s.2 (b, contains_head b bs, own_address w b nb))
 
--- ---- the piece behind
+-- ---- the next piece
 
--- what stays as the blocks around the piece are tried: a block within the whole that ends where the piece does
+-- as the blocks around the piece are tried, `ended` is a block within the whole that ends where the piece does
 pub record EndsWith (w : ℕ) (whole piece ended : Network) : Type 0 where
   pub part : IsPiece w whole ended
   pub end : high w ended ≡ high w piece
 
--- as wide as the whole, it ends where that does
+-- if the block is as wide as the whole, the piece ends where the whole does
 pub ends_whole : (w : ℕ) (whole piece ended : Network) → EndsWith w whole piece ended → ended.prefix ≤ whole.prefix → high w piece ≡ high w whole
 ends_whole w whole piece ended h le =
     let p = h.part in
@@ -176,7 +176,7 @@ module _ (w : ℕ) (whole piece ended around_it : Network) (h : EndsWith w whole
       let fits = ended_network.prefix_fits in
       ap (block_size w) around_it_prefix ∙ size_half w (ended.prefix - 1) (omega arith) ∙ ap (λ k. block_size w k + block_size w k) back
 
-  -- it begins with the block around it, or half the size of that later
+  -- the block begins where its parent does, or half the parent's size later
   where_it_begins : (ended.address ≡ around_it.address) ⊎ (ended.address ≡ around_it.address + block_size w ended.prefix)
   where_it_begins =
       let base : low w (parent w ended) ≡ around_it.address = ap (low w) (sym is) ∙ sym around_it_block in
@@ -186,7 +186,7 @@ module _ (w : ℕ) (whole piece ended around_it : Network) (h : EndsWith w whole
       (λ (e : low w ended ≡ low w (parent w ended) + block_size w ended.prefix). inr (own ∙ e ∙ ap (λ k. k + block_size w ended.prefix) base))
       (half_begins w ended ended_network (omega arith))
 
-  -- the upper half ends where the whole of both does
+  -- the upper half ends where the parent does
   pub ends_around : (around_it.address ≡ ended.address → ⊥) → EndsWith w whole piece around_it
   ends_around differs =
       let size = around_it_size in
@@ -200,7 +200,7 @@ module _ (w : ℕ) (whole piece ended around_it : Network) (h : EndsWith w whole
       where_it_begins in
       record { part = record { whole_is = h.part.whole_is; piece_is = record { network = around_it_network; block = around_it_block }; within = around_it_within }; end = same }
 
-  -- and behind the lower half comes the upper one
+  -- the upper half comes after the lower half
   pub behind_lower : (next : Network) → around_it.address ≡ ended.address → next ≡ block_of w (record { address = high w around_it; prefix = ended.prefix })
       → IsBehind w whole piece next
   behind_lower next same is_next =
@@ -234,7 +234,7 @@ module _ (w : ℕ) (whole piece ended around_it : Network) (h : EndsWith w whole
         upper = omega (arith, low_up, at, same, pos);
       }
 
--- ---- that a piece is free of the cut set, and maximal
+-- ---- a piece is free of the cut set, and maximal
 
 free_before : (w : ℕ) (piece b : Network) (bs : List Network) → AggregateIsApart → IsAddressSet w (b ∷ bs) → high w piece < b.address
     → (x : ℕ) → Member w piece x → ¬ (InUnion w (b ∷ bs) x)
@@ -244,7 +244,7 @@ free_before w piece b bs law h l x m c =
     let pos = size_pos w piece.prefix in
     omega (arith, i.1)
 
--- ---- that the pieces come to an end: with each step the piece begins later, or is longer by a bit
+-- ---- the pieces come to an end: with each step the piece begins later, or its prefix is longer by a bit
 
 abbrev pub steps_left : ℕ → Network → ℕ
 steps_left w n = (2 ^ w - n.address) * (w + 1) + (w - n.prefix)
@@ -269,7 +269,7 @@ pub half_falls : (w : ℕ) (whole piece half : Network) → IsPiece w whole piec
     → steps_left w half < steps_left w piece
 half_falls w whole piece half p l is = let h = half_is w whole piece half p l is in longer_falls w piece half h.0 h.1 l
 
--- a block of the cut set that neither ends before the piece nor begins behind it: it holds the piece, or lies in it
+-- a block of the cut set that neither ends before the piece nor begins after it contains the piece or lies in it
 piece_in_first : (w : ℕ) (piece b : Network) → IsCidrBlock w piece → IsCidrBlock w b → (high w b < piece.address → ⊥) → (high w piece < b.address → ⊥)
     → b.prefix ≤ piece.prefix → Subnet w piece b
 piece_in_first w piece b hp hb not_before not_behind le = smaller_inside w piece b hp hb not_behind not_before le
@@ -279,7 +279,7 @@ first_in_piece : (w : ℕ) (piece b : Network) → IsCidrBlock w piece → IsCid
 first_in_piece w piece b hp hb not_before not_behind lt =
     smaller_inside w b piece hb hp not_before not_behind (omega arith) b.address (own_address w b hb.network)
 
--- ---- a piece, and the first of the cut blocks that are left
+-- ---- a piece, and the first cut block left
 
 module _ (w : ℕ) (whole piece b : Network) (from : ℕ) (cut left after : List Network) (apart : AggregateIsApart) (opened : left ≡ b ∷ after) (part : IsPiece w whole piece)
     (set : IsAddressSet w left) (skips : Skips w whole from cut piece.address left) where
@@ -300,18 +300,18 @@ module _ (w : ℕ) (whole piece b : Network) (from : ℕ) (cut left after : List
     skips_first w whole b from cut piece.address after opened_skips l,
   )
 
-  -- or begins after it
+  -- the block begins after the piece
   pub is_free : high w piece < b.address → (x : ℕ) → Member w piece x → ¬ (InUnion w left x)
   is_free l = subst (λ (t : List Network). (x : ℕ) → Member w piece x → ¬ (InUnion w t x)) (sym opened) (free_before w piece b after apart opened_set l)
 
   module _ (not_before : high w b < piece.address → ⊥) (not_behind : high w piece < b.address → ⊥) where
-    -- or has the piece in it
+    -- the block contains the piece
     pub goes_behind : b.prefix ≤ piece.prefix → (next : ℕ) → next ≡ high w piece + 1 → Skips w whole from cut next left
     goes_behind le next is =
         subst (Skips w whole from cut next) (sym opened)
         (skips_piece w whole piece b from cut next after part opened_skips (piece_in_first w piece b part.piece_is block not_before not_behind le) is)
 
-    -- or lies in it
+    -- the block lies in the piece
     pub goes_within : piece.prefix < b.prefix → (half : Network) → half.address ≡ piece.address → half.prefix ≡ piece.prefix + 1 → IsWidest w whole half left
     goes_within lt half at long =
         subst (IsWidest w whole half) (sym opened)

@@ -18,7 +18,7 @@ use Rattle.ipnetwork_sets.proofs.Lists.{set_block}
 use Rattle.ipnetwork_sets.proofs.LeftParts.{widest_whole, widest_behind}
 use Rattle.ipnetwork_sets.proofs.Steps.{first_and_rest, same_list, tail_is_set, union_cons, union_nil, union_behind}
 
--- ---- where it begins
+-- ---- the initial state
 
 pub difference_starts : (w : ℕ) (first cut : List Network) → IsLeastList w (InFirstAlone w first cut) (left_blocks w None first cut)
 difference_starts w first cut =
@@ -58,7 +58,7 @@ one_block_is_set w b hb =
 
 -- ---- a part is taken
 
--- the whole and the others are a set of which the whole is the first
+-- the whole and the remaining blocks are a set, whose first block is the whole
 takes_whole : (w : ℕ) (rest cut : List Network) (p : Network × Network) (after : List Network) → AggregateIsApart → IsAtHand w None rest cut → TakesPart None rest p after
     → IsAtHand w (Some p) after cut
 takes_whole w rest cut p after apart h t =
@@ -116,14 +116,14 @@ no_part w None rest cut e =
     (λ x s. ⊎_elim (λ (n : ⊥). n) (λ (c : InUnion w rest x). union_nil w x (subst (λ (l : List Network). InUnion w l x) e c)) s.0))
 no_part w (Some q) rest cut n = absurd n
 
--- ---- what is passed
+-- ---- the addresses passed
 
 module _ (w : ℕ) (p : Network × Network) (rest cut left : List Network) (apart : AggregateIsApart) (h : IsAtHand w (Some p) rest cut) (set : IsAddressSet w left) where
-  -- the others lie behind the whole
+  -- the remaining blocks come after the whole
   behind_whole : (x : ℕ) → InUnion w rest x → high w p.0 < x
   behind_whole x c = union_behind w p.0 rest apart h.0 x c
 
-  -- the whole of it
+  -- the rest of the whole is passed
   passes_whole : Skips w p.0 p.1.address cut (high w p.0 + 1) left → left_blocks w (Some p) rest cut ≡ left_blocks w None rest left
   passes_whole skips =
       same_list w (InLeft w (Some p) rest cut) (InLeft w None rest left) (left_blocks w (Some p) rest cut) (left_blocks w None rest left)
@@ -146,7 +146,7 @@ module _ (w : ℕ) (p : Network × Network) (rest cut left : List Network) (apar
             s.0),
       ))
 
-  -- what lies before a piece
+  -- the addresses before a piece are passed
   module _ (piece : Network) (free : IsFree w p.0 piece left) (skips : Skips w p.0 p.1.address cut piece.address left) where
     piece_high : high w piece ≤ high w p.0
     piece_high =
@@ -159,7 +159,7 @@ module _ (w : ℕ) (p : Network × Network) (rest cut left : List Network) (apar
     piece_from : piece.address ≤ high w piece
     piece_from = let pos = size_pos w piece.prefix in let block = free.part.piece_is.block in omega arith
 
-    -- the set of what is left, with the piece at hand
+    -- the addresses left, with the piece as the current one
     abbrev Now : ℕ → Type 0
     Now = InLeft w (Some (p.0, piece)) rest left
 
@@ -226,7 +226,7 @@ module _ (w : ℕ) (p : Network × Network) (rest cut left : List Network) (apar
             free.widest;
       }
 
-      -- the piece is given, and behind it the next is at hand
+      -- the piece is returned, and the next piece is then the current one
       pub gives_and_goes_on : (next : Network) → IsBehind w p.0 piece next
           → IsAtHand w (Some (p.0, next)) rest left × (left_blocks w (Some p) rest cut ≡ piece ∷ left_blocks w (Some (p.0, next)) rest left)
       gives_and_goes_on next behind =
@@ -262,7 +262,7 @@ module _ (w : ℕ) (p : Network × Network) (rest cut left : List Network) (apar
                 (left_is_least w (Some (p.0, next)) rest left),
           )
 
-      -- or the others, where the whole ends with it
+      -- the piece is returned, and the remaining blocks are left, if the whole ends with the piece
       pub gives_and_ends : high w piece ≡ high w p.0
           → IsAtHand w None rest left × (left_blocks w (Some p) rest cut ≡ piece ∷ left_blocks w None rest left)
       gives_and_ends ends =
@@ -297,7 +297,7 @@ module _ (w : ℕ) (p : Network × Network) (rest cut left : List Network) (apar
                 (left_is_least w None rest left),
           )
 
-      -- both
+      -- the two cases together
       gives_part : (next : Option (Network × Network)) → IsNextPart w p.0 piece next
           → IsAtHand w next rest left × (left_blocks w (Some p) rest cut ≡ piece ∷ left_blocks w next rest left)
       gives_part None e = gives_and_ends e
@@ -312,7 +312,7 @@ module _ (w : ℕ) (p : Network × Network) (rest cut left : List Network) (apar
   passed_state : IsAtHand w None rest left
   passed_state = (tail_is_set w p.0 rest apart h.0, set)
 
--- ---- a part is taken, and passed or given; the blocks were those of the entry
+-- ---- a part is taken, and passed or returned; `entry` are the blocks at the start
 
 module _ (w : ℕ) (entry : List Network) (at_hand : Option (Network × Network)) (rest cut : List Network) (p : Network × Network) (after left : List Network) (apart : AggregateIsApart)
     (same : entry ≡ left_blocks w at_hand rest cut) (h : IsAtHand w at_hand rest cut) (t : TakesPart at_hand rest p after) (set : IsAddressSet w left) where

@@ -1,4 +1,4 @@
--- What a set's list of blocks tells: it has no two halves, its tail is a set, and a network reads the same mapped.
+-- A set's list of blocks: it has no two halves of a block, its tail is a set, and mapping keeps its networks.
 use Rattle.std.proofs.Common.{◌≡◌, ◌↔◌, ℕ, false, true≢false, IsTrue, ◌-◌, ◌<◌, ◌≤◌, inl, sym, refl, ap, ◌∙◌, arith, ⊎_elim, List, [], ◌∷◌, length, get_or, map}
 use Rattle.std.proofs.lemmas.Bool.{cases_lt}
 use Rattle.std.proofs.lemmas.List.{get_or-map}
@@ -20,7 +20,7 @@ use Rattle.ipnetwork_sets.specs.Sets.{IsAddressSet}
 pub read_pair : {X : Type 0} (pair : X → Network) (xs : List X) (i : ℕ) (x : X) → i < length xs → x ≡ get_or xs i x → pair x ≡ get_or (map pair xs) i (pair x)
 read_pair pair xs i x l is = ap pair is ∙ sym (get_or-map pair xs i x (pair x) l)
 
--- the same of a list read as any values
+-- the same for a list mapped to any values
 pub read_as : {X Y : Type 0} (f : X → Y) (xs : List X) (i : ℕ) (x : X) → i < length xs → x ≡ get_or xs i x → f x ≡ get_or (map f xs) i (f x)
 read_as f xs i x l is = ap f is ∙ sym (get_or-map f xs i x (f x) l)
 
@@ -31,7 +31,7 @@ no_items pair (x ∷ xs) e = absurd (omega arith)
 pub not_below : (a b : ℕ) → (a ≤ b → ⊥) → b < a
 not_below a b not = ⊎_elim (λ (l : b < a). l) (λ (le : a ≤ b). let r : b < a = absurd (not le) in r) (cases_lt b a)
 
--- what is not so is told by false
+-- the result for a false statement is `false`
 pub refused : {P : Type 0} → ¬ P → IsTrue false ↔ P
 refused none = ((λ t. absurd (true≢false (sym t))), (λ p. absurd (none p)))
 
@@ -44,7 +44,7 @@ set_of_aggregate w ns r law h =
 pub set_block : (w : ℕ) (bs : List Network) (b : Network) → IsAddressSet w bs → Contains bs b → IsCidrBlock w b
 set_block w bs b h c = let m : IsMaximalIn w (InUnion w bs) b = (h.maximal b).0 c in record { network = m.network; block = m.block }
 
--- a set's blocks are joined as far as they go
+-- the blocks of a set are joined as far as possible
 pub set_is_joined : (w : ℕ) (bs : List Network) → AggregateIsApart → IsAddressSet w bs → AreJoined w bs
 set_is_joined w bs law h = record {
   blocks = λ k d l. set_block w bs (get_or bs k d) h (Contains-get_or bs k d l);
@@ -69,6 +69,6 @@ set_is_joined w bs law h = record {
         m.maximal d dn (omega arith) (λ x k. (whole x).1 (inl k))
         (λ x k. ⊎_elim (λ (ka : Member w a x). (a, ca, ka)) (λ (kb : Member w b x). (b, cb, kb)) ((whole x).0 k))
 
--- and blocks that are, are those of a set
+-- blocks that are joined as far as possible are those of a set
 pub joined_is_set : (w : ℕ) (bs : List Network) → AreJoined w bs → IsAddressSet w bs
 joined_is_set w bs h = joined_is_aggregate w bs bs h (λ x. ((λ c. c), (λ c. c)))

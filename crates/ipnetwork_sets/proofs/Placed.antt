@@ -1,4 +1,4 @@
--- The blocks of a set that share an address with a network stand in a row.
+-- The blocks of a set that share an address with a network are consecutive.
 use Rattle.std.proofs.Common.{◌≡◌, ℕ, ◌-◌, ◌<◌, ◌≤◌, sym, subst, ◌∙◌, arith, ⊎_elim, List, length, get_or}
 use Rattle.std.proofs.lemmas.Bool.{cases_lt}
 use Rattle.std.proofs.lemmas.List.{get_or_default}
@@ -12,7 +12,7 @@ use Rattle.ipnetwork_sets.specs.Private.Places.{IsBefore, IsPlace}
 use Rattle.ipnetwork_sets.specs.Private.Search.{IsSplit}
 use Rattle.ipnetwork_sets.proofs.Lists.{set_block}
 
--- the block at an index
+-- the network at each index is a block
 pub block_of_set : (w : ℕ) (bs : List Network) (k : ℕ) (d : Network) → IsAddressSet w bs → k < length bs → IsCidrBlock w (get_or bs k d)
 block_of_set w bs k d h l = set_block w bs (get_or bs k d) h (Contains-get_or bs k d l)
 
@@ -27,7 +27,7 @@ low_before_high w n = let pos = size_pos w n.prefix in omega (arith, pos)
 pub between_ends : (w : ℕ) (n : Network) (x : ℕ) → IsNetwork w n → low w n ≤ x → x ≤ high w n → Member w n x
 between_ends w n x nn from to = let pos = size_pos w n.prefix in member_within w n nn x from (omega (arith, pos, to))
 
--- and no others
+-- a network has no addresses outside its ends
 pub member_ends : (w : ℕ) (n : Network) (x : ℕ) → Member w n x → (low w n ≤ x) × (x ≤ high w n)
 member_ends w n x m = let i = within_member w n x m in let pos = size_pos w n.prefix in (i.0, omega (arith, i.1, pos))
 
@@ -47,14 +47,14 @@ shared_ends w b n o =
     omega (arith, i.1, j.0)
 
 module _ (w : ℕ) (bs : List Network) (n : Network) (law : AggregateIsApart) (h : IsAddressSet w bs) (nn : IsNetwork w n) where
-  -- blocks that begin after the network does end after it begins
+  -- a block that begins after the network begins also ends after it begins
   ends_after : (begun : ℕ) → IsSplit bs (low w n) begun begun → (k : ℕ) (d : Network) → begun ≤ k → k < length bs → low w n ≤ high w (get_or bs k d)
   ends_after begun split k d le l =
       let f = split.above k d le l in
       let e = begins_before_end w (get_or bs k d) (block_of_set w bs k d h l) in
       omega (arith, f, e)
 
-  -- and each but the last of those that begin no later ends before it
+  -- of the blocks that begin no later than the network, each but the last ends before the network begins
   ends_first : (begun : ℕ) → IsSplit bs (low w n) begun begun → (k : ℕ) (d : Network) → k < begun - 1 → high w (get_or bs k d) < low w n
   ends_first begun split k d l =
       let within = split.within in
@@ -62,7 +62,7 @@ module _ (w : ℕ) (bs : List Network) (n : Network) (law : AggregateIsApart) (h
       let e = split.below (begun - 1) d (omega arith) in
       omega (arith, f, e)
 
-  -- none begins so early
+  -- no block begins at or before the network's first address
   pub before_none : (begun : ℕ) → IsSplit bs (low w n) begun begun → begun ≡ 0 → IsBefore w bs n 0
   before_none begun split e = record {
     within = omega arith;
@@ -70,7 +70,7 @@ module _ (w : ℕ) (bs : List Network) (n : Network) (law : AggregateIsApart) (h
     others = λ k d le l. ends_after begun split k d (omega arith) l;
   }
 
-  -- the last of them shares an address with the network
+  -- the last block that begins no later shares an address with the network
   pub before_last : (begun : ℕ) (b : Network) → IsSplit bs (low w n) begun begun → 0 < begun → b ≡ get_or bs (begun - 1) b → Overlap w b n → IsBefore w bs n (begun - 1)
   before_last begun b split some is o =
       let within = split.within in
@@ -86,7 +86,7 @@ module _ (w : ℕ) (bs : List Network) (n : Network) (law : AggregateIsApart) (h
             (cases_lt k begun);
       }
 
-  -- or it ends before it too
+  -- the last block that begins no later ends before the network begins too
   pub before_all : (begun : ℕ) (b : Network) → IsSplit bs (low w n) begun begun → 0 < begun → b ≡ get_or bs (begun - 1) b → ¬ (Overlap w b n) → IsBefore w bs n begun
   before_all begun b split some is apart =
       let within = split.within in

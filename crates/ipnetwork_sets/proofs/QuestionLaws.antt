@@ -1,4 +1,4 @@
--- The laws of questions to sets, of complements and of what is free.
+-- The laws of queries on sets, of complements and of the free parts of networks.
 use Rattle.std.proofs.Common.{◌≡◌, ◌↔◌, ℕ, ◌-◌, ◌*◌, ◌/◌, ◌^◌, ◌<◌, inl, inr, sym, ap, subst, ⊎_elim, List, [], ◌∷◌, arith}
 use Rattle.std.proofs.lemmas.Nat.{pow_pos}
 use Rattle.std.specs.List.{Contains}
@@ -18,7 +18,7 @@ use Rattle.ipnetwork_sets.proofs.SetLaws.{union_or_not, free_is_shortest, within
 use Rattle.ipnetwork_sets.proofs.Steps.{same_list}
 use Rattle.ipnetwork_sets.proofs.WholeSpace.{whole, whole_has_all, whole_quotient}
 
--- ---- questions
+-- ---- queries
 
 pub network_meets_union : NetworkMeetsUnion
 network_meets_union w n networks = (
@@ -78,7 +78,7 @@ all_addresses_are_counted law w =
 
 -- ---- differences of networks
 
--- the union of one network has its members
+-- the union of a single network has the addresses of the network
 in_one : (w : ℕ) (n : Network) (x : ℕ) → InUnion w (n ∷ []) x ↔ Member w n x
 in_one w n x = (
   (λ c. ⊎_elim

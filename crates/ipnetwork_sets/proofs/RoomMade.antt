@@ -1,9 +1,9 @@
--- Blocks written to the places that were made in a list.
+-- Blocks written to the room made in a list.
 use Rattle.std.proofs.Common.{◌≡◌, ℕ, suc, ◌+◌, ◌<◌, ◌≤◌, sym, refl, ap, ◌∙◌, arith, List, [], ◌∷◌, ◌++◌, length, set, take, drop, map, append_assoc}
 use Rattle.std.proofs.lemmas.List.{take_at, length-append, length-take, length-drop, length-map, length-set, take_more_set, drop-set-lt, set_split, take-map, drop-map, map-append, append-nil, take-append-drop}
 use Rattle.ipnetwork_sets.specs.Private.Places.{HasRoom}
 
--- one block written to the one place that was made
+-- one block written to room made for one
 pub one_written : {X Y : Type 0} (f : X → Y) (xs made : List X) (from to : ℕ) (x : X) → from ≤ to → to ≤ length xs → HasRoom xs from to 1 made
     → map f (set made from x) ≡ take from (map f xs) ++ f x ∷ drop to (map f xs)
 one_written f xs made from to x le fits room =
@@ -17,7 +17,7 @@ one_written f xs made from to x le fits room =
     ∙ ap (λ t. t ++ f x ∷ map f (drop to xs)) (sym (take-map f from xs))
     ∙ ap (λ t. take from (map f xs) ++ f x ∷ t) (sym (drop-map f to xs))
 
--- many written to as many
+-- several blocks written to room made for as many
 pub many_written : {X Y : Type 0} (f : X → Y) (xs made written : List X) (from to count : ℕ) (ys : List Y) → HasRoom xs from to count made → length ys ≡ count
     → map f written ≡ take from (map f made) ++ ys ++ drop (from + length ys) (map f made)
     → map f written ≡ take from (map f xs) ++ ys ++ drop to (map f xs)
@@ -28,7 +28,7 @@ many_written f xs made written from to count ys room long is =
     ap (λ k. drop k (map f made)) end ∙ drop-map f (from + count) made ∙ ap (map f) room.back ∙ sym (drop-map f to xs) in
     is ∙ ap (λ t. t ++ ys ++ drop (from + length ys) (map f made)) front ∙ ap (λ t. take from (map f xs) ++ ys ++ t) back
 
--- the list as it is once they are written
+-- the list after the blocks are written
 pub written_back : {X Y : Type 0} (f : X → Y) (made written : List X) (from len : ℕ) (ys : List Y) → len ≡ length made → from + length ys ≤ length made
     → map f written ≡ take from (map f made) ++ ys ++ drop (from + length ys) (map f made)
     → take len (written ++ drop (length written) made) ≡ written
@@ -51,7 +51,7 @@ written_back f made written from len ys all fits is =
 
 -- ---- the loop that writes them
 
--- those that are written and those to come are all, before what follows them
+-- the blocks written and those still to come are all the blocks, and the elements after them are unchanged
 pub record IsWriting {X Y : Type 0} (f : X → Y) (xs : List X) (from : ℕ) (ys : List Y) (now : List X) (next : ℕ) (left : List Y) : Type 0 where
   pub order : from ≤ next
   pub place : next + length left ≡ from + length ys
@@ -62,7 +62,7 @@ pub record IsWriting {X Y : Type 0} (f : X → Y) (xs : List X) (from : ℕ) (ys
 pub writing_starts : {X Y : Type 0} (f : X → Y) (xs : List X) (from : ℕ) (ys : List Y) → IsWriting f xs from ys xs from ys
 writing_starts f xs from ys = record { order = omega arith; place = refl; size = refl; front = refl; back = refl }
 
--- there is a place for the next one
+-- there is room for the next block
 pub next_fits : {X Y : Type 0} (f : X → Y) (xs : List X) (from : ℕ) (ys : List Y) (now : List X) (next : ℕ) (left rest : List Y) (x : X) → from + length ys ≤ length xs
     → IsWriting f xs from ys now next left → left ≡ f x ∷ rest → next < length now
 next_fits f xs from ys now next left rest x room h e =

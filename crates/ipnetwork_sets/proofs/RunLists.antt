@@ -47,7 +47,7 @@ all_from P xs h k d l = h (get_or xs k d) (Contains-get_or xs k d l)
 abbrev Gap : Range → Range → Type 0
 Gap r s = r.1 + 1 < s.0
 
--- the range stands by itself
+-- the range is not joined with the others
 front_alone : (S T : ℕ → Type 0) (first last : ℕ) (rs : List Range) → first ≤ last → ((x : ℕ) → S x ↔ (FromTo first last x ⊎ T x)) → IsRangeList T rs
     → ((r : Range) → Contains rs r → last + 1 < r.0) → IsRangeList S ((first, last) ∷ rs)
 front_alone S T first last rs le parts h after = record {
@@ -60,7 +60,7 @@ front_alone S T first last rs le parts h after = record {
   apart = AllPairs-cons Gap (first, last) rs (all_from (Gap (first, last)) rs after) h.apart;
 }
 
--- it goes on with the first of the others
+-- the range is joined with the first of the others
 front_joined : (S T : ℕ → Type 0) (first last : ℕ) (s : Range) (rs : List Range) → first ≤ last → ((x : ℕ) → S x ↔ (FromTo first last x ⊎ T x)) → IsRangeList T (s ∷ rs)
     → last + 1 ≡ s.0 → IsRangeList S ((first, s.1) ∷ rs)
 front_joined S T first last s rs le parts h at =
@@ -161,7 +161,7 @@ runs_are_ranges w (b ∷ bs) apart h =
 
 -- ---- the loop of `last_of_run`
 
--- a range, and one right behind it, in front of others
+-- a range, and one right after it, in front of others
 fronts_join : (a l b h : ℕ) (rs : List Range) → l + 1 ≡ b → put_in_front (a, l) (put_in_front (b, h) rs) ≡ put_in_front (a, h) rs
 fronts_join a l b h [] e =
     ap (put_in_front (a, l)) (put_alone (b, h)) ∙ put_joined (a, l) (b, h) [] e ∙ sym (put_alone (a, h))
@@ -171,7 +171,7 @@ fronts_join a l b h (s ∷ rest) e =
     (λ (n : h + 1 ≡ s.0 → ⊥). ap (put_in_front (a, l)) (put_apart (b, h) s rest n) ∙ put_joined (a, l) (b, h) (s ∷ rest) e ∙ sym (put_apart (a, h) s rest n))
     (cases_eq (h + 1) s.0)
 
--- a range that another does not begin right behind
+-- a range, and one that does not begin right after it, in front of others
 fronts_apart : (a l b h : ℕ) (rs : List Range) → (l + 1 ≡ b → ⊥) → put_in_front (a, l) (put_in_front (b, h) rs) ≡ (a, l) ∷ put_in_front (b, h) rs
 fronts_apart a l b h [] n =
     ap (put_in_front (a, l)) (put_alone (b, h)) ∙ put_apart (a, l) (b, h) [] n ∙ ap (λ t. (a, l) ∷ t) (sym (put_alone (b, h)))
@@ -181,7 +181,7 @@ fronts_apart a l b h (s ∷ rest) n =
     (λ (m : h + 1 ≡ s.0 → ⊥). ap (put_in_front (a, l)) (put_apart (b, h) s rest m) ∙ put_apart (a, l) (b, h) (s ∷ rest) n ∙ ap (λ t. (a, l) ∷ t) (sym (put_apart (b, h) s rest m)))
     (cases_eq (h + 1) s.0)
 
--- the run has come to the block `last`, and these blocks are behind it
+-- the run has reached the block `last`, and the blocks `left` come after it
 pub record IsRunning (w : ℕ) (first : Network) (entry : List Network) (last : Network) (left : List Network) : Type 0 where
   pub set : IsAddressSet w (last ∷ left)
   pub same : runs w (first ∷ entry) ≡ put_in_front (low w first, high w last) (runs w left)

@@ -1,4 +1,4 @@
--- The binary search, and what its block tells of an address and of a network.
+-- The binary search, and what the block that it finds tells about an address and a network.
 use Rattle.std.proofs.Common.{◌≡◌, ◌↔◌, ℕ, ◌+◌, ◌-◌, ◌*◌, ◌<◌, ◌≤◌, ◌⊎◌, inl, inr, sym, refl, ap, subst, ◌∙◌, arith, ⊎_elim, Bool, true, false, IsTrue, if◌then◌else◌, List, length, get_or}
 use Rattle.std.proofs.lemmas.Bool.{cases_lt, cases_order, iff_false}
 use Rattle.std.proofs.lemmas.List.{get_or_default}
@@ -25,11 +25,11 @@ split_starts blocks x = record {
   above = λ k d l m. absurd (omega arith);
 }
 
--- in ascending order, strictly or not
+-- a list in strictly ascending order is in ascending order
 pub weakly : (ns : List Network) → AllPairs (λ a b. a.address < b.address) ns → AllPairs (λ a b. a.address ≤ b.address) ns
 weakly ns up i j d l m = let f : (get_or ns i d).address < (get_or ns j d).address = up i j d l m in omega arith
 
--- the block b at the middle begins at x or before it,
+-- if the block `b` at the index `middle` begins at or before x, the search goes on after it
 pub split_behind : (blocks : List Network) (x from to middle : ℕ) (b : Network) → AllPairs (λ a b. a.address ≤ b.address) blocks → IsSplit blocks x from to
     → middle < to → b ≡ get_or blocks middle b → b.address ≤ x → IsSplit blocks x (middle + 1) to
 split_behind blocks x from to middle b up h l is begins =
@@ -49,7 +49,7 @@ split_behind blocks x from to middle b up h l is begins =
       above = h.above;
     }
 
--- or after it
+-- if the block `b` at the index `middle` begins after x, the search goes on before it
 pub split_before : (blocks : List Network) (x from to middle : ℕ) (b : Network) → AllPairs (λ a b. a.address ≤ b.address) blocks → IsSplit blocks x from to
     → from ≤ middle → middle < to → b ≡ get_or blocks middle b → x < b.address → IsSplit blocks x from middle
 split_before blocks x from to middle b up h le l is begins =
@@ -69,7 +69,7 @@ split_before blocks x from to middle b up h le l is begins =
           (cases_lt middle k);
     }
 
--- the end may lie further on, and so does what follows it
+-- a split remains one if its end moves to a later index
 placed : (blocks : List Network) (x from to begin end : ℕ) → from ≡ begin → to ≤ end → end ≤ length blocks → IsSplit blocks x from to → IsSplit blocks x begin end
 placed blocks x from to begin end e le fits h =
     let ordered = h.ordered in
@@ -93,7 +93,7 @@ split_one blocks x from left b false up h some at iff =
     placed blocks x from from (from + 0) (from + 0 + (left - 1)) (omega arith) (omega arith) (omega arith)
     (split_before blocks x from (from + left) from b (weakly blocks up) h (omega arith) (omega arith) at (not_below b.address x (iff_false iff refl)))
 
--- of two blocks the one that stands first begins first
+-- of two blocks, the one with the smaller index begins first
 begins_first : (blocks : List Network) (i j : ℕ) (a b : Network) → AllPairs (λ a b. a.address < b.address) blocks → a ≡ get_or blocks i a → b ≡ get_or blocks j b → i < j → j < length blocks → a.address < b.address
 begins_first blocks i j a b up at_i at_j less within =
     let here : get_or blocks i b ≡ a = get_or_default blocks i b a (omega arith) ∙ sym at_i in
@@ -102,7 +102,7 @@ begins_first blocks i j a b up at_i at_j less within =
     let f : (get_or blocks i b).address < (get_or blocks j b).address = up i j b less within in
     omega arith
 
--- a step by quarters, where the first block begins before the second, and that before the third
+-- a step by quarters, if the first block begins before the second, and the second before the third
 quarters : (blocks : List Network) (x from left p : ℕ) (a b c : Network) (r s t : Bool) → AllPairs (λ a b. a.address < b.address) blocks → IsSplit blocks x from (from + left)
     → 0 < p → 4 * p ≤ left + 1 → a ≡ get_or blocks (from + (p - 1)) a → b ≡ get_or blocks (from + (2 * p - 1)) b → c ≡ get_or blocks (from + (3 * p - 1)) c
     → IsTrue r ↔ (a.address ≤ x) → IsTrue s ↔ (b.address ≤ x) → IsTrue t ↔ (c.address ≤ x) → a.address < b.address → b.address < c.address
@@ -132,7 +132,7 @@ quarters blocks x from left p a b c r false true up h some fits at_a at_b at_c i
     let begins : c.address ≤ x = is_t.0 refl in
     absurd (iff_false is_s refl (omega arith))
 
--- a step by quarters of p blocks: what is left is no less than the last of them
+-- a step by quarters of p blocks: the search goes on among as many blocks as the last quarter has
 pub split_quarters : (blocks : List Network) (x from left p : ℕ) (a b c : Network) (r s t : Bool) → AllPairs (λ a b. a.address < b.address) blocks → IsSplit blocks x from (from + left)
     → 0 < p → 4 * p ≤ left + 1 → a ≡ get_or blocks (from + (p - 1)) a → b ≡ get_or blocks (from + (2 * p - 1)) b → c ≡ get_or blocks (from + (3 * p - 1)) c
     → IsTrue r ↔ (a.address ≤ x) → IsTrue s ↔ (b.address ≤ x) → IsTrue t ↔ (c.address ≤ x)
@@ -143,7 +143,7 @@ split_quarters blocks x from left p a b c r s t up h some fits at_a at_b at_c is
     let second : b.address < c.address = begins_first blocks (from + (2 * p - 1)) (from + (3 * p - 1)) b c up at_b at_c (omega arith) (omega arith) in
     quarters blocks x from left p a b c r s t up h some fits at_a at_b at_c is_r is_s is_t first second
 
--- the length once for each condition
+-- the length times the number of conditions that hold
 three_times : (r s t : Bool) (p : ℕ) → ((if r then 1 else 0) + (if s then 1 else 0) + (if t then 1 else 0)) * p ≡ (if r then p else 0) + (if s then p else 0) + (if t then p else 0)
 three_times true true true p = omega arith
 three_times true true false p = omega arith
@@ -163,7 +163,7 @@ pub at_most : (holds : Bool) (n : ℕ) → (if holds then n else 0) ≤ n
 at_most true n = omega arith
 at_most false n = omega arith
 
--- where both meet
+-- the search ends where the two indices meet
 split_none : (blocks : List Network) (x to : ℕ) → IsSplit blocks x 0 to → to ≤ 0 → NoneUpTo blocks x
 split_none blocks x to h l b c =
     let f = h.above c.0 b (omega arith) c.1 in
@@ -194,13 +194,13 @@ split_last blocks x from to b up h le some is =
           (cases_order k (from - 1));
     }
 
--- ---- the block c has the address y, and last is the last block up to x
+-- ---- the block `c` has the address y, and `last` is the last block that begins at or before x
 
 module _ (w : ℕ) (bs : List Network) (one : AggregateHasOneBlock) (h : IsAddressSet w bs) where
   is_maximal : (b : Network) → Contains bs b → IsMaximalIn w (InUnion w bs) b
   is_maximal b c = (h.maximal b).0 c
 
-  -- it is last, or last begins behind y
+  -- `last` has the address y, or begins after it
   up_to : (x y : ℕ) (last c : Network) → IsLastUpTo bs x last → Contains bs c → Member w c y → y ≤ x → Member w last y ⊎ (y < last.address)
   up_to x y last c is held m le =
       ⊎_elim

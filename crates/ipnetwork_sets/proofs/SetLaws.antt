@@ -39,13 +39,13 @@ either_or_not P Q p q =
 no_or_not : (P : Type 0) → P ⊎ ¬ P → (¬ P) ⊎ ¬ (¬ P)
 no_or_not P p = ⊎_elim (λ (h : P). inr (λ n. n h)) (λ (h : ¬ P). inl h) p
 
--- ---- no networks with the same addresses are fewer
+-- ---- no shorter list of networks has the same addresses
 
 pub common_is_shortest : CommonPartIsShortest
 common_is_shortest w a b r h =
     is_shortest w (InBoth w a b) r (λ x. both_or_not (InUnion w a x) (InUnion w b x) (union_or_not w a x) (union_or_not w b x)) (λ x s. s.0.2.0) h
 
--- of a set that has each address or not, those of a list left out
+-- a set of which each address is or is not a member, minus the addresses of a list
 module _ (w : ℕ) (P : ℕ → Type 0) (test : (x : ℕ) → P x ⊎ ¬ (P x)) (fits : (x : ℕ) → P x → x < 2 ^ w) where
   rest_is_shortest : (a r : List Network) → IsLeastList w (λ x. P x × ¬ (InUnion w a x)) r → IsShortest w (λ x. P x × ¬ (InUnion w a x)) r
   rest_is_shortest a r h =
@@ -93,7 +93,7 @@ common_of_one w a r h k = same_list w (InBoth w a a) (InUnion w a) r a k h (λ x
 pub union_of_one : UnionOfOne
 union_of_one w a r h k = same_list w (InEither w a a) (InUnion w a) r a k h (λ x. ((λ p. ⊎_elim (λ (c : InUnion w a x). c) (λ (c : InUnion w a x). c) p), (λ c. inl c)))
 
--- ---- a difference, and the common part
+-- ---- a difference and the intersection
 
 pub difference_is_disjoint : DifferenceIsDisjoint
 difference_is_disjoint w a b r h x s = (((difference_is_shortest w a b r h).addresses x).0 s.0).1 s.1
@@ -118,7 +118,7 @@ module _ (w : ℕ) (P : ℕ → Type 0) (test : (x : ℕ) → P x ⊎ ¬ (P x)) 
   in_b : (x : ℕ) → InUnion w out_b x ↔ (P x × ¬ (InUnion w b x))
   in_b = (rest_is_shortest w P test fits b out_b hb).addresses
 
-  -- of any addresses, those that are in no union are those in neither of the two
+  -- of any addresses, those outside a union are those outside both sets
   pub outside_union : IsLeastList w (InEither w a b) both → IsLeastList w (InBoth w out_a out_b) r → out ≡ r
   outside_union hu k =
       let in_u = (union_is_shortest w a b both hu).addresses in
@@ -128,7 +128,7 @@ module _ (w : ℕ) (P : ℕ → Type 0) (test : (x : ℕ) → P x ⊎ ¬ (P x)) 
         (λ p. (((in_a x).0 p.0).0, λ m. ⊎_elim (λ (c : InUnion w a x). ((in_a x).0 p.0).1 c) (λ (c : InUnion w b x). ((in_b x).0 p.1).1 c) ((in_u x).0 m))),
       ))
 
-  -- and those that are in no common part are those that are not in the one or not in the other
+  -- of any addresses, those outside an intersection are those outside at least one of the sets
   pub outside_common : IsLeastList w (InBoth w a b) both → IsLeastList w (InEither w out_a out_b) r → out ≡ r
   outside_common hc k =
       let in_c = (common_is_shortest w a b both hc).addresses in
@@ -150,9 +150,9 @@ free_of_union w n a b u f fa fb r hu hf ha hb k = outside_union w (Member w n) (
 pub free_of_common : FreeOfCommonPart
 free_of_common w n a b c f fa fb r hc hf ha hb k = outside_common w (Member w n) (member_or_not w n) (λ x m. m.0) a b c f fa fb r hf ha hb hc k
 
--- ---- the questions of two sets
+-- ---- queries on two sets
 
--- a list without blocks is that of a set without addresses,
+-- an empty list is that of a set without addresses
 pub nothing_in : (w : ℕ) (S : ℕ → Type 0) (r : List Network) → IsShortest w S r → r ≡ [] → (x : ℕ) → ¬ (S x)
 nothing_in w S r h e x s =
     let c : InUnion w [] x = subst (λ (l : List Network). InUnion w l x) e ((h.addresses x).1 s) in
@@ -161,7 +161,7 @@ nothing_in w S r h e x s =
     none_in_nil : (w x : ℕ) → InUnion w [] x → ⊥
     none_in_nil w x c = let l = c.1.1 in omega arith
 
--- and one with a block that of a set with an address
+-- a list with a block is that of a set with an address
 pub something_in : (w : ℕ) (S : ℕ → Type 0) (r : List Network) (b : Network) (s : List Network) → IsLeastList w S r → r ≡ b ∷ s → S b.address
 something_in w S r b s h e =
     let m : IsMaximalIn w S b = (h.maximal b).0 (subst (λ (l : List Network). Contains l b) (sym e) (contains_head b s)) in
@@ -181,7 +181,7 @@ disjoint_if_none w a b r h e = nothing_in w (InBoth w a b) r (common_is_shortest
 pub not_disjoint_if_some : (w : ℕ) (a b r : List Network) (n : Network) (s : List Network) → IsLeastList w (InBoth w a b) r → r ≡ n ∷ s → ¬ (AreDisjoint w a b)
 not_disjoint_if_some w a b r n s h e apart = apart n.address (something_in w (InBoth w a b) r n s h e)
 
--- ---- what the first step of an iterator answers
+-- ---- the result of an iterator's first step
 
 step_answers : (P : Type 0) (r after : List Network) {X : Type 0} (pair : X → Network) (first : Option X) (answer : Bool) → (r ≡ [] → P)
     → ((n : Network) → r ≡ n ∷ after → ¬ P) → MatchOption first ((r ≡ []) × (after ≡ [])) (λ x. r ≡ pair x ∷ after) → is_some first ≡ not answer → IsTrue answer ↔ P

@@ -14,7 +14,7 @@ use Rattle.ipnetwork_sets.proofs.Lists.{set_is_joined, joined_is_set, set_block}
 
 -- ---- the first block
 
--- a network of the set lies in its first maximal block, or behind it
+-- a network of the set lies in its first maximal block, or after it
 in_first_or_behind : (w : ℕ) (S T : ℕ → Type 0) (b : Network) → IsMaximalIn w S b → ((x : ℕ) → S x → Member w b x ⊎ T x) → ((x : ℕ) → T x → high w b < x)
     → (n : Network) → IsNetwork w n → LiesIn w S n → LiesIn w (Member w b) n ⊎ LiesIn w T n
 in_first_or_behind w S T b m parts after n nn lies =
@@ -37,7 +37,7 @@ in_first_or_behind w S T b m parts after n nn lies =
     (λ (u : T x). u) (parts x (lies x k))))
     (parts first (lies first ends.low_is_member))
 
--- the least list of a set is its first maximal block, and behind it the least list of the addresses behind that block
+-- the least list of a set is its first maximal block, followed by the least list of the addresses after that block
 pub first_and_rest : (w : ℕ) (S T : ℕ → Type 0) (b : Network) (r s : List Network) → IsLeastList w S r → IsMaximalIn w S b → ((x : ℕ) → S x ↔ (Member w b x ⊎ T x))
     → ((x : ℕ) → T x → high w b < x) → IsLeastList w T s → r ≡ b ∷ s
 first_and_rest w S T b r s h m parts after k =
@@ -85,7 +85,7 @@ union_behind w b bs law h x c =
     let i = within_member w c.0 x c.2 in
     omega (arith, i.0, k.block)
 
--- none comes before the address of the first
+-- no address of a set comes before that of its first block
 pub union_from : (w : ℕ) (b : Network) (bs : List Network) → AggregateIsApart → IsAddressSet w (b ∷ bs) → (x : ℕ) → InUnion w (b ∷ bs) x → b.address ≤ x
 union_from w b bs law h x c =
     let k : IsCidrBlock w b = set_block w (b ∷ bs) b h (contains_head b bs) in
@@ -98,7 +98,7 @@ union_from w b bs law h x c =
 pub first_is_maximal : (w : ℕ) (b : Network) (bs : List Network) → IsAddressSet w (b ∷ bs) → IsMaximalIn w (InUnion w (b ∷ bs)) b
 first_is_maximal w b bs h = (h.maximal b).0 (contains_head b bs)
 
--- maximal in a set, it is so in each part of the set that it lies in
+-- a block that is maximal in a set is maximal in each part of the set that it lies in
 pub maximal_in_part : (w : ℕ) (S T : ℕ → Type 0) (b : Network) → IsMaximalIn w S b → ((x : ℕ) → T x → S x) → LiesIn w T b → IsMaximalIn w T b
 maximal_in_part w S T b m part lies = record {
   network = m.network;
@@ -107,7 +107,7 @@ maximal_in_part w S T b m part lies = record {
   maximal = λ n nn lt sub within. m.maximal n nn lt sub (λ x k. part x (within x k));
 }
 
--- of two blocks that share an address the one with the longer prefix length lies in the other
+-- of two blocks that share an address, the one with the longer prefix length lies in the other
 pub smaller_inside : (w : ℕ) (m n : Network) → IsCidrBlock w m → IsCidrBlock w n → (high w m < n.address → ⊥) → (high w n < m.address → ⊥) → n.prefix ≤ m.prefix → Subnet w m n
 smaller_inside w m n hm hn not_before not_behind le =
     let pm = size_pos w m.prefix in

@@ -1,5 +1,5 @@
--- The lines of a set tell its blocks: no canonical text holds the byte that ends a line, and each text is that of one
--- network.
+-- The lines of a set determine its blocks: no canonical text has the byte that ends a line, and each text is that of
+-- only one network.
 use Rattle.std.proofs.Common.{◌≡◌, ◌↔◌, ℕ, sym, refl, ap, ap₂, ◌∙◌, ⊎_elim, List, [], ◌∷◌, ◌++◌, append_assoc, length, get_or, take, ◌+◌, ◌<◌, length-append, arith}
 use Rattle.std.proofs.lemmas.List.{flat_map_more, take_more}
 use Rattle.std.specs.List.{Contains, flat_map, AllByRecursion}
@@ -22,7 +22,7 @@ address_byte x (Colon d) e = omega arith
 network_byte : (x : ℕ) → IsNetworkByte x → x ≡ 10 → ⊥
 network_byte x b e = ⊎_elim (λ (a : IsAddressByte x). address_byte x a e) (λ (s : x ≡ slash). omega arith) b
 
--- two texts without the byte, each with it after, are the same texts and the same rests
+-- if two texts without the byte, each followed by it and a rest, are equal, so are the texts and the rests
 lines_split : (a b s t : List ℕ) → AllByRecursion IsNetworkByte a → AllByRecursion IsNetworkByte b → a ++ 10 ∷ s ≡ b ++ 10 ∷ t → (a ≡ b) × (s ≡ t)
 lines_split [] [] s t h k e = (refl, cc)
 lines_split [] (y ∷ b) s t h k e = let y_is : y ≡ 10 = cc in absurd (network_byte y k.0 y_is)
@@ -36,7 +36,7 @@ lines_split (x ∷ a) (y ∷ b) s t h k e =
 no_lines : (text rest : List ℕ) → [] ≡ (text ++ 10 ∷ []) ++ rest → ⊥
 no_lines text rest e = omega (arith, ap length e, length-append (text ++ 10 ∷ []) rest, length-append text (10 ∷ []))
 
--- one line more
+-- one more line
 pub next_line : (text : Network → List ℕ) (bs : List Network) (i : ℕ) (b : Network) → i < length bs → b ≡ get_or bs i b
     → lines_of text (take i bs) ++ (text b ++ 10 ∷ []) ≡ lines_of text (take (i + 1) bs)
 next_line text bs i b l is =

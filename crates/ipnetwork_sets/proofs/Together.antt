@@ -19,7 +19,7 @@ use Rattle.ipnetwork_sets.proofs.Steps.{tail_is_set, union_cons, union_nil, unio
 
 -- ---- a run that grows
 
--- the addresses from s to l, and then those of a block that goes on with them
+-- a run from s to l is extended by a block that leaves no gap
 run_grows : (w : ℕ) (S R T : ℕ → Type 0) (s l last : ℕ) (b : Network) → IsCidrBlock w b → ((x : ℕ) → R x ↔ (Member w b x ⊎ T x)) → s ≤ b.address → b.address ≤ l + 1
     → IsLater l (high w b) last → ((x : ℕ) → S x ↔ (FromTo s l x ⊎ R x)) → (x : ℕ) → S x ↔ (FromTo s last x ⊎ T x)
 run_grows w S R T s l last b hb split from to later parts x =
@@ -59,7 +59,7 @@ either_first w b others rest x =
           (λ (e : InEither w others rest x). ⊎_elim (λ (c : InUnion w others x). inl (split.1 (inr c))) (λ (c : InUnion w rest x). inr c) e) o),
     )
 
--- the block that begins first
+-- the network that begins first is a block
 pub first_is_block : (w : ℕ) (first second : List Network) (b : Network) (others rest : List Network) → IsAddressSet w first → IsAddressSet w second → IsFirst first second b others rest → IsCidrBlock w b
 first_is_block w first second b others rest hf hs is =
     ⊎_elim
@@ -67,7 +67,7 @@ first_is_block w first second b others rest hf hs is =
     (λ (p : (first ≡ others) × (second ≡ b ∷ rest)). set_block w (b ∷ rest) b (subst (IsAddressSet w) p.1 hs) (contains_head b rest))
     is.one
 
--- a run grows the same if the two sets change places
+-- a run grows in the same way if the two sets are exchanged
 growing_swaps : (w : ℕ) (first second : List Network) (start last : ℕ) (others rest : List Network) → IsGrowing w first second start last others rest
     → IsGrowing w second first start last rest others
 growing_swaps w first second start last others rest h = record {
@@ -178,9 +178,9 @@ module _ (w : ℕ) (apart : AggregateIsApart) where
     behind = λ x k. ⊎_elim (λ (c : InUnion w others x). behind_end last others h.others_are_set e x c) (λ (c : InUnion w rest x). behind_end last rest h.rest_is_set f x c) k;
   }
 
--- ---- the blocks of the union are those of its first run, and behind them the others
+-- ---- the blocks of the union are those of its first run, followed by the others
 
--- a network of the union lies in the run, or behind it
+-- a network of the union lies in the run, or after it
 on_one_side : (w : ℕ) (S Q : ℕ → Type 0) (start last : ℕ) → ((x : ℕ) → S x ↔ (FromTo start last x ⊎ Q x)) → ((x : ℕ) → Q x → last + 1 < x)
     → (n : Network) → IsNetwork w n → LiesIn w S n → LiesIn w (FromTo start last) n ⊎ LiesIn w Q n
 on_one_side w S Q start last parts behind n nn lies =
@@ -234,7 +234,7 @@ range_has_block w start last blocks law le fits h e =
 pub goes_within : (w : ℕ) (run left rest : List Network) (b : Network) → AggregateIsApart → IsAddressSet w (run ++ rest) → run ≡ b ∷ left → IsAddressSet w (left ++ rest)
 goes_within w run left rest b apart h e = tail_is_set w b (left ++ rest) apart (subst (IsAddressSet w) (ap (λ t. t ++ rest) e) h)
 
--- the blocks were those of a run that is at its end, and of two sets; one is taken off the next run
+-- the current run is at its end, and the first block of the next run of the two sets is taken
 module _ (w : ℕ) {X : Type 0} (pair : X → Network) (first second others rest now run : List Network) (start last : ℕ) (next : Option (List Network)) (after : List Network)
     (apart : AggregateIsApart) (shortest : RangeIsShortest) (is : run ++ either_blocks w first second ≡ now) (none : run ≡ [])
     (set : IsAddressSet w (run ++ either_blocks w first second)) (h : IsRun w first second start last others rest)
@@ -283,7 +283,7 @@ one_is_range w b last hb e =
           (least_of_one w b hb.network hb.block),
     )
 
--- a run that begins with the address that was asked for it
+-- the blocks of the range from `a`, the first address of a run, are those of the run
 pub range_of : (w a start last : ℕ) (next : Option (List Network)) → a ≡ start
     → MatchOption next (last < a) (λ blocks. (a ≤ last) × IsLeastList w (FromTo a last) blocks)
     → MatchOption next (last < start) (λ blocks. (start ≤ last) × IsLeastList w (FromTo start last) blocks)
@@ -297,7 +297,7 @@ first_swaps first second b others rest is = record {
   lowest = λ c more k. is.lowest c more (⊎_elim (λ (e : second ≡ c ∷ more). inr e) (λ (e : first ≡ c ∷ more). inl e) k);
 }
 
--- of two lists, by their first blocks
+-- the block that begins first, of two lists with a first block each
 pub first_begins : (first second others rest : List Network) (a b : Network) → first ≡ a ∷ others → second ≡ b ∷ rest → a.address ≤ b.address → IsFirst first second a others second
 first_begins first second others rest a b e f h = record {
   one = inl (e, refl);
@@ -310,7 +310,7 @@ first_begins first second others rest a b e f h = record {
 pub second_begins : (first second others rest : List Network) (a b : Network) → first ≡ a ∷ others → second ≡ b ∷ rest → b.address ≤ a.address → IsFirst first second b first rest
 second_begins first second others rest a b e f h = first_swaps second first b rest first (first_begins second first rest others b a f e h)
 
--- of a list and none
+-- the first block of a list begins first if the other list is empty
 pub first_alone : (first second others : List Network) (a : Network) → first ≡ a ∷ others → second ≡ [] → IsFirst first second a others second
 first_alone first second others a e f = record {
   one = inl (e, refl);

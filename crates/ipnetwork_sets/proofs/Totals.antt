@@ -1,4 +1,4 @@
--- How many addresses the blocks of a set have together.
+-- The number of addresses that the blocks of a set have together.
 use Rattle.std.proofs.Common.{◌≡◌, ℕ, ◌+◌, ◌-◌, ◌^◌, ◌<◌, ◌≤◌, inl, inr, sym, refl, ap, subst, ◌∙◌, arith, ⊎_elim, List, [], ◌∷◌, ◌++◌, length, min}
 use Rattle.std.proofs.Math.Nat.{min-eq_left, min-eq_right}
 use Rattle.std.proofs.Math.Pow.{pow_mono}
@@ -19,7 +19,7 @@ use Rattle.ipnetwork_sets.specs.Private.Totals.{capped}
 use Rattle.ipnetwork_sets.proofs.Lists.{set_block}
 use Rattle.ipnetwork_sets.proofs.Steps.{tail_is_set, union_cons, union_nil, union_behind}
 
--- ---- sums that are kept to a greatest number
+-- ---- capped sums
 
 pub kept_sum : (a b m : ℕ) → min (min a m + b) m ≡ min (a + b) m
 kept_sum a b m =
@@ -37,7 +37,7 @@ total_push w (m ∷ ns) n =
     let e : total w (ns ++ n ∷ []) ≡ total w ns + block_size w n.prefix = total_push w ns n in
     let r : block_size w m.prefix + total w (ns ++ n ∷ []) ≡ block_size w m.prefix + total w ns + block_size w n.prefix = omega (arith, e) in r
 
--- one network more is counted
+-- one more network is counted
 pub counts_more : (w count next : ℕ) (ns more : List Network) (n : Network) → count ≡ capped (total w ns) → more ≡ ns ++ n ∷ []
     → next ≡ min (count + block_size w n.prefix) (2 ^ 128) → next ≡ capped (total w more)
 counts_more w count next ns more n e f g =
@@ -91,11 +91,11 @@ counted w (b ∷ bs) apart h =
           omega (arith, sum, length-count_up (low w b) (block_size w b.prefix), rest.count);
     }
 
--- it is at most the number of all addresses
+-- the total is at most the number of all addresses
 pub total_is_within : (w : ℕ) (bs : List Network) → AggregateIsApart → IsAddressSet w bs → total w bs ≤ 2 ^ w
 total_is_within w bs apart h = let fits = total_fits w bs 0 apart h (λ x c. omega arith) (omega arith) in omega (arith, fits)
 
--- the count of a set, where the addresses have at most 128 bits
+-- the count of a set, if the addresses have at most 128 bits
 pub has_count : (w : ℕ) (bs : List Network) (count : ℕ) → AggregateIsApart → IsAddressSet w bs → count ≡ capped (total w bs) → w ≤ 128 → HasCount (InUnion w bs) count
 has_count w bs count apart h e le =
     let fits = total_fits w bs 0 apart h (λ x c. omega arith) (omega arith) in

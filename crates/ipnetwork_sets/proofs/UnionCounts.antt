@@ -13,7 +13,7 @@ use Rattle.ipnetwork_sets.proofs.SetLaws.{union_is_shortest}
 set_has_networks : (w : ℕ) (a : List Network) → IsAddressSet w a → All (IsNetwork w) a
 set_has_networks w a h = λ k d l. (set_block w a (get_or a k d) h (Contains-get_or a k d l)).network
 
--- both lists together have the addresses of the union, and so are no fewer
+-- the two lists together have the addresses of the union, so they have at least as many blocks
 pub union_has_at_most : UnionHasAtMost
 union_has_at_most w a b blocks first second h =
     let all : All (IsNetwork w) (a ++ b) = All-append (IsNetwork w) a b (set_has_networks w a first) (set_has_networks w b second) in

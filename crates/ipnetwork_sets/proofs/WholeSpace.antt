@@ -1,4 +1,4 @@
--- The network of all addresses has each of them, so what is free in it is all that the set has not.
+-- The network of prefix length 0 has all addresses, so its free part is the complement of the set.
 use Rattle.std.proofs.Common.{◌≡◌, ℕ, ◌-◌, ◌/◌, ◌^◌, ◌<◌, ap, sym, subst, ◌∙◌, arith, List}
 use Rattle.ipnetwork_family.specs.Network.{Network, Member, block_size}
 use Rattle.ipnetwork_family.proofs.Blocks.{div_within}

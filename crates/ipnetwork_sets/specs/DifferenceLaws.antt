@@ -26,18 +26,18 @@ UnionIsSettled = (w : ℕ) (a b c d blocks others : List Network) → SameUnion 
     → IsLeastList w (InEither w a b) blocks → IsLeastList w (InEither w c d) others
     → blocks ≡ others
 
--- a set minus itself is empty,
+-- a set minus itself is empty
 abbrev pub DifferenceOfOne : Type 0
 DifferenceOfOne = (w : ℕ) (a blocks : List Network) → IsLeastList w (InFirstAlone w a a) blocks → blocks ≡ []
 
--- a set minus a union is the common part of the set minus the one and the set minus the other,
+-- a set minus the union of two others is the intersection of the set minus the one and the set minus the other
 abbrev pub DifferenceOfUnion : Type 0
 DifferenceOfUnion = (w : ℕ) (a b c union alone less_b less_c both : List Network) → IsLeastList w (InEither w b c) union
     → IsLeastList w (InFirstAlone w a union) alone
     → IsLeastList w (InFirstAlone w a b) less_b → IsLeastList w (InFirstAlone w a c) less_c
     → IsLeastList w (InBoth w less_b less_c) both → alone ≡ both
 
--- and a set minus a common part is the union of the set minus the one and the set minus the other
+-- a set minus the intersection of two others is the union of the set minus the one and the set minus the other
 abbrev pub DifferenceOfCommonPart : Type 0
 DifferenceOfCommonPart = (w : ℕ) (a b c common alone less_b less_c either : List Network)
     → IsLeastList w (InBoth w b c) common → IsLeastList w (InFirstAlone w a common) alone

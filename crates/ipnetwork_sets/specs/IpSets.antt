@@ -12,59 +12,59 @@ use Rattle.ipnetwork_blocks.specs.AggregateIp.{as_v4, as_v6, IsIpAggregate}
 use Rattle.ipnetwork_blocks.specs.AggregateIpLaws.{InIpUnion}
 use Rattle.ipnetwork_blocks.specs.LeastList.{IsLeastList}
 
--- the networks of IPv4, and after them those of IPv6
+-- the IPv4 networks, followed by the IPv6 networks
 abbrev pub v4_then_v6 : List Network → List Network → List IpNetwork
 v4_then_v6 v4 v6 = map V4 v4 ++ map V6 v6
 
--- the blocks are the maximal ones of the set's IPv4 addresses, in ascending order, and after them those of its IPv6
+-- the list has the maximal blocks of the set's IPv4 addresses, in ascending order, followed by those of its IPv6
 -- addresses
 abbrev pub IsIpLeastList : (IpAddr → Type 0) → List IpNetwork → Type 0
 IsIpLeastList set blocks = (v4 : List Network) × (v6 : List Network) × (blocks ≡ v4_then_v6 v4 v6)
     × IsLeastList 32 (λ x. set (addresses.V4 x)) v4 × IsLeastList 128 (λ x. set (addresses.V6 x)) v6
 
--- the blocks are the maximal ones of their own union, by family and in ascending order
+-- the list has the maximal blocks of its own union: IPv4 first, then IPv6, each in ascending order
 abbrev pub IsIpAddressSet : List IpNetwork → Type 0
 IsIpAddressSet blocks = IsIpAggregate blocks blocks
 
--- some address of the network lies in the union of the others
+-- some address of the network is in the union of the others
 abbrev pub MeetsIpUnion : IpNetwork → List IpNetwork → Type 0
 MeetsIpUnion n networks = (x : IpAddr) × IpMember n x × InIpUnion networks x
 
--- x is an address of both
+-- x is in both sets
 abbrev pub InIpBoth : List IpNetwork → List IpNetwork → IpAddr → Type 0
 InIpBoth first second x = InIpUnion first x × InIpUnion second x
 
--- x is an address of the first, and not of the second
+-- x is in the first set and not in the second
 abbrev pub InIpFirstAlone : List IpNetwork → List IpNetwork → IpAddr → Type 0
 InIpFirstAlone first second x = InIpUnion first x × ¬ (InIpUnion second x)
 
--- x is an address of its family, and not one of the set
+-- x is an address of its family that is not in the set
 abbrev pub InIpComplement : List IpNetwork → IpAddr → Type 0
 InIpComplement networks x = FitsIp x × ¬ (InIpUnion networks x)
 
--- x is an address of one of the two, or of both
+-- x is in one of the two sets or in both
 abbrev pub InIpEither : List IpNetwork → List IpNetwork → IpAddr → Type 0
 InIpEither first second x = InIpUnion first x ⊎ InIpUnion second x
 
--- each address of the first is one of the second
+-- each address of the first set is in the second
 abbrev pub IsIpWithin : List IpNetwork → List IpNetwork → Type 0
 IsIpWithin first second = (x : IpAddr) → InIpUnion first x → InIpUnion second x
 
--- no address is one of both
+-- no address is in both sets
 abbrev pub AreIpDisjoint : List IpNetwork → List IpNetwork → Type 0
 AreIpDisjoint first second = (x : IpAddr) → ¬ (InIpBoth first second x)
 
--- of two lists with room for so many IPv4 networks and so many IPv6 networks, one has too little for these
+-- `v4_room` is less than the number of IPv4 networks, or `v6_room` less than the number of IPv6 networks
 abbrev pub HasTooLittleRoom : ℕ → ℕ → List IpNetwork → Type 0
 HasTooLittleRoom v4_room v6_room networks = (v4_room < length (filter_map as_v4 networks))
     ⊎ (v6_room < length (filter_map as_v6 networks))
 
--- a change of the set with the blocks `old` to the set of these addresses
+-- the set with the blocks `old` is changed to the set of these addresses, or an error is returned
 pub record ChangesTo {E : Type 0} (addresses : IpAddr → Type 0) (told : Type 0) (old new : List IpNetwork)
     (result : Result Bool E) : Type 0 where
-  -- it is made, and the result says whether `told` holds
+  -- on success, `new` has the blocks of these addresses, and the result is whether `told` holds
   pub set : OnOk result (IsIpLeastList addresses new)
   pub tells : IfOk result (λ answer. IsTrue answer ↔ told)
-  -- an error comes only if the set has more blocks then, and nothing was changed
+  -- an error is returned only if the new set has more blocks, and then nothing is changed
   pub room : (blocks : List IpNetwork) → IsIpLeastList addresses blocks → OnErr result (length old < length blocks)
   pub unchanged : OnErr result (new ≡ old)

@@ -1,4 +1,4 @@
-//! How many addresses there are in a set.
+//! The number of addresses in a set.
 ghost use Rattle.std.specs.Prelude.{◌≡◌, ◌==◌, ℕ, ◌+◌, ◌^◌, min, Some, decimal};
 ghost use Rattle.std.proofs.Common.{rules};
 ghost use Rattle.std.specs.Cmp.{partial_order_from_own_ties};
@@ -14,10 +14,10 @@ use ipnetwork_family::NetworkSizeError;
 use std::cmp::Ordering;
 use std::fmt;
 
-/// The most bytes that a count is printed as.
+/// The greatest number of bytes that a count is printed as.
 const DECIMAL_MAX: usize = 39;
 
-/// A number of addresses, exact up to 2^128: that of all IPv6 addresses.
+/// A number of addresses, from 0 to 2^128, which is the number of all IPv6 addresses.
 ///
 /// Counts are compared by their numbers, and printed in decimal.
 ///
@@ -42,9 +42,10 @@ impl AddressCount {
     /// ```
     pub const ZERO: AddressCount = AddressCount::Number(0);
 
-    /// The count plus the number of addresses of the network, or 2^128 if the sum is greater. Host bits are ignored.
+    /// The count plus the number of addresses of the network, or 2^128 if the sum is greater. Host
+    /// bits are ignored.
     ///
-    /// Added up over blocks that share no address, of one family, the count is exact.
+    /// The sum over blocks of one family that share no addresses is exact.
     ///
     /// ```
     /// let count = AddressCount::ZERO.add_block("192.0.2.0/24".parse::<Ipv4Network>()?);
@@ -74,7 +75,7 @@ impl From<u128> for AddressCount {
 
     ghost from_gives = { λ number count. count_number count ≡ number };
 
-    /// The count of this number.
+    /// The count with this number.
     fn from(number: u128) -> Self {
         AddressCount::Number(number)
     }
@@ -87,7 +88,8 @@ impl TryFrom<AddressCount> for u128 {
 
     ghost try_from_gives = { FitsNumber };
 
-    /// The number. 2^128, which a `u128` cannot hold, is `NetworkIsTooLarge`.
+    /// The number of the count. The error for 2^128, which a `u128` cannot hold, is
+    /// `NetworkIsTooLarge`.
     fn try_from(count: AddressCount) -> Result<Self, NetworkSizeError> {
         match count {
             AddressCount::Number(number) => Ok(number),
@@ -141,7 +143,7 @@ impl PartialOrd for AddressCount {
     }
 }
 
-// Which of two counts is the smaller.
+// Compares two counts by their numbers.
 fn compare(first: AddressCount, second: AddressCount) -> Ordering
     ensures { result ≡ nat_cmp (count_number first) (count_number second) }
 {

@@ -13,8 +13,9 @@ use crate::union::Union;
 use ipnetwork_blocks::AddressSpace;
 use std::marker::Model;
 
-/// A set of addresses of one family over a borrowed list: its maximal blocks, in ascending order. It can be asked what
-/// an `AddressSet` can, for a list that is stored elsewhere, such as in a table or an array.
+/// A set of addresses of one family over a borrowed list of its maximal blocks, in ascending order.
+/// It has the queries of an `AddressSet`, for a list that is stored elsewhere, such as in a table
+/// or an array.
 ///
 /// ```
 /// let blocks: [Ipv4Network; 2] = ["10.0.0.0/8".parse()?, "192.0.2.0/24".parse()?];
@@ -40,8 +41,8 @@ impl<'a, N: AddressSpace> Model for AddressSlice<'a, N> {
 }
 
 impl<'a, N: AddressSpace> AddressSlice<'a, N> {
-    /// The set with these blocks, if they are maximal in it, without host bits, and in ascending order; `None` if they
-    /// are not. Goes over the list once.
+    /// The set with these blocks, if they are maximal in it, have no host bits and are in ascending
+    /// order; `None` if not. Goes over the list once.
     ///
     /// ```
     /// let halves: [Ipv4Network; 2] = ["192.0.2.0/25".parse()?, "192.0.2.128/25".parse()?];
@@ -58,7 +59,7 @@ impl<'a, N: AddressSpace> AddressSlice<'a, N> {
         None
     }
 
-    // The set of which these are the blocks.
+    // The set with these blocks.
     pub(crate) fn of_blocks(blocks: &'a [N]) -> Self
         requires { IsAddressSet N.WIDTH (map N.pair blocks.now) }
         ensures { result ≡ map N.pair blocks.now }
@@ -79,7 +80,7 @@ impl<'a, N: AddressSpace> AddressSlice<'a, N> {
         self.blocks
     }
 
-    /// Whether there is no address in the set.
+    /// Whether the set has no addresses.
     ///
     /// ```
     /// assert!(rt; AddressSlice::<Ipv4Network>::from_blocks(&[]).unwrap().is_empty());
@@ -90,7 +91,7 @@ impl<'a, N: AddressSpace> AddressSlice<'a, N> {
         self.blocks.is_empty()
     }
 
-    /// Whether the address is in the set. One binary search over the blocks.
+    /// Whether the address is in the set. Takes one binary search over the blocks.
     ///
     /// ```
     /// let list: [Ipv4Network; 1] = ["192.0.2.0/25".parse()?];
@@ -103,7 +104,8 @@ impl<'a, N: AddressSpace> AddressSlice<'a, N> {
         search::contains(self.blocks, addr)
     }
 
-    /// Whether each address of the network is in the set. Host bits are ignored. One binary search over the blocks.
+    /// Whether each address of the network is in the set. Host bits are ignored. Takes one binary
+    /// search over the blocks.
     ///
     /// ```
     /// let list: [Ipv4Network; 1] = ["192.0.2.0/25".parse()?];
@@ -116,7 +118,8 @@ impl<'a, N: AddressSpace> AddressSlice<'a, N> {
         search::covers(self.blocks, network)
     }
 
-    /// Whether some address of the network is in the set. Host bits are ignored. One binary search over the blocks.
+    /// Whether some address of the network is in the set. Host bits are ignored. Takes one binary
+    /// search over the blocks.
     ///
     /// ```
     /// let list: [Ipv4Network; 1] = ["192.0.2.0/25".parse()?];
@@ -129,8 +132,8 @@ impl<'a, N: AddressSpace> AddressSlice<'a, N> {
         search::overlaps(self.blocks, network)
     }
 
-    /// The blocks of the addresses that are in both sets, in ascending order. Goes over both lists once, as the
-    /// iterator advances.
+    /// The blocks of the addresses that are in both sets, in ascending order. Goes over both lists
+    /// once, as the iterator advances.
     ///
     /// ```
     /// let list: [Ipv4Network; 1] = ["192.0.2.0/25".parse()?];
@@ -144,8 +147,8 @@ impl<'a, N: AddressSpace> AddressSlice<'a, N> {
         Intersection::of(self.blocks(), other.blocks())
     }
 
-    /// The blocks of the addresses that are in this set and not in the other, in ascending order. Goes over both lists
-    /// once, as the iterator advances.
+    /// The blocks of the addresses that are in this set and not in the other, in ascending order.
+    /// Goes over both lists once, as the iterator advances.
     ///
     /// ```
     /// let list: [Ipv4Network; 1] = ["192.0.2.0/25".parse()?];
@@ -159,8 +162,9 @@ impl<'a, N: AddressSpace> AddressSlice<'a, N> {
         Difference::of(self.blocks(), other.blocks())
     }
 
-    /// The blocks of the addresses that are in the network and not in the set, in ascending order: what is free in the
-    /// network. Host bits are ignored. Goes over the list once, as the iterator advances.
+    /// The blocks of the addresses that are in the network and not in the set, in ascending order:
+    /// the free part of the network. Host bits are ignored. Goes over the list once, as the
+    /// iterator advances.
     ///
     /// ```
     /// let list: [Ipv4Network; 1] = ["192.0.2.0/25".parse()?];
@@ -173,8 +177,8 @@ impl<'a, N: AddressSpace> AddressSlice<'a, N> {
         Difference::within(network, self.blocks())
     }
 
-    /// The blocks of the addresses that are in one of the two sets or in both, in ascending order. Goes over both lists
-    /// once, as the iterator advances.
+    /// The blocks of the addresses that are in one of the two sets or in both, in ascending order.
+    /// Goes over both lists once, as the iterator advances.
     ///
     /// ```
     /// let list: [Ipv4Network; 1] = ["192.0.2.0/25".parse()?];
@@ -220,7 +224,7 @@ impl<'a, N: AddressSpace> AddressSlice<'a, N> {
 }
 
 impl<N: AddressSpace> AddressSet<N> {
-    /// The same set over the list of this one.
+    /// The same set, as a slice that borrows the list of this one.
     ///
     /// ```
     /// let set = AddressSet::from_networks(vec![in rt.alloc(); "192.0.2.0/25".parse::<Ipv4Network>()?]?);

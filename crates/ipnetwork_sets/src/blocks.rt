@@ -21,7 +21,7 @@ use std::marker::Model;
 /// assert_eq!(rt; SetBlocks::next_block(&mut blocks), Some("192.0.2.64/26".parse()?));
 /// ```
 pub trait SetBlocks<N: AddressSpace>: Drop {
-    // The blocks that are still to come.
+    // The blocks still to come.
     ghost left: { Self → List Network };
 
     /// The next block; `None` after the last.
@@ -61,7 +61,7 @@ impl<'a, N: AddressSpace> Model for Blocks<'a, N> {
 }
 
 impl<N: AddressSpace> AddressSet<N> {
-    /// The blocks one after the other, in ascending order.
+    /// An iterator over the blocks, in ascending order.
     ///
     /// ```
     /// let set = AddressSet::from_networks(vec![in rt.alloc(); "192.0.2.0/25".parse::<Ipv4Network>()?]?);
@@ -76,7 +76,7 @@ impl<N: AddressSpace> AddressSet<N> {
 }
 
 impl<'a, N: AddressSpace> AddressSlice<'a, N> {
-    /// The blocks one after the other, in ascending order.
+    /// An iterator over the blocks, in ascending order.
     ///
     /// ```
     /// let list: [Ipv4Network; 1] = ["192.0.2.0/25".parse()?];

@@ -1,4 +1,4 @@
-//! Networks added to a set and taken from it, in its own list.
+//! Adding networks to a set and removing them, in place.
 ghost use Rattle.std.specs.Prelude.{◌≡◌, ◌↔◌, ◌<◌, ◌≤◌, ◌++◌, ◌∷◌, [], IsTrue, IfOk, OnOk, OnErr, MatchOption, List, drop, length, map, take};
 ghost use Rattle.ipnetwork_family.specs.Network.{Network};
 ghost use Rattle.ipnetwork_blocks.specs.Aggregate.{LiesInUnion};
@@ -12,7 +12,8 @@ use crate::search::covers;
 use ipnetwork_blocks::{AddressSpace, exclude, laws};
 use std::alloc::AllocError;
 
-/// Adds the addresses of the network to the set with these blocks, and tells whether one of them is new.
+/// Adds the addresses of the network to the set with these blocks, and returns whether any of them
+/// is new.
 pub(crate) fn insert<N: AddressSpace>(blocks: &mut Vec<N>, network: N) -> Result<bool, AllocError>
     requires { IsAddressSet N.WIDTH (map N.pair blocks.old.items) }
     ensures set { OnOk result (IsLeastList N.WIDTH
@@ -35,8 +36,8 @@ pub(crate) fn insert<N: AddressSpace>(blocks: &mut Vec<N>, network: N) -> Result
     Ok(true)
 }
 
-// The block that takes the place of the network, and of the blocks from the first index up to before the second; `None`
-// if each address of the network is one of the set.
+// The block that replaces the network and the blocks from the first index up to, but not including,
+// the second; `None` if each address of the network is in the set.
 fn block_to_add<N: AddressSpace>(blocks: &[N], network: N) -> Option<(usize, usize, N)>
     requires { IsAddressSet N.WIDTH (map N.pair blocks.now) }
     ensures { MatchOption result (LiesInUnion N.WIDTH (N.pair network) (map N.pair blocks.now))
@@ -53,7 +54,8 @@ fn block_to_add<N: AddressSpace>(blocks: &[N], network: N) -> Option<(usize, usi
     Some(join_around(blocks, network, from, to))
 }
 
-/// Takes the addresses of the network from the set with these blocks, and tells whether one of them was in it.
+/// Removes the addresses of the network from the set with these blocks, and returns whether any of
+/// them was in it.
 pub(crate) fn remove<N: AddressSpace>(blocks: &mut Vec<N>, network: N) -> Result<bool, AllocError>
     requires { IsAddressSet N.WIDTH (map N.pair blocks.old.items) }
     ensures set { OnOk result (IsLeastList N.WIDTH
@@ -69,7 +71,7 @@ pub(crate) fn remove<N: AddressSpace>(blocks: &mut Vec<N>, network: N) -> Result
     ensures blocks { IsAddressSet N.WIDTH (map N.pair blocks.new.items) }
 {
     laws::one_block();
-    // The clauses of this call say that it is a network of addresses of WIDTH bits.
+    // The clauses of this call say that `network` is a network of addresses of WIDTH bits.
     let _ = network.ip();
     let (from, to) = place_of(blocks.as_slice(), network);
     if from == to {

@@ -8,8 +8,8 @@ ghost use Rattle.ipnetwork_sets.specs.Sets.{IsAddressSet};
 use crate::order::ends_before;
 use ipnetwork_blocks::{AddressSpace, HoldsNetwork, laws};
 
-/// Whether the networks that the values hold are the maximal blocks of their union, in ascending order. Goes over them
-/// once.
+/// Whether the networks that the values hold are the maximal blocks of their union, in ascending
+/// order. Goes over them once.
 ///
 /// ```
 /// let halves: [Ipv4Network; 2] = ["192.0.2.0/25".parse()?, "192.0.2.128/25".parse()?];
@@ -32,7 +32,7 @@ pub fn is_address_set<N: AddressSpace, H: HoldsNetwork<N>>(list: &[H]) -> bool
     true
 }
 
-// Whether the network is its own block.
+// Whether the network has no host bits.
 fn has_no_host_bits<N: AddressSpace>(network: N) -> bool
     ensures told { IsTrue result ↔ HostBitsAreZero N.WIDTH (N.pair network) }
     ensures network { IsNetwork N.WIDTH (N.pair network) }
@@ -40,7 +40,7 @@ fn has_no_host_bits<N: AddressSpace>(network: N) -> bool
     network.ip() == network.network()
 }
 
-// Whether the second begins after the first has ended, and they are not the halves of one block.
+// Whether the second begins after the first ends, and the two are not the halves of one block.
 fn follows<N: AddressSpace>(first: N, second: N) -> bool
     ensures { IsTrue result ↔ Follows N.WIDTH (N.pair first) (N.pair second) }
 {

@@ -1,4 +1,4 @@
-//! Sets made from iterators over blocks, in a list of the caller's.
+//! Sets made from iterators over blocks, in a list that the caller provides.
 ghost use Rattle.std.specs.Prelude.{◌≡◌, ◌<◌, IfOk, OnErr, length, vec_capacity};
 
 use crate::address_set::AddressSet;
@@ -9,8 +9,8 @@ use crate::union::Union;
 use ipnetwork_blocks::AddressSpace;
 use std::alloc::AllocError;
 
-/// The set of the blocks that are still to come. The list is put into `memory`, whose content is dropped first.
-/// `AllocError` means that it had to grow and memory ran out.
+/// The set of the remaining blocks. The blocks are stored in `memory`, whose contents are dropped
+/// first. `AllocError` means that it had to grow and memory ran out.
 ///
 /// ```
 /// let set = AddressSet::from_networks(vec![in rt.alloc(); "192.0.2.0/25".parse::<Ipv4Network>()?]?);
@@ -33,8 +33,8 @@ pub fn collected<N: AddressSpace, B: SetBlocks<N>>(
 }
 
 impl<N: AddressSpace> AddressSet<N> {
-    /// A set with the same addresses. The list is put into `memory`, whose content is dropped first. `AllocError` means
-    /// that it had to grow and memory ran out.
+    /// A set with the same addresses. The blocks are stored in `memory`, whose contents are dropped
+    /// first. `AllocError` means that it had to grow and memory ran out.
     ///
     /// ```
     /// let set = AddressSet::from_networks(vec![in rt.alloc(); "192.0.2.0/25".parse::<Ipv4Network>()?]?);
@@ -49,8 +49,8 @@ impl<N: AddressSpace> AddressSet<N> {
 }
 
 impl<'a, N: AddressSpace> Blocks<'a, N> {
-    /// The set of the remaining blocks. The list is put into `memory`, whose content is dropped first. `AllocError`
-    /// means that it had to grow and memory ran out.
+    /// The set of the remaining blocks. The blocks are stored in `memory`, whose contents are
+    /// dropped first. `AllocError` means that it had to grow and memory ran out.
     ///
     /// ```
     /// let networks = vec![in rt.alloc(); "192.0.2.0/25".parse::<Ipv4Network>()?, "198.51.100.0/24".parse()?]?;
@@ -69,8 +69,8 @@ impl<'a, N: AddressSpace> Blocks<'a, N> {
 }
 
 impl<'a, N: AddressSpace> Intersection<'a, N> {
-    /// The set of the remaining blocks. The list is put into `memory`, whose content is dropped first. `AllocError`
-    /// means that it had to grow and memory ran out.
+    /// The set of the remaining blocks. The blocks are stored in `memory`, whose contents are
+    /// dropped first. `AllocError` means that it had to grow and memory ran out.
     ///
     /// ```
     /// let set = AddressSet::from_networks(vec![in rt.alloc(); "192.0.2.0/25".parse::<Ipv4Network>()?]?);
@@ -87,8 +87,8 @@ impl<'a, N: AddressSpace> Intersection<'a, N> {
 }
 
 impl<'a, N: AddressSpace> Difference<'a, N> {
-    /// The set of the remaining blocks. The list is put into `memory`, whose content is dropped first. `AllocError`
-    /// means that it had to grow and memory ran out.
+    /// The set of the remaining blocks. The blocks are stored in `memory`, whose contents are
+    /// dropped first. `AllocError` means that it had to grow and memory ran out.
     ///
     /// ```
     /// let set = AddressSet::from_networks(vec![in rt.alloc(); "192.0.2.0/25".parse::<Ipv4Network>()?]?);
@@ -105,8 +105,8 @@ impl<'a, N: AddressSpace> Difference<'a, N> {
 }
 
 impl<'a, N: AddressSpace> Union<'a, N> {
-    /// The set of the remaining blocks. The list is put into `memory`, whose content is dropped first. `AllocError`
-    /// means that it had to grow and memory ran out.
+    /// The set of the remaining blocks. The blocks are stored in `memory`, whose contents are
+    /// dropped first. `AllocError` means that it had to grow and memory ran out.
     ///
     /// ```
     /// let set = AddressSet::from_networks(vec![in rt.alloc(); "192.0.2.0/25".parse::<Ipv4Network>()?]?);

@@ -1,4 +1,4 @@
-//! The common part of two sets.
+//! The intersection of two sets.
 ghost use Rattle.std.specs.Prelude.{◌≡◌, ◌∷◌, [], MatchOption, map};
 ghost use Rattle.std.specs.Iterator.{YieldsFirstBy, item_count};
 ghost use Rattle.ipnetwork_blocks.specs.LeastList.{IsLeastList};
@@ -10,8 +10,8 @@ use crate::order::ends_before;
 use ipnetwork_blocks::{AddressSpace, HoldsNetwork, laws};
 use std::marker::{Model, PhantomData};
 
-/// An iterator over the blocks of the common part of two sets, in ascending order. `H` is what the lists of the sets have:
-/// networks, or values that hold them.
+/// An iterator over the blocks of the intersection of two sets, in ascending order. `H` is the type
+/// of the elements of the sets' lists: networks, or values that hold them.
 ///
 /// ```
 /// let set = AddressSet::from_networks(vec![in rt.alloc(); "192.0.2.0/25".parse::<Ipv4Network>()?]?);
@@ -42,7 +42,8 @@ impl<'a, N: AddressSpace, H: HoldsNetwork<N>> Model for Intersection<'a, N, H> {
 }
 
 impl<'a, N: AddressSpace, H: HoldsNetwork<N>> Intersection<'a, N, H> {
-    /// The blocks of the addresses that are in both of the sets of two lists.
+    /// The blocks of the addresses that are in the sets of both lists. `is_address_set` must hold
+    /// for both lists.
     ///
     /// ```
     /// let list: [Ipv4Network; 1] = ["192.0.2.0/25".parse()?];
@@ -63,7 +64,7 @@ impl<'a, N: AddressSpace, H: HoldsNetwork<N>> Intersection<'a, N, H> {
         }
     }
 
-    // The blocks that are still to come are those of a set.
+    // The blocks still to come are those of a set.
     pub(crate) fn law_are_sets(&self)
         ensures { IsAddressSet N.WIDTH self.now }
     {
@@ -86,8 +87,9 @@ impl<'a, N: AddressSpace, H: HoldsNetwork<N>> Iterator for Intersection<'a, N, H
     }
 }
 
-// The first block of the common part, and what is left of both sets. Passes the blocks that end before the other's
-// begins; of two that share an address the smaller lies in the other.
+// The first block of the intersection, and what is left of both sets. Skips a block that ends
+// before the other set's first block begins; of two blocks that share an address, the smaller lies
+// in the other.
 fn next_common<'a, N: AddressSpace, H: HoldsNetwork<N>>(
     mut first: &'a [H],
     mut second: &'a [H],

@@ -8,8 +8,8 @@ use crate::difference::Difference;
 use ipnetwork_blocks::AddressSpace;
 
 impl<N: AddressSpace> AddressSet<N> {
-    /// The blocks of all addresses of the family that are not in the set, in ascending order. Goes over the list once,
-    /// as the iterator advances.
+    /// The blocks of all addresses of the family that are not in the set, in ascending order. Goes
+    /// over the list once, as the iterator advances.
     ///
     /// ```
     /// let set = AddressSet::from_networks(vec![in rt.alloc(); "0.0.0.0/1".parse::<Ipv4Network>()?]?);
@@ -23,8 +23,8 @@ impl<N: AddressSpace> AddressSet<N> {
 }
 
 impl<'a, N: AddressSpace> AddressSlice<'a, N> {
-    /// The blocks of all addresses of the family that are not in the set, in ascending order. Goes over the list once,
-    /// as the iterator advances.
+    /// The blocks of all addresses of the family that are not in the set, in ascending order. Goes
+    /// over the list once, as the iterator advances.
     ///
     /// ```
     /// let list: [Ipv4Network; 1] = ["0.0.0.0/1".parse()?];

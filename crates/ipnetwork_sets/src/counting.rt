@@ -1,4 +1,4 @@
-//! The number of addresses of a set.
+//! The number of addresses in a set.
 ghost use Rattle.std.specs.Prelude.{◌≡◌, ◌≤◌, map};
 ghost use Rattle.ipnetwork_blocks.specs.Aggregate.{InUnion};
 ghost use Rattle.ipnetwork_sets.specs.Counts.{count_number, HasCount, total};
@@ -10,7 +10,7 @@ use crate::address_slice::AddressSlice;
 use ipnetwork_blocks::{AddressSpace, laws};
 
 impl<N: AddressSpace> AddressSet<N> {
-    /// How many addresses there are in the set. Goes over the blocks once.
+    /// The number of addresses in the set. Goes over the blocks once.
     ///
     /// ```
     /// let set = AddressSet::from_networks(vec![in rt.alloc(); "192.0.2.0/25".parse::<Ipv4Network>()?]?);
@@ -24,7 +24,7 @@ impl<N: AddressSpace> AddressSet<N> {
 }
 
 impl<'a, N: AddressSpace> AddressSlice<'a, N> {
-    /// How many addresses there are in the set. Goes over the blocks once.
+    /// The number of addresses in the set. Goes over the blocks once.
     ///
     /// ```
     /// let list: [Ipv4Network; 1] = ["192.0.2.0/25".parse()?];
@@ -38,7 +38,7 @@ impl<'a, N: AddressSpace> AddressSlice<'a, N> {
     }
 }
 
-// The numbers of addresses of the networks together.
+// The sum of the sizes of the networks, or 2^128 if it is greater.
 fn count_blocks<N: AddressSpace>(blocks: &[N]) -> AddressCount
     ensures { count_number result ≡ capped (total N.WIDTH (map N.pair blocks.now)) }
 {

@@ -1,4 +1,4 @@
-//! What one set has and another has not.
+//! The addresses that are in one set and not in another.
 ghost use Rattle.std.specs.Prelude.{◌≡◌, ◌∷◌, [], MatchOption, map, option_map};
 ghost use Rattle.std.specs.Iterator.{YieldsFirstBy, item_count};
 ghost use Rattle.ipnetwork_blocks.specs.LeastList.{IsLeastList};
@@ -12,8 +12,8 @@ use crate::pieces::{first_free, piece_behind};
 use ipnetwork_blocks::{AddressSpace, HoldsNetwork, block, laws};
 use std::marker::Model;
 
-/// An iterator over the blocks of a difference of sets, in ascending order. `H` is what the lists of the sets have:
-/// networks, or values that hold them.
+/// An iterator over the blocks of a difference of sets, in ascending order. `H` is the type of the
+/// elements of the sets' lists: networks, or values that hold them.
 ///
 /// ```
 /// let set = AddressSet::from_networks(vec![in rt.alloc(); "192.0.2.0/25".parse::<Ipv4Network>()?]?);
@@ -28,7 +28,7 @@ pub struct Difference<'a, N: AddressSpace, H: HoldsNetwork<N> = N> {
     cut: &'a [H],
 }
 
-/// A block, and a piece of it: what lies before the piece in the block is done.
+/// A block and a piece of it; the addresses of the block before the piece are done.
 #[derive(Clone, Copy, Debug)]
 struct Part<N: AddressSpace> {
     whole: N,
@@ -55,7 +55,8 @@ impl<'a, N: AddressSpace, H: HoldsNetwork<N>> Model for Difference<'a, N, H> {
 }
 
 impl<'a, N: AddressSpace, H: HoldsNetwork<N>> Difference<'a, N, H> {
-    /// The blocks of the addresses that the set of the first list has and that of the cut one has not.
+    /// The blocks of the addresses that are in the set of `first` and not in that of `cut`.
+    /// `is_address_set` must hold for both lists.
     ///
     /// ```
     /// let list: [Ipv4Network; 1] = ["192.0.2.0/25".parse()?];
@@ -76,7 +77,7 @@ impl<'a, N: AddressSpace, H: HoldsNetwork<N>> Difference<'a, N, H> {
         }
     }
 
-    /// The blocks of the addresses that the network has and the cut set has not.
+    /// The blocks of the addresses that are in the network and not in the cut set.
     pub(crate) fn within(network: N, cut: &'a [H]) -> Self
         requires { HoldSet N.WIDTH H.holds H.held cut.now }
         ensures { IsLeastList N.WIDTH
@@ -93,7 +94,7 @@ impl<'a, N: AddressSpace, H: HoldsNetwork<N>> Difference<'a, N, H> {
         }
     }
 
-    // The blocks that are still to come are those of a set.
+    // The blocks still to come are those of a set.
     pub(crate) fn law_are_sets(&self)
         ensures { IsAddressSet N.WIDTH self.now }
     {
@@ -155,7 +156,8 @@ fn next_left<'a, N: AddressSpace, H: HoldsNetwork<N>>(
     }
 }
 
-// What is at hand, or the first of the others, whole; and the others.
+// The current part or, if there is none, the first of the remaining blocks as a whole; and the
+// blocks that remain after it.
 fn take_part<'a, N: AddressSpace, H: HoldsNetwork<N>>(
     at_hand: Option<Part<N>>,
     rest: &'a [H],
@@ -183,7 +185,7 @@ fn take_part<'a, N: AddressSpace, H: HoldsNetwork<N>>(
     }
 }
 
-// The piece after this one, if the whole goes on after it.
+// The part of the whole after the piece; `None` if the whole ends with it.
 fn part_behind<N: AddressSpace>(whole: N, piece: N) -> Option<Part<N>>
     requires { IsPiece N.WIDTH (N.pair whole) (N.pair piece) }
     ensures { IsNextPart N.WIDTH (N.pair whole) (N.pair piece)

@@ -2,8 +2,8 @@
 use crate::address_set::AddressSet;
 use ipnetwork_blocks::AddressSpace;
 
-/// Two sets are equal exactly if they have the same addresses (`laws::equality`), and exactly if they have the same
-/// blocks, which are compared.
+/// Two sets are equal exactly if they have the same addresses (`laws::equality`). This is
+/// tested by comparing their blocks.
 impl<N: AddressSpace> PartialEq for AddressSet<N> {
     ghost use Rattle.std.proofs.Common.{rules};
     ghost use Rattle.std.specs.Cmp.Rules.{comparing};

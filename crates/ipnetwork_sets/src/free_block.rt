@@ -6,9 +6,10 @@ use crate::address_set::AddressSet;
 use ipnetwork_blocks::{AddressSpace, laws};
 
 impl<N: AddressSpace> AddressSet<N> {
-    /// The first block of this prefix length within the network that has no address of the set; `None` if there is
-    /// none, as for a prefix length that is shorter than the network's or greater than `WIDTH`. Host bits of the
-    /// network are ignored. Goes over what is free in the network up to that block.
+    /// The first block of this prefix length within the network that has no address of the set;
+    /// `None` if there is none, as for a prefix length that is shorter than the network's or
+    /// greater than `WIDTH`. Host bits of the network are ignored. Goes over the free part of the
+    /// network up to that block.
     ///
     /// ```
     /// let set = AddressSet::from_networks(vec![in rt.alloc(); "192.0.2.0/25".parse::<Ipv4Network>()?]?);

@@ -1,4 +1,4 @@
-//! Sets made of ranges of addresses.
+//! Sets made from ranges of addresses.
 ghost use Rattle.std.specs.Prelude.{◌≡◌, ◌+◌, ◌<◌, ◌≤◌, ◌^◌, IfOk, OnErr, List, length, map, take, vec_capacity, vec_len};
 ghost use Rattle.ipnetwork_family.specs.Network.{Network};
 ghost use Rattle.ipnetwork_blocks.specs.LeastList.{IsLeastList};
@@ -11,9 +11,10 @@ use ipnetwork_blocks::{AddressSpace, laws, range_to_blocks};
 use std::alloc::AllocError;
 
 impl<N: AddressSpace> AddressSet<N> {
-    /// The set of the addresses of the ranges, each given by its first and its last address. They may stand in any
-    /// order and overlap. A range whose first address comes after its last has no addresses. The list is put into
-    /// `memory`, whose content is dropped first. `AllocError` means that it had to grow and memory ran out.
+    /// The set of the addresses of the ranges, each given by its first and its last address. The
+    /// ranges may be in any order and overlap. A range whose first address comes after its last has
+    /// no addresses. The blocks are stored in `memory`, whose contents are dropped first.
+    /// `AllocError` means that it had to grow and memory ran out.
     ///
     /// ```
     /// let ranges = [(Ipv4Addr::new(192, 0, 2, 0), Ipv4Addr::new(192, 0, 2, 127))];
@@ -40,9 +41,10 @@ impl<N: AddressSpace> AddressSet<N> {
     }
 }
 
-/// Adds the blocks whose addresses are those from `first` to `last`, both included, to the networks: the fewest
-/// possible, and none if `first` comes after `last`. What the list had stays at its front. `AllocError` means that the
-/// list had to grow and memory ran out; the first of the blocks may have been added. The capacity never shrinks.
+/// Appends to the networks the fewest blocks that have exactly the addresses from `first` to
+/// `last`, both included; none if `first` comes after `last`. The networks already in the list are
+/// unchanged. `AllocError` means that the list had to grow and memory ran out; the first of the
+/// blocks may have been appended. The capacity never shrinks.
 ///
 /// ```
 /// let mut networks = Vec::<Ipv4Network>::new(rt.alloc());

@@ -1,4 +1,4 @@
-//! Sets of addresses of either family: of each family one set.
+//! Sets of addresses of either family, each made of one set per family.
 
 mod blocks;
 mod collecting;

@@ -1,4 +1,4 @@
-//! A network that is added to a set, joined with the blocks beside it.
+//! Joining a network that is added to a set with the blocks beside it.
 ghost use Rattle.std.specs.Prelude.{◌≡◌, ◌≤◌, ◌++◌, ◌∷◌, [], MatchOption, drop, length, map, take};
 ghost use Rattle.ipnetwork_blocks.specs.Aggregate.{LiesInUnion};
 ghost use Rattle.ipnetwork_blocks.specs.LeastList.{IsLeastList};
@@ -10,9 +10,10 @@ ghost use Rattle.ipnetwork_sets.specs.Private.Places.{IsPlace, NoHalfBefore, Joi
 use crate::check::are_halves;
 use ipnetwork_blocks::{AddressSpace, block, laws};
 
-/// The block that takes the place of a network, which is not all in the set, and of the blocks from the first index up
-/// to before the second: those that share an address with the network, and those that are joined with it. Together with
-/// the other blocks it is the set with the network.
+/// The block that replaces the network, which does not lie in the set, and the blocks from the
+/// first index up to, but not including, the second: those that share an address with the network,
+/// and those that are joined with it. Together with the other blocks, it makes up the set with the
+/// network added.
 pub(crate) fn join_around<N: AddressSpace>(
     blocks: &[N],
     network: N,
@@ -30,7 +31,7 @@ pub(crate) fn join_around<N: AddressSpace>(
         ∷ drop result.1 (map N.pair blocks.now)) }
 {
     laws::one_block();
-    // The clauses of this call say that it is a network of addresses of WIDTH bits.
+    // The clauses of this call say that `network` is a network of addresses of WIDTH bits.
     let _ = network.ip();
     let mut first = from;
     let mut behind = to;
@@ -48,7 +49,7 @@ pub(crate) fn join_around<N: AddressSpace>(
     }
 }
 
-// The block before the index and this one, joined, if they are the halves of one block.
+// The block before the index joined with this one, if they are the halves of one block.
 fn join_before<N: AddressSpace>(blocks: &[N], first: usize, block: N) -> Option<N>
     requires { first ≤ length blocks.now }
     ensures { MatchOption result
@@ -62,7 +63,7 @@ fn join_before<N: AddressSpace>(blocks: &[N], first: usize, block: N) -> Option<
     join(blocks[first - 1], block)
 }
 
-// This block and the one at the index, joined, if they are the halves of one block.
+// This block joined with the one at the index, if they are the halves of one block.
 fn join_behind<N: AddressSpace>(blocks: &[N], block: N, behind: usize) -> Option<N>
     ensures { MatchOption result
         (NoHalfBehind N.WIDTH (map N.pair blocks.now) (N.pair block) behind)
@@ -75,7 +76,7 @@ fn join_behind<N: AddressSpace>(blocks: &[N], block: N, behind: usize) -> Option
     join(block, blocks[behind])
 }
 
-// The block of which the two, which differ, are the halves, if there is one.
+// The block whose halves are these two blocks, which differ, if there is one.
 fn join<N: AddressSpace>(first: N, second: N) -> Option<N>
     ensures { MatchOption result (¬ (AreHalves N.WIDTH (N.pair first) (N.pair second)))
         (λ wider. AreHalves N.WIDTH (N.pair first) (N.pair second)

@@ -1,5 +1,5 @@
-//! The laws of the operations on sets, for addresses of any number of bits. Each function's contract is laws; it does
-//! nothing, and a proof whose function calls it may use them.
+//! The laws of the operations on sets, for addresses of any number of bits. Each function does
+//! nothing; its contract states laws, and the proof of a function that calls it can use them.
 ghost use Rattle.ipnetwork_sets.specs.ChangeLaws.{UnionOfPushed, AddedIsPushed, AddedHas, TakenHas, AddedAndTaken, TakenAndAdded};
 ghost use Rattle.ipnetwork_sets.specs.CountLaws.{AscendingIsOneList, UnionHasOneCount, RangesAreOneList, UnionHasOneRangeList, SetAddsUp, CommonPartAddsUp, DifferenceAddsUp, FreePartAddsUp, UnionAddsUp, TotalGoesOn, SetHasFewerBlocks, UnionHasAtMost};
 ghost use Rattle.ipnetwork_sets.specs.DifferenceLaws.{CommonPartIsSettled, DifferenceIsSettled, FreePartIsSettled, UnionIsSettled, DifferenceOfOne, DifferenceOfUnion, DifferenceOfCommonPart};
@@ -13,8 +13,9 @@ use ipnetwork_addr::{Ipv4Addr, Ipv6Addr};
 use ipnetwork_blocks::laws;
 use ipnetwork_family::{Address, laws as network_laws};
 
-/// Of each operation the blocks have the addresses of the set and no others, each ends before the next begins, no
-/// networks with the same addresses are fewer, and no other list is the least.
+/// The blocks of each operation's result have exactly the addresses of the result, each ends before
+/// the next begins, no shorter list of networks has the same addresses, and no other list is the
+/// least.
 pub fn shortest()
     ensures common { CommonPartIsShortest }
     ensures difference { DifferenceIsShortest }
@@ -23,7 +24,7 @@ pub fn shortest()
     ensures union { UnionIsShortest }
 {}
 
-/// Two sets are equal exactly if they have the same addresses, and `==` says so.
+/// Two sets are equal exactly if they have the same addresses, and `==` tests this.
 pub fn equality()
     ensures test { SameBlocksAreEqual }
     ensures addresses { SameAddressesAreOneSet }
@@ -43,7 +44,8 @@ pub fn v6_texts()
     texts::<Ipv6Addr>();
 }
 
-/// The common part and the union are those of the two in either order, and of a set with itself they are the set.
+/// The intersection and the union do not depend on the order of the two sets, and those of a set
+/// with itself are the set.
 pub fn order_and_repetition()
     ensures common { CommonPartCommutes }
     ensures union { UnionCommutes }
@@ -51,21 +53,24 @@ pub fn order_and_repetition()
     ensures union_of_one { UnionOfOne }
 {}
 
-/// A difference has no address of the set that was taken off, and together with the common part it is the first set.
+/// The difference of two sets has no address of the second, and its union with their intersection
+/// is the first set.
 pub fn parts()
     ensures disjoint { DifferenceIsDisjoint }
     ensures whole { PartsMakeTheWhole }
 {}
 
-/// What is free of a union is free of both sets, and what is free of a common part is free of one or the other (De
-/// Morgan's laws), within any network; and so among all addresses, within the network of prefix length 0.
+/// Within any network, the addresses outside a union are those outside both sets, and the addresses
+/// outside an intersection are those outside at least one of the sets (De Morgan's laws). For the
+/// network of prefix length 0, this holds for all addresses.
 pub fn free_of_both()
     ensures union { FreeOfUnion }
     ensures common { FreeOfCommonPart }
 {}
 
-/// A network meets a set exactly if it overlaps one of its blocks; a set is within another exactly if nothing is left
-/// of it without the other; and two sets are disjoint exactly if they have no common part.
+/// A network shares an address with a set exactly if it overlaps one of its blocks; a set is a
+/// subset of another exactly if the first minus the second is empty; and two sets are disjoint
+/// exactly if their intersection is empty.
 pub fn questions()
     ensures meets { NetworkMeetsUnion }
     ensures within { WithinIfNothingIsLeft }
@@ -78,16 +83,16 @@ pub fn complements()
     ensures whole { ComplementMakesTheWhole }
 {}
 
-/// What is free within a network is the difference of the network and the set, as an exclusion is that of two networks;
-/// and a block is free exactly if it lies in what is free.
+/// The free part of a network is the network minus the set; an exclusion is the difference of two
+/// networks; and a block is free exactly if it lies in the free part.
 pub fn free_parts()
     ensures free { FreePartIsADifference }
     ensures exclusion { ExclusionIsADifference }
     ensures block { FreeBlockLiesInFreePart }
 {}
 
-/// A set has one count and one list of ranges: sets with the same addresses have the same. Of any set it follows from
-/// the laws of lists, `ascending` and `ranges`.
+/// Sets with the same addresses have the same count and the same list of ranges. For any set, this
+/// follows from the laws of lists, `ascending` and `ranges`.
 pub fn one_count_and_ranges()
     ensures ascending { AscendingIsOneList }
     ensures count { UnionHasOneCount }
@@ -95,9 +100,9 @@ pub fn one_count_and_ranges()
     ensures union_ranges { UnionHasOneRangeList }
 {}
 
-/// The numbers of addresses of a set's blocks, added up, are the count of the set, and so of what each operation
-/// returns; those of all addresses of w bits are 2^w, and a sum that is capped at 2^128 stays the capped sum if one
-/// more block is added (`AddressCount::add_block`).
+/// The sizes of a set's blocks add up to the count of the set, and likewise for the result of each
+/// operation. The count of all addresses of w bits is 2^w. A sum capped at 2^128 can be computed
+/// one block at a time, capping each sum (`AddressCount::add_block`).
 pub fn sums()
     ensures set { SetAddsUp }
     ensures common { CommonPartAddsUp }
@@ -110,14 +115,14 @@ pub fn sums()
     laws::one_block();
 }
 
-/// A set has fewer blocks than there are addresses, so that a `u128` counts them.
+/// A set has fewer blocks than there are addresses, so a `u128` can hold their number.
 pub fn fewer_blocks()
     ensures { SetHasFewerBlocks }
 {
     laws::one_block();
 }
 
-/// A union has at most as many blocks as both sets have together.
+/// A union has at most as many blocks as the two sets together.
 pub fn union_counts()
     ensures { UnionHasAtMost }
 {}
@@ -130,16 +135,18 @@ pub fn settled()
     ensures union { UnionIsSettled }
 {}
 
-/// A set minus itself is empty. A set minus a union is the common part of the set minus the one and the set minus the
-/// other, and a set minus a common part is the union of these two (De Morgan's laws).
+/// A set minus itself is empty. A set minus a union is the intersection of the set minus the one
+/// and the set minus the other, and a set minus an intersection is the union of these two (De
+/// Morgan's laws).
 pub fn differences()
     ensures of_one { DifferenceOfOne }
     ensures of_union { DifferenceOfUnion }
     ensures of_common { DifferenceOfCommonPart }
 {}
 
-/// The union of a list has what was pushed to it and what it had; so the set of a list, with a network inserted, is the
-/// set of the list with that network pushed.
+/// The union of a list to which a network was pushed has the addresses of the list and those of the
+/// network. So inserting a network into the set of a list gives the set of the list with the
+/// network pushed.
 pub fn pushed()
     ensures union { UnionOfPushed }
     ensures set { AddedIsPushed }
@@ -147,9 +154,10 @@ pub fn pushed()
     laws::same_union();
 }
 
-/// A set into which a network was inserted has its addresses and the network's, and one from which a network was removed
-/// those of its addresses that the network has not. So a network that has no address of a set, inserted and removed
-/// again, changes nothing; nor does one that lies in the set, removed and inserted again.
+/// A set into which a network was inserted has its own addresses and those of the network; a set
+/// from which a network was removed has those of its addresses that are not in the network. So
+/// inserting a network that has no address in the set, and then removing it, leaves the set
+/// unchanged, as does removing a network that lies in the set, and then inserting it.
 pub fn changes()
     ensures inserted { AddedHas }
     ensures removed { TakenHas }
@@ -157,7 +165,8 @@ pub fn changes()
     ensures back { TakenAndAdded }
 {}
 
-// Two sets of addresses of one family are printed as the same text exactly if they have the same addresses.
+// Two sets of addresses of one family are printed as the same text exactly if they have the same
+// addresses.
 fn texts<A: Address>()
     ensures { LinesTellSets A.WIDTH (text_of A.family) }
 {

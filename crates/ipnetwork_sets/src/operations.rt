@@ -12,8 +12,8 @@ use ipnetwork_blocks::AddressSpace;
 use std::alloc::AllocError;
 
 impl<N: AddressSpace> AddressSet<N> {
-    /// The blocks of the addresses that are in both sets, in ascending order. Goes over both lists once, as the
-    /// iterator advances.
+    /// The blocks of the addresses that are in both sets, in ascending order. Goes over both lists
+    /// once, as the iterator advances.
     ///
     /// ```
     /// let set = AddressSet::from_networks(vec![in rt.alloc(); "192.0.2.0/25".parse::<Ipv4Network>()?]?);
@@ -26,8 +26,8 @@ impl<N: AddressSpace> AddressSet<N> {
         Intersection::of(self.blocks(), other.blocks())
     }
 
-    /// The blocks of the addresses that are in this set and not in the other, in ascending order. Goes over both lists
-    /// once, as the iterator advances.
+    /// The blocks of the addresses that are in this set and not in the other, in ascending order.
+    /// Goes over both lists once, as the iterator advances.
     ///
     /// ```
     /// let set = AddressSet::from_networks(vec![in rt.alloc(); "192.0.2.0/25".parse::<Ipv4Network>()?]?);
@@ -40,10 +40,12 @@ impl<N: AddressSpace> AddressSet<N> {
         Difference::of(self.blocks(), other.blocks())
     }
 
-    /// The blocks of the addresses that are in the network and not in the set, in ascending order: what is free in the
-    /// network. Host bits are ignored. Goes over the list once, as the iterator advances.
+    /// The blocks of the addresses that are in the network and not in the set, in ascending order:
+    /// the free part of the network. Host bits are ignored. Goes over the list once, as the
+    /// iterator advances.
     ///
-    /// Of the network of prefix length 0, these are the blocks of all addresses that are not in the set.
+    /// For the network of prefix length 0, these are the blocks of all addresses that are not in
+    /// the set.
     ///
     /// ```
     /// let set = AddressSet::from_networks(vec![in rt.alloc(); "192.0.2.0/25".parse::<Ipv4Network>()?]?);
@@ -55,8 +57,8 @@ impl<N: AddressSpace> AddressSet<N> {
         Difference::within(network, self.blocks())
     }
 
-    /// The blocks of the addresses that are in one of the two sets or in both, in ascending order. Goes over both lists
-    /// once, as the iterator advances.
+    /// The blocks of the addresses that are in one of the two sets or in both, in ascending order.
+    /// Goes over both lists once, as the iterator advances.
     ///
     /// ```
     /// let set = AddressSet::from_networks(vec![in rt.alloc(); "192.0.2.0/25".parse::<Ipv4Network>()?]?);
@@ -69,8 +71,9 @@ impl<N: AddressSpace> AddressSet<N> {
         Union::of(self.blocks(), other.blocks())
     }
 
-    /// The set of the addresses that are in one of the two sets or in both. Goes over both lists once. The list is put
-    /// into `memory`, whose content is dropped first. `AllocError` means that it had to grow and memory ran out.
+    /// The set of the addresses that are in one of the two sets or in both. Goes over both lists
+    /// once. The blocks are stored in `memory`, whose contents are dropped first. `AllocError`
+    /// means that it had to grow and memory ran out.
     ///
     /// ```
     /// let set = AddressSet::from_networks(vec![in rt.alloc(); "192.0.2.0/25".parse::<Ipv4Network>()?]?);

@@ -1,4 +1,4 @@
-//! Which of two networks comes first.
+//! The order of networks and addresses.
 ghost use Rattle.std.specs.Prelude.{◌≡◌, ◌↔◌, ◌+◌, ◌<◌, ◌≤◌, IsTrue};
 ghost use Rattle.ipnetwork_family.specs.Network.{high};
 ghost use Rattle.ipnetwork_sets.specs.Private.Runs.{Touches};
@@ -44,7 +44,8 @@ fn begins_behind<N: AddressSpace>(last: N::Addr, network: N) -> bool
     }
 }
 
-/// Whether the network begins up to the address or right after it: no address lies between them.
+/// Whether the network begins at or before the address or right after it, so that no address lies
+/// between them.
 pub(crate) fn goes_on<N: AddressSpace>(last: N::Addr, network: N) -> bool
     ensures { IsTrue result ↔ ((N.pair network).address ≤ N.number last + 1) }
 {

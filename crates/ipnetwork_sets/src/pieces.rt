@@ -1,5 +1,5 @@
-//! The pieces of a block that a set leaves: the block halved until a piece shares no address with the set, or lies in
-//! it.
+//! The pieces of a block that are not in a set: the block is halved until each piece shares no
+//! address with the set or lies in it.
 ghost use Rattle.std.specs.Prelude.{◌≡◌, ◌+◌, ◌<◌, MatchOption, map};
 ghost use Rattle.ipnetwork_family.specs.Network.{block_of, high};
 ghost use Rattle.ipnetwork_sets.specs.Sets.{HoldSet};
@@ -9,9 +9,10 @@ use crate::held::split_held;
 use crate::order::{begin_alike, ends_before};
 use ipnetwork_blocks::{AddressSpace, HoldsNetwork, laws};
 
-/// The first piece of the whole, from this piece on, that has no address of the cut set, and what is left of that set;
-/// `None` if there is no such piece. Passes the cut blocks that end before the piece, goes on after a piece that lies
-/// in a cut block, and to the lower half of one that has such a block in it.
+/// The first piece of the whole, from `from` on, that has no address of the cut set, or `None` if
+/// there is none; and what is left of the cut set. Skips the cut blocks that end before the piece.
+/// Goes on to the next piece if the piece lies in a cut block, and to its lower half if a cut block
+/// lies in the piece.
 pub(crate) fn first_free<'a, N: AddressSpace, H: HoldsNetwork<N>>(
     whole: N,
     from: N,
@@ -51,7 +52,8 @@ pub(crate) fn first_free<'a, N: AddressSpace, H: HoldsNetwork<N>>(
     }
 }
 
-/// The widest piece of the whole that begins right after this one; `None` if the whole ends with it.
+/// The widest piece of the whole that begins right after this one; `None` if the whole ends with
+/// it.
 pub(crate) fn piece_behind<N: AddressSpace>(whole: N, piece: N) -> Option<N>
     requires { IsPiece N.WIDTH (N.pair whole) (N.pair piece) }
     ensures { MatchOption result (high N.WIDTH (N.pair piece) ≡ high N.WIDTH (N.pair whole))

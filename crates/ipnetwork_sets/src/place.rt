@@ -1,4 +1,4 @@
-//! Where the blocks of a set stand that a network changes.
+//! The indices of the blocks of a set that change with a network.
 ghost use Rattle.std.specs.Prelude.{map};
 ghost use Rattle.ipnetwork_sets.specs.Sets.{IsAddressSet};
 ghost use Rattle.ipnetwork_sets.specs.Private.Places.{IsBefore, IsPlace};
@@ -6,26 +6,26 @@ ghost use Rattle.ipnetwork_sets.specs.Private.Places.{IsBefore, IsPlace};
 use crate::search::count_up_to;
 use ipnetwork_blocks::{AddressSpace, laws};
 
-/// The blocks that share an address with the network: those from the first index up to before the second. Three
-/// questions to the list, two of them by binary search.
+/// The indices of the blocks that share an address with the network: from the first up to, but not
+/// including, the second. Takes two binary searches and one test of a block.
 pub(crate) fn place_of<N: AddressSpace>(blocks: &[N], network: N) -> (usize, usize)
     requires { IsAddressSet N.WIDTH (map N.pair blocks.now) }
     ensures { IsPlace N.WIDTH (map N.pair blocks.now) (N.pair network) result.0 result.1 }
 {
     laws::one_block();
-    // The clauses of this call say that it is a network of addresses of WIDTH bits.
+    // The clauses of this call say that `network` is a network of addresses of WIDTH bits.
     let _ = network.ip();
     let from = count_before(blocks, network);
     (from, count_up_to(blocks, network.broadcast()))
 }
 
-// How many of the blocks end before the network begins.
+// The number of blocks that end before the network begins.
 fn count_before<N: AddressSpace>(blocks: &[N], network: N) -> usize
     requires { IsAddressSet N.WIDTH (map N.pair blocks.now) }
     ensures { IsBefore N.WIDTH (map N.pair blocks.now) (N.pair network) result }
 {
     laws::one_block();
-    // The clauses of this call say that it is a network of addresses of WIDTH bits.
+    // The clauses of this call say that `network` is a network of addresses of WIDTH bits.
     let _ = network.ip();
     let begun = count_up_to(blocks, network.network());
     if begun == 0 {

@@ -1,4 +1,4 @@
-//! The ranges of addresses that a set is made of.
+//! The ranges of addresses of a set.
 ghost use Rattle.std.specs.Prelude.{◌≡◌, ◌∷◌, option_map};
 ghost use Rattle.std.specs.Iterator.{YieldsFirstBy, item_count};
 ghost use Rattle.ipnetwork_family.specs.Network.{high, low};
@@ -17,8 +17,9 @@ use crate::union::Union;
 use ipnetwork_blocks::{AddressSpace, laws};
 use std::marker::Model;
 
-/// An iterator over the ranges of a set, in ascending order: the first and the last address of each. The ranges are as
-/// long as possible, so between two of them lies at least one address that is not in the set.
+/// An iterator over the ranges of a set, in ascending order: the first and the last address of
+/// each. The ranges are as long as possible, so there is at least one address between two of them
+/// that is not in the set.
 ///
 /// ```
 /// let networks = vec![in rt.alloc(); "10.0.0.0/31".parse::<Ipv4Network>()?, "10.0.0.2/32".parse()?]?;
@@ -45,7 +46,7 @@ impl<N: AddressSpace, B: SetBlocks<N>> Model for Ranges<N, B> {
 }
 
 impl<N: AddressSpace, B: SetBlocks<N>> Ranges<N, B> {
-    /// The ranges of the blocks that are still to come.
+    /// The ranges of the remaining blocks.
     ///
     /// ```
     /// let list: [Ipv4Network; 1] = ["192.0.2.0/24".parse()?];
@@ -76,7 +77,7 @@ impl<N: AddressSpace, B: SetBlocks<N>> Iterator for Ranges<N, B> {
     }
 }
 
-// The last block of the run that begins with this one, and the block after the run.
+// The last block of the run that begins with `first`, and the block after the run, if there is one.
 fn last_of_run<N: AddressSpace, B: SetBlocks<N>>(first: N, blocks: &mut B) -> (N, Option<N>)
     requires { IsAddressSet N.WIDTH (N.pair first ∷ B.left blocks.old) }
     ensures ahead { IsAhead N.WIDTH (option_map N.pair result.1) (B.left blocks.new) }
@@ -100,8 +101,8 @@ fn last_of_run<N: AddressSpace, B: SetBlocks<N>>(first: N, blocks: &mut B) -> (N
 }
 
 impl<N: AddressSpace> AddressSet<N> {
-    /// The first and the last address of each range of the set, in ascending order: the fewest ranges possible. Goes
-    /// over the blocks once, as the iterator advances.
+    /// The first and the last address of each range of the set, in ascending order: the fewest
+    /// ranges possible. Goes over the blocks once, as the iterator advances.
     ///
     /// ```
     /// let networks = vec![in rt.alloc(); "192.0.2.0/25".parse::<Ipv4Network>()?, "192.0.2.128/25".parse()?]?;
@@ -117,8 +118,8 @@ impl<N: AddressSpace> AddressSet<N> {
 }
 
 impl<'a, N: AddressSpace> AddressSlice<'a, N> {
-    /// The first and the last address of each range of the set, in ascending order: the fewest ranges possible. Goes
-    /// over the blocks once, as the iterator advances.
+    /// The first and the last address of each range of the set, in ascending order: the fewest
+    /// ranges possible. Goes over the blocks once, as the iterator advances.
     ///
     /// ```
     /// let list: [Ipv4Network; 1] = ["192.0.2.0/24".parse()?];

@@ -1,12 +1,13 @@
-//! Blocks of a list, replaced by others where they stand.
+//! Replacing blocks of a list in place.
 ghost use Rattle.std.specs.Prelude.{◌≡◌, ◌+◌, ◌<◌, ◌≤◌, ◌++◌, OnOk, OnErr, drop, length, map, take};
 ghost use Rattle.ipnetwork_sets.specs.Private.Places.{HasRoom};
 
 use ipnetwork_blocks::{AddressSpace, Exclusion};
 use std::alloc::AllocError;
 
-/// Makes room for so many blocks in place of those from the first index up to before the second. Those after them are
-/// moved once. `AllocError` means that the list had to grow and memory ran out; it is unchanged then.
+/// Makes room for `count` blocks in place of those at the indices `from..to`. The blocks after them
+/// are moved once. `AllocError` means that the list had to grow and memory ran out; it is then
+/// unchanged.
 pub(crate) fn make_room<N: AddressSpace>(
     blocks: &mut Vec<N>,
     from: usize,
@@ -27,7 +28,7 @@ pub(crate) fn make_room<N: AddressSpace>(
     Ok(())
 }
 
-/// Writes the blocks that are still to come over those from the index on.
+/// Writes the remaining blocks of `others` over those from the index `from` on.
 pub(crate) fn write_over<N: AddressSpace>(blocks: &mut [N], from: usize, mut others: Exclusion<N>)
     requires { from + length others ≤ length blocks.old }
     ensures { map N.pair blocks.new ≡ take from (map N.pair blocks.old) ++ others

@@ -1,4 +1,5 @@
-//! Questions to a set: each by one binary search for the last block up to an address.
+//! Queries on a set, each by one binary search for the last block that begins at or before an
+//! address.
 ghost use Rattle.std.specs.Prelude.{◌≡◌, ◌↔◌, ◌+◌, ◌-◌, ◌*◌, ◌%◌, ◌^◌, ◌<◌, ◌≤◌, IsTrue, if◌then◌else◌, MatchOption, length, map};
 ghost use Rattle.std.specs.List.{AllPairs};
 ghost use Rattle.ipnetwork_blocks.specs.Aggregate.{InUnion, LiesInUnion};
@@ -7,7 +8,7 @@ ghost use Rattle.ipnetwork_sets.specs.Private.Search.{NoneUpTo, IsLastUpTo, IsSp
 
 use ipnetwork_blocks::{AddressSpace, laws};
 
-/// Whether the address is one of the set.
+/// Whether the address is in the set.
 pub(crate) fn contains<N: AddressSpace>(blocks: &[N], addr: N::Addr) -> bool
     requires { IsAddressSet N.WIDTH (map N.pair blocks.now) }
     ensures { IsTrue result ↔ InUnion N.WIDTH (map N.pair blocks.now) (N.number addr) }
@@ -19,13 +20,13 @@ pub(crate) fn contains<N: AddressSpace>(blocks: &[N], addr: N::Addr) -> bool
     }
 }
 
-/// Whether each address of the network is one of the set.
+/// Whether each address of the network is in the set.
 pub(crate) fn covers<N: AddressSpace>(blocks: &[N], network: N) -> bool
     requires { IsAddressSet N.WIDTH (map N.pair blocks.now) }
     ensures { IsTrue result ↔ LiesInUnion N.WIDTH (N.pair network) (map N.pair blocks.now) }
 {
     laws::one_block();
-    // The clauses of this call say that it is a network of addresses of WIDTH bits.
+    // The clauses of this call say that `network` is a network of addresses of WIDTH bits.
     let _ = network.ip();
     match last_up_to(blocks, network.network()) {
         Some(block) => network.is_subnet_of(block),
@@ -33,13 +34,13 @@ pub(crate) fn covers<N: AddressSpace>(blocks: &[N], network: N) -> bool
     }
 }
 
-/// Whether an address of the network is one of the set.
+/// Whether some address of the network is in the set.
 pub(crate) fn overlaps<N: AddressSpace>(blocks: &[N], network: N) -> bool
     requires { IsAddressSet N.WIDTH (map N.pair blocks.now) }
     ensures { IsTrue result ↔ MeetsUnion N.WIDTH (N.pair network) (map N.pair blocks.now) }
 {
     laws::one_block();
-    // The clauses of this call say that it is a network of addresses of WIDTH bits.
+    // The clauses of this call say that `network` is a network of addresses of WIDTH bits.
     let _ = network.ip();
     match last_up_to(blocks, network.broadcast()) {
         Some(block) => network.overlaps(block),
@@ -47,7 +48,7 @@ pub(crate) fn overlaps<N: AddressSpace>(blocks: &[N], network: N) -> bool
     }
 }
 
-// The last of the blocks that begins at the address or before it.
+// The last of the blocks that begin at or before the address.
 fn last_up_to<N: AddressSpace>(blocks: &[N], addr: N::Addr) -> Option<N>
     requires { AllPairs (λ a b. a.address < b.address) (map N.pair blocks.now) }
     ensures { MatchOption result (NoneUpTo (map N.pair blocks.now) (N.number addr))
@@ -60,8 +61,8 @@ fn last_up_to<N: AddressSpace>(blocks: &[N], addr: N::Addr) -> Option<N>
     Some(blocks[count - 1])
 }
 
-/// How many of the blocks begin at the address or before it. No branch depends on what the blocks are: it would be
-/// mispredicted every other time.
+/// The number of blocks that begin at or before the address. No branch depends on the blocks, since
+/// it would be mispredicted half the time.
 #[inline(always)]
 pub(crate) fn count_up_to<N: AddressSpace>(blocks: &[N], addr: N::Addr) -> usize
     requires { AllPairs (λ a b. a.address < b.address) (map N.pair blocks.now) }
@@ -75,7 +76,7 @@ pub(crate) fn count_up_to<N: AddressSpace>(blocks: &[N], addr: N::Addr) -> usize
     from
 }
 
-// Where the blocks begin among which the search goes on, and how many they are: two at the most.
+// The index of the first block that is left to search, and the number of blocks left: at most two.
 fn by_quarters<N: AddressSpace>(blocks: &[N], addr: N::Addr) -> (usize, usize)
     requires { AllPairs (λ a b. a.address < b.address) (map N.pair blocks.now) }
     ensures few { result.1 ≤ 2 }
@@ -89,9 +90,10 @@ fn by_quarters<N: AddressSpace>(blocks: &[N], addr: N::Addr) -> (usize, usize)
     (from, left)
 }
 
-// One step of the search among the `left` blocks from `from` on. It reads the last blocks of the first three quarters,
-// all at once, and goes on in one quarter: where that begins, and how many blocks are searched there, as many as the
-// last quarter has: a quarter of them, and less than two more.
+// One step of the search among the `left` blocks from the index `from` on. Reads the last blocks of
+// the first three quarters, all at once, and returns the index at which the quarter to search
+// begins and the number of blocks to search there. That is the size of the last quarter: less than
+// two more than a quarter of `left`.
 fn quarter_of<N: AddressSpace>(
     blocks: &[N],
     addr: N::Addr,
@@ -114,7 +116,7 @@ fn quarter_of<N: AddressSpace>(
     )
 }
 
-// How many blocks each of the first three quarters has: a quarter of one block more, rounded down.
+// The number of blocks in each of the first three quarters: a quarter of `left + 1`, rounded down.
 fn size_of_quarter(left: usize) -> usize
     requires { 3 ≤ left }
     ensures most { 4 * result ≤ left + 1 }
@@ -123,8 +125,8 @@ fn size_of_quarter(left: usize) -> usize
     (left - 3) / 4 + 1
 }
 
-// The size once for each condition that holds. A sum of three is multiplied, since a compiler makes a branch of a
-// product with a single condition.
+// The size times the number of conditions that hold. The sum of the three is multiplied, since a
+// compiler makes a branch of a product with a single condition.
 fn times_if(first: bool, second: bool, third: bool, size: usize) -> usize
     requires { 3 * size < 2 ^ 64 }
     ensures { result ≡ (if first then size else 0) + (if second then size else 0) + (if third
@@ -140,7 +142,7 @@ fn one_if(holds: bool) -> usize
     usize::from(holds)
 }
 
-// Whether the network's own address is this one, or comes before it.
+// Whether the network's own address is at or before the address `addr`.
 fn begins_up_to<N: AddressSpace>(network: N, addr: N::Addr) -> bool
     ensures { IsTrue result ↔ ((N.pair network).address ≤ N.number addr) }
 {

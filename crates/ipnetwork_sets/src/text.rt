@@ -7,7 +7,8 @@ use crate::address_set::AddressSet;
 use ipnetwork_family::{Address, Network};
 use std::fmt;
 
-/// Prints the canonical texts of the blocks, in ascending order, each on a line of its own: a list file of the set.
+/// Prints the canonical texts of the blocks, in ascending order, each on a line of its own: a list
+/// file of the set.
 impl<A: Address> fmt::Display for AddressSet<Network<A>> {
     ghost output = { λ set. Some (lines_of (text_of A.family) set) };
 

@@ -12,8 +12,8 @@ use crate::order::{ends_at, goes_on};
 use ipnetwork_blocks::{AddressSpace, HoldsNetwork, RangeBlocks, laws, range_to_blocks};
 use std::marker::Model;
 
-/// An iterator over the blocks of the union of two sets, in ascending order. `H` is what the lists of the sets have:
-/// networks, or values that hold them.
+/// An iterator over the blocks of the union of two sets, in ascending order. `H` is the type of the
+/// elements of the sets' lists: networks, or values that hold them.
 ///
 /// ```
 /// let set = AddressSet::from_networks(vec![in rt.alloc(); "192.0.2.0/25".parse::<Ipv4Network>()?]?);
@@ -29,8 +29,8 @@ pub struct Union<'a, N: AddressSpace, H: HoldsNetwork<N> = N> {
     second: &'a [H],
 }
 
-// A contract sees an iterator as the list of the blocks still to come: those of the run at hand, and those of what both
-// sets have after it.
+// A contract sees an iterator as the list of the blocks still to come: those of the current run,
+// and those of what is left of both sets after it.
 impl<'a, N: AddressSpace, H: HoldsNetwork<N>> Model for Union<'a, N, H> {
     ghost use Rattle.std.specs.Prelude.{List, ◌++◌, map};
     ghost use Rattle.ipnetwork_family.specs.Network.{Network};
@@ -51,7 +51,8 @@ impl<'a, N: AddressSpace, H: HoldsNetwork<N>> Model for Union<'a, N, H> {
 }
 
 impl<'a, N: AddressSpace, H: HoldsNetwork<N>> Union<'a, N, H> {
-    /// The blocks of the addresses that one of the sets of two lists has, or both.
+    /// The blocks of the addresses that are in the set of one of the lists or of both.
+    /// `is_address_set` must hold for both lists.
     ///
     /// ```
     /// let list: [Ipv4Network; 1] = ["192.0.2.0/25".parse()?];
@@ -72,7 +73,7 @@ impl<'a, N: AddressSpace, H: HoldsNetwork<N>> Union<'a, N, H> {
         }
     }
 
-    // The blocks that are still to come are those of a set.
+    // The blocks still to come are those of a set.
     pub(crate) fn law_are_sets(&self)
         ensures { IsAddressSet N.WIDTH self.now }
     {
@@ -107,7 +108,7 @@ impl<'a, N: AddressSpace, H: HoldsNetwork<N>> Iterator for Union<'a, N, H> {
     }
 }
 
-// The next block of the run at hand, if it has one.
+// The next block of the current run, if there is one.
 fn next_at_hand<N: AddressSpace>(run: &mut Option<RangeBlocks<N>>) -> Option<N>
     ensures { MatchOption result ((at_hand run.old ≡ []) × (at_hand run.new ≡ []))
         (λ block. at_hand run.old ≡ N.pair block ∷ at_hand run.new) }
@@ -118,8 +119,8 @@ fn next_at_hand<N: AddressSpace>(run: &mut Option<RangeBlocks<N>>) -> Option<N>
     }
 }
 
-// The first run of the union without a gap, by the block that begins with it and its last address, and what is left of
-// both sets after it.
+// The first run of the union, up to the first gap: the block that it begins with, its last address,
+// and what is left of both sets after it.
 #[inline(always)]
 fn next_run<'a, N: AddressSpace, H: HoldsNetwork<N>>(
     first: &'a [H],
@@ -154,7 +155,8 @@ fn next_run<'a, N: AddressSpace, H: HoldsNetwork<N>>(
     }
 }
 
-// The first of the blocks and the others, if no address lies between the last one and it.
+// The first of the blocks and the others, if there is no gap between the address `last` and that
+// block.
 #[inline(always)]
 fn take_next<'a, N: AddressSpace, H: HoldsNetwork<N>>(
     last: N::Addr,
@@ -176,7 +178,7 @@ fn take_next<'a, N: AddressSpace, H: HoldsNetwork<N>>(
     }
 }
 
-// Of the first blocks of both sets the one that begins first, and the others of both.
+// Of the first blocks of both sets, the one that begins first, and the two lists without it.
 fn take_first<'a, N: AddressSpace, H: HoldsNetwork<N>>(
     first: &'a [H],
     second: &'a [H],
@@ -202,7 +204,7 @@ fn take_first<'a, N: AddressSpace, H: HoldsNetwork<N>>(
     }
 }
 
-// Of two addresses the later one.
+// The later of two addresses.
 fn later<N: AddressSpace>(first: N::Addr, second: N::Addr) -> N::Addr
     ensures { IsLater (N.number first) (N.number second) (N.number result) }
 {

@@ -1,4 +1,4 @@
--- Tables at which a misreading of the definitions would show, of addresses of three bits.
+-- Tables for which a misreading of the definitions would show, with addresses of three bits.
 use Rattle.std.proofs.Common.{◌≡◌, ℕ, ◌+◌, ◌/◌, ◌≤◌, Some, None, [], ◌∷◌, refl, arith, lit<}
 use Rattle.std.specs.Prelude.{IsSome}
 use Rattle.std.specs.FinMap.{get}
@@ -6,7 +6,7 @@ use Rattle.ipnetwork_table.specs.Table.{by_pair, found_by_pair, HasOnlyBlocks, H
 use Rattle.ipnetwork_table.specs.Computed.Longest.{longest_of}
 use Rattle.ipnetwork_table.proofs.LawExamples.{net, Table, routes}
 
--- ---- entries keep their order and their values, and each network is what it means
+-- ---- entries keep their order and their values, and each network is converted
 
 pub entries_by_pair : by_pair {N = ℕ} {V = ℕ} (λ x. net x (x + 1)) ((4, 7) ∷ (0, 5) ∷ []) ≡ (net 4 5, 7) ∷ (net 0 1, 5) ∷ []
 entries_by_pair = refl
@@ -17,7 +17,7 @@ found_as_pair = refl
 pub nothing_as_pair : found_by_pair {N = ℕ} {V = ℕ} (λ x. net x (x + 1)) None ≡ None
 nothing_as_pair = refl
 
--- ---- which keys a table cannot have: one with host bits, a prefix length or an address past the width
+-- ---- keys that a table cannot have: one with host bits, and one whose prefix length or address is too large
 
 pub host_bits_are_no_key : (t : Table) → HasOnlyBlocks 3 t → ¬ (IsSome (get t (net 5 1)))
 host_bits_are_no_key t only stored = let clear : 5 ≡ 4 = (only (net 5 1) stored).block in omega (arith, clear)
@@ -31,7 +31,7 @@ eight_is_no_key t only stored = omega (arith, (only (net 8 3) stored).network.ad
 pub no_key_has_host_bits : (t : Table) → HasNoHostBits 3 t → ¬ (IsSome (get t (net 5 2)))
 no_key_has_host_bits t clear stored = let least : 5 ≡ 4 = clear (net 5 2) stored in omega (arith, least)
 
--- ---- look-ups: an address in the first entry alone, which has the prefix length 0, and one in all three entries
+-- ---- look-ups: an address only in the first entry, which has the prefix length 0, and one in all three entries
 
 pub found_in_the_first : longest_of 3 1 routes ≡ Some (net 0 0, 5)
 found_in_the_first = refl
@@ -39,18 +39,18 @@ found_in_the_first = refl
 pub found_in_the_last : longest_of 3 4 routes ≡ Some (net 4 3, 9)
 found_in_the_last = refl
 
--- nothing is found only if no block holds the address, also the block of all addresses
+-- nothing is found only if no block holds the address, not even the block of all addresses
 pub something_is_found : (t : Table) → IsSome (get t (net 0 0)) → ¬ (Answers 3 t 7 None)
 something_is_found t stored none = none (net 0 0) stored (lit< tt, refl)
 
--- a block is found only if it holds the address,
+-- a block is found only if it holds the address
 pub found_block_holds : (t : Table) (v : ℕ) → ¬ (Answers 3 t 3 (Some (net 4 1, v)))
 found_block_holds t v found = let first : 0 ≡ 1 = found.holds.1 in omega (arith, first)
 
--- has the value,
+-- a block is found only with its value
 pub found_value_is_stored : (t : Table) → Answers 3 t 6 (Some (net 4 1, 7)) → get t (net 4 1) ≡ Some 7
 found_value_is_stored t found = found.stored
 
--- and is the longest
+-- a block is found only if it is the longest
 pub no_longer_block : (t : Table) → IsSome (get t (net 4 3)) → ¬ (Answers 3 t 4 (Some (net 4 1, 7)))
 no_longer_block t stored found = let few : 3 ≤ 1 = found.longest (net 4 3) stored (lit< tt, refl) in omega (arith, few)

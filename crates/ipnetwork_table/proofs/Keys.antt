@@ -1,4 +1,4 @@
--- What an insert and a removal do to keys.
+-- What an insertion and a removal do to the keys.
 use Rattle.std.proofs.Common.{◌≡◌, ◌≢◌, ℕ, true, false, cond, Some, None, sym, refl, ap, subst, ◌∙◌}
 use Rattle.std.specs.Prelude.{IsSome}
 use Rattle.std.specs.FinMap.{FinMap, get, insert, remove, empty, get-empty, get-insert, get-remove}
@@ -12,7 +12,7 @@ use Rattle.ipnetwork_table.proofs.Pairs.{total, one_network, tie_of}
 pub nothing : false ≡ true → ⊥
 nothing e = cc
 
--- what is so of each key
+-- a property of every key
 pub none_fit : (V : Type 0) (Fits : Network → Type 0) (n : Network) → IsSome (get (empty {X = V} {R = network_cmp}) n) → Fits n
 none_fit V Fits n stored = absurd (nothing (subst IsSome (get-empty network_cmp n) stored))
 
@@ -41,7 +41,7 @@ module _ {V : Type 0} (w : ℕ) where
   pub one_less : (t : FinMap network_cmp V) (n : Network) → HasNoHostBits w t → HasNoHostBits w (remove t n)
   one_less t n = fit_without (HostBitsAreZero w) t n
 
--- a network ties with itself alone
+-- a network compares equal only to itself
 tied : (n : Network) → eq_by_cmp network_cmp n n ≡ true
 tied n = (eq_by_cmp_equiv total).refl n
 

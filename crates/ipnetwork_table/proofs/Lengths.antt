@@ -1,4 +1,4 @@
--- How many stored blocks have a prefix length.
+-- How many stored blocks have a given prefix length.
 use Rattle.std.proofs.Common.{◌≡◌, ◌≢◌, ℕ, ◌+◌, ◌-◌, ◌<◌, ◌≤◌, ◌==◌, Bool, true, false, cond, List, [], ◌∷◌, length, get_or, set, slice_get, is_some, Option, Some, None, sym, refl, ap, ◌∙◌, arith}
 use Rattle.std.specs.Prelude.{IsSome, MatchBool, nat_lt}
 use Rattle.std.specs.Ordering.{eq_by_cmp}
@@ -15,7 +15,7 @@ one_more_at_most : (b : Bool) (n : ℕ) → cond b n (n + 1) ≤ n + 1
 one_more_at_most true n = omega arith
 one_more_at_most false n = omega arith
 
--- ---- the keys that pass a test, after an insert and a removal
+-- ---- the keys that pass a test, after an insertion and a removal
 
 module _ {V : Type 0} (test : Network → Bool) where
   kept : (t : FinMap network_cmp V) (n : Network) → get (retain_keys t test) n ≡ cond (test n) (get t n) None
@@ -63,7 +63,7 @@ module _ {V : Type 0} (test : Network → Bool) where
       ∙ ap (cond (eq_by_cmp network_cmp n m) None) (sym (kept t n))
       ∙ sym (get-remove total (retain_keys t test) m n))
 
-  -- whether one key is among them
+  -- whether a key is among those that pass
   key_kept : (t : FinMap network_cmp V) (m : Network) → is_some (get (retain_keys t test) m) ≡ cond (test m) (is_some (get t m)) false
   key_kept t m = ap is_some (kept t m) ∙ elim (test m) as (λ b. is_some (cond b (get t m) None) ≡ cond b (is_some (get t m)) false) [ true ↦ refl | false ↦ refl ]
 
@@ -73,7 +73,7 @@ module _ {V : Type 0} (test : Network → Bool) where
     | false ↦ λ fails stored. absurd (nothing stored)
   ] refl (sym (key_kept t m) ∙ stays)
 
-  -- a map that has a number above 0 of them has one
+  -- if the number of keys that pass is greater than 0, some key passes
   one_of_them : (t : FinMap network_cmp V) → 0 < len (retain_keys t test) → (m : Network) × IsSome (get t m) × (test m ≡ true)
   one_of_them t some = first_of_them (entries (retain_keys t test)) refl where
     first_of_them : (es : List (Network × V)) → entries (retain_keys t test) ≡ es → (m : Network) × IsSome (get t m) × (test m ≡ true)
@@ -82,7 +82,7 @@ module _ {V : Type 0} (test : Network → Bool) where
         let there = kept_is_there t e.0 (ap is_some (listed_is_stored (retain_keys t test) 0 e.0 e.1 (ap (λ (l : List (Network × V)). slice_get l 0) is))) in
         (e.0, there.0, there.1)
 
-  -- ---- their number
+  -- ---- the number of keys that pass
 
   listed_at_most : (es : List (Network × V)) → len (retain_keys (from_entries {R = network_cmp} es) test) ≤ length es
   listed_at_most [] = let none : len (retain_keys (empty {X = V} {R = network_cmp}) test) ≡ 0 = ap len kept_of_none ∙ len-empty network_cmp V in omega (arith, none)
@@ -110,7 +110,7 @@ module _ {V : Type 0} (test : Network → Bool) where
       let number = len-entries t in
       omega (arith, listed, same, number)
 
-  -- after an insert of a key that passes and is new
+  -- after the insertion of a new key that passes
   one_more : (t : FinMap network_cmp V) (m : Network) (v : V) → test m ≡ true → get t m ≡ None → len (retain_keys (insert t m v) test) ≡ len (retain_keys t test) + 1
   one_more t m v passes new =
       let absent : is_some (get (retain_keys t test) m) ≡ false = key_kept t m ∙ ap (λ b. cond b (is_some (get t m)) false) passes ∙ ap is_some new in
@@ -118,7 +118,7 @@ module _ {V : Type 0} (test : Network → Bool) where
       ∙ len-insert total (retain_keys t test) m v
       ∙ ap (λ b. cond b (len (retain_keys t test)) (len (retain_keys t test) + 1)) absent
 
-  -- of a key that is there
+  -- after the insertion of a key that is already stored
   no_more : (t : FinMap network_cmp V) (m : Network) (v : V) → IsSome (get t m) → len (retain_keys (insert t m v) test) ≡ len (retain_keys t test)
   no_more t m v stored = elim (test m) as (λ b. test m ≡ b → len (retain_keys (insert t m v) test) ≡ len (retain_keys t test)) [
     | true ↦ λ passes.
@@ -129,7 +129,7 @@ module _ {V : Type 0} (test : Network → Bool) where
     | false ↦ λ fails. ap len (kept_beside t m v fails)
   ] refl
 
-  -- after a removal of a key
+  -- after the removal of a key
   after_removal : (t : FinMap network_cmp V) (m : Network)
       → len (retain_keys (remove t m) test) ≡ cond (cond (test m) (is_some (get t m)) false) (len (retain_keys t test) - 1) (len (retain_keys t test))
   after_removal t m =
@@ -178,7 +178,7 @@ module _ {V : Type 0} (t : FinMap network_cmp V) (counts : List ℕ) (counted : 
             none_of_length p within (omega (arith, not_above))
       ] refl
 
-  -- where the block is new, fewer blocks have its prefix length than there are after the insert
+  -- if the block is new, fewer blocks have its prefix length than there are blocks after the insertion
   pub room_for_one : (m : Network) (v : V) → m.prefix < 256 → get t m ≡ None → get_or counts m.prefix 0 < len (insert t m v)
   room_for_one m v within new =
       let is = counted m.prefix within in

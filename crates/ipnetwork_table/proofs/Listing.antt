@@ -71,7 +71,7 @@ module _ {V : Type 0} where
         | false ↦ λ apart has. let rest = listed_if_stored es n v has in (suc rest.0, rest.1)
       ] refl stored
 
-  -- ---- of a table
+  -- ---- the entries of a table
 
   pub listed_is_stored : (t : FinMap network_cmp V) (i : ℕ) (n : Network) (v : V) → slice_get (entries t) i ≡ Some (n, v) → get t n ≡ Some v
   listed_is_stored t i n v at = get-entries t n ∙ stored_if_listed (entries t) (entries_sorted t) i n v at

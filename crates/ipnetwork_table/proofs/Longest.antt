@@ -12,7 +12,7 @@ use Rattle.ipnetwork_table.proofs.Keys.{nothing, none_fit, fit_with, fit_without
 abbrev Table : Type 0 → Type 0
 Table V = FinMap network_cmp V
 
--- ---- the tables that calls make
+-- ---- the tables that calls return
 
 pub new_table : (w : ℕ) (V : Type 0) → HasOnlyBlocks w (empty {X = V} {R = network_cmp})
 new_table w V = none_fit V (IsCidrBlock w)
@@ -30,7 +30,7 @@ module _ {V : Type 0} (w : ℕ) where
   pub none_above_width : (t : Table V) (x : ℕ) → HasOnlyBlocks w t → NoneAbove w t x w
   none_above_width t x blocks n stored above holds = let fits = (blocks n stored).network in omega (arith, fits.prefix_fits, above)
 
-  -- after a look-up at p that found nothing
+  -- after a look-up at p has found nothing
   none_from : (t : Table V) (x p : ℕ) → HasOnlyBlocks w t → NoneAbove w t x p → get t (block_at w x p) ≡ None
       → (n : Network) → IsSome (get t n) → p ≤ n.prefix → ¬ (Member w n x)
   none_from t x p blocks above none n stored from holds = ⊎_elim

@@ -29,7 +29,7 @@ module _ (V : Type 0) (computed : MembershipComputed) where
   value_of None some = absurd (no_truth some)
   value_of (Some v) some = (v, refl)
 
-  -- ---- of a list
+  -- ---- the longest of a list
 
   abbrev IsListed : List Entry → Entry → Type 0
   IsListed es e = (i : ℕ) × (slice_get es i ≡ Some e)
@@ -44,7 +44,7 @@ module _ (V : Type 0) (computed : MembershipComputed) where
   abbrev Best : ℕ → ℕ → List Entry → Option Entry → Type 0
   Best w x es found = MatchOption found (HoldsNone w x es) (IsBest w x es)
 
-  -- what holds of the first entry and of each other holds of each
+  -- what holds for the first entry and for all others holds for each entry
   each : (P : Entry → Type 0) (e : Entry) (es : List Entry) → P e → ((other : Entry) → IsListed es other → P other) → (other : Entry) → IsListed (e ∷ es) other → P other
   each P e es first others other (zero, at) = subst P (same_entry e other at) first
   each P e es first others other (suc i, at) = others other (i, at)
@@ -73,7 +73,7 @@ module _ (V : Type 0) (computed : MembershipComputed) where
         | false ↦ λ is. passed_over w x e es rest (λ holds. no_truth (sym is ∙ (computed w e.0 x).1 holds)) (best_of w x es)
       ] refl
 
-  -- ---- of a table
+  -- ---- the longest of a table
 
   in_table : (w : ℕ) (t : FinMap network_cmp V) (x : ℕ) (found : Option Entry) → Best w x (entries t) found → Answers w t x found
   in_table w t x None best = λ n stored holds.
@@ -84,6 +84,6 @@ module _ (V : Type 0) (computed : MembershipComputed) where
     longest = λ m stored holds. let v = value_of (get t m) stored in best.2 (m, v.0) (stored_is_listed t m v.0 v.1) holds;
   }
 
-  -- a look-up has the computed answer
+  -- the computed result is the result of a look-up
   pub computed_answers : AnswerIsComputed V
   computed_answers w t x = in_table w t x _ (best_of w x (entries t))

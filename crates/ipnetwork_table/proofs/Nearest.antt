@@ -1,4 +1,4 @@
--- The stored block that is nearest to an address from below, and how many bits the two share.
+-- The last stored block that does not come after an address, and how many bits the two share.
 use Rattle.std.proofs.Common.{◌≡◌, ℕ, ◌-◌, ◌*◌, ◌/◌, ◌^◌, ◌<◌, ◌≤◌, inl, inr, Some, sym, ap, ◌∙◌, arith, ⊎_elim}
 use Rattle.std.specs.Prelude.{IsSome}
 use Rattle.std.specs.FinMap.{FinMap, get}
@@ -8,20 +8,20 @@ use Rattle.ipnetwork_family.proofs.Blocks.{div_within, block_same_set, coarser_s
 use Rattle.ipnetwork_table.specs.Table.{HasOnlyBlocks, IsLongest, NoneHolds}
 use Rattle.ipnetwork_table.specs.Private.Nearest.{NoneUpTo, IsLastUpTo, NoneAbove, ShareAtMost}
 
--- ---- how many bits are shared
+-- ---- the number of shared bits
 
--- a block of prefix length p around x that does not hold y
+-- y does not lie in the block of prefix length p around x
 pub share_less : (w x y p : ℕ) → 0 < p → ¬ (Member w (block_at w x p) y) → ShareAtMost w x y (p - 1)
 share_less w x y p more apart q beyond within holds = apart ((block_same_set w (record { address = x; prefix = p }) y).1
     (holds.0, coarser_size w p q y x (omega (arith, more, beyond)) within holds.1))
 
--- no bit at all
+-- any two addresses share at least 0 bits
 pub share_none : (w x y : ℕ) → x < 2 ^ w → y < 2 ^ w → Member w (record { address = x; prefix = 0 }) y
 share_none w x y x_fits y_fits =
     let all : 2 ^ (w - 0) ≡ 2 ^ w = let none : w - 0 ≡ w = omega arith in ap (λ k. 2 ^ k) none in
     (y_fits, div_within 0 (2 ^ (w - 0)) y (omega arith) (omega arith) ∙ sym (div_within 0 (2 ^ (w - 0)) x (omega arith) (omega arith)))
 
--- ---- in order
+-- ---- the order
 
 whole : (w x : ℕ) → (block_at w x w).address ≡ x
 whole w x = let none : w - w ≡ 0 = omega arith in ap (λ k. x / 2 ^ k * 2 ^ k) none ∙ omega arith
@@ -38,14 +38,14 @@ up_to_address w x n fits block holds =
 address_up_to : (m n : Network) → IsNetworkAtMost m n → m.address ≤ n.address
 address_up_to m n most = ⊎_elim (λ (less : m.address < n.address). omega (arith, less)) (λ (same : (m.address ≡ n.address) × (m.prefix ≤ n.prefix)). omega (arith, same.0)) most
 
--- ---- the last block up to an address
+-- ---- the last block that does not come after an address
 
 pub none_near : {V : Type 0} (w x : ℕ) (t : FinMap network_cmp V) → HasOnlyBlocks w t → NoneUpTo t (block_at w x w) → NoneHolds w t x
 none_near w x t blocks none n stored holds =
     let key = blocks n stored in
     none n stored (up_to_address w x n key.network key.block holds)
 
--- x shares fewer bits with a block that does not hold it than that has
+-- with a block that does not hold it, x shares fewer bits than the prefix length of that block
 pub fewer_shared : (w x c : ℕ) (k : Network) → x < 2 ^ w → c ≤ w
     → Member w (record { address = (block_at w x w).address; prefix = c }) k.address → ¬ (Member w k x) → c < k.prefix
 fewer_shared w x c k fits within shared apart = ⊎_elim
@@ -57,7 +57,7 @@ fewer_shared w x c k fits within shared apart = ⊎_elim
     )))
     (cases_lt c k.prefix)
 
--- no stored block that holds x has a longer prefix than x shares with the last one
+-- no stored block that holds x has a longer prefix than x shares with the last block
 pub none_above_shared : {V : Type 0} (w x c : ℕ) (k : Network) (t : FinMap network_cmp V) → HasOnlyBlocks w t
     → IsLastUpTo t (block_at w x w) k → ShareAtMost w (block_at w x w).address k.address c → NoneAbove w t x c
 none_above_shared w x c k t blocks last shared n stored beyond holds =
@@ -70,7 +70,7 @@ none_above_shared w x c k t blocks last shared n stored beyond holds =
     shared n.prefix beyond key.network.prefix_fits
     (inside.0, inside.1 ∙ sym holds.1 ∙ ap (λ a. a / block_size w n.prefix) (sym (whole w x)))
 
--- the last one is the longest that holds x, if it holds x
+-- if the last block holds x, it is the longest that does
 pub last_is_longest : {V : Type 0} (w x : ℕ) (k : Network) (v : V) (t : FinMap network_cmp V) → HasOnlyBlocks w t
     → IsLastUpTo t (block_at w x w) k → get t k ≡ Some v → Member w k x → IsLongest w t x k v
 last_is_longest w x k v t blocks last found here = record {

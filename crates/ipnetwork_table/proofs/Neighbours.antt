@@ -1,4 +1,4 @@
--- The last key of an ordered map up to another, by what the keys mean.
+-- The last key of an ordered map that does not come after another, with each key converted to a network.
 use Rattle.std.proofs.Common.{◌≡◌, ◌<◌, ◌≤◌, true, false, cond, List, [], ◌∷◌, inl, inr, Some, None, sym, refl, ap, subst, ◌∙◌, arith, ⊎_elim, Ordering}
 use Rattle.std.specs.Prelude.{IsSome}
 use Rattle.std.specs.declared.cmp.Ordering.TheVariants.{Less, Equal}
@@ -17,7 +17,7 @@ use Rattle.ipnetwork_table.specs.Private.Nearest.{NoneUpTo, IsLastUpTo}
 use Rattle.ipnetwork_table.proofs.Keys.{nothing}
 use Rattle.ipnetwork_table.proofs.Pairs.{total, one_network, tie_of, value_at}
 
--- what comes before another or is it does not come after it
+-- if a comes before b or is b, it does not come after b
 not_after : (a b : Network) → IsNetworkAtMost a b → is_gt (network_cmp a b) ≡ false
 not_after a b most = ⊎_elim
     (λ (less : a.address < b.address). ap (λ o. is_gt (ordering_then o (nat_cmp a.prefix b.prefix))) (sym (nat_cmp_is a.address b.address Less less)))
@@ -29,7 +29,7 @@ not_after a b most = ⊎_elim
     (cases_lt a.prefix b.prefix))
     most
 
--- what another does not come before comes before it or is it
+-- if b does not come before a, then a comes before b or is b
 at_most_if : (a b : Network) → is_lt (network_cmp b a) ≡ false → IsNetworkAtMost a b
 at_most_if a b not = elim (cases_lt a.address b.address) [
   | inl less ↦ inl less
@@ -57,7 +57,7 @@ module _ {K V : Type 0} (pair : K → Network) (cmp : K → K → Ordering) (law
   abbrev table_of : BTreeMap K V → FinMap network_cmp V
   table_of m = from_entries {R = network_cmp} (by_pair pair m.entries)
 
-  -- a network that is there is that of some key
+  -- each stored network is that of some key
   key_among : (es : List (K × V)) (n : Network) → IsSome (find network_cmp n (by_pair pair es)) → (k : K) × (pair k ≡ n)
   key_among [] n = λ stored. absurd (nothing stored)
   key_among (e ∷ es) n =

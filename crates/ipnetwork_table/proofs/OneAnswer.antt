@@ -1,4 +1,4 @@
--- There is one answer to a look-up, and never more.
+-- A look-up has exactly one result.
 use Rattle.std.proofs.Common.{◌≡◌, ℕ, zero, suc, ◌-◌, ◌^◌, ◌<◌, ◌≤◌, Option, Some, None, sym, refl, ap, subst, ◌∙◌, arith, ⊎_elim, is_some}
 use Rattle.std.specs.Prelude.{IsSome}
 use Rattle.std.specs.FinMap.{FinMap, get}
@@ -18,7 +18,7 @@ module _ {V : Type 0} (w : ℕ) (t : FinMap network_cmp V) (x : ℕ) (blocks : H
   abbrev Found : Type 0
   Found = (answer : Option (Network × V)) × Answers w t x answer
 
-  -- from a prefix length down
+  -- the search from a prefix length down
   search_from : x < 2 ^ w → (p : ℕ) → NoneAbove w t x p → Found
   search_from fits zero above =
       elim (get t (block_at w x 0)) as (λ o. get t (block_at w x 0) ≡ o → Found) [
@@ -55,7 +55,7 @@ module _ {V : Type 0} (w : ℕ) (t : FinMap network_cmp V) (x : ℕ) (blocks : H
       let value : d.1 ≡ e.1 = same_value d.1 e.1 (sym here.stored ∙ ap (get t) same ∙ there.stored) in
       λ i. Some (same i, value i)
 
--- what a look-up answers, its block told by what it means
+-- the result of a look-up, with its block converted to a network
 pub answers_by_pair : {N V : Type 0} (pair : N → Network) (w : ℕ) (t : FinMap network_cmp V) (x : ℕ) (found : Option (N × V))
     → Finds pair w t x found → Answers w t x (found_by_pair pair found)
 answers_by_pair pair w t x None h = h

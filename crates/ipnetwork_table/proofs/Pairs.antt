@@ -1,4 +1,4 @@
--- The entries of an ordered map, by what its keys mean, as a finite map.
+-- The entries of an ordered map, with its keys converted to networks, as a finite map.
 use Rattle.std.proofs.Common.{◌≡◌, ℕ, suc, Bool, true, false, cond, ◌&&◌, T, List, [], ◌∷◌, length, Some, None, sym, refl, ap, subst, ◌∙◌, arith, Ordering}
 use Rattle.std.specs.declared.cmp.Ordering.TheVariants.{Less, Equal, Greater}
 use Rattle.std.specs.Cmp.{IsTotalOrder, nat_cmp_total}
@@ -17,7 +17,7 @@ use Rattle.ipnetwork_table.specs.Table.{by_pair}
 pub total : IsTotalOrder network_cmp
 total = then_total (on_total (λ n. n.address) nat_cmp_total) (on_total (λ n. n.prefix) nat_cmp_total)
 
--- networks that tie are one
+-- networks that compare equal are equal
 pub one_network : IsAntisymmetric network_cmp
 one_network a b tie =
     ap (λ (numbers : ℕ × ℕ). record { address = numbers.0; prefix = numbers.1 })
@@ -45,7 +45,7 @@ before Less p = refl
 before Equal p = absurd p
 before Greater p = absurd p
 
--- the finite map of sorted entries has these entries
+-- the finite map made of sorted entries has these entries
 module _ {V : Type 0} where
   no_entries : (es : List (Network × V)) → length es ≡ 0 → es ≡ []
   no_entries [] none = refl
@@ -82,7 +82,7 @@ module _ {K V : Type 0} (pair : K → Network) (cmp : K → K → Ordering) (law
   pub value_at : (es : List (K × V)) (k : K) → get (table_of es) (pair k) ≡ lookup (is_at (cmp k)) es
   value_at es k = get-from_entries total (by_pair pair es) (pair k) ∙ find_by_pair es k
 
-  -- ---- putting in
+  -- ---- inserting
 
   put_by_pair : (es : List (K × V)) (k : K) (v : V) → by_pair pair (insert_entry cmp es k v) ≡ put network_cmp (pair k) v (by_pair pair es)
   put_by_pair [] k v = refl
@@ -105,7 +105,7 @@ module _ {K V : Type 0} (pair : K → Network) (cmp : K → K → Ordering) (law
       ∙ ap (cond (eq_by_cmp network_cmp n (pair k)) (Some v)) (sym (get-from_entries total (by_pair pair es) n))
       ∙ sym (get-insert total (table_of es) (pair k) v n))
 
-  -- ---- taking out
+  -- ---- removing
 
   others_stay : (es : List (K × V)) (k : K) (n : Network) → eq_by_cmp network_cmp n (pair k) ≡ false
       → find network_cmp n (by_pair pair (remove_entry (is_at (cmp k)) es)) ≡ find network_cmp n (by_pair pair es)

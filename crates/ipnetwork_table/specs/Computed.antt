@@ -1,2 +1,2 @@
--- Functions that compute what relations of the folder above say. The laws say that the two agree.
+-- Functions that compute what the relations of the folder above state. The laws say that the two agree.
 pub mod Longest

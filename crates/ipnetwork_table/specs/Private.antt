@@ -1,3 +1,3 @@
--- What the private functions promise each other, and how contracts see private fields.
+-- Definitions for the contracts of private functions, and how contracts view private fields.
 pub mod Lengths
 pub mod Nearest

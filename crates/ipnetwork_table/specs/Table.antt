@@ -5,16 +5,16 @@ use Rattle.std.specs.Coded.{Coded, code_by, coded×, coded_ℕ}
 use Rattle.std.specs.FinMap.{FinMap, get}
 use Rattle.ipnetwork_family.specs.Network.{Network, HostBitsAreZero, IsCidrBlock, Member, network_cmp}
 
--- a network as its two numbers, so that a finite map can have it for a key
+-- a network encoded as its two numbers, so that it can be a key of a finite map
 abbrev pub network_code : Coded Network
 network_code = code_by (ℕ × ℕ) (coded× coded_ℕ coded_ℕ) (λ n. (n.address, n.prefix))
     (λ numbers. record { address = numbers.0; prefix = numbers.1 }) (λ n. refl)
 
--- entries under networks of some type, each network as what it means
+-- entries with networks of some type, each converted to a `Network` by `pair`
 abbrev pub by_pair : {N V : Type 0} → (N → Network) → List (N × V) → List (Network × V)
 by_pair pair entries = map (λ e. (pair e.0, e.1)) entries
 
--- what was found under networks of some type, the network as what it means
+-- what was found with networks of some type, its network converted to a `Network` by `pair`
 abbrev pub found_by_pair : {N V : Type 0} → (N → Network) → Option (N × V) → Option (Network × V)
 found_by_pair pair None = None
 found_by_pair pair (Some found) = Some (pair found.0, found.1)
@@ -37,11 +37,11 @@ pub record IsLongest {V : Type 0} (w : ℕ) (t : FinMap network_cmp V) (x : ℕ)
 abbrev pub NoneHolds : {V : Type 0} → ℕ → FinMap network_cmp V → ℕ → Type 0
 NoneHolds w t x = (n : Network) → IsSome (get t n) → ¬ (Member w n x)
 
--- what a look-up finds: the longest block that holds x and its value, or nothing if no stored block holds x. The block
--- is of some type, and means a network
+-- the result of looking up x: the longest stored block that holds x and its value, or nothing if no stored block holds
+-- x. The block is of some type, and `pair` converts it to a `Network`
 abbrev pub Finds : {N V : Type 0} → (N → Network) → ℕ → FinMap network_cmp V → ℕ → Option (N × V) → Type 0
 Finds pair w t x found = MatchOption found (NoneHolds w t x) (λ f. IsLongest w t x (pair f.0) f.1)
 
--- the same, of a network itself
+-- `Finds` for blocks of the type `Network`
 abbrev pub Answers : {V : Type 0} → ℕ → FinMap network_cmp V → ℕ → Option (Network × V) → Type 0
 Answers w t x answer = Finds (λ n. n) w t x answer

@@ -1,11 +1,11 @@
-//! How many bits the addresses of two networks share.
+//! The number of leading bits that the addresses of two networks share.
 ghost use Rattle.std.specs.Prelude.{ℕ, ◌≤◌};
 ghost use Rattle.ipnetwork_family.specs.Network.{Member};
 ghost use Rattle.ipnetwork_table.specs.Private.Nearest.{ShareAtMost};
 
 use ipnetwork_family::CidrNetwork;
 
-/// How many bits the addresses of two networks have in common in front, found by halves.
+/// The number of leading bits that the addresses of two networks share, found by bisection.
 #[tactic(auto, using(crate::proofs::Nearest::share_none))]
 pub(crate) fn shared_length<N: CidrNetwork>(one: N, other: N) -> u8
     ensures within { result ≤ N.WIDTH }

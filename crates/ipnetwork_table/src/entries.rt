@@ -22,7 +22,7 @@ pub struct Entries<'a, N: CidrNetwork, V: Copy> {
     left: Iter<'a, N, V>,
 }
 
-// A contract sees an iterator as the list of the entries still to come.
+// A contract sees an iterator as the list of the remaining entries.
 impl<'a, N: CidrNetwork, V: Copy> Model for Entries<'a, N, V> {
     ghost use Rattle.std.specs.Prelude.{List};
 

@@ -1,5 +1,5 @@
-//! The laws of tables. Each function's contract is a law. One that takes nothing does nothing; a proof whose function
-//! calls it may use the law.
+//! The laws of tables: each function's contract is a law. The functions that take nothing do
+//! nothing; the proof of a function that calls one may use its law.
 
 mod entries;
 mod lookups;

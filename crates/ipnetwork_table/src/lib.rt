@@ -1,5 +1,5 @@
-//! Routing tables: values kept under blocks of IP addresses and found by longest prefix (RFC 4632, section
-//! 5.1), for networks of either family.
+//! Routing tables: maps from blocks of IP addresses to values, searched by longest prefix (RFC
+//! 4632, section 5.1), for networks of either family.
 //!
 //! Only `insert` allocates.
 #![tactic(auto)]

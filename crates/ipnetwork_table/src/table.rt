@@ -16,10 +16,11 @@ use std::fmt;
 use std::fmt::{Debug, Formatter, Write};
 use std::marker::Model;
 
-/// Values by block, and the longest block that holds an address (RFC 4632, section 5.1). A table has
-/// networks of one family.
+/// Values by block, and look-ups of the longest block that holds an address (RFC 4632, section
+/// 5.1). All networks of a table are of one family.
 ///
-/// A network given as a key stands for its block: its host bits are cleared. Only `insert` allocates.
+/// A network given as a key stands for its block: its host bits are cleared. Only `insert`
+/// allocates.
 ///
 /// ```
 /// let mut table = PrefixTable::new(rt.alloc());
@@ -30,7 +31,7 @@ use std::marker::Model;
 #[derive(Drop)]
 pub struct PrefixTable<N: CidrNetwork, V: Copy> {
     values: Values<N, V>,
-    // `used[p]` is how many stored blocks have the prefix length p.
+    // `used[p]` is the number of stored blocks with prefix length p.
     used: [usize; 256],
 }
 
@@ -62,8 +63,8 @@ fn key_of<N: CidrNetwork>(net: N) -> N
     block
 }
 
-// The clause `blocks` tells a proof in another crate that each key is a network without host bits: the fields are
-// private, so a proof knows of them only what a clause says.
+// The clause `blocks` tells a proof in another crate that each key is a network without host bits:
+// such a proof cannot see the private fields.
 impl<N: CidrNetwork, V: Copy> PrefixTable<N, V> {
     /// The empty table.
     ///
@@ -107,7 +108,7 @@ impl<N: CidrNetwork, V: Copy> PrefixTable<N, V> {
         self.len() == 0
     }
 
-    /// The value of the block of `net`; `None` if it has none.
+    /// The value of the block of `net`; `None` if the block has none.
     ///
     /// ```
     /// let mut table = PrefixTable::new(rt.alloc());
@@ -136,8 +137,8 @@ impl<N: CidrNetwork, V: Copy> PrefixTable<N, V> {
         self.get(net).is_some()
     }
 
-    /// The blocks and their values, in the order of networks: a block comes before the smaller ones that lie in
-    /// it.
+    /// The blocks and their values, in the order of networks: a block comes before the smaller ones
+    /// that lie in it.
     ///
     /// ```
     /// let mut table = PrefixTable::new(rt.alloc());
@@ -151,7 +152,7 @@ impl<N: CidrNetwork, V: Copy> PrefixTable<N, V> {
         self.values.entries()
     }
 
-    /// Removes every block, and frees the memory.
+    /// Removes all blocks and frees the memory.
     ///
     /// ```
     /// let mut table = PrefixTable::new(rt.alloc());
@@ -166,7 +167,8 @@ impl<N: CidrNetwork, V: Copy> PrefixTable<N, V> {
         self.used = [0; 256];
     }
 
-    /// Sets the value of the block of `net`, and returns the value that it had.
+    /// Sets the value of the block of `net`, and returns the previous value, or `None` if it had
+    /// none.
     ///
     /// Allocates only for a new block. If memory runs out, the result is an error and the table is unchanged.
     ///
@@ -185,7 +187,7 @@ impl<N: CidrNetwork, V: Copy> PrefixTable<N, V> {
         self.insert_block(key_of(net), value)
     }
 
-    // A block that is new is counted with those of its prefix length.
+    // Inserts the block. A new block is counted with those of its prefix length.
     fn insert_block(&mut self, block: N, value: V) -> Result<Option<V>, AllocError>
         requires { HostBitsAreZero N.WIDTH (N.pair block) }
         ensures old { IfOk result (λ old. old ≡ map.get self.old (N.pair block)) }
@@ -204,7 +206,7 @@ impl<N: CidrNetwork, V: Copy> PrefixTable<N, V> {
         Ok(None)
     }
 
-    /// Removes the block of `net`, and returns the value that it had, or `None` if it had none.
+    /// Removes the block of `net`, and returns its value, or `None` if it had none.
     ///
     /// ```
     /// let mut table = PrefixTable::new(rt.alloc());
@@ -235,8 +237,8 @@ impl<N: CidrNetwork, V: Copy> PrefixTable<N, V> {
         self.used[length as usize] > 0
     }
 
-    /// The stored block of greatest prefix length whose set holds the address, with its value; `None` if no stored
-    /// block holds it.
+    /// The stored block with the greatest prefix length that holds the address, and its value;
+    /// `None` if no stored block holds the address.
     ///
     /// ```
     /// let mut table = PrefixTable::new(rt.alloc());
@@ -252,9 +254,11 @@ impl<N: CidrNetwork, V: Copy> PrefixTable<N, V> {
         self.counted_lookup(&mut steps, addr)
     }
 
-    // `lookup`, whose searches in the map are counted: at most `WIDTH + 1`. The first finds the last stored block up to
-    // the address. If it holds the address it is the longest that does: a longer one would come after it. If not, the
-    // address shares fewer bits with it than its prefix length, and no block of more bits than these holds the address.
+    // `lookup`, which also counts the searches in the map: at most `WIDTH + 1`. The first finds the
+    // last stored block that does not come after the address. If that block holds the address, it
+    // is the longest that does, since a longer one would come after it. If not, the address shares
+    // fewer bits with it than its prefix length, and no block with more bits than these holds the
+    // address.
     fn counted_lookup(&self, steps: &mut u32, addr: N::Addr) -> Option<(N, V)>
         requires { steps.old + 256 < 2 ^ 32 }
         ensures answer { Finds N.pair N.WIDTH self.now (N.number addr) result }
@@ -271,8 +275,8 @@ impl<N: CidrNetwork, V: Copy> PrefixTable<N, V> {
         self.longest_up_to(steps, addr, shared_length(end, near))
     }
 
-    // `lookup` where no stored block of a prefix length above `most` holds the address: asks for the blocks of the
-    // other prefix lengths in turn, without those that no stored block has.
+    // `lookup`, given that no stored block with a prefix length above `most` holds the address:
+    // tries the blocks of the other prefix lengths in turn, except those that no stored block has.
     fn longest_up_to(&self, steps: &mut u32, addr: N::Addr, most: u8) -> Option<(N, V)>
         requires within { most ≤ N.WIDTH }
         requires none_above { NoneAbove N.WIDTH self.now (N.number addr) most }
@@ -297,11 +301,11 @@ impl<N: CidrNetwork, V: Copy> PrefixTable<N, V> {
         }
     }
 
-    /// What `lookup` returns, and the number of look-ups in the map that it takes to ask for the block of each prefix
-    /// length in turn, from `WIDTH` down: `WIDTH + 1` less the prefix length of the block that is found, `WIDTH + 1`
-    /// if none is.
+    /// What `lookup` returns, and the number of look-ups in the map needed to try the block of each
+    /// prefix length in turn, from `WIDTH` down: `WIDTH + 1` minus the prefix length of the block
+    /// that is found, or `WIDTH + 1` if none is found.
     ///
-    /// This is a call for tests and proofs: `lookup` finds the same in fewer steps.
+    /// This call is for tests and proofs: `lookup` finds the same in fewer steps.
     ///
     /// ```
     /// let mut table = PrefixTable::new(rt.alloc());

@@ -1,4 +1,4 @@
-//! The ordered map in which a table keeps its values.
+//! The ordered map that holds the values of a table.
 ghost use Rattle.std.specs.Prelude.{◌≡◌, ℕ, ◌+◌, ◌<◌, ◌^◌, OnOk, OnErr, IfOk, IfSome, None, MatchOption};
 ghost use Rattle.std.specs.FinMap as map;
 ghost use Rattle.ipnetwork_table.specs.Table.{by_pair};
@@ -10,8 +10,8 @@ use std::alloc::{AllocError, Global};
 use std::collections::BTreeMap;
 use std::marker::Model;
 
-/// Values by network. Every search for a key that changes nothing counts itself: `probe` and `last_up_to` add one to
-/// the count that they are handed.
+/// Values by network. Searches for a key that change nothing are counted: `probe` and `last_up_to`
+/// add one to the count that they are given.
 #[derive(Drop)]
 pub(crate) struct Values<N: CidrNetwork, V: Copy> {
     tree: BTreeMap<N, V>,
@@ -45,7 +45,7 @@ impl<N: CidrNetwork, V: Copy> Values<N, V> {
         self.tree.len()
     }
 
-    /// The value of one network. Counts one step.
+    /// The value of one network, if any. Counts one step.
     pub(crate) fn probe(&self, steps: &mut u32, key: N) -> Option<V>
         requires { steps.old + 1 < 2 ^ 32 }
         ensures found { result ≡ map.get self.now (N.pair key) }
@@ -55,7 +55,7 @@ impl<N: CidrNetwork, V: Copy> Values<N, V> {
         self.tree.get(&key).copied()
     }
 
-    /// The last network that does not come after this one, and its value. Counts one step.
+    /// The last network that does not come after `end`, and its value. Counts one step.
     pub(crate) fn last_up_to(&self, steps: &mut u32, end: N) -> Option<(N, V)>
         requires { steps.old + 1 < 2 ^ 32 }
         ensures network { MatchOption result (NoneUpTo self.now (N.pair end))
@@ -68,8 +68,8 @@ impl<N: CidrNetwork, V: Copy> Values<N, V> {
         Some((*last, *value))
     }
 
-    /// Sets the value of a network and returns the one that it had. An error means out of memory, which can happen
-    /// only to a new network.
+    /// Sets the value of a network and returns its previous value. The only error is out of memory,
+    /// which is possible only for a new network.
     pub(crate) fn insert(&mut self, key: N, value: V) -> Result<Option<V>, AllocError>
         ensures old { IfOk result (λ old. old ≡ map.get self.old (N.pair key)) }
         ensures set { OnOk result (self.new ≡ map.insert self.old (N.pair key) value) }
@@ -79,21 +79,22 @@ impl<N: CidrNetwork, V: Copy> Values<N, V> {
         Ok(self.tree.insert(key, value)?)
     }
 
-    /// Removes every network and frees the memory.
+    /// Removes all networks and frees the memory.
     pub(crate) fn clear(&mut self)
         ensures { self.new ≡ map.empty }
     {
         self.tree.clear();
     }
 
-    /// All networks and their values, in order. This is no search for a key, so it counts nothing.
+    /// All networks and their values, in order. This is not a search for a key, so it counts
+    /// nothing.
     pub(crate) fn entries(&self) -> Entries<'_, N, V>
         ensures { by_pair N.pair result ≡ map.entries self.now }
     {
         Entries::new(self.tree.iter())
     }
 
-    /// Removes a network and returns the value that it had.
+    /// Removes a network and returns its value, if any.
     pub(crate) fn remove(&mut self, key: N) -> Option<V>
         ensures old { result ≡ map.get self.old (N.pair key) }
         ensures removed { self.new ≡ map.remove self.old (N.pair key) }

@@ -5,7 +5,7 @@ use Rattle.line_addresses.specs.declared.area.Part.{Part}
 use Rattle.line_addresses.specs.declared.area.Part.TheVariants as parts
 use Rattle.line_addresses.specs.declared.area.Pick.TheVariants as picks
 
--- a part that is an address
+-- a part that is an address as a whole
 abbrev pub whole : Part → Area
 whole part = record { part = part; pick = picks.Whole }
 

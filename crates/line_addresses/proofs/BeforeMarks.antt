@@ -16,7 +16,7 @@ front_is text mark =
     let long = length_push text mark in
     ap (λ k. take k (text ++ mark ∷ [])) (omega (arith, long)) ∙ take-append-le (length text) text (mark ∷ []) (omega arith) ∙ take_all (length text) text (omega arith)
 
--- what is before the mark
+-- the text before the mark
 before : (text : List ℕ) (mark : ℕ) → is_mark mark ≡ true → before_mark (text ++ mark ∷ []) ≡ spelled text
 before text mark is =
     ap (λ (last : ℕ). cond (is_mark last) (spelled (take (length (text ++ mark ∷ []) - 1) (text ++ mark ∷ []))) None) (last_is text mark)

@@ -1,4 +1,4 @@
--- An address text between two bytes of no run.
+-- An address text between two bytes that are not run bytes.
 use Rattle.std.proofs.Common.{◌≡◌, ◌↔◌, ℕ, Bool, true, false, cond, not, List, [], ◌∷◌, ◌++◌, Some, refl, sym, ap, ◌∙◌, arith}
 use Rattle.std.specs.Prelude.{filter_map}
 use Rattle.std.specs.List.{All, AllByRecursion, cons_option, slice_split, onto_first}
@@ -12,7 +12,7 @@ use Rattle.line_addresses.specs.LineRuns.{is_run_byte}
 use Rattle.line_addresses.proofs.LineParts.{filters, behind_cut, part_first}
 use Rattle.line_addresses.proofs.Shown.{nothing_shown}
 
--- the bytes of addresses are bytes of runs
+-- the bytes of addresses are run bytes
 in_run : (byte : ℕ) → IsAddressByte byte → is_run_byte byte ≡ true
 in_run byte (Digit low high) = grind (arith, nat_tests)
 in_run byte (UpperHex low high) = grind (arith, nat_tests)
@@ -24,7 +24,7 @@ all_in_run : (text : List ℕ) → AllByRecursion IsAddressByte text → AllByRe
 all_in_run [] h = tt
 all_in_run (byte ∷ text) h = (ap not (in_run byte h.0), all_in_run text h.1)
 
--- there is always a first part
+-- splitting always gives a first part
 first_part : (cuts : ℕ → Bool) (text : List ℕ) → (part : List ℕ) × (parts : List (List ℕ)) × (slice_split cuts text ≡ part ∷ parts)
 first_part cuts [] = ([], [], refl)
 first_part cuts (byte ∷ text) =
@@ -37,7 +37,7 @@ first_part cuts (byte ∷ text) =
 onto_append : (byte : ℕ) (all part : List ℕ) (xs parts ys : List (List ℕ)) → xs ≡ part ∷ parts → onto_first byte (xs ++ ys) ≡ onto_first byte xs ++ ys
 onto_append byte all part xs parts ys e = ap (λ l. onto_first byte (l ++ ys)) e ∙ sym (ap (λ l. onto_first byte l ++ ys) e)
 
--- a text that is cut at a byte
+-- a text that is split at a byte
 pub split_at : (cuts : ℕ → Bool) (front behind : List ℕ) (byte : ℕ) → cuts byte ≡ true → slice_split cuts (front ++ byte ∷ behind) ≡ slice_split cuts front ++ slice_split cuts behind
 split_at cuts [] behind byte is = ap (λ b. cond b ([] ∷ slice_split cuts behind) (onto_first byte (slice_split cuts behind))) is
 split_at cuts (x ∷ front) behind byte is =
@@ -69,13 +69,13 @@ found_between named bytes front text behind before after address names one two =
     ∙ ap (cons_option (address_in text)) (behind_cut (filters address_in nothing_shown) cuts after behind (ap not two))
     ∙ ap (λ o. cons_option o (kept behind)) (found_alone text address ((named text address).0 names)))
 
--- a line that is cut between runs
+-- a line that is split between runs
 pub cut_at : (front behind : List ℕ) (byte : ℕ) → is_run_byte byte ≡ false → addresses_of (front ++ byte ∷ behind) ≡ addresses_of front ++ addresses_of behind
 cut_at front behind byte is =
     let cuts = λ (byte : ℕ). not (is_run_byte byte) in
     ap (filter_map address_in) (split_at cuts front behind byte (ap not is)) ∙ filter_map-append address_in (slice_split cuts front) (slice_split cuts behind)
 
--- a line without a cut is one run
+-- a line of run bytes only is one run
 one_run : (cuts : ℕ → Bool) (text : List ℕ) → AllByRecursion (λ byte. cuts byte ≡ false) text → slice_split cuts text ≡ text ∷ []
 one_run cuts [] h = refl
 one_run cuts (byte ∷ text) h =

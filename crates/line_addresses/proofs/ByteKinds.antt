@@ -5,7 +5,7 @@ use Rattle.std.proofs.lemmas.Bool.{eqb-true}
 use Rattle.std.proofs.lemmas.Bool.Decides.{nat_tests}
 use Rattle.ipnetwork_addr.specs.Texts.{IsAddressByte, Digit, UpperHex, LowerHex, Dot, Colon}
 
--- the test
+-- whether a byte may occur in an address text
 abbrev pub is_address_byte : ℕ → Bool
 is_address_byte byte = is_in_range 48 57 byte || is_in_range 65 70 byte || is_in_range 97 102 byte || byte == 46 || byte == 58
 

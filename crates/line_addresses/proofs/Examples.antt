@@ -1,4 +1,4 @@
--- Texts at which a misreading of the definitions would show. Each of these computes.
+-- Texts that would expose a misreading of the definitions. Each of these computes.
 use Rattle.std.proofs.Common.{◌≡◌, ℕ, List, [], ◌∷◌, ◌++◌, refl}
 use Rattle.std.specs.Prelude.{codes, map, filter}
 use Rattle.std.specs.List.{range_with_len}
@@ -34,7 +34,7 @@ no_addresses = refl
 pub words : words_of (codes " Nov  3 10:00 ") ≡ codes "Nov" ∷ codes "3" ∷ codes "10:00" ∷ []
 words = refl
 
--- of the 256 bytes, those of runs, and the blanks between words: a tab and a space
+-- of the 256 bytes, the run bytes, and the blanks between words: a tab and a space
 pub run_bytes : filter is_run_byte (range_with_len 0 256) ≡ codes ".0123456789:ABCDEFGHIJKLMNOPQRSTUVWXYZ_abcdefghijklmnopqrstuvwxyz"
 run_bytes = refl
 

@@ -12,12 +12,12 @@ use Rattle.ipnetwork_addr.specs.declared.ip.IpAddr.TheVariants.{V4, V6}
 use Rattle.line_addresses.specs.Addresses.{address_of, with_text, spelled, is_colon, is_port, before_port, address_in}
 use Rattle.line_addresses.proofs.Shown.{nothing_named, no_rest, left}
 
--- a reader's answer tells what is named
+-- what the reader returns is what the text names
 pub named_by_answer : {E : Type 0} (error : E) (found : Option IpAddr) (address : IpAddr) → Ok address ≡ answer_from error found → found ≡ Some address
 named_by_answer error None address e = cc
 named_by_answer error (Some other) address e = cc
 
--- what is not named is not there
+-- a text that names no address has none
 pub none_named : (found : Option IpAddr) → ((address : IpAddr) → ¬ (found ≡ Some address)) → found ≡ None
 none_named None other = refl
 none_named (Some address) other = absurd (other address refl)

@@ -1,4 +1,4 @@
--- The first position at which a text stands in a line.
+-- The first occurrence of a text in a line.
 use Rattle.std.proofs.Common.{◌≡◌, ℕ, zero, suc, ◌+◌, ◌-◌, ◌<◌, ◌≤◌, ◌==◌, ◌&&◌, true, false, cond, List, [], ◌∷◌, length, take, drop, get_or, None, Some, refl, sym, ap, subst, ◌∙◌, arith}
 use Rattle.std.specs.Prelude.{bytes_eq}
 use Rattle.std.proofs.lemmas.Bool.{ne_eqb}
@@ -6,7 +6,7 @@ use Rattle.std.proofs.lemmas.List.{drop_all, drop_more}
 use Rattle.byte_search.specs.Bytes.{IsAbsent, IsNext}
 use Rattle.line_addresses.specs.Following.{following}
 
--- an empty text stands at the beginning
+-- an empty text occurs at the beginning
 pub nothing_first : (text line : List ℕ) → length text ≡ 0 → following text line ≡ Some line
 nothing_first [] [] e = refl
 nothing_first [] (byte ∷ line) e = refl
@@ -15,7 +15,7 @@ nothing_first (first ∷ text) line e = absurd (omega (arith, e))
 none_in_nothing : (text : List ℕ) → 0 < length text → following text [] ≡ None
 none_in_nothing text some = ap (λ b. cond b (Some []) None) (ne_eqb (length text) 0 (λ e. omega (arith, e, some)))
 
--- a text does not stand where its first byte does not
+-- a text does not begin with a byte other than its first
 skip_byte : (text line : List ℕ) (byte : ℕ) → 0 < length text → (byte == get_or text 0 0) ≡ false → following text (byte ∷ line) ≡ following text line
 skip_byte [] line byte some other = absurd (omega (arith, some))
 skip_byte (first ∷ text) line byte some other =
@@ -29,7 +29,7 @@ module _ (text line : List ℕ) (some : 0 < length text) where
       ∙ skip_byte text (drop (at + 1) line) (get_or line at 0) some (ne_eqb _ _ (absent at (omega arith) (omega (arith, e))))
       ∙ skip_some count (at + 1) position (omega (arith, e)) within (λ p low high. absent p (omega (arith, low)) high)
 
-  -- the next position of its first byte
+  -- the search goes on at the next position of the text's first byte
   pub skip : (at position : ℕ) → IsNext (get_or text 0 0) line at position → following text (drop at line) ≡ following text (drop position line)
   skip at position next = skip_some (position - at) at position (omega (arith, next.behind)) (omega (arith, next.within)) next.between
 
@@ -45,14 +45,14 @@ module _ (text line : List ℕ) (position : ℕ) (within : position < length lin
   at_position : following text (drop position line) ≡ cond (bytes_eq (take (length text) (drop position line)) text) (Some (drop (length text) (drop position line))) (following text (drop (position + 1) line))
   at_position = by_test text (drop position line) (get_or line position 0) (drop (position + 1) line) (drop_more line position 0 within)
 
-  -- the text stands there, or does not
+  -- the text is here, or is not
   pub here : bytes_eq (take (length text) (drop position line)) text ≡ true → following text (drop position line) ≡ Some (drop (length text) (drop position line))
   here is = at_position ∙ ap (λ b. cond b (Some (drop (length text) (drop position line))) (following text (drop (position + 1) line))) is
 
   pub not_here : bytes_eq (take (length text) (drop position line)) text ≡ false → following text (drop position line) ≡ following text (drop (position + 1) line)
   not_here is = at_position ∙ ap (λ b. cond b (Some (drop (length text) (drop position line))) (following text (drop (position + 1) line))) is
 
--- at the next position of its first byte
+-- at the next position of the text's first byte
 module _ (text line : List ℕ) (some : 0 < length text) (at position : ℕ) (next : IsNext (get_or text 0 0) line at position) (part : List ℕ) (is : part ≡ drop position line)
     (same : following text line ≡ following text (drop at line)) where
   at_next : following text line ≡ following text (drop position line)

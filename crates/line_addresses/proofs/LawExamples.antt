@@ -1,4 +1,4 @@
--- What the laws let one conclude, where a weaker law would not. Each law is cited by its name.
+-- Conclusions that the laws allow and weaker laws would not. Each law is cited by its name.
 use Rattle.std.proofs.Common.{◌≡◌, ℕ, ◌<◌, length, length-append, List, [], ◌∷◌, ◌++◌, refl, sym, ap, ◌∙◌, arith}
 use Rattle.std.specs.Prelude.{codes, None, Some}
 use Rattle.std.proofs.lemmas.Option.{none-some}
@@ -18,7 +18,7 @@ both_families law a b four six = ((law (codes "255.255.255.255") (V4 a)).0 four,
 pub nothing_is_named : NamedAddress → (text : List ℕ) (address : IpAddr) → address_of text ≡ None → ¬ (NamesIp text address)
 nothing_is_named law text address none names = none-some address (sym none ∙ (law text address).0 names)
 
--- each byte above `f`, and a `G`
+-- every byte above `f`, and a `G`
 above_f : (byte : ℕ) → 102 < byte → ¬ (IsAddressByte byte)
 above_f byte high (Digit least most) = omega arith
 above_f byte high (UpperHex least most) = omega arith
@@ -29,23 +29,23 @@ above_f byte high (Colon is) = omega (arith, is)
 pub no_address_begins : BeginsNoAddress → (byte : ℕ) (run : List ℕ) → 102 < byte → (address_in (byte ∷ run) ≡ None)
 no_address_begins law byte run high = law byte run (above_f byte high)
 
--- the text that is found before a mark names its address, and not another one; so does one before a port
+-- the text found before a mark, or before a port, names its address and no other
 pub names_its_address : FoundTextNamesItsAddress → (one other : Spelled) → address_in (codes "2001:db8::1:") ≡ Some one → address_in (codes "10.1.1.1:80") ≡ Some other
     → NamesIp one.text one.address × NamesIp other.text other.address
 names_its_address law one other before_a_mark before_a_port = (law (codes "2001:db8::1:") one before_a_mark, law (codes "10.1.1.1:80") other before_a_port)
 
--- in brackets, behind other words, an address is not lost, whatever its text is and whatever follows
+-- an address in brackets after other words is found, whatever its text is and whatever follows
 pub in_brackets : AddressBetweenOthers → (front text behind : List ℕ) (address : IpAddr) → NamesIp text address → addresses_of (front ++ 91 ∷ (text ++ 93 ∷ behind)) ≡ [] → ⊥
 in_brackets law front text behind address names none =
     let found : List Spelled = record { text = text; address = address } ∷ addresses_of behind in
     omega (arith, ap length (sym none ∙ law front text behind 91 93 address names refl refl), length-append (addresses_of front) found)
 
--- between bytes that are no ASCII
+-- between bytes that are not ASCII
 pub between_other_letters : AddressBetweenOthers → (front text behind : List ℕ) (address : IpAddr) → NamesIp text address
     → addresses_of (front ++ 255 ∷ (text ++ 128 ∷ behind)) ≡ addresses_of front ++ record { text = text; address = address } ∷ addresses_of behind
 between_other_letters law front text behind address names = law front text behind 255 128 address names refl refl
 
--- a line is cut in its middle, at any of these bytes
+-- a line is split in its middle, at any of these bytes
 abbrev is_cut : ℕ → Type 0
 is_cut byte = (front behind : List ℕ) → addresses_of (front ++ byte ∷ behind) ≡ addresses_of front ++ addresses_of behind
 
@@ -62,7 +62,7 @@ cut_in_the_middle law = (
   λ front behind. law front behind 255 refl,
 )
 
--- the first field of a line, as most servers log it, and the last
+-- the first field of a line, which is the address in most servers' logs, and the last
 pub first_and_last : CutBetweenRuns → AddressByItself → (text rest : List ℕ) (address : IpAddr) → NamesIp text address
     → (addresses_of (text ++ 32 ∷ rest) ≡ record { text = text; address = address } ∷ addresses_of rest) × (addresses_of (rest ++ 61 ∷ text) ≡ addresses_of rest ++ record { text = text; address = address } ∷ [])
 first_and_last cut alone text rest address names = (
@@ -70,7 +70,7 @@ first_and_last cut alone text rest address names = (
   cut rest text 61 refl ∙ ap (λ l. addresses_of rest ++ l) (alone text address names),
 )
 
--- the end of a sentence, and a `:` behind the text
+-- the end of a sentence, and a `:` after the text
 pub before_either_mark : NamedAddress → AddressBeforeAMark → (text : List ℕ) (address : IpAddr) → NamesIp text address → address_of (text ++ codes ".") ≡ None → address_of (text ++ codes ":") ≡ None
     → (address_in (text ++ codes ".") ≡ Some (record { text = text; address = address })) × (address_in (text ++ codes ":") ≡ Some (record { text = text; address = address }))
 before_either_mark named law text address names no_dot no_colon = (
@@ -78,7 +78,7 @@ before_either_mark named law text address names no_dot no_colon = (
   law text 58 address names refl (λ other. nothing_is_named named (text ++ codes ":") other no_colon),
 )
 
--- ports of one to five digits, the least and the greatest among them
+-- ports of one to five digits, with the least and the greatest
 abbrev before_port_is_found : List ℕ → ℕ → List ℕ → Type 0
 before_port_is_found text address port = address_in (text ++ 58 ∷ port) ≡ Some (record { text = text; address = V4 address })
 

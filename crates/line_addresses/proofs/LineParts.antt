@@ -1,4 +1,4 @@
--- A line that is cut at the bytes that pass a test, and what is kept of its parts.
+-- A line that is split at the bytes that pass a test, and what is kept of its parts.
 use Rattle.std.proofs.Common.{◌≡◌, ℕ, ◌+◌, ◌-◌, ◌<◌, ◌≤◌, Bool, true, false, List, [], ◌∷◌, ◌++◌, length, drop, get_or, Option, None, refl, sym, ap, ◌∙◌, subst, arith, inl, inr, length-take}
 use Rattle.std.specs.Prelude.{filter_map, flat_map, slice_index}
 use Rattle.std.specs.List.{All, cons_option, slice_range, slice_split}
@@ -10,25 +10,25 @@ use Rattle.std.proofs.lemmas.List.Folds.{drop_split}
 use Rattle.std.proofs.lemmas.List.Splits.{slice_split-cons_yes, slice_split_at, slice_split_none}
 use Rattle.line_addresses.specs.Private.LineRuns.{IsPartEnd}
 
--- the text is empty, or it is cut at its first byte
+-- the text is empty, or its first byte passes the test
 abbrev pub BeginsWithCut : (ℕ → Bool) → List ℕ → Type 0
 BeginsWithCut cuts [] = Unit {0}
 BeginsWithCut cuts (byte ∷ bytes) = cuts byte ≡ true
 
--- where a part ends, the line ends or is cut
+-- the rest of a line after a part is empty, or begins with a byte that passes the test
 pub begins : (cuts : ℕ → Bool) (line : List ℕ) (start end : ℕ) → IsPartEnd cuts line start end → BeginsWithCut cuts (drop end line)
 begins cuts line start end h = elim (cases_lt end (length line)) [
   | inl below ↦ subst (BeginsWithCut cuts) (sym (drop_more line end 0 below)) (h.stops below)
   | inr past ↦ subst (BeginsWithCut cuts) (sym (drop_all end line past)) tt
 ]
 
--- no byte of the part is cut out
+-- no byte of the part passes the test
 pub inside : (cuts : ℕ → Bool) (line : List ℕ) (start end : ℕ) → IsPartEnd cuts line start end → All (λ x. cuts x ≡ false) (slice_range line start end)
 inside cuts line start end h = All-from_get_or (λ x. cuts x ≡ false) (slice_range line start end) 0 (λ i below.
     let left : i < end - start = omega (arith, length-take (end - start) (drop start line)) in
     rw (get_or-take (end - start) (drop start line) i 0 left, get_or-drop start line i 0) (h.before (start + i) (omega arith) (omega arith)))
 
--- what is gathered of the parts of a line, part by part, of an empty one nothing
+-- `all` gathers a result from the parts of a line, part by part; an empty part adds nothing
 pub record Gathers {R : Type 0} (all : List (List ℕ) → R) (join : List ℕ → R → R) : Type 0 where
   pub step : (part : List ℕ) (parts : List (List ℕ)) → all (part ∷ parts) ≡ join part (all parts)
   pub skip : (others : R) → join [] others ≡ others
@@ -40,11 +40,11 @@ pub flattens : {X : Type 0} (each : List ℕ → List X) → each [] ≡ [] → 
 flattens each empty = record { step = λ part parts. flat_map-cons each part parts; skip = λ others. ap (λ l. l ++ others) empty }
 
 module _ {R : Type 0} {all : List (List ℕ) → R} {join : List ℕ → R → R} (gathers : Gathers all join) (cuts : ℕ → Bool) where
-  -- nothing is gathered of an empty line
+  -- an empty line adds nothing
   pub of_nothing : all (slice_split cuts []) ≡ all []
   of_nothing = gathers.step [] [] ∙ gathers.skip (all [])
 
-  -- nor of what stands before a byte at which the line is cut, where that is empty
+  -- a byte that passes the test adds nothing at the start of a line
   pub behind_cut : (byte : ℕ) (bytes : List ℕ) → cuts byte ≡ true → all (slice_split cuts (byte ∷ bytes)) ≡ all (slice_split cuts bytes)
   behind_cut byte bytes is =
       ap all (slice_split-cons_yes cuts byte bytes is) ∙ gathers.step [] (slice_split cuts bytes) ∙ gathers.skip (all (slice_split cuts bytes))
@@ -61,7 +61,7 @@ module _ {R : Type 0} {all : List (List ℕ) → R} {join : List ℕ → R → R
       ap (λ t. all (slice_split cuts t)) (drop_split line start end h.behind)
       ∙ part_first (slice_range line start end) (drop end line) (inside cuts line start end h) (begins cuts line start end h)
 
-  -- a byte at which the line is cut
+  -- a byte that passes the test
   pub cut_at : (line : List ℕ) (at : ℕ) → at < length line → cuts (slice_index line at) ≡ true → all (slice_split cuts (drop at line)) ≡ all (slice_split cuts (drop (at + 1) line))
   cut_at line at below is = ap (λ t. all (slice_split cuts t)) (drop_more line at 0 below) ∙ behind_cut (get_or line at 0) (drop (at + 1) line) is
 

@@ -1,4 +1,4 @@
--- What is found in a run is an address text.
+-- The text found in a run is an address text.
 use Rattle.std.proofs.Common.{◌≡◌, ◌↔◌, ℕ, ◌-◌, Bool, true, false, cond, List, length, take, Option, None, Some, refl, subst}
 use Rattle.std.specs.List.{before_first, after_first}
 use Rattle.std.proofs.lemmas.Option.{none-some, same_Some}

@@ -1,4 +1,4 @@
--- Texts at which a misreading of the definitions of networks would show. Each of these computes.
+-- Texts that would expose a misreading of the definitions of networks. Each of these computes.
 use Rattle.std.proofs.Common.{◌≡◌, List, [], ◌∷◌, refl}
 use Rattle.std.specs.Prelude.{codes, map, filter}
 use Rattle.std.specs.List.{range_with_len}
@@ -19,7 +19,7 @@ pub networks : map networks_of (codes "10.1.1.1/24" ∷ codes "[10.1.1.1/24]" �
 unfolding network_in named_network address_in before_port address_of digits v6_of gap_below
 networks = refl
 
--- a text that is no network has its addresses, and a mask is none beside its network
+-- a text that is no network has its addresses, and the mask of a network is no address
 pub addresses : map networks_of (codes "10.1.1.1" ∷ codes "10.1.1.1:80" ∷ codes "10.1.1.1/33" ∷ codes "10.1.1.1/" ∷ codes "x/10.1.1.1/24" ∷ codes "/10.1.1.1" ∷ codes "10.1.1.1/24/7" ∷ codes "10.1.1.1/24:80" ∷ [])
     ≡ ten ∷ ten ∷ ten ∷ ten ∷ ten ∷ ten ∷ ten ∷ ten ∷ []
 unfolding network_in named_network address_in before_port address_of digits v6_of gap_below

@@ -17,7 +17,7 @@ use Rattle.line_addresses.proofs.StretchNetworks.{none_without, slash_first, sla
 abbrev pub ends_stretch : ℕ → Bool
 ends_stretch byte = not (is_stretch_byte byte)
 
--- where there is no network, there are the addresses
+-- a stretch without a network has its addresses
 pub addresses_left : (stretch : List ℕ) → network_in stretch ≡ None → networks_in stretch ≡ addresses_of stretch
 addresses_left stretch none = ap (λ o. or_addresses o stretch) none
 
@@ -27,7 +27,7 @@ nothing_in = addresses_left [] (none_without [] refl) ∙ ap (λ o. cons_option 
 pub stretches : Gathers (flat_map networks_in) (λ stretch others. networks_in stretch ++ others)
 stretches = flattens networks_in nothing_in
 
--- ---- the first of a stretch
+-- ---- the first network or address of a stretch
 
 pub one_network : (stretch : List ℕ) (address : IpAddr) (size : ℕ) → 0 < length stretch → Shows (network_in stretch) stretch address size
     → IsNextOf networks_in stretch 0 (record { address = address; start = 0; end = size; next = length stretch })
@@ -43,7 +43,7 @@ one_network stretch address size some shows =
           ∙ ap (λ l. spelled_at stretch (record { address = address; start = 0; end = size; next = length stretch }) ∷ l) (sym (ap networks_in (drop_all (length stretch) stretch (omega arith)) ∙ nothing_in));
     }
 
--- behind an address of it no network stands
+-- after an address of a stretch, only addresses follow
 addresses_behind : (stretch : List ℕ) (found : Found) → All (λ byte. not (is_stretch_byte byte) ≡ false) stretch → StopsARun stretch found → networks_in (drop found.next stretch) ≡ addresses_of (drop found.next stretch)
 addresses_behind stretch found whole stops = elim (cases_lt found.next (length stretch)) [
   | inl below ↦ let rest = drop_more stretch found.next 0 below in
@@ -64,10 +64,10 @@ no_network stretch (Some found) whole none h stops = record {
   first = addresses_left stretch none ∙ h.first ∙ ap (λ l. spelled_at stretch found ∷ l) (sym (addresses_behind stretch found whole stops));
 }
 
--- ---- a stretch further
+-- ---- one stretch further
 
 module _ (line : List ℕ) (from at : ℕ) (same : networks_of (drop from line) ≡ networks_of (drop at line)) where
-  -- a byte of no stretch
+  -- a byte that is not a stretch byte
   pub behind_byte : (end : ℕ) → at < length line → IsStretchEnd line at end → end ≡ at → networks_of (drop from line) ≡ networks_of (drop (at + 1) line)
   behind_byte end below is here =
       let stops : ends_stretch (slice_index line at) ≡ true = subst (λ (n : ℕ). ends_stretch (slice_index line n) ≡ true) here (is.stops (omega (arith, below, here))) in
@@ -77,7 +77,7 @@ module _ (line : List ℕ) (from at : ℕ) (same : networks_of (drop from line) 
   pub behind_stretch : (end : ℕ) → IsStretchEnd line at end → networks_in (slice_range line at end) ≡ [] → networks_of (drop from line) ≡ networks_of (drop end line)
   behind_stretch end is none = same ∙ part_at stretches ends_stretch line at end is ∙ ap (λ l. l ++ networks_of (drop end line)) none
 
-  -- one with an address, or with a network
+  -- a stretch with an address or a network
   pub at_stretch : (end : ℕ) (found : Found) → from ≤ at → IsStretchEnd line at end → IsNextOf networks_in (slice_range line at end) 0 found
       → IsNextOf networks_of line from (record { address = found.address; start = at + found.start; end = at + found.end; next = at + found.next })
   at_stretch end found low is next =

@@ -18,7 +18,7 @@ pub runs : Gathers (filter_map address_in) (λ run found. cons_option (address_i
 runs = filters address_in nothing_shown
 
 module _ (line : List ℕ) (from at : ℕ) (same : addresses_of (drop from line) ≡ addresses_of (drop at line)) where
-  -- a byte of no run
+  -- a byte that is not a run byte
   pub behind_byte : (end : ℕ) → at < length line → IsRunEnd line at end → end ≡ at → addresses_of (drop from line) ≡ addresses_of (drop (at + 1) line)
   behind_byte end below is here =
       let stops : ends_runs (slice_index line at) ≡ true = subst (λ (n : ℕ). ends_runs (slice_index line n) ≡ true) here (is.stops (omega (arith, below, here))) in
@@ -29,7 +29,7 @@ module _ (line : List ℕ) (from at : ℕ) (same : addresses_of (drop from line)
   behind_run end is none =
       same ∙ part_at runs ends_runs line at end is ∙ ap (λ o. cons_option o (addresses_of (drop end line))) none
 
-  -- one with an address
+  -- a run with an address
   pub at_run : (end size : ℕ) (address : IpAddr) → from ≤ at → IsRunEnd line at end → ¬ (end ≡ at) → Shows (address_in (slice_range line at end)) (slice_range line at end) address size
       → IsNextOf addresses_of line from (record { address = address; start = at; end = at + size; next = end })
   at_run end size address low is some shows =

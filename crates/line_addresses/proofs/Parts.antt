@@ -7,7 +7,7 @@ use Rattle.byte_search.specs.Bytes.{IsAbsent, IsNext}
 use Rattle.lines.proofs.BytesLemmas.{split_at, split_none, split_text, none_behind, first_behind}
 use Rattle.line_addresses.specs.Fields.{part_behind}
 
--- the rest of a text from a position on: what stands before the next byte of this value, that byte, and what is behind it
+-- the rest of a text from an index on: what comes before the next byte of this value, that byte, and what follows it
 pub rest_from : (byte : ℕ) (text : List ℕ) (from at : ℕ) → IsNext byte text from at
     → drop from text ≡ take (at - from) (drop from text) ++ byte ∷ drop (at + 1) text
 rest_from byte text from at next =
@@ -16,7 +16,7 @@ rest_from byte text from at next =
     split_text byte rest (at - from) (first_behind byte text from at next)
     ∙ ap (λ t. take (at - from) rest ++ byte ∷ t) (drop-drop (at - from + 1) from text ∙ ap (λ n. drop n text) behind)
 
--- the first part from a position on, and those behind it
+-- the first part from an index on, and the parts after it
 pub parts_from : (byte : ℕ) (text : List ℕ) (from at : ℕ) → IsNext byte text from at
     → slice_split (λ b. b == byte) (drop from text) ≡ take (at - from) (drop from text) ∷ slice_split (λ b. b == byte) (drop (at + 1) text)
 parts_from byte text from at next =
@@ -26,7 +26,7 @@ parts_from byte text from at next =
 pub part_from : (byte : ℕ) (text : List ℕ) (from : ℕ) → IsAbsent byte text from (length text) → slice_split (λ b. b == byte) (drop from text) ≡ drop from text ∷ []
 part_from byte text from absent = split_none byte (drop from text) (none_behind byte text from absent)
 
--- a part less
+-- one part fewer
 pub one_part_less : (more : ℕ) (part : List ℕ) (parts : List (List ℕ)) → 0 < more → part_behind more (part ∷ parts) ≡ part_behind (more - 1) parts
 one_part_less zero part parts some = absurd (omega (arith, some))
 one_part_less (suc more) part parts some = ap (λ n. part_behind n parts) (omega arith)

@@ -1,4 +1,4 @@
--- Which addresses of a part are looked at.
+-- Which addresses of a part are picked.
 use Rattle.std.proofs.Common.{◌≡◌, ◌≢◌, ℕ, ◌≤◌, Bool, List, [], length, drop, Option, None, Some, refl, ap, ◌∙◌, arith}
 use Rattle.std.specs.Prelude.{option_map, slice_get, IfSome, MatchOption}
 use Rattle.std.specs.Option.{option_to_list}
@@ -10,14 +10,14 @@ use Rattle.line_addresses.specs.declared.area.Pick.TheVariants as picks
 use Rattle.line_addresses.specs.declared.found.Found.{Found}
 use Rattle.line_addresses.proofs.NextWords.{first_word}
 
--- one at the most, unless all are
+-- at most one address is picked, unless the pick is `Each`
 pub each_is_one : (networks : Bool) (pick : Pick) (text : List ℕ) → pick ≢ picks.Each → each_of networks pick text ≡ option_to_list (picked networks pick text)
 each_is_one networks picks.Whole text other = refl
 each_is_one networks picks.Each text other = absurd (other refl)
 each_is_one networks (picks.Number number) text other = refl
 each_is_one networks picks.Last text other = refl
 
--- the next address of a text is the one that is looked for, if none is passed over any more
+-- the next address of a text is the picked one if no more are to be passed over
 pub next_picked : (all : List ℕ → List Spelled) (text : List ℕ) (at more : ℕ) (found : Found) (one : Option Spelled) → IsNextOf all text at found → one ≡ slice_get (all (drop at text)) more → more ≡ 0
     → IsPicked one text found
 next_picked all text at more found one next is none = record {
@@ -26,7 +26,7 @@ next_picked all text at more found one next is none = record {
   is = is ∙ first_word _ _ _ more none next.first;
 }
 
--- what was found last
+-- `last` is the last address found so far
 abbrev pub IsLast : (List ℕ → List Spelled) → List ℕ → ℕ → Option Found → Type 0
 IsLast all text at last = last_of None (all text) ≡ last_of (option_map (spelled_at text) last) (all (drop at text))
 

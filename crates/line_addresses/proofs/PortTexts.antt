@@ -52,7 +52,7 @@ not_behind : (text rest : List ℕ) → HasNoColon (text ++ 58 ∷ rest) → ⊥
 not_behind [] rest h = true≢false h.0
 not_behind (byte ∷ text) rest h = not_behind text rest h.1
 
--- where the first colon stands
+-- the index of the first colon
 colon_position : (text rest : List ℕ) → HasNoColon text → position_or_len is_colon (text ++ 58 ∷ rest) ≡ length text
 colon_position [] rest h = refl
 colon_position (byte ∷ text) rest h = let rest_is = colon_position text rest h.1 in let same = h.0 in by (is_colon byte) same rest_is where
@@ -60,7 +60,7 @@ colon_position (byte ∷ text) rest h = let rest_is = colon_position text rest h
   by true e f = absurd (true≢false e)
   by false e f = omega (arith, f)
 
--- the last byte of a port is a digit, which is no mark
+-- the last byte of a port is a digit, not a mark
 digit_no_mark : (byte : ℕ) → is_ascii_digit byte ≡ true → is_mark byte ≡ false
 digit_no_mark byte digit = grind (arith, nat_tests)
 

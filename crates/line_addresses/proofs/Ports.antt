@@ -9,7 +9,7 @@ use Rattle.ipnetwork_addr.specs.declared.ip.IpAddr.{IpAddr}
 use Rattle.line_addresses.specs.Addresses.{Spelled, address_of, with_text, spelled, is_colon, is_port, before_port}
 use Rattle.line_addresses.specs.Private.LineRuns.{Shows}
 
--- where the first colon stands
+-- the index of the first colon
 position : (run : List ℕ) (colon : ℕ) → IsNext 58 run 0 colon → position_or_len is_colon run ≡ colon
 position run colon next =
     position_or_len_is is_colon run colon 0 (omega (arith, next.within)) (λ k below. ne_eqb _ _ (next.between k (omega arith) below)) (λ below. eq-eqb _ _ next.there)
@@ -18,7 +18,7 @@ no_position : (run : List ℕ) → IsAbsent 58 run 0 (length run) → position_o
 no_position run absent =
     position_or_len_is is_colon run (length run) 0 (omega arith) (λ k below. ne_eqb _ _ (absent k (omega arith) below)) (λ below. absurd (omega arith))
 
--- what is before a port, if the first colon stands at this position
+-- what is before a port, if the first colon is at this index
 abbrev at_position : List ℕ → ℕ → Option Spelled
 at_position run colon = cond (is_port (drop (colon + 1) run)) (spelled (take colon run)) None
 

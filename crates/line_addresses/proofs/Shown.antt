@@ -1,4 +1,4 @@
--- What a run shows: the address of its whole text, or of what stands before a mark.
+-- The address found in a run: that of its whole text, or of what comes before a mark.
 use Rattle.std.proofs.Common.{◌≡◌, ℕ, ◌-◌, ◌<◌, ◌==◌, Bool, true, false, cond, List, [], ◌∷◌, length, take, get_or, None, Some, refl, sym, ap, ◌∙◌, arith}
 use Rattle.std.specs.Fmt.{digits}
 use Rattle.std.proofs.Math.Seq.{take-length}
@@ -26,7 +26,7 @@ pub shown_by_nothing : (run : List ℕ) → length run ≡ 0 → address_in run 
 shown_by_nothing [] e = nothing_shown
 shown_by_nothing (byte ∷ run) e = absurd (omega (arith, e))
 
--- a run that begins with a byte of no address text
+-- a run whose first byte occurs in no address text
 pub begun_by_other : ((byte : ℕ) (run : List ℕ) → ¬ (IsAddressByte byte) → address_in (byte ∷ run) ≡ None) → (run : List ℕ) → 0 < length run → ¬ (IsAddressByte (get_or run 0 0)) → address_in run ≡ None
 begun_by_other law [] some other = absurd (omega (arith, some))
 begun_by_other law (byte ∷ run) some other = law byte run other
@@ -49,7 +49,7 @@ marked run address none ends named = record {
       ∙ ap (λ found. or_else (with_text (take (length run - 1) run) found) (before_port run)) named;
 }
 
--- nothing is named by what stands before a mark
+-- what comes before a mark names nothing
 pub no_mark : (run : List ℕ) → ends_with_mark run ≡ false → before_mark run ≡ None
 no_mark run none = ap (λ b. cond b (spelled (take (length run - 1) run)) None) none
 

@@ -1,4 +1,4 @@
--- A run behind a `/` with which the rest of a stretch begins.
+-- The run after a `/` that begins the rest of a stretch.
 use Rattle.std.proofs.Common.{◌≡◌, ℕ, ◌+◌, ◌-◌, ◌<◌, ◌≤◌, Bool, true, false, not, List, [], ◌∷◌, ◌++◌, append_assoc, length, length-take, take, drop, get_or, Option, None, Some, refl, sym, ap, subst, ◌∙◌, arith, true≢false}
 use Rattle.std.specs.Prelude.{◌||◌, slice_index}
 use Rattle.std.specs.List.{All, cons_option, slice_range}
@@ -18,7 +18,7 @@ use Rattle.line_addresses.proofs.NextRuns.{ends_runs, runs}
 use Rattle.line_addresses.proofs.Shown.{nothing_shown}
 use Rattle.line_addresses.proofs.StretchNetworks.{none_without, slash_first, slash_left}
 
--- a text is cut at its first byte of no stretch
+-- a text is split at its first byte that is not a stretch byte
 record Cut (text : List ℕ) : Type 0 where
   part : List ℕ
   rest : List ℕ
@@ -34,13 +34,13 @@ cut (byte ∷ bytes) = at (ends_stretch byte) refl (cut bytes)
     at true is later = record { part = []; rest = byte ∷ bytes; same = refl; whole = All-nil (λ x. ends_stretch x ≡ false); cuts = is }
     at false is later = record { part = byte ∷ later.part; rest = later.rest; same = ap (λ l. byte ∷ l) later.same; whole = All-cons (λ x. ends_stretch x ≡ false) byte later.part is later.whole; cuts = later.cuts }
 
--- what is in a stretch that begins with no byte of a run are its addresses
+-- a stretch whose first byte is not a run byte has only addresses
 addresses_alone : (stretch : List ℕ) → All (λ x. ends_stretch x ≡ false) stretch → BeginsWithCut ends_runs stretch → networks_in stretch ≡ addresses_of stretch
 addresses_alone [] whole other = nothing_in ∙ sym (ap (λ o. cons_option o []) nothing_shown)
 addresses_alone (byte ∷ bytes) whole other =
     addresses_left (byte ∷ bytes) (none_without (byte ∷ bytes) (slash_first byte bytes (slash_left byte (whole 0 0 (omega arith)) other)))
 
--- of a part with which the rest begins the first byte is that of the rest
+-- the first byte of a part that begins the rest is the first byte of the rest
 part_begins : (part rest : List ℕ) → BeginsWithCut ends_runs (part ++ rest) → BeginsWithCut ends_runs part
 part_begins [] rest is = tt
 part_begins (byte ∷ bytes) rest is = is
@@ -67,7 +67,7 @@ slash_stretch byte is = either (is_run_byte byte) (is_slash byte) is
 slash_ends : (byte : ℕ) → is_slash byte ≡ true → ends_runs byte ≡ true
 slash_ends byte is = subst (λ (b : ℕ). ends_runs b ≡ true) (sym (eqb-true byte 47 is)) refl
 
--- the address of a run behind a `/`, and what follows it
+-- the address of a run after a `/`, and what follows it
 behind_slash : (byte : ℕ) (run rest : List ℕ) → is_slash byte ≡ true → All (λ x. ends_runs x ≡ false) run → BeginsWithCut ends_runs rest
     → networks_of (byte ∷ run ++ rest) ≡ cons_option (address_in run) (networks_of rest)
 behind_slash byte run rest is whole other =

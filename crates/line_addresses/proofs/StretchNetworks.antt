@@ -12,7 +12,7 @@ use Rattle.line_addresses.specs.LineRuns.{is_run_byte}
 use Rattle.line_addresses.specs.Networks.{is_slash, is_stretch_byte, has_slash, named_network, spelled_network, network_before_mark, network_in}
 use Rattle.line_addresses.specs.Private.LineRuns.{Shows}
 
--- ---- where the first `/` stands
+-- ---- the index of the first `/`
 
 abbrev by_place : List ℕ → ℕ → Bool
 by_place text place = nat_lt 0 place && nat_lt place (length text)
@@ -39,7 +39,7 @@ no_slash text absent =
     at_end : (n : ℕ) → (nat_lt 0 n && nat_lt n n) ≡ false
     at_end n = grind arith
 
--- a text that begins with a `/` has none behind another byte
+-- a text that begins with a `/` does not pass `has_slash`
 pub slash_first : (byte : ℕ) (rest : List ℕ) → is_slash byte ≡ true → has_slash (byte ∷ rest) ≡ false
 slash_first byte rest is =
     let place : position_or_len is_slash (byte ∷ rest) ≡ 0 = position_or_len_is is_slash (byte ∷ rest) 0 0 (omega arith) (λ k below. absurd (omega (arith, below))) (λ below. is) in
@@ -82,7 +82,7 @@ module _ (stretch : List ℕ) (has : has_slash stretch ≡ true) where
       none_if true = ap (with_text (take (length stretch - 1) stretch)) rest
       none_if false = refl
 
--- a byte of a stretch that is none of a run is a `/`
+-- a stretch byte that is not a run byte is a `/`
 pub slash_left : (byte : ℕ) → not (is_stretch_byte byte) ≡ false → not (is_run_byte byte) ≡ true → is_slash byte ≡ true
 slash_left byte within other = left (is_run_byte byte) (is_slash byte) within other
   where

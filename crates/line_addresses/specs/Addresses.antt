@@ -16,7 +16,7 @@ pub record Spelled : Type 0 where
 unfoldable pub address_of : List ℕ → Option IpAddr
 address_of text = ip_of text
 
--- the same beside the text
+-- the address, if there is one, together with its text
 abbrev pub with_text : List ℕ → Option IpAddr → Option Spelled
 with_text text None = None
 with_text text (Some address) = Some (record { text = text; address = address })
@@ -24,35 +24,35 @@ with_text text (Some address) = Some (record { text = text; address = address })
 abbrev pub spelled : List ℕ → Option Spelled
 spelled text = with_text text (address_of text)
 
--- the text ends with a `.` or a `:`
+-- the byte is a mark, `.` or `:`; the text ends with a mark
 abbrev pub is_mark : ℕ → Bool
 is_mark byte = byte == 46 || byte == 58
 
 abbrev pub ends_with_mark : List ℕ → Bool
 ends_with_mark text = is_mark (slice_index text (length text - 1))
 
--- of a run with a `.` or a `:` at its end: the address of the rest
+-- the address before the mark that ends a run
 abbrev pub before_mark : List ℕ → Option Spelled
 before_mark run = if ends_with_mark run then spelled (take (length run - 1) run) else None
 
--- one to five digits
+-- the text is one to five digits
 abbrev pub is_port : List ℕ → Bool
 is_port text = nat_lt 0 (length text) && nat_le (length text) 5 && list_all is_ascii_digit text
 
--- of a run with a `:` and one to five digits at its end: the address of the rest, if it is an IPv4 one. Since no IPv4
--- text has a `:`, and each IPv6 text has one, that `:` is the first
+-- the address before the first `:` of a run, if one to five digits follow that `:` and end the run. The address is
+-- IPv4, since each IPv6 text has a `:`
 abbrev pub is_colon : ℕ → Bool
 is_colon byte = byte == 58
 
 unfoldable pub before_port : List ℕ → Option Spelled
 before_port run = if is_port (after_first is_colon run) then spelled (before_first is_colon run) else None
 
--- the first of two that is there
+-- the first of two options that is `Some`, or `None`
 abbrev pub or_else : Option Spelled → Option Spelled → Option Spelled
 or_else (Some first) second = Some first
 or_else None second = second
 
--- the address of a run: the first of these three
+-- the address of a run: that of the whole run, else the one before a mark at its end, else the one before a port
 unfoldable pub address_in : List ℕ → Option Spelled
 address_in run = or_else (spelled run) (or_else (before_mark run) (before_port run))
 

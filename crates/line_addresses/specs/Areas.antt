@@ -1,4 +1,4 @@
--- Where the addresses of a line are looked for.
+-- Where to look for the addresses of a line.
 use Rattle.std.specs.Prelude.{◌≡◌, ℕ, ◌-◌, ◌≤◌, Bool, List, [], ◌∷◌, Option, None, Some, length, slice_get}
 use Rattle.std.specs.Prelude.{if◌then◌else◌}
 use Rattle.std.specs.Option.{option_to_list}
@@ -22,17 +22,17 @@ part_of (parts.Field number separator) line = field_of number separator line
 part_of (parts.Word number) line = slice_get (words_of line) (number - 1)
 part_of (parts.After text) line = following text line
 
--- the last of these addresses, which come behind another or none
+-- the last address of a list, or `before` if the list is empty
 abbrev pub last_of : Option Spelled → List Spelled → Option Spelled
 last_of before [] = before
 last_of before (found ∷ others) = last_of (Some found) others
 
--- the address that a text is, or, where networks are looked for too, the network
+-- the address that a text names, or, if `networks`, the network
 abbrev pub spelled_by : Bool → List ℕ → Option Spelled
 spelled_by networks text = if networks then spelled_network text else spelled text
 
--- the address of a part that is looked at, or the first of them: that which the part is; the first that stands in it;
--- the one of a number, from 1 on; or the last. Networks are among them, if they are looked for
+-- the address that is picked from a part of a line, or the first of several: the whole part, the first in it, the one
+-- with this number, from 1 on, or the last. If `networks`, networks count too
 abbrev pub picked : Bool → Pick → List ℕ → Option Spelled
 picked networks picks.Whole text = spelled_by networks text
 picked networks picks.Each text = slice_get (found_of networks text) 0
@@ -43,7 +43,7 @@ abbrev pub picked_in : Bool → Pick → Option (List ℕ) → Option Spelled
 picked_in networks pick None = None
 picked_in networks pick (Some text) = picked networks pick text
 
--- all that are looked at
+-- all addresses that are picked from a part: several only for `Each`
 abbrev pub each_of : Bool → Pick → List ℕ → List Spelled
 each_of networks picks.Each text = found_of networks text
 each_of networks pick text = option_to_list (picked networks pick text)
@@ -52,11 +52,11 @@ abbrev pub each_in : Bool → Pick → Option (List ℕ) → List Spelled
 each_in networks pick None = []
 each_in networks pick (Some text) = each_of networks pick text
 
--- the addresses of a line, in order, or its networks and addresses
+-- the addresses in an area of a line, in order; if `networks`, its networks and addresses
 abbrev pub spelled_in : Bool → Area → List ℕ → List Spelled
 spelled_in networks area line = each_in networks area.pick (part_of area.part line)
 
--- what was found in a text is this address, whose text stands in it
+-- the position of `found` lies within the text, and `one` is the address found there
 pub record IsPicked (one : Option Spelled) (text : List ℕ) (found : Found) : Type 0 where
   pub ordered : found.start ≤ found.end
   pub within : found.end ≤ length text

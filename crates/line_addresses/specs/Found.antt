@@ -1,4 +1,4 @@
--- Where the next address of a line stands, or the next network.
+-- The position of the next address or network of a line.
 use Rattle.std.specs.Prelude.{◌≡◌, ℕ, ◌<◌, ◌≤◌, not, true, List, ◌∷◌, drop, length, slice_index}
 use Rattle.std.specs.List.{slice_range}
 use Rattle.line_addresses.specs.Addresses.{Spelled}
@@ -9,7 +9,7 @@ use Rattle.line_addresses.specs.declared.found.Found.{Found}
 abbrev pub spelled_at : List ℕ → Found → Spelled
 spelled_at line found = record { text = slice_range line found.start found.end; address = found.address }
 
--- it is the first of those of the line from an index on, and those after it are those of the line from `next` on
+-- `found` is the first item of the line from index `from` on; the items after it are those of the line from `next` on
 pub record IsNextOf (all : List ℕ → List Spelled) (line : List ℕ) (from : ℕ) (found : Found) : Type 0 where
   pub behind : from ≤ found.start
   pub text : found.start ≤ found.end
@@ -18,6 +18,6 @@ pub record IsNextOf (all : List ℕ → List Spelled) (line : List ℕ) (from : 
   pub within : found.next ≤ length line
   pub first : all (drop from line) ≡ spelled_at line found ∷ all (drop found.next line)
 
--- at `next` the line ends, or no byte of a run stands
+-- the line ends at `next`, or the byte there is not a run byte
 abbrev pub StopsARun : List ℕ → Found → Type 0
 StopsARun line found = found.next < length line → not (is_run_byte (slice_index line found.next)) ≡ true

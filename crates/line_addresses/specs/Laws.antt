@@ -12,33 +12,33 @@ use Rattle.line_addresses.specs.LineRuns.{is_run_byte}
 abbrev pub NamedAddress : Type 0
 NamedAddress = (text : List ℕ) (address : IpAddr) → NamesIp text address ↔ (address_of text ≡ Some address)
 
--- a run that begins with a byte of which no address text is made has no address
+-- a run whose first byte occurs in no address text has no address
 abbrev pub BeginsNoAddress : Type 0
 BeginsNoAddress = (byte : ℕ) (run : List ℕ) → ¬ (IsAddressByte byte) → address_in (byte ∷ run) ≡ None
 
--- what is found in a run is an address text
+-- the text found in a run names the address found
 abbrev pub FoundTextNamesItsAddress : Type 0
 FoundTextNamesItsAddress = (run : List ℕ) (found : Spelled) → address_in run ≡ Some found
     → NamesIp found.text found.address
 
--- an address text between two bytes of which no run is made is found, whatever stands before and behind
+-- an address text between two bytes that are not run bytes is found, whatever comes before and after
 abbrev pub AddressBetweenOthers : Type 0
 AddressBetweenOthers = (front text behind : List ℕ) (before after : ℕ) (address : IpAddr)
     → NamesIp text address → is_run_byte before ≡ false → is_run_byte after ≡ false
     → addresses_of (front ++ before ∷ (text ++ after ∷ behind))
     ≡ addresses_of front ++ record { text = text; address = address } ∷ addresses_of behind
 
--- the addresses of a line that is cut at a byte of which no run is made are those of both parts
+-- a line split at a byte that is not a run byte has the addresses of both parts, in order
 abbrev pub CutBetweenRuns : Type 0
 CutBetweenRuns = (front behind : List ℕ) (byte : ℕ) → is_run_byte byte ≡ false
     → addresses_of (front ++ byte ∷ behind) ≡ addresses_of front ++ addresses_of behind
 
--- a line that is an address text has this address alone
+-- a line that is an address text has only this address
 abbrev pub AddressByItself : Type 0
 AddressByItself = (text : List ℕ) (address : IpAddr) → NamesIp text address
     → addresses_of text ≡ record { text = text; address = address } ∷ []
 
--- an address text before a `.` or a `:` is found, unless it is one with that mark too
+-- an address text before a `.` or a `:` is found, unless the text with that mark names an address too
 abbrev pub AddressBeforeAMark : Type 0
 AddressBeforeAMark = (text : List ℕ) (mark : ℕ) (address : IpAddr) → NamesIp text address
     → is_mark mark ≡ true → ((other : IpAddr) → ¬ (NamesIp (text ++ mark ∷ []) other))

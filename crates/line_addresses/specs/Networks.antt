@@ -1,4 +1,4 @@
--- The networks of a line, beside its addresses.
+-- The networks and addresses of a line.
 use Rattle.std.specs.Prelude.{ℕ, ◌-◌, ◌==◌, ◌||◌, ◌&&◌, Bool, not, List, [], ◌∷◌, Option, None, Some, Result, Ok, Err}
 use Rattle.std.specs.Prelude.{length, take, flat_map, nat_lt, if◌then◌else◌}
 use Rattle.std.specs.List.{slice_split, position_or_len}
@@ -10,22 +10,22 @@ use Rattle.ipnetwork.specs.declared.ip_network.IpNetwork.{IpNetwork}
 use Rattle.line_addresses.specs.Addresses.{Spelled, addresses_of, ends_with_mark, or_else, with_text}
 use Rattle.line_addresses.specs.LineRuns.{is_run_byte}
 
--- a byte of a run, or a `/`
+-- the byte is a `/`; the byte is a stretch byte: a run byte or a `/`
 abbrev pub is_slash : ℕ → Bool
 is_slash byte = byte == 47
 
 abbrev pub is_stretch_byte : ℕ → Bool
 is_stretch_byte byte = is_run_byte byte || is_slash byte
 
--- the longest runs of such bytes: what stands between the others. Where two of these meet, that is an empty one
+-- the stretches of a line, split at each byte that is not a stretch byte. One between two adjacent such bytes is empty
 abbrev pub stretches_of : List ℕ → List (List ℕ)
 stretches_of line = slice_split (λ byte. not (is_stretch_byte byte)) line
 
--- the first `/` of a text stands behind another byte
+-- the text has a `/` and does not begin with one
 abbrev pub has_slash : List ℕ → Bool
 has_slash text = let place = position_or_len is_slash text in nat_lt 0 place && nat_lt place (length text)
 
--- the address that is spelled in the network that a text names, host bits included, if it names one
+-- the address of the network that a text names, host bits kept, if it names one
 abbrev pub address_read : Result IpNetwork CidrFault → Option IpAddr
 address_read (Ok network) = Some (networks.address_of network)
 address_read (Err fault) = None
@@ -33,11 +33,11 @@ address_read (Err fault) = None
 unfoldable pub named_network : List ℕ → Option IpAddr
 named_network text = address_read (ip_network_of text)
 
--- the same beside the text
+-- the address of the network that a text names, together with the text
 abbrev pub spelled_network : List ℕ → Option Spelled
 spelled_network text = with_text text (named_network text)
 
--- the network of a stretch that has a `/`: that which it names, or which it names without a `.` or a `:` at its end
+-- the network of a stretch that has a `/`: the one it names, else the one it names without a `.` or `:` at its end
 abbrev pub network_before_mark : List ℕ → Option Spelled
 network_before_mark stretch =
     if ends_with_mark stretch then spelled_network (take (length stretch - 1) stretch) else None
@@ -46,7 +46,7 @@ unfoldable pub network_in : List ℕ → Option Spelled
 network_in stretch =
     if has_slash stretch then or_else (spelled_network stretch) (network_before_mark stretch) else None
 
--- a network alone; where there is none, the addresses of the stretch
+-- the network of a stretch, or the addresses of the stretch if it has no network
 abbrev pub or_addresses : Option Spelled → List ℕ → List Spelled
 or_addresses (Some network) stretch = network ∷ []
 or_addresses None stretch = addresses_of stretch
@@ -58,6 +58,6 @@ networks_in stretch = or_addresses (network_in stretch) stretch
 abbrev pub networks_of : List ℕ → List Spelled
 networks_of line = flat_map networks_in (stretches_of line)
 
--- these, or the addresses alone
+-- the networks and addresses of a line, or only the addresses
 abbrev pub found_of : Bool → List ℕ → List Spelled
 found_of networks line = if networks then networks_of line else addresses_of line

@@ -1,2 +1,2 @@
--- What the contracts of private functions cite.
+-- What the private functions promise one another.
 pub mod LineRuns

@@ -6,11 +6,11 @@ use Rattle.std.specs.List.{slice_split}
 abbrev pub is_blank : ℕ → Bool
 is_blank byte = byte == 32 || byte == 9
 
--- a part, unless it is empty
+-- the part, unless it is empty
 abbrev pub unless_empty : List ℕ → Option (List ℕ)
 unless_empty [] = None
 unless_empty (byte ∷ bytes) = Some (byte ∷ bytes)
 
--- what stands between blanks, where it is not empty
+-- the words of a line: the non-empty parts between blanks
 abbrev pub words_of : List ℕ → List (List ℕ)
 words_of line = filter_map unless_empty (slice_split is_blank line)

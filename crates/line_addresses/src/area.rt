@@ -1,9 +1,9 @@
-//! Where the addresses of a line are looked for.
+//! Where to look for the addresses of a line.
 ghost use Rattle.std.specs.Prelude.{◌≡◌};
 
 use std::marker::Model;
 
-/// Where the addresses of a line are looked for: in which part of it, and which of those that stand there.
+/// Where to look for the addresses of a line: in which part of it, and for which addresses there.
 ///
 /// ```
 /// let area = Area { part: Part::Word(3), pick: Pick::Whole };
@@ -25,22 +25,22 @@ pub struct Area<'a> {
 /// ```
 #[derive(Debug, Drop)]
 pub enum Part<'a> {
-    /// All of it.
+    /// The whole line.
     Line,
-    /// The field of this number, from 1 on: the line is cut at each separator.
+    /// The field with this number, from 1 on. The line is split at each separator.
     Field {
-        /// Its number.
+        /// The number of the field.
         number: u32,
-        /// The byte at which fields are cut.
+        /// The byte that separates fields.
         separator: u8,
     },
-    /// The word of this number, from 1 on.
+    /// The word with this number, from 1 on.
     Word(u32),
-    /// What follows the first position of a text.
+    /// What follows the first occurrence of a text.
     After(Text<'a>),
 }
 
-/// Which addresses of a part of a line are looked at.
+/// Which addresses of a part of a line are picked.
 ///
 /// ```
 /// let found = picked(b"10.1.1.1, 10.1.1.2", Pick::Last, false);
@@ -48,17 +48,17 @@ pub enum Part<'a> {
 /// ```
 #[derive(Clone, Copy, Debug, PartialEq, Eq)]
 pub enum Pick {
-    /// The part itself is one, and nothing else stands in it.
+    /// The whole part, if it is an address.
     Whole,
-    /// All that stand anywhere in it.
+    /// All addresses anywhere in the part.
     Each,
-    /// Of these the one of this number, from 1 on.
+    /// The address with this number in the part, from 1 on.
     Number(u32),
-    /// The last of these.
+    /// The last address in the part.
     Last,
 }
 
-/// A text of a command line.
+/// A text from a command line.
 ///
 /// ```
 /// assert_eq!(rt; Text::new(b"SRC=").bytes(), b"SRC=".as_slice());
@@ -68,7 +68,7 @@ pub struct Text<'a> {
     bytes: &'a [u8],
 }
 
-// A contract sees its bytes.
+// Contracts see the text as its bytes.
 impl<'a> Model for Text<'a> {
     ghost use Rattle.std.specs.Prelude.{ℕ, List};
 
@@ -78,7 +78,7 @@ impl<'a> Model for Text<'a> {
 }
 
 impl<'a> Text<'a> {
-    /// This text.
+    /// Returns the text of these bytes.
     ///
     /// ```
     /// let text = Text::new(b"from ");
@@ -90,7 +90,7 @@ impl<'a> Text<'a> {
         Text { bytes }
     }
 
-    /// Its bytes.
+    /// Returns the bytes of the text.
     ///
     /// ```
     /// assert_eq!(rt; Text::new(b"SRC=").bytes(), b"SRC=".as_slice());

@@ -3,7 +3,7 @@ ghost use Rattle.std.specs.Prelude.{◌≡◌, ◌↔◌, IsTrue};
 ghost use Rattle.ipnetwork_addr.specs.Texts.{IsAddressByte};
 ghost use Rattle.line_addresses.specs.LineRuns.{is_run_byte};
 
-/// Whether runs are made of this byte: an ASCII letter or digit, `.`, `:` or `_`.
+/// Returns whether a byte may occur in a run: an ASCII letter or digit, `.`, `:` or `_`.
 #[inline(always)]
 pub(crate) fn is_run_byte(byte: u8) -> bool
     ensures { result ≡ is_run_byte byte }
@@ -11,7 +11,7 @@ pub(crate) fn is_run_byte(byte: u8) -> bool
     KINDS[usize::from(byte)] != 0
 }
 
-/// Whether address texts are made of this byte: a hex digit, `.` or `:`.
+/// Returns whether a byte may occur in an address text: a hex digit, `.` or `:`.
 #[inline(always)]
 pub(crate) fn is_address_byte(byte: u8) -> bool
     ensures { IsTrue result ↔ IsAddressByte byte }
@@ -19,7 +19,7 @@ pub(crate) fn is_address_byte(byte: u8) -> bool
     KINDS[usize::from(byte)] == 2
 }
 
-/// For each byte 2 if address texts are made of it, 1 if it is another of those that runs are made of, else 0.
+/// For each byte, 2 if it may occur in an address text, 1 if it may occur only in a run, else 0.
 const KINDS: [u8; 256] = [
     0, 0, 0, 0, 0, 0, 0, 0, 0, 0, 0, 0, 0, 0, 0, 0, 0, 0, 0, 0, 0, 0, 0, 0, 0, 0, 0, 0, 0, 0, 0, 0,
     0, 0, 0, 0, 0, 0, 0, 0, 0, 0, 0, 0, 0, 0, 2, 0, 2, 2, 2, 2, 2, 2, 2, 2, 2, 2, 2, 0, 0, 0, 0, 0,

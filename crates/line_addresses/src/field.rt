@@ -5,7 +5,8 @@ ghost use Rattle.line_addresses.specs.Fields.{field_of, part_behind};
 
 use byte_search::find_from;
 
-/// The field of this number, from 1 on, of a line that is cut at each single separator.
+/// Returns the field with this number, from 1 on, of a line that is split at each separator, or
+/// `None` if the line has fewer fields. The number 0 counts as 1.
 ///
 /// ```
 /// assert_eq!(rt; field_of(b"a,,10.1.1.1", 3, b','), Some(b"10.1.1.1".as_slice()));
@@ -29,7 +30,7 @@ pub fn field_of(line: &[u8], number: u32, separator: u8) -> Option<&[u8]>
     Some(field_at(line, start, separator))
 }
 
-// The field that begins at a position.
+// Returns the field that begins at this index.
 #[inline(always)]
 fn field_at(line: &[u8], start: usize, separator: u8) -> &[u8]
     requires { start ≤ length line.now }

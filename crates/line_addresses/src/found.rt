@@ -6,7 +6,7 @@ ghost use Rattle.line_addresses.specs.Found.{IsNextOf, StopsARun};
 use crate::run::{address_in, run_end};
 use ipnetwork_addr::IpAddr;
 
-/// An address of a line, and where its text stands.
+/// An address of a line, and the position of its text.
 #[derive(Clone, Copy, Debug, PartialEq, Eq)]
 pub struct Found {
     /// The address.
@@ -15,12 +15,12 @@ pub struct Found {
     pub start: usize,
     /// The index after the last byte of its text.
     pub end: usize,
-    /// The index from which on the next address is looked for.
+    /// The index from which to look for the next address.
     pub next: usize,
 }
 
-/// The first address of a line from an index on, which is at most the length of the line. The rest of the line from
-/// there is looked at as a line of its own.
+/// Returns the first address of a line from the index `from` on, or `None` if there is none. `from`
+/// must be at most the length of the line. What precedes it is ignored: the rest is read as a line.
 ///
 /// ```
 /// let line = b"SRC=10.1.1.1 DST=[2001:db8::1]:443";

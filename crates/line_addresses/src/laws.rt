@@ -1,5 +1,5 @@
-//! The laws of the addresses of lines. Each function's contract is a law. It takes nothing and does nothing, and a
-//! proof that calls it may use the law.
+//! The laws of the addresses of lines. Each function's contract is a law: the function does
+//! nothing, and a proof that calls it may use the law.
 ghost use Rattle.line_addresses.specs.Laws.{NamedAddress, BeginsNoAddress, FoundTextNamesItsAddress, AddressBetweenOthers, CutBetweenRuns, AddressByItself, AddressBeforeAMark, AddressBeforeAPort};
 
 use ipnetwork_addr::laws::{
@@ -14,7 +14,7 @@ pub fn named_address()
     ip_reading_is_computed();
 }
 
-/// A run that begins with a byte of which no address text is made has no address.
+/// A run whose first byte occurs in no address text has no address.
 pub fn begins_no_address()
     ensures { BeginsNoAddress }
 {
@@ -23,14 +23,14 @@ pub fn begins_no_address()
     v6_text_bytes();
 }
 
-/// What is found in a run is an address text.
+/// The text found in a run names the address found.
 pub fn found_text_names_its_address()
     ensures { FoundTextNamesItsAddress }
 {
     named_address();
 }
 
-/// An address text between two bytes of which no run is made is found, whatever stands before and behind.
+/// An address text between two bytes that occur in no run is found, whatever else the line has.
 pub fn address_between_others()
     ensures { AddressBetweenOthers }
 {
@@ -39,13 +39,13 @@ pub fn address_between_others()
     v6_text_bytes();
 }
 
-/// The addresses of a line that is cut at a byte of which no run is made are those of both parts.
+/// A line split at a byte that occurs in no run has the addresses of both parts, in order.
 pub fn cut_between_runs()
     ensures { CutBetweenRuns }
 {}
 
-/// A line that is an address text has this address alone. So, by the law before, has an address text at the beginning
-/// or at the end of a line, next to a byte of which no run is made.
+/// A line that is an address text has only this address. By the law above, an address text at the
+/// start or end of a line is thus found if the byte next to it occurs in no run.
 pub fn address_by_itself()
     ensures { AddressByItself }
 {
@@ -54,7 +54,8 @@ pub fn address_by_itself()
     v6_text_bytes();
 }
 
-/// An address text before a `.` or a `:` is found, unless it is one with that mark too.
+/// An address text before a `.` or a `:` is found, unless the text with that mark names an address
+/// too.
 pub fn address_before_a_mark()
     ensures { AddressBeforeAMark }
 {

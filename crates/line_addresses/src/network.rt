@@ -8,8 +8,8 @@ use byte_search::find_from;
 use ipnetwork::laws::ip_network_reading_is_computed;
 use ipnetwork::{IpAddr, IpNetwork};
 
-/// The network that a stretch with a `/` names, by its address, and the length of its text, with which the stretch
-/// begins.
+/// Returns the address of the network that a stretch with a `/` names, and the length of the
+/// network's text: all of the stretch, or all but a `.` or `:` at its end.
 pub(crate) fn network_in(stretch: &[u8]) -> Option<(IpAddr, usize)>
     ensures { MatchOption result (network_in stretch.now ≡ None)
         (λ shown. Shows (network_in stretch.now) stretch.now shown.0 shown.1) }
@@ -29,8 +29,8 @@ pub(crate) fn network_in(stretch: &[u8]) -> Option<(IpAddr, usize)>
     None
 }
 
-/// The address of the network that a text names, as it is spelled there, as `IpNetwork::read_bytes` reads it, if it
-/// names one.
+/// Returns the address, host bits kept, of the network that `IpNetwork::read_bytes` reads from a
+/// text, or `None` if it refuses the text.
 pub(crate) fn named_network(text: &[u8]) -> Option<IpAddr>
     ensures { result ≡ named_network text.now }
 {
@@ -41,7 +41,7 @@ pub(crate) fn named_network(text: &[u8]) -> Option<IpAddr>
     }
 }
 
-// Whether the first `/` of a text stands behind another byte.
+// Returns whether a text has a `/` and does not begin with one.
 fn has_slash(text: &[u8]) -> bool
     ensures { result ≡ has_slash text.now }
 {

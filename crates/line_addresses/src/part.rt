@@ -7,7 +7,7 @@ use crate::field::field_of;
 use crate::first_position::following;
 use crate::words::word_of;
 
-/// The part of a line, if the line has it.
+/// Returns this part of a line, or `None` if the line does not have it.
 ///
 /// ```
 /// let line = b"a,10.1.1.1";

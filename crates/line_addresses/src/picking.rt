@@ -1,4 +1,4 @@
-//! Which address of a part of a line is looked at.
+//! Picks an address from a part of a line.
 ghost use Rattle.std.specs.Prelude.{◌≡◌, ◌-◌, None, MatchOption, slice_get};
 ghost use Rattle.line_addresses.specs.Addresses.{with_text};
 ghost use Rattle.line_addresses.specs.Areas.{IsPicked, last_of, picked, spelled_by};
@@ -11,8 +11,8 @@ use crate::run::address_of;
 use crate::stretches::next_found;
 use ipnetwork_addr::IpAddr;
 
-/// The address of a part of a line that is looked at, or the first of them; or, if `networks`, the network or address.
-/// Goes over the part once at the most.
+/// Returns the address that is picked from a part of a line, or the first of several; or `None` if
+/// there is none. If `networks`, networks count too. The part is scanned at most once.
 ///
 /// ```
 /// let forwarded = b"10.1.1.1, 192.0.2.7, 198.51.100.9";
@@ -33,7 +33,7 @@ pub fn picked(text: &[u8], pick: Pick, networks: bool) -> Option<Found>
     }
 }
 
-// The address, or the network, that a text is.
+// Finds the address that the whole text names, or, if `networks`, the network.
 #[inline(always)]
 fn whole(text: &[u8], networks: bool) -> Option<Found>
     ensures { MatchOption result (spelled_by networks text.now ≡ None)
@@ -50,7 +50,7 @@ fn whole(text: &[u8], networks: bool) -> Option<Found>
     }
 }
 
-// The address that a text names, or that of the network that it names.
+// Returns the address that a text names, or, if `networks`, that of the network that it names.
 #[inline(always)]
 fn named(text: &[u8], networks: bool) -> Option<IpAddr>
     ensures { with_text text.now result ≡ spelled_by networks text.now }
@@ -62,7 +62,7 @@ fn named(text: &[u8], networks: bool) -> Option<IpAddr>
     }
 }
 
-// The address of this number, from 1 on, of those of a text.
+// Finds the address with this number, from 1 on, in a text.
 fn numbered(text: &[u8], number: u32, networks: bool) -> Option<Found>
     ensures { MatchOption result (slice_get (found_of networks text.now) (number - 1) ≡ None)
         (IsPicked (slice_get (found_of networks text.now) (number - 1)) text.now) }
@@ -79,7 +79,7 @@ fn numbered(text: &[u8], number: u32, networks: bool) -> Option<Found>
     None
 }
 
-// The last of the addresses of a text.
+// Finds the last address in a text.
 fn last(text: &[u8], networks: bool) -> Option<Found>
     ensures { MatchOption result (last_of None (found_of networks text.now) ≡ None)
         (IsPicked (last_of None (found_of networks text.now)) text.now) }

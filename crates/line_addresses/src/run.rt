@@ -9,7 +9,7 @@ use crate::port::is_port;
 use byte_search::find_from;
 use ipnetwork_addr::IpAddr;
 
-/// The index after the bytes from an index on that runs are made of.
+/// Returns the index after the run bytes that begin at `start`.
 #[inline(always)]
 pub(crate) fn run_end(line: &[u8], start: usize) -> usize
     requires { start ≤ length line.now }
@@ -23,7 +23,7 @@ pub(crate) fn run_end(line: &[u8], start: usize) -> usize
     line.len()
 }
 
-/// The address of a run, and the length of its text, with which the run begins.
+/// Returns the address of a run and the length of its text, which begins the run.
 pub(crate) fn address_in(run: &[u8]) -> Option<(IpAddr, usize)>
     ensures { MatchOption result (address_in run.now ≡ None)
         (λ shown. Shows (address_in run.now) run.now shown.0 shown.1) }
@@ -47,7 +47,7 @@ pub(crate) fn address_in(run: &[u8]) -> Option<(IpAddr, usize)>
     before_port(run)
 }
 
-/// The address that a text is, as `IpAddr::read_bytes` reads it, if it is one.
+/// Returns the address that `IpAddr::read_bytes` reads from a text, or `None` if it refuses it.
 ///
 /// ```
 /// assert_eq!(rt; address_of(b"10.1.1.1"), Some("10.1.1.1".parse()?));
@@ -64,7 +64,7 @@ pub fn address_of(text: &[u8]) -> Option<IpAddr>
     }
 }
 
-/// Whether a text ends with a `.` or a `:`.
+/// Returns whether a text ends with a `.` or a `:`.
 pub(crate) fn ends_with_mark(text: &[u8]) -> bool
     ensures { result ≡ ends_with_mark text.now }
 {
@@ -75,7 +75,7 @@ pub(crate) fn ends_with_mark(text: &[u8]) -> bool
     last == b'.' || last == b':'
 }
 
-// The address before the first `:`, if a port follows it, and the length of its text.
+// Returns the address before the first `:` and the length of its text, if a port follows the `:`.
 fn before_port(run: &[u8]) -> Option<(IpAddr, usize)>
     ensures { MatchOption result (before_port run.now ≡ None)
         (λ shown. Shows (before_port run.now) run.now shown.0 shown.1) }

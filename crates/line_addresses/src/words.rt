@@ -3,7 +3,8 @@ ghost use Rattle.std.specs.Prelude.{◌≡◌, ◌≤◌, ◌-◌, None, Some, M
 ghost use Rattle.line_addresses.specs.Words.{words_of, is_blank};
 ghost use Rattle.line_addresses.specs.Private.LineRuns.{IsWordEnd};
 
-/// The word of this number, from 1 on, of a line: its words are what stands between runs of spaces and tabs.
+/// Returns the word with this number, from 1 on, of a line, or `None` if it has fewer words. Words
+/// are separated by spaces and tabs. The number 0 counts as 1.
 ///
 /// ```
 /// assert_eq!(rt; word_of(b"Nov  3 10:00:00 host", 2), Some(b"3".as_slice()));
@@ -30,7 +31,7 @@ pub fn word_of(line: &[u8], number: u32) -> Option<&[u8]>
     None
 }
 
-// The index after the bytes from an index on that are not blank.
+// Returns the index after the non-blank bytes that begin at `start`.
 #[inline(always)]
 fn word_end(line: &[u8], start: usize) -> usize
     requires { start ≤ length line.now }
@@ -44,7 +45,7 @@ fn word_end(line: &[u8], start: usize) -> usize
     line.len()
 }
 
-// Whether the byte is a space or a tab.
+// Returns whether a byte is a space or a tab.
 fn is_blank(byte: u8) -> bool
     ensures { result ≡ is_blank byte }
 {

@@ -1,4 +1,4 @@
--- What is reported of logs whose lines are counted up to the greatest number of 64 bits.
+-- The reports about logs whose lines are counted up to 2^64 - 1.
 use Rattle.std.proofs.Common.{◌≡◌, ℕ, zero, suc, ◌-◌, ◌^◌, ◌<◌, true, min, sym, refl, ◌∙◌, arith}
 use Rattle.std.specs.Prelude.{nat_lt}
 use Rattle.std.proofs.lemmas.Bool.Decides.{nat_tests}

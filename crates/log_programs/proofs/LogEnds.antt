@@ -1,4 +1,4 @@
--- How the reading of a log ends whose lines are printed.
+-- How the reading of a log ends if its lines are printed.
 use Rattle.std.proofs.Common.{◌≡◌, ◌||◌, ◌∙◌, ℕ, Bool, false, true≢false, List, [], refl, sym, ap}
 use Rattle.std.specs.Prelude.{Option, Result, Ok, Err}
 use Rattle.lines.specs.Outputs.{Written}
@@ -8,7 +8,7 @@ use Rattle.program.specs.declared.log_fault.LogFault.TheVariants as faults
 use Rattle.log_programs.proofs.Failing.{or_on}
 use Rattle.log_programs.specs.LogEnds.{EndsOrStops}
 
--- ---- a fault, whatever there is without one
+-- ---- a fault, whatever the type of the result without one
 
 alike : (A T : Type 0) (fault : LogFault) → (ended_by_read {T = A} (Err fault) ≡ ended_by_read {T = T} (Err fault)) × (ended_by_write {T = A} (Err fault) ≡ ended_by_write {T = T} (Err fault))
 alike A T (faults.Open cause) = (refl, refl)
@@ -24,7 +24,7 @@ stopped T fault = Err fault
 same_fault : (T : Type 0) (fault other : LogFault) → stopped T fault ≡ stopped T other → fault ≡ other
 same_fault T fault other e = cc
 
--- ---- behind lines at which no device failed
+-- ---- after lines at which no device failed
 
 module _ {T W Stand : Type 0} (Ends : T → Option (List ℕ) → Option (List ℕ) → Stand → Stand → Type 0) (Stops : Option (List ℕ) → Option (List ℕ) → Bool → Bool → Stand → Stand → LogFault → Type 0)
     (remained remains : Option (List ℕ)) (had_failed reader_before has_failed : Bool) (old : Written W) (writer_before : Bool) (new : Written W) (from to : Stand)
@@ -50,7 +50,7 @@ module _ {T W Stand : Type 0} (Ends : T → Option (List ℕ) → Option (List �
       handed_on = λ e idle. absurd (true≢false (sym (ap ended_by_read e) ∙ none));
     }
 
-    -- as more of the log was asked for
+    -- when more of the log was requested
     pub at_ask : has_failed ≡ (reader_before || ended_by_read {T = A} (Err fault)) → (stopped A fault ≡ stopped A faults.Read → new.waits ≡ [])
         → EndsOrStops Ends Stops (Err fault) remained remains had_failed has_failed old new from to
     at_ask read waits = record {

@@ -1,4 +1,4 @@
--- What is seen of the lines of a log, one after the other.
+-- The counts of the lines of a log, line by line.
 use Rattle.std.proofs.Common.{◌≡◌, ℕ, ◌+◌, ◌-◌, ◌^◌, ◌<◌, ◌≤◌, ◌==◌, ◌||◌, Bool, true, false, not, cond, List, [], ◌∷◌, ◌++◌, length, min, refl, sym, ap, ◌∙◌, arith, length-append}
 use Rattle.std.specs.Prelude.{if◌then◌else◌}
 use Rattle.std.specs.List.{list_any, position_or_len}
@@ -36,7 +36,7 @@ place_here p n false e within =
     ∙ ap (λ (b : Bool). if b then min (min n (2 ^ 64 - 1) + 1) (2 ^ 64 - 1) else number) (apart number 0 (λ h. omega (arith, h)))
     ∙ sym (place_at p (n + 1) false (apart p (n + 1) (λ h. omega (arith, h, within))))
 
--- it is not
+-- the line at the end is not too long
 place_behind : (p n : ℕ) (at : Bool) → (p == n) ≡ at → p ≤ n → place_of p n ≡ place_of (cond at (n + 1) p) (n + 1)
 place_behind p n true e within = place_at p n true e ∙ sym (place_at (n + 1) (n + 1) true (same_test (n + 1))) where
   same_test : (k : ℕ) → (k == k) ≡ true
@@ -60,7 +60,7 @@ module _ (xs : List LogLine) (x : LogLine) where
   first_behind : is_long x ≡ false → first_long xs ≡ first_long (xs ++ x ∷ [])
   first_behind e = place_behind (position_or_len is_long xs) (length xs) _ refl within ∙ sym (places 1 false e refl)
 
-  -- ---- how many lines are so
+  -- ---- how many lines pass a test
 
   count_more : (is : LogLine → Bool) (more : ℕ) (here : Bool) → is x ≡ here → more ≡ cond here 1 0 → min (count_of is xs + more) (2 ^ 64 - 1) ≡ count_of is (xs ++ x ∷ [])
   count_more is more here e f =
@@ -88,7 +88,7 @@ module _ (xs : List LogLine) (x : LogLine) where
     or_false true = refl
     or_false false = refl
 
--- ---- what is seen
+-- ---- all counts
 
 abbrev stats : ℕ → Bool → ℕ → ℕ → ℕ → LogStats
 stats lines addressed bare long first = record { lines = lines; is_addressed = addressed; bare = bare; long = long; first_long = first }
@@ -97,7 +97,7 @@ all_same : (l m : ℕ) (a b : Bool) (c d e f g h : ℕ) → l ≡ m → a ≡ b 
 all_same l m a b c d e f g h p q r s t = cc
 
 module _ (has : List ℕ → Bool) (xs : List LogLine) (x : LogLine) where
-  -- of one more line within the limit
+  -- the counts after one more line within the limit
   pub line_seen : (addressed : Bool) → is_long x ≡ false → addressed ≡ has (content x) → with_line (stats_of has xs) addressed ≡ stats_of has (xs ++ x ∷ [])
   line_seen true short is =
       all_same _ _ _ _ _ _ _ _ _ _ (more_lines xs x) (any_here xs x (is_addressed has) (by_limit (has (content x)) ∙ sym is))
@@ -110,7 +110,7 @@ module _ (has : List ℕ → Bool) (xs : List LogLine) (x : LogLine) where
         by_limit : (b : Bool) → (if is_long x then false else b) ≡ b
         by_limit b = ap (λ (l : Bool). if l then false else b) short
 
-  -- of one more that is too long
+  -- the counts after one more line that is too long
   pub long_seen : is_long x ≡ true → with_long (stats_of has xs) ≡ stats_of has (xs ++ x ∷ [])
   long_seen long =
       all_same _ _ _ _ _ _ _ _ _ _ (more_lines xs x) (any_behind xs x (is_addressed has) (ap (λ (l : Bool). if l then false else has (content x)) long))
@@ -124,7 +124,7 @@ within_limit line e = grind (arith, nat_tests)
 pub past_limit : (line : LogLine) → 1048576 < length (content line) → is_long line ≡ true
 past_limit line e = grind (arith, nat_tests)
 
--- ---- one line more
+-- ---- one more line
 
 pub lines_with : (seen : LogStats) (addressed : Bool) → (with_line seen addressed).lines ≡ min (seen.lines + 1) (2 ^ 64 - 1)
 lines_with seen true = refl

@@ -1,4 +1,4 @@
--- Where the addresses of a line are looked for, by options.
+-- Where to look for the addresses of a line, by the options given.
 use Rattle.std.specs.Prelude.{ℕ, ◌||◌, Bool, not, List, bytes_eq, codes, if◌then◌else◌}
 use Rattle.std.specs.Option.{unwrap_or}
 use Rattle.line_addresses.specs.declared.area.Area.{Area}
@@ -11,13 +11,13 @@ use Rattle.options.specs.Given.{is_given, value_of}
 use Rattle.options.specs.Values.{byte_in, field_in}
 use Rattle.options.specs.declared.items.Item.{Item}
 
--- in a field, if in no word and not after a text: `-k` or `-d` is given, or neither `-a` nor `--nth` is
+-- without `-w` and `--after`, the part is a field: `-k` or `-d` is given, or neither `-a` nor `--nth` is
 abbrev pub is_in_a_field : List Item → Bool
 is_in_a_field items = is_given items rows.field || is_given items rows.separator
     || not (is_given items rows.anywhere || is_given items rows.nth)
 
--- after a text, in a word, in a field, or anywhere. Without `-k` the field or word is the first, and without `-d`
--- fields are cut at spaces (byte 32)
+-- the part of a line to search: after a text, a word, a field, or the whole line. Without `-k` the field or word is the
+-- first, and without `-d` fields are separated by spaces (byte 32)
 abbrev pub part_of : List Item → Part
 part_of items =
     if is_given items rows.after then parts.After (value_of items rows.after)
@@ -26,11 +26,11 @@ part_of items =
     else parts.Field (unwrap_or (field_in (value_of items rows.field)) 1)
     (unwrap_or (byte_in (value_of items rows.separator)) 32)
 
--- which address a value of `--nth` says: the last, or the one of a number, which is 1 for `first`
+-- the address that a value of `--nth` means: the last, or the one with a number, which is 1 for `first`
 abbrev pub nth_in : List ℕ → Pick
 nth_in value = if bytes_eq value (codes "last") then picks.Last else picks.Number (unwrap_or (field_in value) 1)
 
--- which addresses of the part: what `--nth` says; the first after a text; all, with `-a`; or the part itself
+-- which addresses of the part: as `--nth` says; else the first after a text; else all with `-a`; else the whole part
 abbrev pub pick_of : List Item → Pick
 pick_of items =
     if is_given items rows.nth then nth_in (value_of items rows.nth)

@@ -1,8 +1,8 @@
--- What is reported of a log that cannot be opened.
+-- The report about a log that cannot be opened.
 use Rattle.std.specs.Prelude.{ℕ, List, ◌++◌, codes}
 use Rattle.lists.specs.Opening.{open_fault_text}
 use Rattle.lists.specs.declared.opening.OpenFault.{OpenFault}
 
--- what a program reports of a log of this name that cannot be opened, with the cause
+-- the report that the log of this name cannot be opened, with the cause
 abbrev pub closed_text : List ℕ → List ℕ → OpenFault → List ℕ
 closed_text program name fault = program ++ codes ": " ++ name ++ open_fault_text fault

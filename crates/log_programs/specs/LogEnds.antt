@@ -1,13 +1,13 @@
--- How the reading of a log ends whose lines are printed.
+-- How the reading of a log ends if its lines are printed.
 use Rattle.std.specs.Prelude.{◌≡◌, ◌||◌, ℕ, Bool, List, [], Option, Result, Err, OnOk, IfOk, IfErr}
 use Rattle.lines.specs.Outputs.{Written}
 use Rattle.program.specs.LogFaults.{ended_by_read, ended_by_write}
 use Rattle.program.specs.declared.log_fault.LogFault.{LogFault}
 use Rattle.program.specs.declared.log_fault.LogFault.TheVariants as faults
 
--- it ends, or a fault stops it, and of where it began and stands this is true. A device has failed exactly if it had
--- failed before, or its failure stopped it: so nothing is written after a read that failed. What waits is written at
--- the end, and before a read that fails
+-- the reading ends, or a fault stops it, and `Ends` or `Stops` holds. A device has failed exactly if it had failed
+-- before or its failure stopped the reading. No output waits at the end, nor after a read that failed, if none waited
+-- before it
 pub record EndsOrStops {T W Stand : Type 0} (Ends : T → Option (List ℕ) → Option (List ℕ) → Stand → Stand → Type 0)
     (Stops : Option (List ℕ) → Option (List ℕ) → Bool → Bool → Stand → Stand → LogFault → Type 0)
     (result : Result T LogFault)

@@ -1,9 +1,9 @@
--- The rows of the options that every program for logs has.
+-- The rows of the options that all programs for logs share.
 use Rattle.std.specs.Prelude.{ℕ, List, [], ◌∷◌, true, false, codes}
 use Rattle.options.specs.Table.{Entry, flag, long_flag, alone, valued, long}
 use Rattle.options.specs.declared.table.Kind.TheVariants as kinds
 
--- `-a`, `-w`, `-k`, `-d`, `--after`, `--mapped`, `-f` and `--nth`
+-- the row numbers of `-a`, `-w`, `-k`, `-d`, `--after`, `--mapped`, `-f` and `--nth`
 abbrev pub anywhere : ℕ
 anywhere = 0
 
@@ -28,7 +28,7 @@ list = 6
 abbrev pub nth : ℕ
 nth = 9
 
--- these, and before the last `--help` and `--version`, which stand alone
+-- the shared rows: those eight, and before the last of them `--help` and `--version`, each allowed only by itself
 abbrev pub shared : List Entry
 shared =
     flag (codes "a") ∷ flag (codes "w") ∷ valued (codes "k") kinds.Field (codes "not a field number")
@@ -39,7 +39,7 @@ shared =
     ∷ alone (codes "--version") (codes "not the only argument")
     ∷ long (codes "--nth") kinds.Nth true (codes "not first, last or a number from 1 up") ∷ []
 
--- which of them do not go together: `--after` with `-a`, `-w`, `-k` or `-d`, and `-w` with `-d`
+-- the pairs that exclude each other: `--after` with `-a`, `-w`, `-k` or `-d`, and `-w` with `-d`
 abbrev pub together : List (ℕ × ℕ × List ℕ)
 together =
     (after, anywhere, codes "--after goes with none of -a, -k, -d and -w")

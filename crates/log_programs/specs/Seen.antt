@@ -1,24 +1,24 @@
--- What is reported of the lines of a log that was opened.
+-- The reports about the lines of a log that was opened.
 use Rattle.std.specs.Prelude.{ℕ, ◌==◌, ◌&&◌, Bool, not, List, [], ◌++◌, codes, decimal, nat_lt, if◌then◌else◌}
 use Rattle.log_programs.specs.WithoutAddress.{is_dropped, is_reported}
 use Rattle.log_programs.specs.declared.log_stats.LogStats.{LogStats}
 use Rattle.log_programs.specs.declared.without_address.WithoutAddress.{WithoutAddress}
 
--- a line is missed: one is too long, and such lines are not dropped
+-- a line is missed: a line is too long, and such lines are not dropped
 abbrev pub is_missed : WithoutAddress → LogStats → Bool
 is_missed bad seen = not (is_dropped bad) && not (seen.first_long == 0)
 
--- what a program reports of a log of this name: the first line that is too long
+-- the report that the line with this number in the log of this name is too long
 abbrev pub long_text : List ℕ → List ℕ → ℕ → List ℕ
 long_text program name number = program ++ codes ": " ++ name ++ codes ":" ++ decimal number
     ++ codes ": line too long\n"
 
--- and how many lines have no address, and how many are too long
+-- the report of how many lines have no address, and how many are too long
 abbrev pub counts_text : List ℕ → List ℕ → LogStats → List ℕ
 counts_text program name seen = program ++ codes ": " ++ name ++ codes ": lines without an address: "
     ++ decimal seen.bare ++ codes ", too long: " ++ decimal seen.long ++ codes "\n"
 
--- the former is reported if a line is missed, and the latter of a log that has lines, if that is asked for
+-- what is reported: the long line if a line is missed, and the counts if they are asked for and the log has lines
 abbrev pub seen_text : List ℕ → List ℕ → WithoutAddress → LogStats → List ℕ
 seen_text program name bad seen = (if is_missed bad seen then long_text program name seen.first_long else [])
     ++ (if is_reported bad && nat_lt 0 seen.lines then counts_text program name seen else [])

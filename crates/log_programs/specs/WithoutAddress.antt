@@ -1,9 +1,9 @@
--- What becomes of lines without an address, and of those that are too long.
+-- What happens to lines without an address, and to lines that are too long.
 use Rattle.std.specs.Prelude.{ℕ, Bool, true, false, List, bytes_eq, codes, if◌then◌else◌}
 use Rattle.log_programs.specs.declared.without_address.WithoutAddress.{WithoutAddress}
 use Rattle.log_programs.specs.declared.without_address.WithoutAddress.TheVariants as without
 
--- lines without an address are left out; the first of them ends the run; it is told how many there are
+-- lines without an address are left out; the first of them ends the run; their number is reported
 abbrev pub is_dropped : WithoutAddress → Bool
 is_dropped without.Drop = true
 is_dropped other = false
@@ -16,7 +16,7 @@ abbrev pub is_reported : WithoutAddress → Bool
 is_reported without.Report = true
 is_reported other = false
 
--- what becomes of them, by a value of `--bad`, or by an empty text
+-- what happens to such lines, by a value of `--bad`, which is empty if there is none
 abbrev pub bad_in : List ℕ → WithoutAddress
 bad_in value = if bytes_eq value (codes "drop") then without.Drop
     else if bytes_eq value (codes "keep") then without.Keep

@@ -1,4 +1,4 @@
-//! Where the addresses of a line are looked for, by the options that every program for logs has.
+//! Where to look for the addresses of a line, by the options that all programs for logs share.
 ghost use Rattle.std.specs.Prelude.{◌≡◌};
 ghost use Rattle.log_programs.specs.Areas.{area_of, is_in_a_field, nth_in, part_of, pick_of};
 
@@ -8,7 +8,8 @@ use options::given::{is_given, value_of};
 use options::items::Item;
 use options::values::{byte_in, field_in};
 
-/// Where addresses of a line are looked for, and which of those that stand there.
+/// Returns where to look for the addresses of a line, and which of those to use, by the options of
+/// a command line.
 ///
 /// ```
 /// use line_addresses::{Part, Pick};
@@ -33,7 +34,7 @@ pub fn area_of<'a>(items: &[Item<'a>]) -> Area<'a>
     }
 }
 
-// In which part of a line: after a text, in a word, in a field, or anywhere.
+// Returns the part of a line to search: after a text, a word, a field, or the whole line.
 fn part_of<'a>(items: &[Item<'a>]) -> Part<'a>
     ensures { result ≡ part_of items.now }
 {
@@ -51,7 +52,7 @@ fn part_of<'a>(items: &[Item<'a>]) -> Part<'a>
     Part::Field { number, separator }
 }
 
-// Whether that is a field, if it is no word and follows no text.
+// Returns whether the part is a field, if neither `-w` nor `--after` is given.
 fn is_in_a_field(items: &[Item<'_>]) -> bool
     ensures { result ≡ is_in_a_field items.now }
 {
@@ -60,7 +61,7 @@ fn is_in_a_field(items: &[Item<'_>]) -> bool
         || !(is_given(items, ANYWHERE) || is_given(items, NTH))
 }
 
-// Which addresses of the part.
+// Returns which addresses of the part to use.
 fn pick_of(items: &[Item<'_>]) -> Pick
     ensures { result ≡ pick_of items.now }
 {
@@ -75,7 +76,7 @@ fn pick_of(items: &[Item<'_>]) -> Pick
     }
 }
 
-// Which address a value of `--nth` says.
+// Returns the address that a value of `--nth` means.
 fn nth_in(value: &str) -> Pick
     ensures { result ≡ nth_in value.now }
 {

@@ -5,8 +5,8 @@ ghost use Rattle.log_programs.specs.Finding.{found_in};
 use ipnetwork::IpAddr;
 use line_addresses::{Area, part_of, picked};
 
-/// The address of a line, which is given without its end: the one that is looked at, or the first of them. Does not
-/// allocate.
+/// Returns the address in this area of a line, or the first of several, or `None` if there is none.
+/// The line is given without its end. Does not allocate.
 ///
 /// ```
 /// use line_addresses::{Area, Part, Pick};

@@ -1,4 +1,4 @@
-//! The rows of the options that every program for logs has.
+//! The rows of the options that all programs for logs share.
 ghost use Rattle.std.specs.Prelude.{[]};
 ghost use Rattle.log_programs.specs.Rows.{shared, together};
 ghost use Rattle.options.specs.Table.{IsTable};
@@ -29,7 +29,7 @@ pub const LIST: usize = 6;
 /// The row of `--nth`.
 pub const NTH: usize = 9;
 
-/// The rows of these options, among them `--help` and `--version`, and then those of a program.
+/// The rows of the shared options, with `--help` and `--version`, and then those of a program.
 ///
 /// ```
 /// use log_programs::rows::{LIST, log_rows};
@@ -58,7 +58,8 @@ macro_rules! log_rows {
     };
 }
 
-/// The pairs of these options that do not go together, between the first and the last pairs of a program.
+/// The pairs of shared options that exclude each other, after the first pairs of a program and
+/// before its last.
 ///
 /// ```
 /// use log_programs::rows::{AFTER, ANYWHERE, FIELD, MAPPED, SEPARATOR, WORDS, log_pairs};
@@ -85,13 +86,13 @@ macro_rules! log_pairs {
 pub use log_pairs;
 pub use log_rows;
 
-// These options.
+// The rows of the shared options.
 const ROWS: [Row; 10] = log_rows![];
 
-// Which do not go together.
+// The pairs of them that exclude each other.
 const PAIRS: [Pair; 5] = log_pairs![[], []];
 
-/// The table of these options alone, of which none has to be given.
+/// Returns the table of only the shared options, none of which is required.
 ///
 /// ```
 /// use options::faults::fault_of;

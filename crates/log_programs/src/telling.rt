@@ -1,4 +1,5 @@
-//! What is reported of logs that cannot be opened, or have no addresses, and of lines that are too long. If a write fails, nothing else changes.
+//! Reports logs that cannot be opened or have no addresses, and lines that are too long. If a write
+//! fails, nothing else changes.
 ghost use Rattle.std.specs.Prelude.{◌≡◌, ◌++◌, ◌&&◌, [], not, nat_lt, codes, decimal, if◌then◌else◌};
 ghost use Rattle.program.specs.Messages.{Reports};
 ghost use Rattle.log_programs.specs.Closed.{closed_text};
@@ -14,8 +15,8 @@ use lists::OpenFault;
 use program::messages::{tell, tell_number};
 use std::io::Write;
 
-/// Reports in the name of a program that the log of this name has lines, and none of them an address
-/// where it is looked for, if that is so.
+/// Reports, in the name of a program, that no line of the log of this name has an address in this
+/// area, if the log has lines and none has one.
 ///
 /// ```
 /// use line_addresses::{Area, Part, Pick};
@@ -47,7 +48,7 @@ pub fn tell_lacking<E: Write>(
     }
 }
 
-// Whether there are lines, as many as this, and none has an address.
+// Returns whether there are lines and none has an address.
 fn lacks(lines: u64, is_addressed: bool) -> bool
     ensures { result ≡ (nat_lt 0 lines && not is_addressed) }
 {
@@ -65,7 +66,7 @@ fn tell_area<E: Write>(program: &str, area: &Area<'_>, name: &str, errors: &mut 
     tell("\n", errors);
 }
 
-// How many addresses have to stand there, so that a line has one.
+// Returns how many addresses a part must have for the picked one to exist.
 fn needed(pick: Pick) -> u32
     ensures { result ≡ needed pick }
 {
@@ -75,7 +76,7 @@ fn needed(pick: Pick) -> u32
     }
 }
 
-// Reports that so many are needed.
+// Reports how many addresses are needed.
 fn tell_needed<E: Write>(number: u32, errors: &mut Output<'_, E>)
     ensures { Reports errors.old errors.new (needed_text number) }
 {
@@ -87,7 +88,7 @@ fn tell_needed<E: Write>(number: u32, errors: &mut Output<'_, E>)
     }
 }
 
-// Reports where the addresses of a line are looked for.
+// Reports which part of a line is searched.
 fn tell_where<E: Write>(part: &Part<'_>, errors: &mut Output<'_, E>)
     ensures { Reports errors.old errors.new (part_text part.now) }
 {
@@ -107,7 +108,7 @@ fn tell_nth<E: Write>(text: &str, number: u32, errors: &mut Output<'_, E>)
     tell_number(u64::from(number), errors);
 }
 
-// Reports which text an address follows.
+// Reports the text after which the address is searched.
 fn tell_after<E: Write>(text: &Text<'_>, errors: &mut Output<'_, E>)
     ensures { Reports errors.old errors.new (codes "after " ++ text.now) }
 {
@@ -122,7 +123,7 @@ fn tell_bytes<E: Write>(bytes: &[u8], errors: &mut Output<'_, E>)
     let _ = errors.put(bytes);
 }
 
-/// Whether a line is missed: one is too long, and such lines are not dropped.
+/// Returns whether a line is missed: a line is too long, and such lines are not dropped.
 ///
 /// ```
 /// use log_programs::log_stats::LogStats;
@@ -139,9 +140,9 @@ pub fn is_missed(bad: WithoutAddress, seen: &LogStats) -> bool
     !bad.is_dropped() && seen.first_long != 0
 }
 
-/// Reports in the name of a program the first line of the log of this name that is too long, unless such lines are dropped,
-/// and, if that is asked for, how many lines have no
-/// address and how many are too long, of a log that has lines.
+/// Reports, in the name of a program, the first line of the log of this name that is too long,
+/// unless such lines are dropped. If the counts are asked for and the log has lines, also reports
+/// how many lines have no address and how many are too long.
 ///
 /// ```
 /// use log_programs::log_stats::LogStats;
@@ -170,7 +171,7 @@ pub fn tell_seen<E: Write>(
     tell_asked(program, name, is_asked(bad, seen.lines), seen, errors);
 }
 
-/// Reports in the name of a program that the log of this name cannot be opened, and why.
+/// Reports, in the name of a program, that the log of this name cannot be opened, and why.
 ///
 /// ```
 /// use lists::OpenFault;
@@ -195,14 +196,14 @@ pub fn tell_closed<E: Write>(
     tell(fault.text(), errors);
 }
 
-// Whether it is told of so many lines how many have no address.
+// Returns whether to report how many of these lines have no address.
 fn is_asked(bad: WithoutAddress, lines: u64) -> bool
     ensures { result ≡ (is_reported bad && nat_lt 0 lines) }
 {
     bad.is_reported() && lines > 0
 }
 
-// Reports that the line of this number is too long, if a line is missed.
+// Reports that the line with this number is too long, if a line is missed.
 fn tell_missed<E: Write>(
     program: &str,
     name: &str,
@@ -246,7 +247,7 @@ fn tell_asked<E: Write>(
     }
 }
 
-// Reports the name of the program and that of a log.
+// Reports the names of the program and the log.
 fn tell_head<E: Write>(program: &str, name: &str, errors: &mut Output<'_, E>)
     ensures { Reports errors.old errors.new (program.now ++ codes ": " ++ name.now) }
 {

@@ -1,24 +1,24 @@
-//! What becomes of lines without an address, and of those that are too long.
+//! What happens to lines without an address, and to lines that are too long.
 ghost use Rattle.std.specs.Prelude.{◌≡◌};
 ghost use Rattle.log_programs.specs.WithoutAddress.{bad_in, is_dropped, is_stopped, is_reported};
 
-/// What becomes of a line without an address.
+/// What happens to a line without an address.
 #[derive(Clone, Copy, Debug, PartialEq, Eq)]
 pub enum WithoutAddress {
-    /// Nothing is said: what the program does without the option.
+    /// The option is not given: the program's default.
     Unsaid,
-    /// It is left out, and so is one that is too long, of which nothing is told.
+    /// It is left out, and so is a line that is too long, which is not reported.
     Drop,
-    /// It is taken.
+    /// It is kept.
     Keep,
-    /// It ends the run, as one that is too long does.
+    /// It ends the run, and so does a line that is too long.
     Stop,
-    /// What nothing says. How many there are is told, and how many are too long.
+    /// As `Unsaid`, and the numbers of such lines and of lines that are too long are reported.
     Report,
 }
 
 impl WithoutAddress {
-    /// Whether such lines are left out.
+    /// Returns whether such lines are left out.
     ///
     /// ```
     /// use log_programs::without_address::WithoutAddress;
@@ -31,7 +31,7 @@ impl WithoutAddress {
         matches!(self, WithoutAddress::Drop)
     }
 
-    /// Whether the first of them ends the run.
+    /// Returns whether the first of them ends the run.
     ///
     /// ```
     /// use log_programs::without_address::WithoutAddress;
@@ -44,7 +44,7 @@ impl WithoutAddress {
         matches!(self, WithoutAddress::Stop)
     }
 
-    /// Whether it is told how many there are.
+    /// Returns whether their number is reported.
     ///
     /// ```
     /// use log_programs::without_address::WithoutAddress;
@@ -58,7 +58,7 @@ impl WithoutAddress {
     }
 }
 
-/// What becomes of such lines, by a value of `--bad`, which is empty if there is none.
+/// Returns what happens to such lines, by a value of `--bad`, which is empty if there is none.
 ///
 /// ```
 /// use log_programs::without_address::{WithoutAddress, bad_in};

@@ -27,8 +27,7 @@ pub enum Verdict {
 impl Verdict {
     /// Whether a line of this verdict has an address where it is looked for. A line that is too long has none.
     #[inline(always)]
-    pub(crate) fn is_addressed(&self) -> bool
-    {
+    pub(crate) fn is_addressed(&self) -> bool {
         match *self {
             Verdict::Inside(_) => true,
             Verdict::Outside => true,

@@ -38,8 +38,7 @@ fn tell_refusal<E: Write>(said: &Said<'_>, errors: &mut Output<'_, E>) {
 
 // Writes where a text stands: the word, with control characters escaped, or `-` and the line
 // number.
-fn tell_place<E: Write>(said: &Said<'_>, errors: &mut Output<'_, E>)
-{
+fn tell_place<E: Write>(said: &Said<'_>, errors: &mut Output<'_, E>) {
     let line = said.line();
     if line > 0 {
         tell("-:", errors);

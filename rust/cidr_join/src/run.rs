@@ -171,8 +171,7 @@ fn join_by<'a, L: OpenLists, W: Write, E: Write>(
     lists: &L,
     output: &mut Output<'_, W>,
     errors: &mut Output<'_, E>,
-) -> u8
-{
+) -> u8 {
     let Ok(mut buffer) = vec![in alloc; 0u8; BUFFER_LEN] else {
         return refuse_memory(errors);
     };
@@ -189,8 +188,7 @@ fn join_by<'a, L: OpenLists, W: Write, E: Write>(
 }
 
 // What is asked for of lines, where this is printed of addresses.
-fn join_of<'a>(items: &[Item<'a>], answers: Answers<'a>) -> Join<'a>
-{
+fn join_of<'a>(items: &[Item<'a>], answers: Answers<'a>) -> Join<'a> {
     Join {
         answers,
         area: area_of(items),

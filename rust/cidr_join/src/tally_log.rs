@@ -106,8 +106,7 @@ fn count_address(
     numbered: &ValueIds<'_>,
     address: Option<IpAddr>,
     counts: &mut Counts,
-) -> Result<(), AllocError>
-{
+) -> Result<(), AllocError> {
     if is_left_out(join, address.is_some()) {
         return Ok(());
     }

@@ -30,8 +30,7 @@ pub(crate) fn tell_unaddressed<E: Write>(
     name: &str,
     seen: &LogStats,
     errors: &mut Output<'_, E>,
-)
-{
+) {
     let (lines, is_addressed) = (seen.lines, seen.is_addressed);
     tell_lacking(PROGRAM, &join.area, name, lines, is_addressed, errors);
 }

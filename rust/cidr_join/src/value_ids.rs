@@ -129,8 +129,7 @@ fn put<T>(items: &mut Vec<T>, item: T) -> Result<(), AllocError> {
 }
 
 // What is printed where this is the longest network, with this value.
-fn found_of<N: OfEither>(at: N, value: Value<'_>, network: bool) -> Found<'_>
-{
+fn found_of<N: OfEither>(at: N, value: Value<'_>, network: bool) -> Found<'_> {
     if network {
         Found::Network(at.either())
     } else {

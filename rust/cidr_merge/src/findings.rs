@@ -35,8 +35,7 @@ pub(crate) fn tell_line<W: Write>(
     about: &[u8],
     separator: &str,
     output: &mut Output<'_, W>,
-)
-{
+) {
     tell_place(line.name, line.number, output);
     tell(what, output);
     tell_bytes(about, output);
@@ -46,8 +45,7 @@ pub(crate) fn tell_line<W: Write>(
 }
 
 /// Tells where a line stands.
-pub(crate) fn tell_place<W: Write>(name: &str, number: usize, output: &mut Output<'_, W>)
-{
+pub(crate) fn tell_place<W: Write>(name: &str, number: usize, output: &mut Output<'_, W>) {
     tell(name, output);
     tell(":", output);
     tell_number(number as u64, output);

@@ -1,19 +1,22 @@
 // Written by scripts/plain out of crates/line_addresses/src/lib.rt
 
-//! The addresses of a line, wherever they stand in it.
+//! Finds the addresses of a line, anywhere in it.
 //!
-//! The longest runs of ASCII letters, digits, `.`, `:` and `_` of a line are looked at, each by itself. The text of a
-//! run's address is the run, or the run less one `.` or `:` at its end, or the run less a `:` and one to five digits at
-//! its end, whichever of these first is an address text; a run of which none is has no address. So `10.1.1.1:51234`,
-//! `[10.1.1.1]`, `"10.1.1.1"`, `SRC=10.1.1.1` and `[2001:db8::1]:443` have one, and `v10.1.2.3`, `1.2.3.4.5`,
-//! `12:34:56` and `00:1b:44:11:3a:b7` have none.
+//! A line is divided into runs: maximal sequences of ASCII letters, digits, `.`, `:` and `_`. Each
+//! run is read by itself. Its address is named by the whole run, by the run without a `.` or `:` at
+//! its end, or by the run without a `:` and one to five digits at its end, whichever of these is
+//! the first that is an address text; otherwise the run has no address. So `10.1.1.1:51234`,
+//! `[10.1.1.1]`, `"10.1.1.1"`, `SRC=10.1.1.1` and `[2001:db8::1]:443` have an address, and
+//! `v10.1.2.3`, `1.2.3.4.5`, `12:34:56` and `00:1b:44:11:3a:b7` have none.
 //!
-//! The networks of a line are looked for in the longest runs of those bytes and `/`. If a `/` stands in one behind
-//! another byte, and it is a network text, or is one less a `.` or `:` at its end, then it is this network, of which no
-//! part counts as an address. The others have their addresses. So `10.1.0.0/16`, `[2001:db8::/32]` and
-//! `10.0.0.0/255.0.0.0.` have a network, and `http://10.1.1.1/24`, `10.1.1.1/99` and `10.1.1.1/24:80` an address.
+//! To find networks, a line is divided into stretches: maximal sequences of those bytes and `/`. If
+//! a stretch has a `/`, and the whole stretch, or the stretch without a `.` or `:` at its end, is a
+//! network text, then it has this network, and no part of it counts as an address. Any other
+//! stretch has the addresses of its runs. So `10.1.0.0/16`, `[2001:db8::/32]` and
+//! `10.0.0.0/255.0.0.0.` have a network, and `http://10.1.1.1/24`, `10.1.1.1/99` and
+//! `10.1.1.1/24:80` have an address.
 //!
-//! Nothing here allocates. A line is a slice of bytes, of any length and any bytes.
+//! Nothing here allocates. A line is a slice of any bytes, of any length.
 
 mod area;
 mod byte_kind;

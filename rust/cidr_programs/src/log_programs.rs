@@ -1,7 +1,7 @@
 // Written by scripts/plain out of crates/log_programs/src/lib.rt
 
-//! What the programs that read logs share: where the addresses of a line are looked for, the address of a line, what is
-//! seen of the lines of a log, and what is reported of it.
+//! What the programs that read logs share: where to look for the addresses of a line, the address
+//! of a line, the counts of the lines of a log, and the reports about a log.
 
 pub mod areas;
 pub mod finding;

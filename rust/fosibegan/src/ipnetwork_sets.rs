@@ -2,7 +2,8 @@
 
 //! Sets of IP addresses, as lists of blocks: of one family, IPv4 or IPv6, or of both in one set.
 //!
-//! Only the calls that return an `AllocError` allocate: they grow the lists that the caller gives, or the set's own.
+//! Only the calls that return an `AllocError` allocate: they grow the lists that the caller gives,
+//! or the set's own.
 
 mod address_count;
 mod address_set;

@@ -1,7 +1,7 @@
 // Written by scripts/plain out of crates/ipnetwork_table/src/lib.rt
 
-//! Routing tables: values kept under blocks of IP addresses and found by longest prefix (RFC 4632, section
-//! 5.1), for networks of either family.
+//! Routing tables: maps from blocks of IP addresses to values, searched by longest prefix (RFC
+//! 4632, section 5.1), for networks of either family.
 //!
 //! Only `insert` allocates.
 

@@ -1,6 +1,6 @@
 // Written by scripts/plain out of crates/ipnetwork_c/src/aggregates.rt
 
-//! Lists of networks are replaced by the least list of blocks, in place.
+//! Replaces lists of networks by the shortest list of blocks, in place.
 
 use crate::fault::{OK, PREFIX};
 use crate::listed::all_fit;
@@ -8,9 +8,10 @@ use crate::structs::{Ipv4InC, Ipv6InC};
 use fosibegan::ipnetwork::{Ipv4Network, Ipv6Network};
 use fosibegan::ipnetwork_blocks::aggregate_held;
 
-/// Replaces the networks, which may have host bits, by their aggregate, at the front of the list: the fewest blocks
-/// with the same addresses, in ascending order. `count` is their number. The networks after them are unspecified.
-/// `PREFIX` if the prefix length of one is greater than 32.
+/// Replaces the networks, which may have host bits, by their aggregate, at the front of the list:
+/// the fewest blocks with the same addresses, in ascending order. Writes the number of blocks to
+/// `count`. The networks after the blocks are unspecified. Returns `PREFIX` if a prefix length is
+/// greater than 32.
 #[inline]
 pub fn ipnetwork_v4_aggregate(networks: &mut [Ipv4InC], count: &mut usize) -> u32 {
     if !all_fit::<Ipv4Network, Ipv4InC>(networks) {

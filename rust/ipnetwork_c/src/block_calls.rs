@@ -1,6 +1,6 @@
 // Written by scripts/plain out of crates/ipnetwork_c/src/block_calls.rt
 
-//! The blocks of a range of addresses, and the blocks within a network by their number.
+//! The blocks of a range of addresses, and the numbered blocks within a network.
 
 use crate::fault::{NO_MEMBER, NO_RANGE, OK, PREFIX, SHORT_BUFFER};
 use crate::structs::{Ipv4InC, Ipv6InC, number_of};
@@ -9,7 +9,7 @@ use fosibegan::ipnetwork_blocks::{
     AddressSpace, HoldsNetwork, RangeBlocks, range_to_blocks, subnet_at,
 };
 
-/// Puts the blocks of a range in the front of `blocks`, and their number in `count`.
+/// Puts the blocks of a range at the front of `blocks`, and their number in `count`.
 pub(crate) fn range<N: AddressSpace, H: HoldsNetwork<N>>(
     first: N::Addr,
     last: N::Addr,
@@ -31,9 +31,10 @@ pub(crate) fn range<N: AddressSpace, H: HoldsNetwork<N>>(
     OK
 }
 
-/// The block number `number` of this prefix length within the network, counted from 0 in ascending order. `PREFIX` if
-/// the network's prefix length is greater than 32, or if this one is, or is less than the network's; `NO_MEMBER` if the
-/// network has no more than `number` such blocks.
+/// Writes to `subnet` the block number `number` of this prefix length within the network, counted
+/// from 0 in ascending order. Returns `PREFIX` if the network's prefix length or this one is
+/// greater than 32, or this one is less than the network's; `NO_MEMBER` if the network has at most
+/// `number` such blocks.
 #[inline]
 pub fn ipnetwork_v4_subnet_at(
     network: &Ipv4InC,

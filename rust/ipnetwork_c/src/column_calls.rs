@@ -1,7 +1,8 @@
 // Written by scripts/plain out of crates/ipnetwork_c/src/column_calls.rt
 
-//! The calls for many addresses, texts or networks at once, a row for each. Texts are in the layout of Arrow: the bytes of
-//! all, one after the other, and the offsets at which each begins and the last ends.
+//! The calls for many addresses, texts or networks at once, a row for each. Texts are in Arrow's
+//! layout: the bytes of all texts, one after the other, and the offsets at which each text begins
+//! and the last one ends.
 
 use crate::address::AddressInC;
 use crate::fault::{OK, SHORT_BUFFER};
@@ -13,9 +14,9 @@ use crate::text_columns::read_rows;
 use crate::{columns, halves};
 use fosibegan::ipnetwork::{Ipv4Network, Ipv6Network};
 
-/// Writes for each of these addresses whether it lies in the network's set: 1 or 0, in `answers` at the same index. The
-/// rest of `answers` is unchanged. `PREFIX` if the prefix length is greater than 32, else `SHORT_BUFFER` if there are
-/// fewer answers than addresses.
+/// For each address, writes to `answers` at the same index 1 if the address is in the network, else
+/// 0. The rest of `answers` is unchanged. Returns `PREFIX` if the prefix length is greater than 32,
+/// else `SHORT_BUFFER` if there are fewer answers than addresses.
 #[inline]
 pub fn ipnetwork_v4_contains_column(
     network: &Ipv4InC,
@@ -49,10 +50,11 @@ const _: () = {
     }
 };
 
-/// For each of these addresses whether it is in the set of a list, by an index of the list: answer i and fault i are what
-/// `ipnetwork_v4_index_contains` leaves and returns of address i, so that a refusal stops nothing. Of a list that is not
-/// in ascending order another block may answer than there. What comes after them stays as it is. `SHORT_BUFFER` if there
-/// are fewer answers or faults than addresses.
+/// For each address, finds whether it is in the set of a list, by an index of the list: answer i
+/// and fault i are what `ipnetwork_v4_index_contains` leaves and returns for address i. A refused
+/// address does not stop the call. In a list that is not in ascending order, the answer may come
+/// from another block than in the call for one address. The rest of `answers` and `faults` is
+/// unchanged. Returns `SHORT_BUFFER` if there are fewer answers or faults than addresses.
 #[inline]
 pub fn ipnetwork_v4_index_contains_column(
     blocks: &[Ipv4InC],
@@ -79,7 +81,7 @@ const _: () = {
     }
 };
 
-/// The same of IPv6, as `ipnetwork_v6_index_contains` answers.
+/// The same for IPv6, by `ipnetwork_v6_index_contains`.
 #[inline]
 pub fn ipnetwork_v6_index_contains_column(
     blocks: &[Ipv6InC],
@@ -105,9 +107,10 @@ const _: () = {
     }
 };
 
-/// For each of these addresses the index of the longest block of a table that has it: index i and fault i are what
-/// `ipnetwork_v4_table_find` leaves and returns of address i, so that an address without a block stops nothing. What
-/// comes after them stays as it is. `SHORT_BUFFER` if there are fewer indexes or faults than addresses.
+/// For each address, finds the index of the longest block of a table that has it: index i and fault
+/// i are what `ipnetwork_v4_table_find` leaves and returns for address i. An address without a
+/// block does not stop the call. The rest of `indexes` and `faults` is unchanged. Returns
+/// `SHORT_BUFFER` if there are fewer indexes or faults than addresses.
 #[inline]
 pub fn ipnetwork_v4_table_find_column(
     blocks: &[Ipv4InC],
@@ -125,7 +128,7 @@ const _: () = {
     }
 };
 
-/// The same of IPv6, as `ipnetwork_v6_table_find` finds blocks.
+/// The same for IPv6, by `ipnetwork_v6_table_find`.
 #[inline]
 pub fn ipnetwork_v6_table_find_column(
     blocks: &[Ipv6InC],
@@ -143,10 +146,10 @@ const _: () = {
     }
 };
 
-/// For each of these addresses the place of the longest block of a table that has it, by an index of the table: place i
-/// and fault i are what `ipnetwork_v4_index_find` leaves and returns of address i, so that an address without a block
-/// stops nothing. What comes after them stays as it is. `SHORT_BUFFER` if there are fewer places or faults than
-/// addresses.
+/// For each address, finds the place of the longest block of a table that has it, by an index of
+/// the table: place i and fault i are what `ipnetwork_v4_index_find` leaves and returns for address
+/// i. An address without a block does not stop the call. The rest of `places` and `faults` is
+/// unchanged. Returns `SHORT_BUFFER` if there are fewer places or faults than addresses.
 #[inline]
 pub fn ipnetwork_v4_index_find_column(
     blocks: &[Ipv4InC],
@@ -165,7 +168,7 @@ const _: () = {
     }
 };
 
-/// The same of IPv6, as `ipnetwork_v6_index_find` finds blocks.
+/// The same for IPv6, by `ipnetwork_v6_index_find`.
 #[inline]
 pub fn ipnetwork_v6_index_find_column(
     blocks: &[Ipv6InC],
@@ -184,10 +187,10 @@ const _: () = {
     }
 };
 
-/// For each of these addresses the place that the ranges of a table tell: place i and fault i are
-/// what `ipnetwork_v4_ranges_find` leaves and returns of address i, so that an address without a
-/// block stops nothing. What comes after them stays as it is. `SHORT_BUFFER` if there are fewer
-/// places or faults than addresses.
+/// For each address, finds its place by the ranges of a table: place i and fault i are what
+/// `ipnetwork_v4_ranges_find` leaves and returns for address i. An address without a block does not
+/// stop the call. The rest of `places` and `faults` is unchanged. Returns `SHORT_BUFFER` if there
+/// are fewer places or faults than addresses.
 #[inline]
 pub fn ipnetwork_v4_ranges_find_column(
     ranges: &[Ipv4InC],
@@ -207,7 +210,7 @@ const _: () = {
     }
 };
 
-/// The same of IPv6, as `ipnetwork_v6_ranges_find` finds places.
+/// The same for IPv6, by `ipnetwork_v6_ranges_find`.
 #[inline]
 pub fn ipnetwork_v6_ranges_find_column(
     ranges: &[Ipv6InC],
@@ -227,10 +230,11 @@ const _: () = {
     }
 };
 
-/// Reads the IPv4 network of each text of a column: row i and fault i are what `ipnetwork_v4_read` writes and returns
-/// for text i. A text that names no network does not stop the reading. There is one text less than offsets; text i goes
-/// from offset i to the next. `NO_OFFSETS` if an offset is less than the one before, or greater than the length of the
-/// texts; else `SHORT_BUFFER` if there are fewer rows or faults than texts.
+/// Reads the IPv4 network of each text of a column: row i and fault i are what `ipnetwork_v4_read`
+/// leaves and returns for text i. A text that names no network does not stop the call. There is one
+/// text less than offsets: text i goes from offset i to offset i + 1. The rest of `networks` and
+/// `faults` is unchanged. Returns `NO_OFFSETS` if an offset is less than the one before, or greater
+/// than the length of the texts; else `SHORT_BUFFER` if there are fewer rows or faults than texts.
 #[inline]
 pub fn ipnetwork_v4_read_column(
     texts: &[u8],
@@ -248,7 +252,7 @@ const _: () = {
     }
 };
 
-/// The same for IPv6 networks, as `ipnetwork_v6_read` reads them.
+/// The same for IPv6 networks, by `ipnetwork_v6_read`.
 #[inline]
 pub fn ipnetwork_v6_read_column(
     texts: &[u8],
@@ -266,7 +270,7 @@ const _: () = {
     }
 };
 
-/// The same for networks of either family, as `ipnetwork_read` reads them.
+/// The same for networks of either family, by `ipnetwork_read`.
 #[inline]
 pub fn ipnetwork_read_column(
     texts: &[u8],
@@ -284,7 +288,7 @@ const _: () = {
     }
 };
 
-/// The same for networks of either family, as `ipnetwork_read_with_cause` reads them.
+/// The same for networks of either family, by `ipnetwork_read_with_cause`.
 #[inline]
 pub fn ipnetwork_read_with_cause_column(
     texts: &[u8],
@@ -302,7 +306,7 @@ const _: () = {
     }
 };
 
-/// The same for addresses of either family, as `ipnetwork_address_read` reads them.
+/// The same for addresses of either family, by `ipnetwork_address_read`.
 #[inline]
 pub fn ipnetwork_address_read_column(
     texts: &[u8],
@@ -320,11 +324,12 @@ const _: () = {
     }
 };
 
-/// Prints the IPv4 network of each row, as `ipnetwork_v4_canonical` does, to the front of `texts`, one text directly
-/// after the other, and writes how many bytes they have in all to `length`. Text i goes from offset i to offset i + 1,
-/// so that there is one offset more than rows. `PREFIX` if the prefix length of a row is greater than 32.
-/// `SHORT_BUFFER` if there is room for fewer bytes, or offsets, or if the texts have more than 2^31 - 1 bytes: then
-/// only their length is written.
+/// Prints the IPv4 network of each row, as `ipnetwork_v4_canonical` does but without a zero byte,
+/// to the front of `texts`, one text after the other, and writes their total length in bytes to
+/// `length`. Text i goes from offset i to offset i + 1, so there is one offset more than rows.
+/// Returns `PREFIX` if the prefix length of a row is greater than 32; `SHORT_BUFFER` if the texts
+/// or the offsets have no room, or the texts have more than 2^31 - 1 bytes, and then writes only
+/// the length.
 #[inline]
 pub fn ipnetwork_v4_print_column(
     networks: &[Ipv4InC],
@@ -360,8 +365,9 @@ const _: () = {
     }
 };
 
-/// The same of networks of either family, as `ipnetwork_canonical` prints them. If one is refused, the fault is that of
-/// the first: `NO_FAMILY` if the struct tells neither family, else `PREFIX`.
+/// The same for networks of either family, as `ipnetwork_canonical` prints them. If rows are
+/// refused, the fault is that of the first: `NO_FAMILY` if its family is neither 4 nor 6, else
+/// `PREFIX`.
 #[inline]
 pub fn ipnetwork_print_column(
     networks: &[IpInC],
@@ -379,8 +385,8 @@ const _: () = {
     }
 };
 
-/// The same of addresses of either family, as `ipnetwork_address_canonical` prints them. `NO_FAMILY` if a struct tells
-/// neither 4 nor 16 octets.
+/// The same for addresses of either family, as `ipnetwork_address_canonical` prints them. Returns
+/// `NO_FAMILY` if the number of octets in a struct is neither 4 nor 16.
 #[inline]
 pub fn ipnetwork_address_print_column(
     addresses: &[AddressInC],

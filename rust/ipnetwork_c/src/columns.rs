@@ -1,12 +1,12 @@
 // Written by scripts/plain out of crates/ipnetwork_c/src/columns.rt
 
-//! A network asked about many addresses in one call, a row for each.
+//! Checks many addresses against one network in one call, a row for each.
 
 use crate::fault::{OK, PREFIX, SHORT_BUFFER};
 use crate::numbered::Numbered;
 use fosibegan::ipnetwork_blocks::AddressSpace;
 
-/// Writes for each address whether it lies in the network's set.
+/// For each address, writes 1 if it is in the network's set, else 0.
 #[inline(always)]
 pub(crate) fn contains_each<N: AddressSpace, H: Numbered<N>>(
     network: H,
@@ -25,7 +25,7 @@ pub(crate) fn contains_each<N: AddressSpace, H: Numbered<N>>(
     OK
 }
 
-// Whether the address lies in the network's set, as 1 or 0.
+// Returns 1 if the address is in the network's set, else 0.
 #[inline(always)]
 fn flag<N: AddressSpace, H: Numbered<N>>(network: H, address: &H::Octets) -> u8 {
     u8::from(network.held_network().contains(H::address_in(address)))

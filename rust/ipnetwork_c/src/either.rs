@@ -1,6 +1,6 @@
 // Written by scripts/plain out of crates/ipnetwork_c/src/either.rt
 
-//! The calls of networks of either family.
+//! The calls for networks of either family.
 
 use crate::fault::{self, NO_FAMILY, OK, PREFIX};
 use crate::structs::{IpInC, V4, V6, address_of};
@@ -8,8 +8,9 @@ use fosibegan::ipnetwork::{
     Address, CidrFault, IpAddr, IpNetwork, Ipv4Addr, Ipv6Addr, Ipv6Network, cause,
 };
 
-/// Reads the network of either family that a text names, as `IpNetwork::read_bytes` does: `OK`, and the network is
-/// written, with the struct of the other family all zeros. Any other text is `ADDRESS`.
+/// Reads the network of either family that a text names, as `IpNetwork::read_bytes` does, and
+/// writes it to `network`, with the struct of the other family all zeros. Returns `ADDRESS` if the
+/// text names none.
 #[inline]
 pub fn ipnetwork_read(text: &[u8], network: &mut IpInC) -> u32 {
     match IpNetwork::read_bytes(text) {
@@ -28,8 +29,9 @@ const _: () = {
     }
 };
 
-/// The same with the cause: any other text is `FORMAT` if it has two or more `/`, else `ADDRESS` if what stands before
-/// the `/` is an address of neither family, else `PREFIX`.
+/// The same with the cause. If the text names no network, returns `FORMAT` if it has two or more
+/// `/`, else `ADDRESS` if the part before the `/`, or the whole text without one, is an address of
+/// neither family, else `PREFIX`.
 #[inline(always)]
 pub fn ipnetwork_read_with_cause(text: &[u8], network: &mut IpInC) -> u32 {
     if let Some(read) = v6_before_two_digits(text) {
@@ -46,8 +48,8 @@ const _: () = {
     }
 };
 
-/// The same of any text. It stands apart, so that what it needs costs the other texts of a column
-/// nothing.
+/// The same for any text. It is a separate function so that its cost does not fall on the other
+/// texts of a column.
 #[inline(never)]
 fn read_any(text: &[u8], network: &mut IpInC) -> u32 {
     if let Some(read) = v6_behind_four_digits(text) {
@@ -66,8 +68,8 @@ fn read_any(text: &[u8], network: &mut IpInC) -> u32 {
     }
 }
 
-/// The IPv6 network that a text names, if `slash_before_two` finds its `/`: most texts are so, and
-/// read in few steps. `None` says nothing.
+/// Returns the IPv6 network that a text names, if `slash_before_two` finds its `/`, as in most
+/// texts, which are thus read in few steps. `None` says nothing about the text.
 #[inline(always)]
 fn v6_before_two_digits(text: &[u8]) -> Option<Ipv6Network> {
     let at = slash_before_two(text)?;
@@ -81,7 +83,7 @@ fn v6_before_two_digits(text: &[u8]) -> Option<Ipv6Network> {
     }
 }
 
-/// Where a `/` stands before the last two bytes of a text whose fifth byte is a colon.
+/// Returns the index of a `/` before the last two bytes of a text whose fifth byte is a colon.
 #[inline(always)]
 fn slash_before_two(text: &[u8]) -> Option<usize> {
     let count = text.len();
@@ -92,8 +94,9 @@ fn slash_before_two(text: &[u8]) -> Option<usize> {
     if text[at] == b'/' { Some(at) } else { None }
 }
 
-/// The IPv6 network that a text names, if its fifth byte is a colon, as behind four digits. `None`
-/// says nothing. Read so, it is stored once, and not as one of either family first.
+/// Returns the IPv6 network that a text names, if its fifth byte is a colon, as after four digits.
+/// `None` says nothing about the text. Read this way, the network is stored only once, and not
+/// first as one of either family.
 #[inline(always)]
 fn v6_behind_four_digits(text: &[u8]) -> Option<Ipv6Network> {
     let [_, _, _, _, b':', ..] = text else {
@@ -105,16 +108,17 @@ fn v6_behind_four_digits(text: &[u8]) -> Option<Ipv6Network> {
     }
 }
 
-/// Why a text names no network of either family, if it names none. It stands apart so that reading a text that names one
-/// is all that a column's loop has in it.
+/// Returns why a text names no network of either family, if it names none. It is a separate
+/// function so that a column's loop contains only the reading of texts that name one.
 #[inline(never)]
 fn refusal_of(text: &[u8]) -> Option<CidrFault> {
     cause(text)
 }
 
-/// Whether an address of 4 or 16 octets lies in the network's set, as 1 or 0. No address of the other family does.
-/// `NO_FAMILY` if the family of the struct is neither 4 nor 6, or the address has neither 4 nor 16 octets; else
-/// `PREFIX` if the prefix length is greater than the family's width.
+/// Writes to `answer` 1 if an address of 4 or 16 octets is in the network, else 0. No address of
+/// the other family is. Returns `NO_FAMILY` if the family of the struct is neither 4 nor 6, or the
+/// address has neither 4 nor 16 octets; else `PREFIX` if the prefix length is greater than the
+/// family's width.
 #[inline]
 pub fn ipnetwork_contains(network: &IpInC, address: &[u8], answer: &mut u8) -> u32 {
     let Some(address) = address_in(address) else {
@@ -144,7 +148,7 @@ const _: () = {
     }
 };
 
-/// The address of 4 or 16 octets.
+/// Returns the address of these octets, if there are 4 or 16.
 fn address_in(octets: &[u8]) -> Option<IpAddr> {
     if let Ok(octets) = <[u8; 4]>::try_from(octets) {
         return Some(IpAddr::V4(Ipv4Addr::from(octets)));

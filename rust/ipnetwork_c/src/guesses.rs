@@ -1,28 +1,29 @@
 // Written by scripts/plain out of crates/ipnetwork_c/src/guesses.rt
 
-//! Guesses of where the searches for several rows of a column end, made before these searches: no
-//! guess waits for another one, and no search for what the list or its index has there.
+//! Guesses where the searches for several rows of a column end, before these searches are made: no
+//! guess waits for another, and no search waits for loads from the list or its index.
 
 use crate::search_hint::SearchHint;
 use crate::upper_bound::guess_by_three;
 use fosibegan::ipnetwork_blocks::AddressSpace;
 
-// For how many rows guesses are made at once.
+// The number of rows for which guesses are made at once.
 const ROWS: usize = 64;
 
 /// The guesses for a row and those around it.
 pub(crate) struct Guesses {
-    /// That for row i is number i % `ROWS`.
+    /// The guess for row i is at index i % `ROWS`.
     rows: [usize; ROWS],
 }
 
 impl Guesses {
-    /// No guesses yet.
+    /// Returns a value without guesses.
     pub(crate) fn new() -> Self {
         Guesses { rows: [0; ROWS] }
     }
 
-    /// The guess for a row. Of the rows in order, the first of each `ROWS` has them made for all.
+    /// Returns the guess for a row. If the rows come in order, the first of every `ROWS` rows makes
+    /// the guesses for all of them.
     #[inline(always)]
     pub(crate) fn of_row<N: AddressSpace, H: SearchHint<N>>(
         &mut self,
@@ -38,7 +39,7 @@ impl Guesses {
     }
 }
 
-// Guesses for the first of these addresses.
+// Makes the guesses for the first `ROWS` of these addresses.
 #[inline(never)]
 fn guess_rows<N: AddressSpace, H: SearchHint<N>>(
     list: &[H],

@@ -1,6 +1,6 @@
 // Written by scripts/plain out of crates/ipnetwork_c/src/index_making.rt
 
-//! Indexes of lists, made in the caller's memory.
+//! Makes indexes of lists in the caller's memory.
 
 use crate::fault::OK;
 use crate::numbered::Numbered;
@@ -8,8 +8,8 @@ use crate::structs::{Ipv4InC, Ipv6InC};
 use fosibegan::ipnetwork::{Ipv4Network, Ipv6Network};
 use fosibegan::ipnetwork_blocks::AddressSpace;
 
-/// How many numbers an index of so many blocks should have: four for each block, but no more than 2^20. One of fewer
-/// numbers makes a search slower, and one of more hardly faster.
+/// Writes to `index_length` how many numbers an index of `block_count` blocks should have: four for
+/// each block, but at most 2^20. A shorter index makes a search slower, a longer one hardly faster.
 #[inline]
 pub fn ipnetwork_index_size(block_count: usize, index_length: &mut usize) -> u32 {
     *index_length = block_count.saturating_mul(4).min(1 << 20);
@@ -23,10 +23,11 @@ const _: () = {
     }
 };
 
-/// Writes the index of a list, of as many numbers as there is room for, so that a search of the list by
-/// `ipnetwork_v4_index_contains` or `ipnetwork_v4_index_find` takes a few steps. The addresses from the first of the list
-/// to the last are cut into parts, all of one size, a power of two, as small as it can be: the index has this power, and
-/// then, of each part but the first, how many of the list begin before it. No struct is refused.
+/// Writes the index of a list over all of `index`, so that a search of the list by
+/// `ipnetwork_v4_index_contains` or `ipnetwork_v4_index_find` takes few steps. The addresses from
+/// the first of the list to the last are divided into parts of equal size, the least possible power
+/// of two: the index has the exponent of that power, and then, for each part but the first, how
+/// many structs of the list begin before it. No struct is refused.
 #[inline]
 pub fn ipnetwork_v4_index_make(blocks: &[Ipv4InC], index: &mut [u32]) -> u32 {
     make::<Ipv4Network, Ipv4InC>(blocks, index);
@@ -40,7 +41,7 @@ const _: () = {
     }
 };
 
-/// The same of IPv6.
+/// The same for IPv6.
 #[inline]
 pub fn ipnetwork_v6_index_make(blocks: &[Ipv6InC], index: &mut [u32]) -> u32 {
     make::<Ipv6Network, Ipv6InC>(blocks, index);
@@ -54,7 +55,7 @@ const _: () = {
     }
 };
 
-// Goes over the list once.
+// Makes the index in one pass over the list.
 fn make<N: AddressSpace, H: Numbered<N>>(list: &[H], index: &mut [u32]) {
     if index.is_empty() {
         return;
@@ -68,7 +69,7 @@ fn make<N: AddressSpace, H: Numbered<N>>(list: &[H], index: &mut [u32]) {
     }
 }
 
-// The size of the least parts of which so many reach over the list, as a power of two.
+// Returns the binary logarithm of the least size at which `count` parts cover the list.
 fn least_shift<N: AddressSpace, H: Numbered<N>>(list: &[H], count: usize) -> u32 {
     let half = H::half();
     if list.is_empty() {
@@ -86,7 +87,7 @@ fn least_shift<N: AddressSpace, H: Numbered<N>>(list: &[H], count: usize) -> u32
     half + 1
 }
 
-// How many structs of the list begin before the part. The last one before `from` does.
+// Returns how many structs of the list begin before the part. The last struct before `from` does.
 fn start_from<N: AddressSpace, H: Numbered<N>>(
     list: &[H],
     from: usize,
@@ -103,7 +104,7 @@ fn start_from<N: AddressSpace, H: Numbered<N>>(
     at
 }
 
-// Whether the struct begins before this part of the numbers from those of the first struct on.
+// Returns whether the struct begins before this part, counted from the first struct's number.
 fn begins_before<N: AddressSpace, H: Numbered<N>>(
     held: H,
     first: H,

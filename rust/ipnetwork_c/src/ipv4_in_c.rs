@@ -1,6 +1,7 @@
 // Written by scripts/plain out of crates/ipnetwork_c/src/ipv4_in_c.rt
 
-//! The struct of an IPv4 network: the network that it holds, its order, and what lists and columns ask of it.
+//! The struct of an IPv4 network: the network that it holds, its order, and its use in lists and
+//! columns.
 
 use crate::fault::{self, OK, PREFIX};
 use crate::listed::Listed;
@@ -15,7 +16,7 @@ use fosibegan::ipnetwork_blocks::HoldsNetwork;
 use std::cmp::Ordering;
 
 impl Ipv4InC {
-    /// The struct that holds a network.
+    /// Returns the struct that holds a network.
     pub(crate) fn of(network: &Ipv4Network) -> Self {
         Ipv4InC {
             address: network.ip().octets(),
@@ -23,7 +24,7 @@ impl Ipv4InC {
         }
     }
 
-    /// The network, if the prefix length is at most 32.
+    /// Returns the network, or `None` if the prefix length is greater than 32.
     pub(crate) fn network(&self) -> Option<Ipv4Network> {
         Ipv4Network::new_checked(Ipv4Addr::from(self.address), self.prefix)
     }

@@ -1,6 +1,7 @@
 // Written by scripts/plain out of crates/ipnetwork_c/src/ipv6_in_c.rt
 
-//! The struct of an IPv6 network: the network that it holds, its order, and what lists and columns ask of it.
+//! The struct of an IPv6 network: the network that it holds, its order, and its use in lists and
+//! columns.
 
 use crate::fault::{self, OK, PREFIX};
 use crate::listed::Listed;
@@ -15,7 +16,7 @@ use fosibegan::ipnetwork_blocks::HoldsNetwork;
 use std::cmp::Ordering;
 
 impl Ipv6InC {
-    /// The struct that holds a network.
+    /// Returns the struct that holds a network.
     pub(crate) fn of(network: &Ipv6Network) -> Self {
         Ipv6InC {
             address: network.ip().octets(),
@@ -23,12 +24,13 @@ impl Ipv6InC {
         }
     }
 
-    /// The network, if the prefix length is at most 128.
+    /// Returns the network, or `None` if the prefix length is greater than 128.
     pub(crate) fn network(&self) -> Option<Ipv6Network> {
         Ipv6Network::new_checked(address_of(&self.address), self.prefix)
     }
 
-    /// Whether an address of 16 octets lies in the network's set, if the prefix length is at most 128.
+    /// Returns whether an address of 16 octets is in the network, or `None` if the prefix length is
+    /// greater than 128.
     pub(crate) fn contains(&self, address: &[u8; 16]) -> Option<bool> {
         if self.prefix > 128 {
             return None;

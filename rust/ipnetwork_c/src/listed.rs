@@ -1,19 +1,19 @@
 // Written by scripts/plain out of crates/ipnetwork_c/src/listed.rt
 
-//! The structs of C as what a list in the caller's memory holds: nothing is known of their prefix lengths.
+//! The C structs as items of a list in the caller's memory: their prefix lengths are unchecked.
 
 use fosibegan::ipnetwork_blocks::{AddressSpace, HoldsNetwork};
 
-/// A struct of C in a list.
+/// A C struct in a list.
 pub(crate) trait Listed<N: AddressSpace>: HoldsNetwork<N> {
-    /// The address as it stands, whatever the prefix length is.
+    /// Returns the address, host bits kept, whatever the prefix length is.
     fn own_address(&self) -> N::Addr;
 
-    /// Whether the prefix length is one of the family.
+    /// Returns whether the prefix length is at most the family's width.
     fn fits(&self) -> bool;
 }
 
-/// Whether each prefix length is one of the family.
+/// Returns whether each prefix length is at most the family's width.
 pub(crate) fn all_fit<N: AddressSpace, H: Listed<N>>(list: &[H]) -> bool {
     list.iter().all(|held| held.fits())
 }

@@ -1,12 +1,13 @@
 // Written by scripts/plain out of crates/ipnetwork_c/src/lists.rt
 
-//! Whether an address lies in the set of some network of a list, in any order, host bits or not.
+//! Searches a list of networks, in any order and with or without host bits, for an address.
 
 use crate::fault::{OK, PREFIX};
 use crate::listed::{Listed, all_fit};
 use fosibegan::ipnetwork_blocks::AddressSpace;
 
-/// Whether an address lies in the set of one of the networks, as 1 or 0, or that a prefix length does not fit.
+/// Writes 1 if an address is in the set of one of the networks, else 0, or returns `PREFIX` if a
+/// prefix length does not fit.
 pub(crate) fn contains<N: AddressSpace, H: Listed<N>>(
     networks: &[H],
     addr: N::Addr,
@@ -19,7 +20,7 @@ pub(crate) fn contains<N: AddressSpace, H: Listed<N>>(
     OK
 }
 
-// Whether the address lies in the set of a network.
+// Returns whether the address is in the set of one of the networks.
 fn any_has<N: AddressSpace, H: Listed<N>>(networks: &[H], addr: N::Addr) -> bool {
     for held in networks {
         if (*held).held_network().contains(addr) {

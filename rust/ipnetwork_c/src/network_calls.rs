@@ -1,6 +1,6 @@
 // Written by scripts/plain out of crates/ipnetwork_c/src/network_calls.rt
 
-//! The calls of networks of one family.
+//! The calls for networks of one family.
 
 use crate::fault::{NO_MASK, OK, PREFIX};
 use crate::order::number_of_order;
@@ -10,8 +10,9 @@ use crate::text_columns::ReadsRow;
 use fosibegan::ipnetwork::Ipv4Addr;
 use fosibegan::ipnetwork_family::Address;
 
-/// Reads the network that a text names, as `Ipv4Network::read_bytes` does: `OK`, and the network is written. Else
-/// `FORMAT`, `ADDRESS` or `PREFIX`, the first that applies.
+/// Reads the network that a text names, as `Ipv4Network::read_bytes` does, and writes it to
+/// `network`. If the text names none, returns `FORMAT`, `ADDRESS` or `PREFIX`, the first that
+/// applies.
 #[inline]
 pub fn ipnetwork_v4_read(text: &[u8], network: &mut Ipv4InC) -> u32 {
     network.read_row(text)
@@ -37,7 +38,8 @@ const _: () = {
     }
 };
 
-/// The network of this address, host bits kept, and this prefix length; `PREFIX` if that is greater than 32.
+/// Writes to `network` the network of this address, host bits kept, and this prefix length. Returns
+/// `PREFIX` if the prefix length is greater than 32.
 #[inline]
 pub fn ipnetwork_v4_new(address: &[u8; 4], prefix: u8, network: &mut Ipv4InC) -> u32 {
     if prefix > 32 {
@@ -77,9 +79,10 @@ const _: () = {
     }
 };
 
-/// Writes the canonical text and a zero byte after it to `buffer`, of which 19 bytes are enough, and the length of the
-/// text, without the zero byte, to `length`. `SHORT_BUFFER` if the buffer has no room for both: then only the length is
-/// written. `PREFIX` if the prefix length is greater than 32.
+/// Writes the canonical text and a zero byte to `buffer`, for which 19 bytes are enough, and the
+/// length of the text, without the zero byte, to `length`. Returns `SHORT_BUFFER` if the buffer has
+/// no room for both, and then writes only the length; `PREFIX` if the prefix length is greater than
+/// 32.
 #[inline]
 pub fn ipnetwork_v4_canonical(
     network: &Ipv4InC,
@@ -119,7 +122,8 @@ const _: () = {
     }
 };
 
-/// Whether an address lies in the network's set, as 1 or 0. `PREFIX` if the prefix length is greater than 32.
+/// Writes to `answer` 1 if an address is in the network, else 0. Returns `PREFIX` if the prefix
+/// length is greater than 32.
 #[inline]
 pub fn ipnetwork_v4_contains(
     network: &Ipv4InC,
@@ -161,7 +165,8 @@ const _: () = {
     }
 };
 
-/// The least member: the address with its host bits cleared. `PREFIX` if the prefix length is greater than 32.
+/// Writes the least member: the address with its host bits cleared. Returns `PREFIX` if the prefix
+/// length is greater than 32.
 #[inline]
 pub fn ipnetwork_v4_network(network: &Ipv4InC, address: &mut [u8; 4]) -> u32 {
     let Some(v4) = network.network() else {
@@ -195,7 +200,8 @@ const _: () = {
     }
 };
 
-/// The greatest member: the address with its host bits set. `PREFIX` if the prefix length is greater than 32.
+/// Writes the greatest member: the address with its host bits set. Returns `PREFIX` if the prefix
+/// length is greater than 32.
 #[inline]
 pub fn ipnetwork_v4_broadcast(network: &Ipv4InC, address: &mut [u8; 4]) -> u32 {
     let Some(v4) = network.network() else {
@@ -229,8 +235,8 @@ const _: () = {
     }
 };
 
-/// The mask: as many ones at the front as the prefix length says, and zeros after them. `PREFIX` if the prefix length
-/// is greater than 32.
+/// Writes the mask: as many leading 1 bits as the prefix length, and zeros after them. Returns
+/// `PREFIX` if the prefix length is greater than 32.
 #[inline]
 pub fn ipnetwork_v4_mask(network: &Ipv4InC, mask: &mut [u8; 4]) -> u32 {
     let Some(v4) = network.network() else {
@@ -264,7 +270,7 @@ const _: () = {
     }
 };
 
-/// The prefix length of a mask; `NO_MASK` if the address is not one of the 33 masks.
+/// Writes the prefix length of a mask. Returns `NO_MASK` if the address is not one of the 33 masks.
 #[inline]
 pub fn ipnetwork_v4_prefix_of_mask(mask: &[u8; 4], prefix: &mut u8) -> u32 {
     let Some(found) = Ipv4Addr::from(*mask).prefix_of_mask() else {
@@ -281,7 +287,7 @@ const _: () = {
     }
 };
 
-/// The same for IPv6, of its 129 masks.
+/// The same for IPv6 and its 129 masks.
 #[inline]
 pub fn ipnetwork_v6_prefix_of_mask(mask: &[u8; 16], prefix: &mut u8) -> u32 {
     let Some(found) = address_of(mask).prefix_of_mask() else {
@@ -298,8 +304,8 @@ const _: () = {
     }
 };
 
-/// Whether each member of the first network is a member of the second, as 1 or 0. Host bits are ignored. `PREFIX` if a
-/// prefix length is greater than 32.
+/// Writes to `answer` 1 if each member of `inner` is a member of `outer`, else 0. Host bits are
+/// ignored. Returns `PREFIX` if a prefix length is greater than 32.
 #[inline]
 pub fn ipnetwork_v4_is_subnet_of(
     inner: &Ipv4InC,
@@ -345,7 +351,8 @@ const _: () = {
     }
 };
 
-/// Whether some address is a member of both, as 1 or 0. `PREFIX` if a prefix length is greater than 32.
+/// Writes to `answer` 1 if some address is a member of both networks, else 0. Returns `PREFIX` if a
+/// prefix length is greater than 32.
 #[inline]
 pub fn ipnetwork_v4_overlaps(one: &Ipv4InC, other: &Ipv4InC, answer: &mut u8) -> u32 {
     match (one.network(), other.network()) {
@@ -383,8 +390,9 @@ const _: () = {
     }
 };
 
-/// Which of two networks comes first, by address and then by prefix length: -1 the first, 1 the second, 0 if they are
-/// equal. `PREFIX` if a prefix length is greater than 32.
+/// Writes to `order` which of two networks comes first, by address, host bits included, and then by
+/// prefix length: -1 if `one` does, 1 if `other` does, 0 if they are equal. Returns `PREFIX` if a
+/// prefix length is greater than 32.
 #[inline]
 pub fn ipnetwork_v4_compare(one: &Ipv4InC, other: &Ipv4InC, order: &mut i32) -> u32 {
     match (one.network(), other.network()) {

@@ -1,40 +1,42 @@
 // Written by scripts/plain out of crates/ipnetwork_c/src/numbered.rt
 
-//! The addresses of the structs of C as bare numbers, so that a search compares several without a branch.
+//! The addresses of the C structs as bare numbers, so that a search compares several without a
+//! branch.
 
 use crate::listed::Listed;
 use fosibegan::ipnetwork_blocks::AddressSpace;
 
-/// A struct of C whose address is compared as a number.
+/// A C struct whose address is compared as a number.
 pub(crate) trait Numbered<N: AddressSpace>: Listed<N> {
-    /// The bare numbers of the family.
+    /// The number type of the family's addresses.
     type Number: Copy;
 
     /// The octets of an address, as C passes it.
     type Octets;
 
-    /// The number of the address as it stands, whatever the prefix length is.
+    /// Returns the number of the address, host bits kept, whatever the prefix length is.
     fn own_number(&self) -> Self::Number;
 
-    /// The number of an address.
+    /// Returns the number of an address.
     fn number_of(addr: N::Addr) -> Self::Number;
 
-    /// The number of octets.
+    /// Returns the number that octets represent.
     fn number_in(octets: &Self::Octets) -> Self::Number;
 
-    /// The address of octets.
+    /// Returns the address that octets represent.
     fn address_in(octets: &Self::Octets) -> N::Addr;
 
-    /// Whether the first number is the second one, or comes before it.
+    /// Returns whether the first number is at most the second.
     fn is_up_to(first: Self::Number, second: Self::Number) -> bool;
 
-    /// Whether the address of a number lies in the network's set, of a struct whose prefix length was checked.
+    /// Returns whether the address of a number is in the network of a struct whose prefix length
+    /// was checked.
     fn has(&self, number: Self::Number) -> bool;
 
-    /// In which part a number lies, if from `base` on each part has 2^`shift` numbers: in the first one if it comes before
-    /// `base`.
+    /// Returns the part in which a number lies, if from `base` on each part has 2^`shift` numbers:
+    /// the first part if the number is less than `base`.
     fn part_of(number: Self::Number, base: Self::Number, shift: u32) -> usize;
 
-    /// The size of the two halves of all numbers, as a power of two.
+    /// Returns the binary logarithm of half the number of addresses.
     fn half() -> u32;
 }

@@ -5,7 +5,7 @@
 use fosibegan::ipnetwork::IpNetwork;
 use std::cmp::Ordering;
 
-/// -1, 0 or 1 for less, equal or greater.
+/// Returns -1, 0 or 1 for less, equal or greater.
 pub(crate) fn number_of_order(order: Ordering) -> i32 {
     match order {
         Ordering::Less => -1,
@@ -14,7 +14,7 @@ pub(crate) fn number_of_order(order: Ordering) -> i32 {
     }
 }
 
-/// The order of two networks of either family, as a number.
+/// Returns the order of two networks of either family, as a number.
 pub(crate) fn number_between(one: IpNetwork, other: IpNetwork) -> i32 {
     number_of_order(one.cmp(&other))
 }

@@ -1,7 +1,7 @@
 // Written by scripts/plain out of crates/ipnetwork_c/src/printed_columns.rt
 
-//! Columns of networks and addresses printed in one call, in the layout of Arrow: the bytes of all texts, one after the
-//! other, and the offsets at which each begins and the last ends.
+//! Prints columns of networks and addresses in one call, in Arrow's layout: the bytes of all texts,
+//! one after the other, and the offsets at which each text begins and the last one ends.
 
 use crate::address::AddressInC;
 use crate::fault::{NO_FAMILY, OK, SHORT_BUFFER};
@@ -10,12 +10,12 @@ use crate::writing::to_usize;
 use fosibegan::plain_std::arrayvec::ArrayString;
 use fosibegan::ipnetwork::NETWORK_TEXT_CAPACITY;
 
-/// What a row is printed of.
+/// A row that can be printed.
 pub(crate) trait PrintsRow {
-    /// The fault by which the row is refused, or 0.
+    /// Returns the fault by which the row is refused, or 0.
     fn row_fault(&self) -> u32;
 
-    /// The text of what it stands for.
+    /// Returns the text of what the row represents.
     fn row_text(&self) -> ArrayString<NETWORK_TEXT_CAPACITY>;
 }
 
@@ -53,7 +53,7 @@ impl PrintsRow for AddressInC {
     }
 }
 
-// The fault of the first row that is refused; 0 if none is.
+// Returns the fault of the first row that is refused, or 0 if none is.
 fn first_fault<R: PrintsRow>(rows: &[R]) -> u32 {
     for row in 0..rows.len() {
         let fault = rows[row].row_fault();
@@ -64,7 +64,7 @@ fn first_fault<R: PrintsRow>(rows: &[R]) -> u32 {
     OK
 }
 
-/// Prints each row into the texts, after the row before it, and writes the offsets.
+/// Prints each row into `texts`, after the row before it, and writes the offsets.
 pub(crate) fn print_rows<R: PrintsRow>(
     rows: &[R],
     texts: &mut [u8],
@@ -84,7 +84,7 @@ pub(crate) fn print_rows<R: PrintsRow>(
     OK
 }
 
-// How many bytes the texts have together.
+// Returns the total length of the texts in bytes.
 fn texts_length<R: PrintsRow>(rows: &[R]) -> u128 {
     let mut whole = 0;
     for row in 0..rows.len() {
@@ -93,7 +93,7 @@ fn texts_length<R: PrintsRow>(rows: &[R]) -> u128 {
     whole
 }
 
-// Puts the texts into the front of a buffer that has room for them, and the offsets beside them.
+// Puts the texts at the front of a buffer that has room for them, and writes their offsets.
 fn put_texts<R: PrintsRow>(rows: &[R], texts: &mut [u8], offsets: &mut [u32]) {
     let mut end = 0;
     offsets[0] = 0;
@@ -103,7 +103,7 @@ fn put_texts<R: PrintsRow>(rows: &[R], texts: &mut [u8], offsets: &mut [u32]) {
     }
 }
 
-// Puts a text into a buffer from a place on, and returns the place after it.
+// Puts a text into a buffer from an index on, and returns the index after it.
 fn put_at(text: &[u8], texts: &mut [u8], at: usize) -> usize {
     let end = at + text.len();
     texts[at..end].copy_from_slice(text);

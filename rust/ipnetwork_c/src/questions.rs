@@ -1,7 +1,8 @@
 // Written by scripts/plain out of crates/ipnetwork_c/src/questions.rt
 
-//! The questions about networks of either family. Each is refused if a struct stands for no network: `NO_FAMILY` if its
-//! family is neither 4 nor 6, else `PREFIX` if its prefix length is greater than the family's width.
+//! The calls that ask about networks of either family. Each refuses a struct that represents no
+//! network: `NO_FAMILY` if its family is neither 4 nor 6, else `PREFIX` if its prefix length is
+//! greater than the family's width.
 
 use crate::address::AddressInC;
 use crate::fault::OK;
@@ -10,7 +11,7 @@ use crate::structs::IpInC;
 use crate::text;
 use fosibegan::ipnetwork::IpNetwork;
 
-// Writes what is told of the network that a struct stands for.
+// Writes what `told` returns for the network that a struct represents.
 #[inline(always)]
 fn tell<T: Copy, F: FnOnce(IpNetwork) -> T>(held: &IpInC, place: &mut T, told: F) -> u32 {
     match held.network() {
@@ -22,7 +23,7 @@ fn tell<T: Copy, F: FnOnce(IpNetwork) -> T>(held: &IpInC, place: &mut T, told: F
     }
 }
 
-// The same of two.
+// The same for two structs.
 #[inline(always)]
 fn tell_both<T: Copy, F: FnOnce(IpNetwork, IpNetwork) -> T>(
     one: &IpInC,
@@ -43,9 +44,9 @@ fn tell_both<T: Copy, F: FnOnce(IpNetwork, IpNetwork) -> T>(
     }
 }
 
-/// Writes the canonical text and a zero byte after it to `buffer`, of which 44 bytes are enough, and the length of the
-/// text, without the zero byte, to `length`. `SHORT_BUFFER` if the buffer has no room for both: then only the length is
-/// written.
+/// Writes the canonical text and a zero byte to `buffer`, for which 44 bytes are enough, and the
+/// length of the text, without the zero byte, to `length`. Returns `SHORT_BUFFER` if the buffer has
+/// no room for both, and then writes only the length.
 #[inline]
 pub fn ipnetwork_canonical(network: &IpInC, buffer: &mut [u8], length: &mut usize) -> u32 {
     match network.network() {
@@ -61,7 +62,7 @@ const _: () = {
     }
 };
 
-/// The least member: the address with its host bits cleared.
+/// Writes the least member: the address with its host bits cleared.
 #[inline]
 pub fn ipnetwork_network(network: &IpInC, address: &mut AddressInC) -> u32 {
     tell(network, address, |n| AddressInC::of(n.network()))
@@ -74,7 +75,7 @@ const _: () = {
     }
 };
 
-/// The greatest member: the address with its host bits set.
+/// Writes the greatest member: the address with its host bits set.
 #[inline]
 pub fn ipnetwork_broadcast(network: &IpInC, address: &mut AddressInC) -> u32 {
     tell(network, address, |n| AddressInC::of(n.broadcast()))
@@ -87,7 +88,7 @@ const _: () = {
     }
 };
 
-/// The mask, in the network's family.
+/// Writes the mask, an address of the network's family.
 #[inline]
 pub fn ipnetwork_mask(network: &IpInC, mask: &mut AddressInC) -> u32 {
     tell(network, mask, |n| AddressInC::of(n.mask()))
@@ -100,8 +101,8 @@ const _: () = {
     }
 };
 
-/// Whether each member of the first network is a member of the second, as 1 or 0: 0 if they are of different families.
-/// Host bits are ignored. The first struct is checked first.
+/// Writes to `answer` 1 if each member of `inner` is a member of `outer`, else 0, as it is for
+/// different families. Host bits are ignored. `inner` is checked first.
 #[inline]
 pub fn ipnetwork_is_subnet_of(inner: &IpInC, outer: &IpInC, answer: &mut u8) -> u32 {
     tell_both(inner, outer, answer, |a, b| u8::from(a.is_subnet_of(b)))
@@ -114,7 +115,8 @@ const _: () = {
     }
 };
 
-/// Whether some address is a member of both, as 1 or 0. The first struct is checked first.
+/// Writes to `answer` 1 if some address is a member of both networks, else 0. `one` is checked
+/// first.
 #[inline]
 pub fn ipnetwork_overlaps(one: &IpInC, other: &IpInC, answer: &mut u8) -> u32 {
     tell_both(one, other, answer, |a, b| u8::from(a.overlaps(b)))
@@ -127,8 +129,9 @@ const _: () = {
     }
 };
 
-/// Which of two networks comes first: -1 the first, 1 the second, 0 if they are equal. Each IPv4 network is before each
-/// IPv6 network; in a family the address decides, then the prefix length. The first struct is checked first.
+/// Writes to `order` which of two networks comes first: -1 if `one` does, 1 if `other` does, 0 if
+/// they are equal. Each IPv4 network comes before each IPv6 network; within a family the address
+/// decides, then the prefix length. `one` is checked first.
 #[inline]
 pub fn ipnetwork_compare(one: &IpInC, other: &IpInC, order: &mut i32) -> u32 {
     tell_both(one, other, order, |a, b| number_between(a, b))

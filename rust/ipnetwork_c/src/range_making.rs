@@ -1,6 +1,6 @@
 // Written by scripts/plain out of crates/ipnetwork_c/src/range_making.rt
 
-//! Tables cut into ranges of addresses that all have the same longest block, in the caller's
+//! Divides tables into ranges of addresses that all have the same longest block, in the caller's
 //! memory.
 
 use crate::fault::{OK, PREFIX, SHORT_BUFFER};
@@ -9,19 +9,18 @@ use crate::search_hint::SearchHint;
 use crate::tables::find;
 use fosibegan::ipnetwork_blocks::AddressSpace;
 
-/// The place that stands for no block.
+/// The place that means no block.
 pub(crate) const NO_PLACE: usize = usize::MAX;
 
-/// Sorts where the blocks begin and end, and asks the blocks, by an index of them or by none, for the
-/// first address of each range.
+/// Sorts the addresses at which the blocks begin and after which they end, and searches the blocks,
+/// by an index of them or by none, for the first address of each range.
 pub(crate) fn make<N: AddressSpace, H: SearchHint<N>>(
     blocks: &[H],
     index: &[u32],
     ranges: &mut [H],
     places: &mut [usize],
     count: &mut usize,
-) -> u32
-{
+) -> u32 {
     if !all_fit::<N, H>(blocks) {
         return PREFIX;
     }
@@ -35,7 +34,7 @@ pub(crate) fn make<N: AddressSpace, H: SearchHint<N>>(
     OK
 }
 
-/// The same, and then puts beside each range the number that stands where its place was.
+/// The same, and then replaces the place of each range by the number at that place.
 pub(crate) fn make_numbered<N: AddressSpace, H: SearchHint<N>>(
     blocks: &[H],
     numbers: &[usize],
@@ -43,8 +42,7 @@ pub(crate) fn make_numbered<N: AddressSpace, H: SearchHint<N>>(
     ranges: &mut [H],
     beside: &mut [usize],
     count: &mut usize,
-) -> u32
-{
+) -> u32 {
     if numbers.len() < blocks.len() {
         return SHORT_BUFFER;
     }
@@ -55,14 +53,14 @@ pub(crate) fn make_numbered<N: AddressSpace, H: SearchHint<N>>(
     made
 }
 
-// Puts for each place the number that stands there, and for that of no block the place itself.
+// Replaces each place by the number at it; `NO_PLACE` stays.
 fn put_numbers(numbers: &[usize], places: &mut [usize]) {
     for row in 0..places.len() {
         places[row] = number_at(numbers, places[row]);
     }
 }
 
-// The number at a place, or the place of no block if none stands there.
+// Returns the number at a place, or `NO_PLACE` if there is none.
 fn number_at(numbers: &[usize], place: usize) -> usize {
     if place < numbers.len() {
         numbers[place]
@@ -71,9 +69,8 @@ fn number_at(numbers: &[usize], place: usize) -> usize {
     }
 }
 
-// Puts where each block begins, and where it has ended, and returns how many these are.
-fn put_cuts<N: AddressSpace, H: SearchHint<N>>(blocks: &[H], ranges: &mut [H]) -> usize
-{
+// Puts the first address of each block and the address after its last, and returns their number.
+fn put_cuts<N: AddressSpace, H: SearchHint<N>>(blocks: &[H], ranges: &mut [H]) -> usize {
     let mut count = 0;
     for row in 0..blocks.len() {
         count = put_ends::<N, H>(blocks[row].held_network(), ranges, count);
@@ -81,10 +78,9 @@ fn put_cuts<N: AddressSpace, H: SearchHint<N>>(blocks: &[H], ranges: &mut [H]) -
     count
 }
 
-// Puts after so many others where the block begins, and the address after its last, if there is
-// one.
-fn put_ends<N: AddressSpace, H: SearchHint<N>>(block: N, ranges: &mut [H], count: usize) -> usize
-{
+// Puts, from index `count` on, the first address of the block and the address after its last, if
+// there is one. Returns the index after them.
+fn put_ends<N: AddressSpace, H: SearchHint<N>>(block: N, ranges: &mut [H], count: usize) -> usize {
     let _ = block.prefix();
     put_first::<N, H>(block.network(), ranges, count);
     match N::next_address(block.broadcast()) {
@@ -96,13 +92,13 @@ fn put_ends<N: AddressSpace, H: SearchHint<N>>(block: N, ranges: &mut [H], count
     }
 }
 
-// Puts the network of an address alone at a place.
+// Puts the network of only this address at a place.
 fn put_first<N: AddressSpace, H: SearchHint<N>>(address: N::Addr, ranges: &mut [H], place: usize) {
     let width = (H::half() + 1) as u8;
     ranges[place] = H::holding(N::block_at(address, width));
 }
 
-// Puts beside each range the place of the longest block with its first address.
+// Puts for each range the place of the longest block with the range's first address.
 fn put_places<N: AddressSpace, H: SearchHint<N>>(
     blocks: &[H],
     index: &[u32],
@@ -114,7 +110,7 @@ fn put_places<N: AddressSpace, H: SearchHint<N>>(
     }
 }
 
-// The place of the longest block with the address, or that of no block.
+// Returns the place of the longest block with the address, or `NO_PLACE`.
 fn place_of<N: AddressSpace, H: SearchHint<N>>(
     blocks: &[H],
     index: &[u32],

@@ -1,6 +1,6 @@
 // Written by scripts/plain out of crates/ipnetwork_c/src/search_columns.rt
 
-//! Lists asked for many addresses in one call, a row for each.
+//! Searches lists for many addresses in one call, a row for each.
 
 use crate::fault::{OK, SHORT_BUFFER};
 use crate::guesses::Guesses;
@@ -12,7 +12,8 @@ use crate::{sets, tables};
 use fosibegan::ipnetwork::{Ipv4Network, Ipv6Network};
 use fosibegan::ipnetwork_blocks::AddressSpace;
 
-/// The fault of the call that asks a set for one address, as a byte, with a guess of where the search ends.
+/// Returns the fault of the call that searches a set for one address, as a byte, with a guess of
+/// where the search ends.
 #[inline(always)]
 pub(crate) fn v4_contains(
     blocks: &[Ipv4InC],
@@ -25,7 +26,7 @@ pub(crate) fn v4_contains(
     sets::contains_near::<Ipv4Network, Ipv4InC>(blocks, index, number, guess, answer) as u8
 }
 
-/// The same of IPv6; the high half of the address is asked first.
+/// The same for IPv6; the high half of the address is tried first.
 pub(crate) fn v6_contains(
     blocks: &[Ipv6InC],
     index: &[u32],
@@ -42,8 +43,8 @@ pub(crate) fn v6_contains(
     sets::contains::<Ipv6Network, Ipv6InC>(blocks, index, address, answer) as u8
 }
 
-/// Puts for each address the place of the longest block that has it, and its fault, by an index of
-/// the blocks, or by none.
+/// Puts for each address the place of the longest block that has it, and the fault of the call, by
+/// an index of the blocks, or by none.
 #[inline(always)]
 pub(crate) fn table_find_each<N: AddressSpace, H: SearchHint<N>>(
     blocks: &[H],
@@ -61,7 +62,7 @@ pub(crate) fn table_find_each<N: AddressSpace, H: SearchHint<N>>(
     OK
 }
 
-// The fault of the call for one address, as a byte.
+// Returns the fault of the call for one address, as a byte.
 #[inline(always)]
 fn table_find_one<N: AddressSpace, H: SearchHint<N>>(
     blocks: &[H],
@@ -72,7 +73,7 @@ fn table_find_one<N: AddressSpace, H: SearchHint<N>>(
     tables::find::<N, H>(blocks, index, H::address_in(address), place) as u8
 }
 
-/// Puts for each address the place that the ranges tell, and its fault.
+/// Puts for each address its place by the ranges, and the fault of the call.
 #[inline(always)]
 pub(crate) fn ranges_find_each<N: AddressSpace, H: SearchHint<N>>(
     addresses: &[H::Octets],
@@ -93,7 +94,7 @@ pub(crate) fn ranges_find_each<N: AddressSpace, H: SearchHint<N>>(
     OK
 }
 
-// The fault of the call for one address, as a byte.
+// Returns the fault of the call for one address, as a byte.
 #[inline(always)]
 fn ranges_find_one<N: AddressSpace, H: SearchHint<N>>(
     address: &H::Octets,

@@ -1,7 +1,7 @@
 // Written by scripts/plain out of crates/ipnetwork_c/src/sets.rt
 
-//! Lists that are those of sets: the maximal blocks of their union, in ascending order, as `aggregate_held` leaves
-//! them.
+//! Searches the lists of sets: the maximal blocks of their union, in ascending order, as
+//! `aggregate_held` leaves them.
 
 use crate::fault::{OK, PREFIX};
 use crate::numbered::Numbered;
@@ -9,9 +9,9 @@ use crate::search_hint::SearchHint;
 use crate::upper_bound::{guess_by_last, upper_bound_at_once, upper_bound_by_halves};
 use fosibegan::ipnetwork_blocks::AddressSpace;
 
-/// Whether an address lies in the set of a list, as 1 or 0, by an index of the list, or by none. If
-/// the list is not that of a set, an address may be missed. `PREFIX` if the prefix length of the
-/// struct that the search ends at is not one of the family.
+/// Writes 1 if an address is in the set of a list, else 0, by an index of the list, or by none. If
+/// the list is not the list of a set, an address may be missed. Returns `PREFIX` if the prefix
+/// length of the struct at which the search ends does not fit.
 #[inline(always)]
 pub(crate) fn contains<N: AddressSpace, H: SearchHint<N>>(
     list: &[H],
@@ -24,7 +24,7 @@ pub(crate) fn contains<N: AddressSpace, H: SearchHint<N>>(
     contains_near::<N, H>(list, index, number, guess, answer)
 }
 
-/// The same for the number of an address, with a guess of how many blocks begin up to it.
+/// The same for the number of an address, with a guess of how many blocks begin at or before it.
 #[inline(always)]
 pub(crate) fn contains_near<N: AddressSpace, H: SearchHint<N>>(
     list: &[H],
@@ -42,7 +42,7 @@ pub(crate) fn contains_near<N: AddressSpace, H: SearchHint<N>>(
     }
 }
 
-// The answer, or none if the prefix length does not fit.
+// Returns the answer, or `None` if the prefix length does not fit.
 #[inline(always)]
 fn found_near<N: AddressSpace, H: Numbered<N>>(
     list: &[H],
@@ -56,19 +56,18 @@ fn found_near<N: AddressSpace, H: Numbered<N>>(
     found_by_halves::<N, H>(list, index, number)
 }
 
-// The same, where the search does not end at once.
+// The same, if the search does not end at the guess.
 #[inline(never)]
 fn found_by_halves<N: AddressSpace, H: Numbered<N>>(
     list: &[H],
     index: &[u32],
     number: H::Number,
-) -> Option<u8>
-{
+) -> Option<u8> {
     let count = upper_bound_by_halves::<N, H>(list, index, number);
     answer_after::<N, H>(list, count, number)
 }
 
-// The same, if the search ends after so many structs.
+// The same, if the search ends after the first `count` structs.
 #[inline(always)]
 fn answer_after<N: AddressSpace, H: Numbered<N>>(
     list: &[H],

@@ -1,18 +1,19 @@
 // Written by scripts/plain out of crates/ipnetwork_c/src/sizes.rt
 
-//! How many members a network has, and which of them has a number, also of the network of all addresses.
+//! The number of members of a network, and its numbered members, even for the network of all
+//! addresses.
 
 use crate::fault::{NO_MEMBER, OK, PREFIX};
 use crate::structs::{Ipv4InC, Ipv6InC, address_of};
 use fosibegan::ipnetwork::{Ipv4Addr, Ipv4Network, Ipv6Addr, Ipv6Network};
 use fosibegan::ipnetwork_family::{Address, Network};
 
-/// An address as a number that every address fits.
+/// An address as a number of a type that every address fits.
 pub(crate) trait Numbered: Address {
-    /// The number that the address means.
+    /// Returns the number of the address.
     fn to_number(self) -> u128;
 
-    /// The address that a number of `WIDTH` bits means.
+    /// Returns the address of a number of `WIDTH` bits.
     fn from_number(number: u128) -> Self;
 }
 
@@ -36,20 +37,20 @@ impl Numbered for Ipv6Addr {
     }
 }
 
-/// The least and the greatest member as numbers.
+/// Returns the least and the greatest member as numbers.
 fn ends<A: Numbered>(network: &Network<A>) -> (u128, u128) {
     let greatest = network.broadcast();
     greatest.law_of_width();
     (network.network().to_number(), greatest.to_number())
 }
 
-/// The number of the last member, counted from 0: one less than there are.
+/// Returns the index of the last member, counted from 0: one less than the number of members.
 fn last_index<A: Numbered>(network: &Network<A>) -> u128 {
     let (least, greatest) = ends(network);
     greatest - least
 }
 
-// The member number `n`, counted from 0 in ascending order.
+// Returns member number `n`, counted from 0 in ascending order.
 fn nth<A: Numbered>(network: &Network<A>, n: u128) -> Option<A> {
     let (least, greatest) = ends(network);
     if n > greatest - least {
@@ -58,12 +59,12 @@ fn nth<A: Numbered>(network: &Network<A>, n: u128) -> Option<A> {
     Some(A::from_number(least + n))
 }
 
-// The number of members of an IPv4 network.
+// Returns the number of members of an IPv4 network.
 fn v4_size(network: &Ipv4Network) -> u64 {
     last_index(network) as u64 + 1
 }
 
-// The number of members of an IPv6 network as 17 octets, the highest first.
+// Returns the number of members of an IPv6 network as 17 octets, the highest first.
 fn v6_size(network: &Ipv6Network) -> [u8; 17] {
     let last = last_index(network);
     // One more than the last octet of that number.
@@ -72,14 +73,15 @@ fn v6_size(network: &Ipv6Network) -> [u8; 17] {
     followed_by(front.octets(), (next % 256) as u8)
 }
 
-/// Sixteen octets and one after them.
+/// Returns 16 octets followed by one more.
 fn followed_by(front: [u8; 16], lowest: u8) -> [u8; 17] {
     let mut octets = [lowest; 17];
     octets[..16].copy_from_slice(&front);
     octets
 }
 
-/// The number of members, 2^32 at prefix length 0. `PREFIX` if the prefix length is greater than 32.
+/// Writes the number of members, 2^32 for prefix length 0. Returns `PREFIX` if the prefix length is
+/// greater than 32.
 #[inline]
 pub fn ipnetwork_v4_size(network: &Ipv4InC, size: &mut u64) -> u32 {
     let Some(v4) = network.network() else {
@@ -96,8 +98,8 @@ const _: () = {
     }
 };
 
-/// The number of members of an IPv6 network, 2^128 at prefix length 0, as 17 octets, the highest first. `PREFIX` if the
-/// prefix length is greater than 128.
+/// Writes the number of members of an IPv6 network, 2^128 for prefix length 0, as 17 octets, the
+/// highest first. Returns `PREFIX` if the prefix length is greater than 128.
 #[inline]
 pub fn ipnetwork_v6_size(network: &Ipv6InC, size: &mut [u8; 17]) -> u32 {
     let Some(v6) = network.network() else {
@@ -114,8 +116,8 @@ const _: () = {
     }
 };
 
-/// The member number `n`, counted from 0 in ascending order; `NO_MEMBER` if the network has no more than `n` members.
-/// `PREFIX` if the prefix length is greater than 32.
+/// Writes member number `n`, counted from 0 in ascending order. Returns `PREFIX` if the prefix
+/// length is greater than 32, else `NO_MEMBER` if the network has at most `n` members.
 #[inline]
 pub fn ipnetwork_v4_nth(network: &Ipv4InC, n: u32, address: &mut [u8; 4]) -> u32 {
     match network.network() {

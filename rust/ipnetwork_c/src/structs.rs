@@ -1,12 +1,12 @@
 // Written by scripts/plain out of crates/ipnetwork_c/src/structs.rt
 
-//! The structs of the header, and the networks that they stand for.
+//! The structs of the header, and the networks that they represent.
 
 use crate::fault::{NO_FAMILY, PREFIX};
 use fosibegan::ipnetwork::{IpNetwork, Ipv6Addr, Ipv6Network};
 use fosibegan::plain_std::simd::prelude::*;
 
-/// An IPv4 network as C holds it. Nothing is known of its prefix length.
+/// An IPv4 network as C holds it. Its prefix length is unchecked.
 #[repr(C)]
 #[derive(Clone, Copy)]
 pub struct Ipv4InC {
@@ -16,7 +16,7 @@ pub struct Ipv4InC {
     pub prefix: u8,
 }
 
-/// An IPv6 network as C holds it. Nothing is known of its prefix length.
+/// An IPv6 network as C holds it. Its prefix length is unchecked.
 #[repr(C)]
 #[derive(Clone, Copy)]
 pub struct Ipv6InC {
@@ -26,11 +26,11 @@ pub struct Ipv6InC {
     pub prefix: u8,
 }
 
-/// What a search by ranges returns. As a struct it is not taken for a truth value, or for a fault.
+/// What a search by ranges returns. As a struct, it cannot be mistaken for a Boolean or a fault.
 #[repr(C)]
 #[derive(Clone, Copy)]
 pub struct PlaceInC {
-    /// What stands beside the range that was found, or the greatest number if there is none.
+    /// The place of the range that was found, or `NO_PLACE`, 2^64 - 1, if there is none.
     pub place: usize,
 }
 
@@ -40,11 +40,11 @@ pub(crate) const V4: u8 = 4;
 /// The family of an `IpInC` whose network is an IPv6 network.
 pub(crate) const V6: u8 = 6;
 
-/// A network of either family as C holds it: the struct of its family. Nothing is known of the family.
+/// A network of either family as C holds it. Its family and prefix length are unchecked.
 #[repr(C)]
 #[derive(Clone, Copy)]
 pub struct IpInC {
-    /// 4 or 6.
+    /// The family: 4 or 6.
     pub family: u8,
     /// The network, if the family is 4.
     pub v4: Ipv4InC,
@@ -53,7 +53,7 @@ pub struct IpInC {
 }
 
 impl IpInC {
-    /// The struct that holds a network.
+    /// Returns the struct that holds a network.
     pub(crate) fn of(network: &IpNetwork) -> Self {
         match network {
             IpNetwork::V4(network) => IpInC {
@@ -75,7 +75,7 @@ impl IpInC {
         }
     }
 
-    /// The struct that holds an IPv6 network.
+    /// Returns the struct that holds an IPv6 network.
     #[inline(always)]
     pub(crate) fn of_v6(network: &Ipv6Network) -> Self {
         IpInC {
@@ -91,8 +91,8 @@ impl IpInC {
         }
     }
 
-    /// The network of the family that the struct names. `NO_FAMILY` if that is neither 4 nor 6, else `PREFIX` if the
-    /// prefix length is greater than the family's width.
+    /// Returns the network that the struct represents, or a fault: `NO_FAMILY` if the family is
+    /// neither 4 nor 6, else `PREFIX` if the prefix length is greater than the family's width.
     pub(crate) fn network(&self) -> Result<IpNetwork, u32> {
         if self.family == V4 {
             return match self.v4.network() {
@@ -110,7 +110,7 @@ impl IpInC {
     }
 }
 
-/// The same in a column whose texts are read with the cause. C has the struct of the network in its place.
+/// The same in a column whose texts are read with the cause. In C it is the struct of the network.
 #[repr(C)]
 #[derive(Clone, Copy)]
 pub struct IpWithCauseInC {
@@ -118,7 +118,8 @@ pub struct IpWithCauseInC {
     pub held: IpInC,
 }
 
-/// The IPv6 address of 16 octets, made of its segments: to write a number and read its segments costs more.
+/// Returns the IPv6 address of 16 octets, made from its segments: to make a number and read its
+/// segments costs more.
 pub(crate) fn address_of(octets: &[u8; 16]) -> Ipv6Addr {
     let [a, b, c, d, e, f, g, h, i, j, k, l, m, n, o, p] = *octets;
     Ipv6Addr::new(
@@ -133,12 +134,13 @@ pub(crate) fn address_of(octets: &[u8; 16]) -> Ipv6Addr {
     )
 }
 
-/// The number of 4 octets.
+/// Returns the number of 4 octets.
 pub(crate) fn number_of_four(octets: &[u8; 4]) -> u32 {
     u32::from_be_bytes(*octets)
 }
 
-/// The 16 octets of an address, as one vector: so they are stored at once, and else one by one.
+/// Returns the 16 octets of an address, as one vector, so that they are stored at once and not one
+/// by one.
 #[inline(always)]
 fn octets_of(address: Ipv6Addr) -> [u8; 16] {
     let number = u128::from(address);
@@ -146,7 +148,7 @@ fn octets_of(address: Ipv6Addr) -> [u8; 16] {
     u64x2::from_array(halves).to_le_bytes().reverse().to_array()
 }
 
-/// The number of 16 octets.
+/// Returns the number of 16 octets.
 pub(crate) fn number_of(octets: &[u8; 16]) -> u128 {
     let [a, b, c, d, e, f, g, h, i, j, k, l, m, n, o, p] = *octets;
     u128::from_be_bytes([a, b, c, d, e, f, g, h, i, j, k, l, m, n, o, p])

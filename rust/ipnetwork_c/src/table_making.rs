@@ -1,13 +1,13 @@
 // Written by scripts/plain out of crates/ipnetwork_c/src/table_making.rt
 
-//! Tables made of networks in any order.
+//! Makes tables of networks in any order.
 
 use crate::fault::{OK, PREFIX, SHORT_BUFFER};
 use crate::listed::{Listed, all_fit};
 use fosibegan::ipnetwork_blocks::AddressSpace;
 use std::cmp::Ordering;
 
-/// Sorts the places of the networks by their blocks, and puts these in that order.
+/// Sorts the places of the networks by their blocks, and puts the blocks in that order.
 pub(crate) fn make<N: AddressSpace, H: Listed<N>>(
     networks: &[H],
     blocks: &mut [H],
@@ -26,31 +26,30 @@ pub(crate) fn make<N: AddressSpace, H: Listed<N>>(
     OK
 }
 
-// Puts the number of each place into it.
+// Sets each place to its own index.
 fn put_places(places: &mut [usize]) {
     for place in 0..places.len() {
         places[place] = place;
     }
 }
 
-// Sorts places by the blocks of the networks that stand there.
+// Sorts places by the blocks of the networks at them.
 fn sort_places<N: AddressSpace, H: Listed<N>>(networks: &[H], places: &mut [usize]) {
     places.sort_unstable_by(|first, second| order_between::<N, H>(networks, *first, *second));
 }
 
-// Which of two places comes first: by the blocks of their networks, and where these are equal, by the places.
+// Returns the order of two places: by the blocks of their networks, and then by the places.
 fn order_between<N: AddressSpace, H: Listed<N>>(
     networks: &[H],
     first: usize,
     second: usize,
-) -> Ordering
-{
+) -> Ordering {
     let one = block_in::<N, H>(networks, first);
     let other = block_in::<N, H>(networks, second);
     one.cmp(&other).then(first.cmp(&second))
 }
 
-// The block of the network at a place; of a place past the last the network of all addresses.
+// Returns the block of the network at a place; past the last place, the network of all addresses.
 fn block_in<N: AddressSpace, H: Listed<N>>(networks: &[H], place: usize) -> N {
     let network = match networks.get(place) {
         Some(held) => (*held).held_network(),
@@ -59,7 +58,7 @@ fn block_in<N: AddressSpace, H: Listed<N>>(networks: &[H], place: usize) -> N {
     N::block_at(network.ip(), network.prefix())
 }
 
-// Puts the blocks of the networks at these places, one after the other.
+// Puts the blocks of the networks at these places into `blocks`, one after the other.
 fn put_rows<N: AddressSpace, H: Listed<N>>(networks: &[H], places: &[usize], blocks: &mut [H]) {
     for row in 0..places.len() {
         blocks[row] = H::holding(block_in::<N, H>(networks, places[row]));

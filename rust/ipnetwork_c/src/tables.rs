@@ -1,15 +1,16 @@
 // Written by scripts/plain out of crates/ipnetwork_c/src/tables.rt
 
-//! Tables of blocks in the caller's memory, asked for the longest block with an address.
+//! Searches tables of blocks in the caller's memory for the longest block with an address.
 
 use crate::fault::{NO_MEMBER, OK, PREFIX};
 use crate::search_hint::SearchHint;
 use crate::upper_bound::upper_bound;
 use fosibegan::ipnetwork_blocks::AddressSpace;
 
-/// Puts the place of the longest block with an address in `place`, by an index of the blocks, or by none. If the last block
-/// up to the address does not have it, a block that does lies around both, so that it begins with the bits that both
-/// share: the search goes on up to that address.
+/// Puts the place of the longest block with an address in `place`, by an index of the blocks, or by
+/// none. If the last block that begins at or before the address does not have it, a block that does
+/// contains both, so it begins no later than the bits that both share, with zeros after them: the
+/// search goes on at the last block up to there.
 #[inline(always)]
 pub(crate) fn find<N: AddressSpace, H: SearchHint<N>>(
     blocks: &[H],

@@ -1,10 +1,10 @@
 // Written by scripts/plain out of crates/ipnetwork_c/src/writing.rt
 
-//! Blocks put into a list in the caller's memory, one after the other, and counted.
+//! Puts blocks into a list in the caller's memory, one after the other, and counts them.
 
 use fosibegan::ipnetwork_blocks::{AddressSpace, HoldsNetwork};
 
-/// The number, or the greatest one of 64 bits if that is less.
+/// Returns the number, or 2^64 - 1 if that is less.
 pub(crate) fn to_usize(number: u128) -> usize {
     if number > usize::MAX as u128 {
         return usize::MAX;
@@ -12,7 +12,7 @@ pub(crate) fn to_usize(number: u128) -> usize {
     number as usize
 }
 
-// Puts the block after the `count` ones that were put, if there is room.
+// Puts the block at index `count`, if there is room.
 fn put<N: AddressSpace, H: HoldsNetwork<N>>(list: &mut [H], count: u128, block: N) {
     if count >= list.len() as u128 {
         return;
@@ -20,8 +20,8 @@ fn put<N: AddressSpace, H: HoldsNetwork<N>>(list: &mut [H], count: u128, block: 
     list[count as usize] = H::holding(block);
 }
 
-/// Puts the blocks of the iterator into the front of the list, as far as there is room. Returns how many there are, and
-/// 2^128 - 1 if there are more.
+/// Puts the blocks of the iterator at the front of the list, as far as there is room. Returns how
+/// many there are, at most 2^128 - 1.
 pub(crate) fn put_blocks<N: AddressSpace, H: HoldsNetwork<N>, I: Iterator<Item = N>>(
     blocks: I,
     list: &mut [H],

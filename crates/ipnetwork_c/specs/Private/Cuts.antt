@@ -1,19 +1,19 @@
--- The ranges of a table while they are made.
+-- The ranges of a table, while they are made.
 use Rattle.std.specs.Prelude.{◌≡◌, ℕ, ◌+◌, ◌*◌, ◌^◌, ◌<◌, ◌≤◌, List, drop, get_or, length, map}
 use Rattle.std.specs.List.{All, Contains}
 use Rattle.ipnetwork_family.specs.Network.{Network, IsNetwork, low, high}
 use Rattle.ipnetwork_c.specs.Ranges.{EndsAt, IsCut, IsLongestAt}
 
--- the first addresses of what holds networks
+-- the addresses of the networks that a list holds
 abbrev pub firsts : {C : Type 0} → (C → Network) → List C → List ℕ
 firsts held list = map (λ c. (held c).address) list
 
--- a value that holds an address alone
+-- the value holds a single address: its prefix length is w
 pub record IsAlone {C : Type 0} (w : ℕ) (holds : C → Type 0) (held : C → Network) (c : C) : Type 0 where
   pub holds_it : holds c
   pub prefix : (held c).prefix ≡ w
 
--- values that hold the first address of a network's set, and the one after its last, if there is one
+-- the values hold the first address of a network's set and, if it exists, the address after its last
 pub record AreEndsOf {C : Type 0} (w : ℕ) (holds : C → Type 0) (held : C → Network) (n : Network)
     (front : List C) : Type 0 where
   pub network : IsNetwork w n
@@ -23,7 +23,7 @@ pub record AreEndsOf {C : Type 0} (w : ℕ) (holds : C → Type 0) (held : C →
   pub ended : high w n + 1 < 2 ^ w → Contains (firsts held front) (high w n + 1)
   pub only : (a : ℕ) → Contains (firsts held front) a → EndsAt w n a
 
--- values that hold so the ends of the first networks
+-- the values hold these ends of each of the first `rows` networks
 pub record AreCutsOf {C : Type 0} (w : ℕ) (holds : C → Type 0) (held : C → Network) (networks : List Network) (rows : ℕ)
     (front : List C) : Type 0 where
   pub network : (k : ℕ) (d : Network) → k < rows → IsNetwork w (get_or networks k d)
@@ -34,13 +34,13 @@ pub record AreCutsOf {C : Type 0} (w : ℕ) (holds : C → Type 0) (held : C →
       → Contains (firsts held front) (high w (get_or networks k d) + 1)
   pub only : (a : ℕ) → Contains (firsts held front) a → IsCut w networks a
 
--- a list was written up to a place, and has what stood there before behind it
+-- the list was written up to index `count`, and is unchanged from there on
 pub record IsWrittenUpTo {C : Type 0} (before after : List C) (count : ℕ) : Type 0 where
   pub size : length after ≡ length before
   pub within : count ≤ length after
   pub rest : drop count after ≡ drop count before
 
--- beside each of the first rows stands the place of the longest network with its first address
+-- each of the first `rows` rows has the place of the longest network that has the row's first address
 abbrev pub ArePlacesUpTo : ℕ → List Network → List ℕ → List ℕ → ℕ → Type 0
 ArePlacesUpTo w networks firsts places rows = (k : ℕ) → k < rows
     → IsLongestAt w networks (get_or firsts k 0) (get_or places k 0)

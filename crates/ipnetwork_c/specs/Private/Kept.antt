@@ -5,7 +5,7 @@ use Rattle.ipnetwork_sets.specs.Sets.{InEither, InBoth, InFirstAlone}
 use Rattle.ipnetwork_c.specs.declared.set_operations.Operation.{Operation}
 use Rattle.ipnetwork_c.specs.declared.set_operations.Operation.TheVariants.{Union, Intersection, Difference}
 
--- x is an address that it keeps
+-- the operation keeps the address x
 abbrev pub kept_by : Operation → ℕ → List Network → List Network → ℕ → Type 0
 kept_by Union w first second x = InEither w first second x
 kept_by Intersection w first second x = InBoth w first second x

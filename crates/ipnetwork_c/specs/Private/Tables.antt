@@ -5,6 +5,6 @@ use Rattle.std.specs.declared.cmp.Ordering.{Ordering}
 use Rattle.ipnetwork_family.specs.Network.{Network, network_cmp}
 use Rattle.ipnetwork_c.specs.Tables.{row_block}
 
--- by the blocks of the networks that stand there, and where these are equal, by the places
+-- by the blocks of the networks at the two places, and then by the places themselves
 abbrev pub place_cmp : ℕ → List Network → ℕ → ℕ → Ordering
 place_cmp w networks = then_cmp (on (row_block w networks) network_cmp) nat_cmp

@@ -3,7 +3,7 @@ use Rattle.std.specs.Prelude.{ℕ, nat_lt, if◌then◌else◌, List, length, Op
 use Rattle.std.specs.Str.{all_ascii_digits}
 use Rattle.std.specs.Str.Parse.{digits_value, without_leading_plus}
 
--- the value that a text names, if it names one, computed
+-- the number that a text names, if any
 abbrev pub prefix_number_of : List ℕ → Option ℕ
 prefix_number_of text =
     let digits = without_leading_plus text in

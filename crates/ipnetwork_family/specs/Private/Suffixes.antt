@@ -7,10 +7,10 @@ abbrev pub GivesPrefix : ℕ → (List ℕ → ℕ → Type 0) → Option (List 
 GivesPrefix w IsSuffix None p = p ≡ w
 GivesPrefix w IsSuffix (Some suffix) p = IsSuffix suffix p
 
--- it gives none
+-- the suffix gives no prefix length
 abbrev pub GivesNoPrefix : ℕ → (List ℕ → ℕ → Type 0) → Option (List ℕ) → Type 0
 GivesNoPrefix w IsSuffix suffix = (p : ℕ) → ¬ (GivesPrefix w IsSuffix suffix p)
 
--- the text gives no prefix length
+-- the text gives no IPv4 prefix length
 abbrev pub IsNoV4Suffix : List ℕ → Type 0
 IsNoV4Suffix text = (p : ℕ) → ¬ (IsV4Suffix text p)

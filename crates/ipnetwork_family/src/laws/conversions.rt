@@ -4,14 +4,14 @@ ghost use Rattle.ipnetwork_family.specs.Laws.{MaskIsComputed, MaskIsConverted};
 
 use crate::{IpNetworkError, Ipv4Network, Ipv6Network, ipv4_mask_to_prefix, ipv6_mask_to_prefix};
 
-/// The conversion of the mask of a prefix length gives that prefix length, for addresses of any
-/// number of bits.
+/// Converting the mask of a prefix length gives that prefix length, for addresses of any number of
+/// bits.
 pub fn mask_conversion()
     ensures computed { MaskIsComputed }
     ensures converted { MaskIsConverted }
 {}
 
-/// What `ipv4_mask_to_prefix` returns for the mask of a network: the network's prefix length.
+/// For the mask of a network, `ipv4_mask_to_prefix` returns the network's prefix length.
 pub fn v4_mask_converts_back(network: Ipv4Network) -> Result<u8, IpNetworkError>
     ensures { result ≡ Ok network.prefix }
 {
@@ -20,7 +20,7 @@ pub fn v4_mask_converts_back(network: Ipv4Network) -> Result<u8, IpNetworkError>
     ipv4_mask_to_prefix(network.mask())
 }
 
-/// What `ipv6_mask_to_prefix` returns for the mask of a network: the network's prefix length.
+/// For the mask of a network, `ipv6_mask_to_prefix` returns the network's prefix length.
 pub fn v6_mask_converts_back(network: Ipv6Network) -> Result<u8, IpNetworkError>
     ensures { result ≡ Ok network.prefix }
 {

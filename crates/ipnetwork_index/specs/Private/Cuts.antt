@@ -10,11 +10,11 @@ abbrev pub before : ℕ → List ℕ
 before zero = []
 before (suc n) = n ∷ []
 
--- the last number before a range, and its own last number
+-- the last number before a range, if any, and the last number of the range
 abbrev pub cuts_of : ℕ × ℕ → List ℕ
 cuts_of range = before range.0 ++ range.1 ∷ []
 
--- so it is with each range of the set
+-- these are the cuts of all ranges of the set
 pub record AreCutsOf (set : ℕ → Type 0) (cuts : List ℕ) : Type 0 where
   pub ranges : List (ℕ × ℕ)
   pub all : IsRangeList set ranges
@@ -30,12 +30,11 @@ pub record EndsWhole (w : ℕ) (cuts : List ℕ) : Type 0 where
   pub some : 1 ≤ length cuts
   pub last : (k : ℕ) → k + 1 ≡ length cuts → get_or cuts k 0 + 1 ≡ 2 ^ w
 
--- there is no last number, or it is a lesser one
+-- the last of the numbers, if any, is less than the greatest of w bits
 pub record EndsBefore (w : ℕ) (cuts : List ℕ) : Type 0 where
   pub last : (k : ℕ) → k + 1 ≡ length cuts → get_or cuts k 0 + 1 < 2 ^ w
 
--- the cuts, with the greatest number of w bits after them unless it is the last of them: the last
--- numbers of ranges
+-- the last numbers of ranges: the cuts and, unless the cuts end with it, the greatest number of w bits
 pub record Closes (w : ℕ) (cuts lasts : List ℕ) : Type 0 where
   pub partition : IsPartition w lasts
   pub either : (lasts ≡ cuts) ⊎ ((top : ℕ) × (top + 1 ≡ 2 ^ w) × (lasts ≡ cuts ++ top ∷ []))

@@ -5,7 +5,7 @@ use Rattle.std.specs.List.{All, Contains}
 use Rattle.std.specs.FinMap.{is_sorted}
 use Rattle.ipnetwork_family.specs.Network.{Network, IsCidrBlock, block_of, network_cmp}
 
--- the entries are the blocks of the networks, each once with this value, in the order of networks
+-- the entries are the blocks of the networks, each block once and with this value, in the order of networks
 pub record AreListedBlocks {V : Type 0} (w : ℕ) (networks : List Network) (value : V)
     (es : List (Network × V)) : Type 0 where
   pub keys : List Network

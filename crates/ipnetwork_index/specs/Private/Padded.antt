@@ -4,23 +4,23 @@ use Rattle.std.proofs.Common.{get_or}
 use Rattle.ipnetwork_index.specs.Searches.{Ascends, IsSearchable}
 use Rattle.ipnetwork_index.specs.Private.Halved.{IsHalved}
 
--- all but the last three
+-- all numbers but the last three
 abbrev pub unpadded : List ℕ → List ℕ
 unpadded padded = take (length padded - 3) padded
 
--- the numbers ascend, and the fourth last of them is the greatest of w bits
+-- the numbers ascend, and the fourth from the end is the greatest of w bits
 pub record IsPadded (w : ℕ) (padded : List ℕ) : Type 0 where
   pub some : 4 ≤ length padded
   pub ascending : Ascends padded
   pub top : get_or padded (length padded - 4) 0 + 1 ≡ 2 ^ w
 
--- so they do, and without the last three they are these
+-- the numbers are padded, and without the last three they are `lasts`
 pub record Pads (w : ℕ) (lasts padded : List ℕ) : Type 0 where
   pub is_padded : IsPadded w padded
   pub own : unpadded padded ≡ lasts
 
--- they can be searched, by halves or not as it is said, in parts that are known by numbers of so
--- many bits
+-- the numbers are padded and can be searched, by their high halves first if `by_halves` is true; the shift is less than
+-- `bits`, or than `high_bits` for high halves
 pub record IsSearched (w : ℕ) (high : ℕ → ℕ) (bits high_bits : ℕ) (padded starts : List ℕ)
     (base shift : ℕ) (by_halves : Bool) (highs : List ℕ) (high_base : ℕ) (tells : Bool) : Type 0
   where

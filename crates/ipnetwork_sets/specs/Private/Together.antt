@@ -4,29 +4,30 @@ use Rattle.ipnetwork_family.specs.Network.{Network}
 use Rattle.ipnetwork_blocks.specs.Ranges.{FromTo}
 use Rattle.ipnetwork_sets.specs.Sets.{IsAddressSet, InEither}
 
--- the blocks of the run at hand, if there is one
+-- the blocks left of the current run, if there is one
 abbrev pub at_hand : Option (List Network) → List Network
 at_hand None = []
 at_hand (Some blocks) = blocks
 
--- of the first blocks of two lists, this one begins first; with it, these are the others of both
+-- `b` is the first block of one list and begins no later than that of the other; without it, the lists are `others` and
+-- `rest`
 pub record IsFirst (first second : List Network) (b : Network) (others rest : List Network) : Type 0 where
   pub one : ((first ≡ b ∷ others) × (second ≡ rest)) ⊎ ((first ≡ others) × (second ≡ b ∷ rest))
   pub lowest : (c : Network) (more : List Network) → (first ≡ c ∷ more) ⊎ (second ≡ c ∷ more) → b.address ≤ c.address
 
--- no block of the list begins up to the address after this one
+-- the list is empty, or there is a gap between the address `last` and its first block
 abbrev pub EndsAt : ℕ → ℕ → List Network → Type 0
 EndsAt w last [] = Unit {0}
 EndsAt w last (b ∷ bs) = last + 1 < b.address
 
--- of two numbers the greater
+-- `last` is the greater of two numbers
 pub record IsLater (a b last : ℕ) : Type 0 where
   pub first : a ≤ last
   pub second : b ≤ last
   pub one : (last ≡ a) ⊎ (last ≡ b)
 
--- the addresses of the union are those from the first to the last, and those of what is left of both sets, none of
--- which is before the first
+-- the addresses of the union are those from `start` to `last` and those left of both sets, none of which is before
+-- `start`
 pub record IsGrowing (w : ℕ) (first second : List Network) (start last : ℕ) (others rest : List Network) : Type 0 where
   pub ordered : start ≤ last
   pub fits : last < 2 ^ w
@@ -35,7 +36,7 @@ pub record IsGrowing (w : ℕ) (first second : List Network) (start last : ℕ) 
   pub parts : (x : ℕ) → InEither w first second x ↔ (FromTo start last x ⊎ InEither w others rest x)
   pub from : (x : ℕ) → InEither w others rest x → start ≤ x
 
--- so it is, and what is left comes after a gap
+-- the first run of the union goes from `start` to `last`: there is a gap between it and the addresses left of both sets
 pub record IsRun (w : ℕ) (first second : List Network) (start last : ℕ) (others rest : List Network) : Type 0 where
   pub grown : IsGrowing w first second start last others rest
   pub behind : (x : ℕ) → InEither w others rest x → last + 1 < x

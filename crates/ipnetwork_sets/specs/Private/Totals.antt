@@ -1,6 +1,6 @@
--- Numbers of addresses that are capped.
+-- Numbers of addresses, capped at 2^128.
 use Rattle.std.specs.Prelude.{ℕ, ◌^◌, min}
 
--- a number, or 2^128 in place of a greater one
+-- the number, or 2^128 if it is greater
 abbrev pub capped : ℕ → ℕ
 capped n = min n (2 ^ 128)

@@ -7,9 +7,9 @@ use crate::SetBlocks;
 use ipnetwork::{IpNetwork, Ipv4Network, Ipv6Network};
 use std::marker::Model;
 
-/// An iterator over the blocks of a set: those of IPv4, and after them those of IPv6, each in ascending order. `V4` and
-/// `V6` give those of each family: the iterators of `ipnetwork_sets` over a set, a common part, a difference or a
-/// union.
+/// An iterator over the blocks of a set: the IPv4 blocks, followed by the IPv6 blocks, each in
+/// ascending order. `V4` and `V6` iterate over the blocks of each family: they are the iterators of
+/// `ipnetwork_sets` over a set, an intersection, a difference or a union.
 ///
 /// ```
 /// let v4 = vec![in rt.alloc(); "192.0.2.0/24".parse::<Ipv4Network>()?]?;
@@ -35,7 +35,7 @@ impl<V4: SetBlocks<Ipv4Network>, V6: SetBlocks<Ipv6Network>> Model for IpBlocks<
 }
 
 impl<V4: SetBlocks<Ipv4Network>, V6: SetBlocks<Ipv6Network>> IpBlocks<V4, V6> {
-    // The blocks of both.
+    // The blocks of both iterators.
     pub(crate) fn of(v4: V4, v6: V6) -> Self
         ensures { result ≡ v4_then_v6 (V4.left v4) (V6.left v6) }
     {

@@ -1,4 +1,4 @@
-//! Sets made from iterators over blocks, in lists of the caller's.
+//! Sets made from iterators over blocks, in lists that the caller provides.
 ghost use Rattle.std.specs.Prelude.{◌≡◌, IfOk, OnErr, vec_capacity};
 ghost use Rattle.ipnetwork_sets.specs.IpSets.{HasTooLittleRoom};
 
@@ -9,8 +9,9 @@ use ipnetwork::{Ipv4Network, Ipv6Network};
 use std::alloc::AllocError;
 
 impl IpAddressSet {
-    /// A set with the same addresses. The lists of the families are put into `v4_memory` and `v6_memory`, whose content
-    /// is dropped first. `AllocError` means that one of them had to grow and memory ran out.
+    /// A set with the same addresses. The blocks of the families are stored in `v4_memory` and
+    /// `v6_memory`, whose contents are dropped first. `AllocError` means that one of them had to
+    /// grow and memory ran out.
     ///
     /// ```
     /// let v4 = vec![in rt.alloc(); "192.0.2.0/25".parse::<Ipv4Network>()?]?;
@@ -31,8 +32,9 @@ impl IpAddressSet {
 }
 
 impl<V4: SetBlocks<Ipv4Network>, V6: SetBlocks<Ipv6Network>> IpBlocks<V4, V6> {
-    /// The set of the remaining blocks. The lists of the families are put into `v4_memory` and `v6_memory`, whose
-    /// content is dropped first. `AllocError` means that one of them had to grow and memory ran out.
+    /// The set of the remaining blocks. The blocks of the families are stored in `v4_memory` and
+    /// `v6_memory`, whose contents are dropped first. `AllocError` means that one of them had to
+    /// grow and memory ran out.
     ///
     /// ```
     /// let v4 = vec![in rt.alloc(); "192.0.2.0/25".parse::<Ipv4Network>()?]?;

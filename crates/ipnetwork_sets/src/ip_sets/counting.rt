@@ -1,4 +1,4 @@
-//! The numbers of addresses and of blocks of a set.
+//! The numbers of addresses and blocks in a set.
 ghost use Rattle.std.specs.Prelude.{◌≡◌, length};
 ghost use Rattle.ipnetwork_addr.specs.declared.ip.IpAddr.TheVariants as addresses;
 ghost use Rattle.ipnetwork_blocks.specs.AggregateIpLaws.{InIpUnion};
@@ -8,7 +8,8 @@ use crate::AddressCount;
 use crate::ip_sets::ip_address_set::IpAddressSet;
 
 impl IpAddressSet {
-    /// How many IPv4 addresses there are in the set, and how many IPv6 addresses. Goes over the blocks once.
+    /// The number of IPv4 addresses in the set, and the number of IPv6 addresses. Goes over the
+    /// blocks once.
     ///
     /// ```
     /// let v6 = vec![in rt.alloc(); "::/0".parse::<Ipv6Network>()?]?;
@@ -24,7 +25,7 @@ impl IpAddressSet {
         (self.v4().address_count(), self.v6().address_count())
     }
 
-    /// How many blocks there are in the set, of both families.
+    /// The number of blocks in the set, of both families together.
     ///
     /// ```
     /// let v6 = vec![in rt.alloc(); "::/0".parse::<Ipv6Network>()?]?;

@@ -1,8 +1,8 @@
 //! Equality of sets.
 use crate::ip_sets::ip_address_set::IpAddressSet;
 
-/// Two sets are equal exactly if they have the same addresses of both families (`laws::equality`), and exactly if they
-/// have the same blocks, which are compared.
+/// Two sets are equal exactly if they have the same addresses of both families (`laws::equality`).
+/// This is tested by comparing their blocks.
 impl PartialEq for IpAddressSet {
     ghost use Rattle.std.proofs.Common.{rules};
     ghost use Rattle.std.specs.Cmp.{and_per, on_per};

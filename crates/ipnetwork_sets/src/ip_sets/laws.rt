@@ -1,19 +1,21 @@
-//! The laws of sets of addresses of either family. Each function's contract is laws; it does nothing, and a proof whose
-//! function calls it may use them.
+//! The laws of sets of addresses of either family. Each function does nothing; its contract states
+//! laws, and the proof of a function that calls it can use them.
 ghost use Rattle.ipnetwork_sets.specs.IpLaws.{EachFamilyKeepsItsAddresses, IpAggregateIsLeastList, IpCommonPartIsShortest, IpDifferenceIsShortest, IpComplementIsShortest, IpUnionIsShortest, SameIpAddressesAreOneSet, SameIpBlocksAreEqual, IpCommonPartCommutes, IpUnionCommutes, IpCommonPartOfOne, IpUnionOfOne, IpDifferenceIsDisjoint, IpPartsMakeTheWhole};
 ghost use Rattle.ipnetwork_sets.specs.IpQuestionLaws.{IpNetworkMeetsUnion, IpWithinIfNothingIsLeft, IpDisjointIfNothingIsCommon, IpComplementIsDisjoint, IpComplementMakesTheWhole};
 
 use crate::laws as set_laws;
 use ipnetwork_blocks::laws as block_laws;
 
-/// Each family keeps its addresses, and the aggregate of networks is the least list of the addresses of their union.
+/// In a list of blocks of both families, each family keeps its addresses; and the aggregate of
+/// networks is the least list of the addresses of their union.
 pub fn each_family()
     ensures addresses { EachFamilyKeepsItsAddresses }
     ensures aggregate { IpAggregateIsLeastList }
 {}
 
-/// Of each operation the blocks have the addresses of the set and no others, each ends before the next begins, no
-/// networks with the same addresses are fewer, and no other list is the least.
+/// The blocks of each operation's result have exactly the addresses of the result, each ends before
+/// the next begins, no shorter list of networks has the same addresses, and no other list is the
+/// least.
 pub fn shortest()
     ensures common { IpCommonPartIsShortest }
     ensures difference { IpDifferenceIsShortest }
@@ -25,7 +27,7 @@ pub fn shortest()
     block_laws::ip_least();
 }
 
-/// Two sets are equal exactly if they have the same addresses, and `==` says so.
+/// Two sets are equal exactly if they have the same addresses, and `==` tests this.
 pub fn equality()
     ensures test { SameIpBlocksAreEqual }
     ensures addresses { SameIpAddressesAreOneSet }
@@ -33,7 +35,8 @@ pub fn equality()
     set_laws::equality();
 }
 
-/// The common part and the union are those of the two in either order, and of a set with itself they are the set.
+/// The intersection and the union do not depend on the order of the two sets, and those of a set
+/// with itself are the set.
 pub fn order_and_repetition()
     ensures common { IpCommonPartCommutes }
     ensures union { IpUnionCommutes }
@@ -43,7 +46,8 @@ pub fn order_and_repetition()
     set_laws::order_and_repetition();
 }
 
-/// A difference has no address of the set that was taken off, and together with the common part it is the first set.
+/// The difference of two sets has no address of the second, and its union with their intersection
+/// is the first set.
 pub fn parts()
     ensures disjoint { IpDifferenceIsDisjoint }
     ensures whole { IpPartsMakeTheWhole }
@@ -51,8 +55,9 @@ pub fn parts()
     set_laws::parts();
 }
 
-/// A network meets a set exactly if it overlaps one of its blocks; a set is within another exactly if nothing is left
-/// of it without the other; and two sets are disjoint exactly if they have no common part.
+/// A network shares an address with a set exactly if it overlaps one of its blocks; a set is a
+/// subset of another exactly if the first minus the second is empty; and two sets are disjoint
+/// exactly if their intersection is empty.
 pub fn questions()
     ensures meets { IpNetworkMeetsUnion }
     ensures within { IpWithinIfNothingIsLeft }
@@ -61,7 +66,8 @@ pub fn questions()
     set_laws::questions();
 }
 
-/// The complement of a set has no address of the set, and together they have all addresses of both families.
+/// The complement of a set has no address of the set, and together they have all addresses of both
+/// families.
 pub fn complements()
     ensures disjoint { IpComplementIsDisjoint }
     ensures whole { IpComplementMakesTheWhole }

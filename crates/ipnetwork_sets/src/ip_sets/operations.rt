@@ -9,7 +9,7 @@ use crate::{Difference, Intersection, Union};
 use ipnetwork::{Ipv4Network, Ipv6Network};
 use std::alloc::AllocError;
 
-// The blocks of each operation on two sets, of IPv4 and of IPv6.
+// The iterators that the operations return.
 type Common<'a> = IpBlocks<Intersection<'a, Ipv4Network>, Intersection<'a, Ipv6Network>>;
 
 type Remainder<'a> = IpBlocks<Difference<'a, Ipv4Network>, Difference<'a, Ipv6Network>>;
@@ -17,7 +17,8 @@ type Remainder<'a> = IpBlocks<Difference<'a, Ipv4Network>, Difference<'a, Ipv6Ne
 type Either<'a> = IpBlocks<Union<'a, Ipv4Network>, Union<'a, Ipv6Network>>;
 
 impl IpAddressSet {
-    /// The blocks of the addresses that are in both sets. Goes over the lists of both once, as the iterator advances.
+    /// The blocks of the addresses that are in both sets. Goes over the lists of both once, as the
+    /// iterator advances.
     ///
     /// ```
     /// let v4 = vec![in rt.alloc(); "192.0.2.0/25".parse::<Ipv4Network>()?]?;
@@ -35,8 +36,8 @@ impl IpAddressSet {
         )
     }
 
-    /// The blocks of the addresses that are in this set and not in the other. Goes over the lists of both once, as the
-    /// iterator advances.
+    /// The blocks of the addresses that are in this set and not in the other. Goes over the lists
+    /// of both once, as the iterator advances.
     ///
     /// ```
     /// let v4 = vec![in rt.alloc(); "192.0.2.0/25".parse::<Ipv4Network>()?]?;
@@ -54,8 +55,8 @@ impl IpAddressSet {
         )
     }
 
-    /// The blocks of all addresses of either family that are not in the set. Goes over both its lists once, as the
-    /// iterator advances.
+    /// The blocks of all addresses of either family that are not in the set. Goes over both its
+    /// lists once, as the iterator advances.
     ///
     /// ```
     /// let v4 = vec![in rt.alloc(); "0.0.0.0/1".parse::<Ipv4Network>()?]?;
@@ -68,8 +69,8 @@ impl IpAddressSet {
         IpBlocks::of(self.v4().complement(), self.v6().complement())
     }
 
-    /// The blocks of the addresses that are in one of the two sets or in both. Goes over the lists of both once, as the
-    /// iterator advances.
+    /// The blocks of the addresses that are in one of the two sets or in both. Goes over the lists
+    /// of both once, as the iterator advances.
     ///
     /// ```
     /// let v4 = vec![in rt.alloc(); "192.0.2.0/25".parse::<Ipv4Network>()?]?;
@@ -87,9 +88,10 @@ impl IpAddressSet {
         )
     }
 
-    /// The set of the addresses that are in one of the two sets or in both. Goes over the lists of both once. The lists
-    /// of the families are put into `v4_memory` and `v6_memory`, whose content is dropped first. `AllocError` means
-    /// that one of them had to grow and memory ran out.
+    /// The set of the addresses that are in one of the two sets or in both. Goes over the lists of
+    /// both once. The blocks of the families are stored in `v4_memory` and `v6_memory`, whose
+    /// contents are dropped first. `AllocError` means that one of them had to grow and memory ran
+    /// out.
     ///
     /// ```
     /// let v4 = vec![in rt.alloc(); "192.0.2.0/25".parse::<Ipv4Network>()?]?;

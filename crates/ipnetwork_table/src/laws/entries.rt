@@ -1,5 +1,5 @@
-//! Laws of the entries: which keys a table has, what an insert and a removal change, and in which order they are
-//! listed.
+//! Laws of the entries: which keys a table has, what an insertion and a removal change, and the
+//! order of the entries.
 ghost use Rattle.ipnetwork_table.specs.Laws.{EmptyHasNoHostBits, InsertAddsNoHostBits, RemoveAddsNoHostBits, InsertSetsOne, RemoveTakesOne, ListedIsStored, StoredIsListed, EntriesAscend, WiderBlocksFirst};
 
 use ipnetwork_family::laws;
@@ -14,15 +14,15 @@ pub fn keys_without_host_bits<V: Copy>()
     laws::blocks();
 }
 
-/// An insert changes the value of one network, and a removal takes one network out; every other network keeps what it
-/// has.
+/// An insertion changes the value of one network, and a removal takes out one network; all other
+/// networks keep their values.
 pub fn one_key_changes<V: Copy>()
     ensures insert { InsertSetsOne V }
     ensures remove { RemoveTakesOne V }
 {}
 
-/// The entries of a table are its blocks with their values, in the order of networks, and no block lies in
-/// one that stands after it.
+/// The entries of a table are its blocks with their values, in the order of networks, and no block
+/// lies in one that comes after it.
 pub fn listing<V: Copy>()
     ensures stored { ListedIsStored V }
     ensures listed { StoredIsListed V }

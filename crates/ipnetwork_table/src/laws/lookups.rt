@@ -1,4 +1,4 @@
-//! Laws of look-ups: there is one result, and it can be computed from the entries.
+//! Laws of look-ups: each has one result, which can be computed from the entries.
 ghost use Rattle.std.specs.Prelude.{◌≡◌};
 ghost use Rattle.ipnetwork_table.specs.Table.{found_by_pair};
 ghost use Rattle.ipnetwork_table.specs.Laws.{BlocksOfAnyWidthThatMeet, AnswerExists, AnswerIsComputed, AnswerIsOne};
@@ -6,28 +6,28 @@ ghost use Rattle.ipnetwork_table.specs.Laws.{BlocksOfAnyWidthThatMeet, AnswerExi
 use crate::PrefixTable;
 use ipnetwork_family::{CidrNetwork, laws};
 
-/// Two blocks of one prefix length that share an address are the same, for addresses of any number of bits. So no
-/// table has two blocks of one prefix length that hold one address.
+/// Two blocks with the same prefix length that share an address are equal, for addresses of any
+/// number of bits. So a table has at most one block of each prefix length that holds an address.
 pub fn blocks_of_any_width_that_meet()
     ensures { BlocksOfAnyWidthThatMeet }
 {}
 
-/// For each content of a table and each address there is a longest block that holds the address, or no stored block
-/// holds it; and there is one result.
+/// For each table and each address, either there is a longest block that holds the address, or no
+/// stored block holds it; and a look-up has only one result.
 pub fn one_answer<V: Copy>()
     ensures exists { AnswerExists V }
     ensures one { AnswerIsOne V }
 {}
 
-/// The longest of the entries whose block holds an address is the result of a look-up of it, so a result can be
-/// computed from the entries.
+/// The longest of the entries whose block holds an address is the result of looking up the address,
+/// so the result can be computed from the entries.
 pub fn answer_is_computed<V: Copy>()
     ensures { AnswerIsComputed V }
 {
     laws::membership_is_computed();
 }
 
-/// What `lookup` returns, and the first part of what `lookup_steps` returns: the same block, as its address and its
+/// `lookup` and the first part of `lookup_steps` return the same block, as its address and its
 /// prefix length, and the same value.
 pub fn lookups_agree<N: CidrNetwork, V: Copy>(
     table: &PrefixTable<N, V>,

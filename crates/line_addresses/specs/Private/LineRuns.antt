@@ -1,4 +1,4 @@
--- Where a run ends, and what it shows.
+-- The end of a run, and the address found in it.
 use Rattle.std.specs.Prelude.{◌≡◌, ℕ, ◌<◌, ◌≤◌, Bool, true, false, not, List, Option, Some, length, slice_index, take}
 use Rattle.ipnetwork_addr.specs.declared.ip.IpAddr.{IpAddr}
 use Rattle.line_addresses.specs.Addresses.{Spelled}
@@ -6,7 +6,7 @@ use Rattle.line_addresses.specs.LineRuns.{is_run_byte}
 use Rattle.line_addresses.specs.Networks.{is_stretch_byte}
 use Rattle.line_addresses.specs.Words.{is_blank}
 
--- from one index on, no byte up to the other is cut out by the test; there the line ends, or such a byte stands
+-- `end` is the first index from `start` on at which the test holds, or the length of the line if there is none
 pub record IsPartEnd (cuts : ℕ → Bool) (line : List ℕ) (start end : ℕ) : Type 0 where
   pub behind : start ≤ end
   pub within : end ≤ length line
@@ -22,7 +22,7 @@ IsStretchEnd line start end = IsPartEnd (λ byte. not (is_stretch_byte byte)) li
 abbrev pub IsWordEnd : List ℕ → ℕ → ℕ → Type 0
 IsWordEnd line start end = IsPartEnd is_blank line start end
 
--- what is found is this address, whose text is the run's beginning of this length
+-- the address found in the run is this one, and its text is the first `size` bytes of the run
 pub record Shows (found : Option Spelled) (run : List ℕ) (address : IpAddr) (size : ℕ) : Type 0 where
   pub within : size ≤ length run
   pub is : found ≡ Some (record { text = take size run; address = address })

@@ -1,8 +1,8 @@
 // Written by scripts/plain out of crates/line_addresses/src/area.rt
 
-//! Where the addresses of a line are looked for.
+//! Where to look for the addresses of a line.
 
-/// Where the addresses of a line are looked for: in which part of it, and which of those that stand there.
+/// Where to look for the addresses of a line: in which part of it, and for which addresses there.
 ///
 /// ```
 /// # use cidr_programs::in_examples::*;
@@ -26,22 +26,22 @@ pub struct Area<'a> {
 /// ```
 #[derive(Debug)]
 pub enum Part<'a> {
-    /// All of it.
+    /// The whole line.
     Line,
-    /// The field of this number, from 1 on: the line is cut at each separator.
+    /// The field with this number, from 1 on. The line is split at each separator.
     Field {
-        /// Its number.
+        /// The number of the field.
         number: u32,
-        /// The byte at which fields are cut.
+        /// The byte that separates fields.
         separator: u8,
     },
-    /// The word of this number, from 1 on.
+    /// The word with this number, from 1 on.
     Word(u32),
-    /// What follows the first position of a text.
+    /// What follows the first occurrence of a text.
     After(Text<'a>),
 }
 
-/// Which addresses of a part of a line are looked at.
+/// Which addresses of a part of a line are picked.
 ///
 /// ```
 /// # use cidr_programs::in_examples::*;
@@ -53,17 +53,17 @@ pub enum Part<'a> {
 /// ```
 #[derive(Clone, Copy, Debug, PartialEq, Eq)]
 pub enum Pick {
-    /// The part itself is one, and nothing else stands in it.
+    /// The whole part, if it is an address.
     Whole,
-    /// All that stand anywhere in it.
+    /// All addresses anywhere in the part.
     Each,
-    /// Of these the one of this number, from 1 on.
+    /// The address with this number in the part, from 1 on.
     Number(u32),
-    /// The last of these.
+    /// The last address in the part.
     Last,
 }
 
-/// A text of a command line.
+/// A text from a command line.
 ///
 /// ```
 /// # use cidr_programs::in_examples::*;
@@ -75,7 +75,7 @@ pub struct Text<'a> {
 }
 
 impl<'a> Text<'a> {
-    /// This text.
+    /// Returns the text of these bytes.
     ///
     /// ```
     /// # use cidr_programs::in_examples::*;
@@ -86,7 +86,7 @@ impl<'a> Text<'a> {
         Text { bytes }
     }
 
-    /// Its bytes.
+    /// Returns the bytes of the text.
     ///
     /// ```
     /// # use cidr_programs::in_examples::*;

@@ -4,7 +4,8 @@
 
 use fosibegan::byte_search::find_from;
 
-/// The field of this number, from 1 on, of a line that is cut at each single separator.
+/// Returns the field with this number, from 1 on, of a line that is split at each separator, or
+/// `None` if the line has fewer fields. The number 0 counts as 1.
 ///
 /// ```
 /// # use cidr_programs::in_examples::*;
@@ -26,7 +27,7 @@ pub fn field_of(line: &[u8], number: u32, separator: u8) -> Option<&[u8]> {
     Some(field_at(line, start, separator))
 }
 
-// The field that begins at a position.
+// Returns the field that begins at this index.
 #[inline(always)]
 fn field_at(line: &[u8], start: usize, separator: u8) -> &[u8] {
     match find_from(line, start, separator) {

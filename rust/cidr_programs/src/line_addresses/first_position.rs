@@ -4,8 +4,9 @@
 
 use fosibegan::byte_search::find_from;
 
-/// What follows the first position at which a text stands in a line, if it stands in it. Each position of the text's first
-/// byte is tried, so the time grows at most with the product of both lengths.
+/// Returns what follows the first occurrence of a text in a line, or `None` if there is none. Each
+/// position of the text's first byte is tried, so the time is at most proportional to the product
+/// of both lengths.
 ///
 /// ```
 /// # use cidr_programs::in_examples::*;

@@ -5,7 +5,7 @@
 use crate::line_addresses::run::{address_in, run_end};
 use fosibegan::ipnetwork_addr::IpAddr;
 
-/// An address of a line, and where its text stands.
+/// An address of a line, and the position of its text.
 #[derive(Clone, Copy, Debug, PartialEq, Eq)]
 pub struct Found {
     /// The address.
@@ -14,12 +14,12 @@ pub struct Found {
     pub start: usize,
     /// The index after the last byte of its text.
     pub end: usize,
-    /// The index from which on the next address is looked for.
+    /// The index from which to look for the next address.
     pub next: usize,
 }
 
-/// The first address of a line from an index on, which is at most the length of the line. The rest of the line from
-/// there is looked at as a line of its own.
+/// Returns the first address of a line from the index `from` on, or `None` if there is none. `from`
+/// must be at most the length of the line. What precedes it is ignored: the rest is read as a line.
 #[doc(hidden)]
 pub fn next_address(line: &[u8], from: usize) -> Option<Found> {
     let mut at = from;

@@ -6,8 +6,8 @@ use crate::line_addresses::run::ends_with_mark;
 use fosibegan::byte_search::find_from;
 use fosibegan::ipnetwork::{IpAddr, IpNetwork};
 
-/// The network that a stretch with a `/` names, by its address, and the length of its text, with which the stretch
-/// begins.
+/// Returns the address of the network that a stretch with a `/` names, and the length of the
+/// network's text: all of the stretch, or all but a `.` or `:` at its end.
 pub(crate) fn network_in(stretch: &[u8]) -> Option<(IpAddr, usize)> {
     if !has_slash(stretch) {
         return None;
@@ -24,8 +24,8 @@ pub(crate) fn network_in(stretch: &[u8]) -> Option<(IpAddr, usize)> {
     None
 }
 
-/// The address of the network that a text names, as it is spelled there, as `IpNetwork::read_bytes` reads it, if it
-/// names one.
+/// Returns the address, host bits kept, of the network that `IpNetwork::read_bytes` reads from a
+/// text, or `None` if it refuses the text.
 pub(crate) fn named_network(text: &[u8]) -> Option<IpAddr> {
     match IpNetwork::read_bytes(text) {
         Ok(network) => Some(network.ip()),
@@ -33,7 +33,7 @@ pub(crate) fn named_network(text: &[u8]) -> Option<IpAddr> {
     }
 }
 
-// Whether the first `/` of a text stands behind another byte.
+// Returns whether a text has a `/` and does not begin with one.
 fn has_slash(text: &[u8]) -> bool {
     match find_from(text, 0, b'/') {
         Some(at) => at > 0,

@@ -7,7 +7,7 @@ use crate::line_addresses::field::field_of;
 use crate::line_addresses::first_position::following;
 use crate::line_addresses::words::word_of;
 
-/// The part of a line, if the line has it.
+/// Returns this part of a line, or `None` if the line does not have it.
 ///
 /// ```
 /// # use cidr_programs::in_examples::*;

@@ -1,6 +1,6 @@
 // Written by scripts/plain out of crates/line_addresses/src/picking.rt
 
-//! Which address of a part of a line is looked at.
+//! Picks an address from a part of a line.
 
 use crate::line_addresses::area::Pick;
 use crate::line_addresses::found::Found;
@@ -9,8 +9,8 @@ use crate::line_addresses::run::address_of;
 use crate::line_addresses::stretches::next_found;
 use fosibegan::ipnetwork_addr::IpAddr;
 
-/// The address of a part of a line that is looked at, or the first of them; or, if `networks`, the network or address.
-/// Goes over the part once at the most.
+/// Returns the address that is picked from a part of a line, or the first of several; or `None` if
+/// there is none. If `networks`, networks count too. The part is scanned at most once.
 ///
 /// ```
 /// # use cidr_programs::in_examples::*;
@@ -32,7 +32,7 @@ pub fn picked(text: &[u8], pick: Pick, networks: bool) -> Option<Found> {
     }
 }
 
-// The address, or the network, that a text is.
+// Finds the address that the whole text names, or, if `networks`, the network.
 #[inline(always)]
 fn whole(text: &[u8], networks: bool) -> Option<Found> {
     match named(text, networks) {
@@ -46,7 +46,7 @@ fn whole(text: &[u8], networks: bool) -> Option<Found> {
     }
 }
 
-// The address that a text names, or that of the network that it names.
+// Returns the address that a text names, or, if `networks`, that of the network that it names.
 #[inline(always)]
 fn named(text: &[u8], networks: bool) -> Option<IpAddr> {
     if networks {
@@ -56,7 +56,7 @@ fn named(text: &[u8], networks: bool) -> Option<IpAddr> {
     }
 }
 
-// The address of this number, from 1 on, of those of a text.
+// Finds the address with this number, from 1 on, in a text.
 fn numbered(text: &[u8], number: u32, networks: bool) -> Option<Found> {
     let mut at = 0;
     let mut more = number.saturating_sub(1);
@@ -70,7 +70,7 @@ fn numbered(text: &[u8], number: u32, networks: bool) -> Option<Found> {
     None
 }
 
-// The last of the addresses of a text.
+// Finds the last address in a text.
 fn last(text: &[u8], networks: bool) -> Option<Found> {
     let mut at = 0;
     let mut last = None;

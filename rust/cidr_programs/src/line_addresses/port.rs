@@ -1,13 +1,13 @@
 // Written by scripts/plain out of crates/line_addresses/src/port.rt
 
-//! The number of a port, behind an address.
+//! The port number after an address.
 
-/// Whether a text is one to five digits.
+/// Returns whether a text is one to five digits.
 pub(crate) fn is_port(text: &[u8]) -> bool {
     !text.is_empty() && text.len() <= 5 && are_digits(text)
 }
 
-// Whether each byte is a digit.
+// Returns whether each byte is a digit.
 fn are_digits(text: &[u8]) -> bool {
     for byte in text {
         if !byte.is_ascii_digit() {

@@ -7,7 +7,7 @@ use crate::line_addresses::port::is_port;
 use fosibegan::byte_search::find_from;
 use fosibegan::ipnetwork_addr::IpAddr;
 
-/// The index after the bytes from an index on that runs are made of.
+/// Returns the index after the run bytes that begin at `start`.
 #[inline(always)]
 pub(crate) fn run_end(line: &[u8], start: usize) -> usize {
     for at in start..line.len() {
@@ -18,7 +18,7 @@ pub(crate) fn run_end(line: &[u8], start: usize) -> usize {
     line.len()
 }
 
-/// The address of a run, and the length of its text, with which the run begins.
+/// Returns the address of a run and the length of its text, which begins the run.
 pub(crate) fn address_in(run: &[u8]) -> Option<(IpAddr, usize)> {
     if run.is_empty() {
         return None;
@@ -38,7 +38,7 @@ pub(crate) fn address_in(run: &[u8]) -> Option<(IpAddr, usize)> {
     before_port(run)
 }
 
-/// The address that a text is, as `IpAddr::read_bytes` reads it, if it is one.
+/// Returns the address that `IpAddr::read_bytes` reads from a text, or `None` if it refuses it.
 ///
 /// ```
 /// # use cidr_programs::in_examples::*;
@@ -56,7 +56,7 @@ pub fn address_of(text: &[u8]) -> Option<IpAddr> {
     }
 }
 
-/// Whether a text ends with a `.` or a `:`.
+/// Returns whether a text ends with a `.` or a `:`.
 pub(crate) fn ends_with_mark(text: &[u8]) -> bool {
     if text.is_empty() {
         return false;
@@ -65,7 +65,7 @@ pub(crate) fn ends_with_mark(text: &[u8]) -> bool {
     last == b'.' || last == b':'
 }
 
-// The address before the first `:`, if a port follows it, and the length of its text.
+// Returns the address before the first `:` and the length of its text, if a port follows the `:`.
 fn before_port(run: &[u8]) -> Option<(IpAddr, usize)> {
     let Some(colon) = find_from(run, 0, b':') else {
         return None;

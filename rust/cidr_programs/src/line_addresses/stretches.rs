@@ -7,14 +7,15 @@ use crate::line_addresses::found::{Found, next_address};
 use crate::line_addresses::network::network_in;
 use crate::line_addresses::run::{address_in, run_end};
 
-/// The first network or address of a line from an index on, which is at most the length of the line. A network is told
-/// by the address that is spelled in it, and by where its text stands. The rest of the line from there is looked at as
-/// a line of its own.
+/// Returns the first network or address of a line from the index `from` on, or `None` if there is
+/// none. `from` must be at most the length of the line. A network is returned as its address, host
+/// bits kept, and the position of its text. What precedes `from` is ignored: the rest is read as a
+/// line.
 pub(crate) fn next_network(line: &[u8], from: usize) -> Option<Found> {
     let mut at = from;
     'stretches: while at < line.len() {
         if line[at] == b'/' {
-            // No network begins so, and in the rest of its stretch are addresses alone.
+            // No network begins with `/`, so the rest of the stretch has only addresses.
             let run = run_end(line, at + 1);
             if let Some((address, size)) = address_in(&line[at + 1..run]) {
                 return Some(Found {
@@ -45,7 +46,8 @@ pub(crate) fn next_network(line: &[u8], from: usize) -> Option<Found> {
     None
 }
 
-/// The first address of a line from an index on, or the first network or address.
+/// Returns the first address of a line from the index `from` on, or, if `networks`, the first
+/// network or address; `None` if there is none. `from` must be at most the length of the line.
 #[inline(always)]
 #[doc(hidden)]
 pub fn next_found(line: &[u8], from: usize, networks: bool) -> Option<Found> {
@@ -56,7 +58,7 @@ pub fn next_found(line: &[u8], from: usize, networks: bool) -> Option<Found> {
     }
 }
 
-// The first network or address of a stretch.
+// Returns the first network or address of a stretch.
 fn first_of(stretch: &[u8]) -> Option<Found> {
     match network_in(stretch) {
         Some((address, size)) => Some(Found {
@@ -69,7 +71,7 @@ fn first_of(stretch: &[u8]) -> Option<Found> {
     }
 }
 
-// The index after the bytes from an index on that stretches are made of.
+// Returns the index after the stretch bytes that begin at `start`.
 fn stretch_end(line: &[u8], start: usize) -> usize {
     for at in start..line.len() {
         if !is_stretch_byte(line[at]) {
@@ -79,7 +81,7 @@ fn stretch_end(line: &[u8], start: usize) -> usize {
     line.len()
 }
 
-// Whether stretches are made of this byte: runs are, or it is a `/`.
+// Returns whether a byte may occur in a stretch: a run byte or a `/`.
 fn is_stretch_byte(byte: u8) -> bool {
     is_run_byte(byte) || byte == b'/'
 }

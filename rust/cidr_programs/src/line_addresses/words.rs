@@ -2,7 +2,8 @@
 
 //! The words of a line.
 
-/// The word of this number, from 1 on, of a line: its words are what stands between runs of spaces and tabs.
+/// Returns the word with this number, from 1 on, of a line, or `None` if it has fewer words. Words
+/// are separated by spaces and tabs. The number 0 counts as 1.
 ///
 /// ```
 /// # use cidr_programs::in_examples::*;
@@ -27,7 +28,7 @@ pub fn word_of(line: &[u8], number: u32) -> Option<&[u8]> {
     None
 }
 
-// The index after the bytes from an index on that are not blank.
+// Returns the index after the non-blank bytes that begin at `start`.
 #[inline(always)]
 fn word_end(line: &[u8], start: usize) -> usize {
     for at in start..line.len() {
@@ -38,7 +39,7 @@ fn word_end(line: &[u8], start: usize) -> usize {
     line.len()
 }
 
-// Whether the byte is a space or a tab.
+// Returns whether a byte is a space or a tab.
 fn is_blank(byte: u8) -> bool {
     byte == b' ' || byte == b'\t'
 }

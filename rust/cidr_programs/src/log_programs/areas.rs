@@ -1,6 +1,6 @@
 // Written by scripts/plain out of crates/log_programs/src/areas.rt
 
-//! Where the addresses of a line are looked for, by the options that every program for logs has.
+//! Where to look for the addresses of a line, by the options that all programs for logs share.
 
 use crate::log_programs::rows::{AFTER, ANYWHERE, FIELD, NTH, SEPARATOR, WORDS};
 use crate::line_addresses::{Area, Part, Pick, Text};
@@ -8,7 +8,8 @@ use crate::options::given::{is_given, value_of};
 use crate::options::items::Item;
 use crate::options::values::{byte_in, field_in};
 
-/// Where addresses of a line are looked for, and which of those that stand there.
+/// Returns where to look for the addresses of a line, and which of those to use, by the options of
+/// a command line.
 ///
 /// ```
 /// # use cidr_programs::in_examples::*;
@@ -32,7 +33,7 @@ pub fn area_of<'a>(items: &[Item<'a>]) -> Area<'a> {
     }
 }
 
-// In which part of a line: after a text, in a word, in a field, or anywhere.
+// Returns the part of a line to search: after a text, a word, a field, or the whole line.
 fn part_of<'a>(items: &[Item<'a>]) -> Part<'a> {
     if is_given(items, AFTER) {
         return Part::After(Text::new(value_of(items, AFTER).as_bytes()));
@@ -48,14 +49,14 @@ fn part_of<'a>(items: &[Item<'a>]) -> Part<'a> {
     Part::Field { number, separator }
 }
 
-// Whether that is a field, if it is no word and follows no text.
+// Returns whether the part is a field, if neither `-w` nor `--after` is given.
 fn is_in_a_field(items: &[Item<'_>]) -> bool {
     is_given(items, FIELD)
         || is_given(items, SEPARATOR)
         || !(is_given(items, ANYWHERE) || is_given(items, NTH))
 }
 
-// Which addresses of the part.
+// Returns which addresses of the part to use.
 fn pick_of(items: &[Item<'_>]) -> Pick {
     if is_given(items, NTH) {
         nth_in(value_of(items, NTH))
@@ -68,7 +69,7 @@ fn pick_of(items: &[Item<'_>]) -> Pick {
     }
 }
 
-// Which address a value of `--nth` says.
+// Returns the address that a value of `--nth` means.
 fn nth_in(value: &str) -> Pick {
     if value == "last" {
         return Pick::Last;

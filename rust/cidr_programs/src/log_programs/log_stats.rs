@@ -1,24 +1,24 @@
 // Written by scripts/plain out of crates/log_programs/src/log_stats.rt
 
-//! What was seen of the lines of a log.
+//! Counts the lines of a log.
 
-/// What was seen of the lines of a log. Each number stops at the greatest of 64 bits.
+/// The counts of the lines of a log. Each number stops at 2^64 - 1.
 #[derive(Clone, Copy, Debug, PartialEq, Eq)]
 pub struct LogStats {
-    /// How many lines came before the one that is read.
+    /// The number of lines counted.
     pub lines: u64,
-    /// Whether one of these has an address where it is looked for.
+    /// Whether one of them has an address in the area searched.
     pub is_addressed: bool,
-    /// How many of those that are not too long have none.
+    /// The number of lines that are not too long and have no address there.
     pub bare: u64,
-    /// How many are too long.
+    /// The number of lines that are too long.
     pub long: u64,
-    /// The number of the first that is, or 0.
+    /// The number of the first line that is too long, from 1 on, or 0 if none is.
     pub first_long: u64,
 }
 
 impl LogStats {
-    /// No line was seen.
+    /// Returns the counts of no lines.
     ///
     /// ```
     /// # use cidr_programs::in_examples::*;
@@ -34,7 +34,7 @@ impl LogStats {
         }
     }
 
-    /// Counts a line that is not too long, which has an address where it is looked for, or has none.
+    /// Counts a line that is not too long, with or without an address in the area searched.
     ///
     /// ```
     /// # use cidr_programs::in_examples::*;

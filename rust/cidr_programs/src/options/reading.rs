@@ -52,8 +52,7 @@ fn put_word<'a>(
     mode: Mode,
     word: &'a str,
     all: &mut Vec<Item<'a>>,
-) -> Result<Mode, AllocError>
-{
+) -> Result<Mode, AllocError> {
     match mode {
         Mode::Free => put_free(rows, word, all),
         Mode::Value(row) => {
@@ -69,8 +68,7 @@ fn put_word<'a>(
 
 // Appends the items of a word that stands where an option may, and returns where the next word
 // stands.
-fn put_free<'a>(rows: &[Row], word: &'a str, all: &mut Vec<Item<'a>>) -> Result<Mode, AllocError>
-{
+fn put_free<'a>(rows: &[Row], word: &'a str, all: &mut Vec<Item<'a>>) -> Result<Mode, AllocError> {
     if is_plain(word) {
         all.push(Item::File(Text::new(word)))?;
         Ok(Mode::Free)

@@ -1,14 +1,14 @@
 // Written by scripts/plain out of crates/ipnetwork_family/src/address.rt
 
-//! What networks need of an address.
+//! What networks need from their addresses.
 
 use crate::plain_std::arrayvec::ArrayString;
 use crate::ipnetwork_addr::{ADDRESS_TEXT_CAPACITY, AddrParseError};
 use core::fmt::Debug;
 use core::hash::Hash;
 
-/// The addresses of one family. An address means a number of `WIDTH` bits and is ordered by it; a
-/// prefix length says how many of its first bits are compared. No call allocates.
+/// The addresses of one family. An address stands for a number of `WIDTH` bits and is ordered by
+/// it; a prefix length is the number of leading bits that are compared. No call allocates.
 ///
 /// ```
 /// # use fosibegan::in_examples::*;
@@ -31,8 +31,8 @@ pub trait Address: Copy + Ord + Hash + Debug {
     /// ```
     fn read_bytes(text: &[u8]) -> Result<Self, AddrParseError>;
 
-    /// The prefix length that a text gives after the `/` of a network, if it gives one: as a number
-    /// and, for IPv4, also as a mask in the form of an address.
+    /// The prefix length that a text after the `/` of a network gives, or `None` if it gives none:
+    /// a number or, for IPv4 only, a mask written as an address.
     ///
     /// ```
     /// # use fosibegan::in_examples::*;
@@ -49,7 +49,7 @@ pub trait Address: Copy + Ord + Hash + Debug {
     /// ```
     fn refusal() -> AddrParseError;
 
-    /// The canonical text.
+    /// The canonical text of the address.
     ///
     /// ```
     /// # use fosibegan::in_examples::*;
@@ -58,16 +58,16 @@ pub trait Address: Copy + Ord + Hash + Debug {
     /// ```
     fn canonical(&self) -> ArrayString<ADDRESS_TEXT_CAPACITY>;
 
-    /// Does nothing. A proof learns from it what is true of the texts of addresses and of suffixes.
+    /// Does nothing. Its contract tells a proof that the texts of the family are unambiguous.
     #[doc(hidden)]
     fn law_texts();
 
-    /// Does nothing. A proof learns from it that the number has `WIDTH` bits.
+    /// Does nothing. Its contract tells a proof that the address's number has `WIDTH` bits.
     #[doc(hidden)]
     fn law_of_width(self);
 
-    /// The mask of a prefix length, which must be at most `WIDTH`: as many ones in front, and zeros
-    /// after them.
+    /// The mask of a prefix length, which must be at most `WIDTH`: that many leading ones, followed
+    /// by zeros.
     ///
     /// ```
     /// # use fosibegan::in_examples::*;
@@ -111,7 +111,7 @@ pub trait Address: Copy + Ord + Hash + Debug {
     /// ```
     fn agrees(self, other: Self, prefix: u8) -> bool;
 
-    /// The address after this one, which must not be the last.
+    /// The next address. This one must not be the last.
     ///
     /// ```
     /// # use fosibegan::in_examples::*;
@@ -119,7 +119,7 @@ pub trait Address: Copy + Ord + Hash + Debug {
     /// ```
     fn next(self) -> Self;
 
-    /// The address before this one, which must not be the first.
+    /// The previous address. This one must not be the first.
     ///
     /// ```
     /// # use fosibegan::in_examples::*;
@@ -127,7 +127,7 @@ pub trait Address: Copy + Ord + Hash + Debug {
     /// ```
     fn previous(self) -> Self;
 
-    /// The address `offset` addresses after this one. It must not be past the last address of the
+    /// The address `offset` places after this one. It must not exceed the last address of the
     /// family.
     ///
     /// ```
@@ -136,8 +136,8 @@ pub trait Address: Copy + Ord + Hash + Debug {
     /// ```
     fn plus(self, offset: u128) -> Self;
 
-    /// How many of their first bits two addresses share: the greatest prefix length with which they
-    /// lie in one block.
+    /// The number of leading bits that two addresses share: the greatest prefix length of a block
+    /// that holds both.
     ///
     /// ```
     /// # use fosibegan::in_examples::*;

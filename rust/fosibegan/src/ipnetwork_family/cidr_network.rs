@@ -6,8 +6,9 @@ use crate::ipnetwork_family::{Address, Network};
 
 /// A network of addresses of `WIDTH` bits, for code that is generic over both families.
 ///
-/// An address means a number of `WIDTH` bits and is ordered by it. A network means its address, host bits
-/// included, and its prefix length, and is ordered by these two. No call allocates.
+/// An address stands for a number of `WIDTH` bits and is ordered by it. A network is an address,
+/// host bits included, and a prefix length, and is ordered by address, then by prefix length. No
+/// call allocates.
 ///
 /// ```
 /// # use fosibegan::in_examples::*;
@@ -26,7 +27,7 @@ pub trait CidrNetwork: Copy + Ord {
     /// The number of bits of an address, and the greatest prefix length.
     const WIDTH: u8;
 
-    /// The address as made, host bits included.
+    /// The address as given, host bits included.
     ///
     /// ```
     /// # use fosibegan::in_examples::*;
@@ -74,7 +75,7 @@ pub trait CidrNetwork: Copy + Ord {
     /// ```
     fn broadcast(&self) -> Self::Addr;
 
-    /// Whether an address lies in the network's set.
+    /// Whether an address is in the network's set.
     ///
     /// ```
     /// # use fosibegan::in_examples::*;
@@ -98,7 +99,7 @@ pub trait CidrNetwork: Copy + Ord {
     /// ```
     fn is_subnet_of(self, other: Self) -> bool;
 
-    /// Whether some address is a member of both.
+    /// Whether some address is a member of both networks.
     ///
     /// ```
     /// # use fosibegan::in_examples::*;
@@ -110,8 +111,8 @@ pub trait CidrNetwork: Copy + Ord {
     /// ```
     fn overlaps(self, other: Self) -> bool;
 
-    /// The network without host bits of this prefix length that holds the address; `None` if the prefix length is
-    /// greater than `WIDTH`.
+    /// The network without host bits that has this prefix length and holds the address; `None` if
+    /// the prefix length is greater than `WIDTH`.
     ///
     /// ```
     /// # use fosibegan::in_examples::*;

@@ -8,7 +8,7 @@ use crate::plain_std::alloc::{AllocError, Global};
 use core::error::Error;
 use core::fmt;
 
-/// Why a text is refused, without the text. If several causes apply, it is the first of these.
+/// Why a text is refused, without the text. If several variants apply, it is the first of them.
 ///
 /// `IpNetwork`, which reads networks of either family, returns `Addr` for every text that it refuses.
 ///
@@ -20,15 +20,15 @@ use core::fmt;
 /// ```
 #[derive(Clone, Copy, Debug, PartialEq, Eq)]
 pub enum CidrFault {
-    /// There are two or more `/`.
+    /// The text contains two or more `/`.
     Format,
-    /// What stands before the `/`, or the whole text if there is none, is not an address.
+    /// The part before the `/`, or the whole text if there is no `/`, is not an address.
     Addr,
-    /// What stands after the `/` is neither a prefix length nor a mask.
+    /// The part after the `/` is neither a prefix length nor a mask.
     Prefix,
 }
 
-/// Why a network is refused, with the text of what was refused.
+/// Why a network is refused. `InvalidAddr` and `InvalidCidrFormat` carry a text.
 ///
 /// ```
 /// # use fosibegan::in_examples::*;
@@ -37,17 +37,18 @@ pub enum CidrFault {
 /// ```
 #[derive(Debug, PartialEq, Eq)]
 pub enum IpNetworkError {
-    /// What stands before the `/`, or the whole text if there is no `/`, is not an address. From `IpNetwork`: the text
-    /// names no network, whatever is wrong with it.
+    /// The part before the `/`, or the whole text if there is no `/`, is not an address. From
+    /// `IpNetwork`: the text names no network, for any cause.
     InvalidAddr(String),
-    /// The prefix length is greater than the number of bits of an address, what stands after the `/` does not give one,
-    /// or the address given as a mask is not one of its family's masks.
+    /// The prefix length is greater than the number of bits of an address, the part after the `/`
+    /// does not give one, or the address given as a mask is not one of its family's masks.
     InvalidPrefix,
     /// The text contains two or more `/`.
     InvalidCidrFormat(String),
-    /// A size does not fit. The only call that returns it is `try_clone` of such an error.
+    /// A size does not fit. Only `try_clone` of such an error returns it.
     NetworkSizeError(NetworkSizeError),
-    /// Out of memory for the text of an error. No call returns it in place of a network or of `InvalidPrefix`.
+    /// There is no memory for the text of an error. Never returned in place of a network or of
+    /// `InvalidPrefix`.
     OutOfMemory,
 }
 
@@ -63,12 +64,12 @@ pub enum IpNetworkError {
 /// ```
 #[derive(Clone, Copy, Debug, PartialEq, Eq)]
 pub enum NetworkSizeError {
-    /// It does not fit 32 bits.
+    /// The size does not fit in 32 bits.
     NetworkIsTooLarge,
 }
 
 impl IpNetworkError {
-    /// The kind of the error in a few words, without its text.
+    /// A short description of the kind of error, without its text.
     ///
     /// ```
     /// # use fosibegan::in_examples::*;
@@ -84,8 +85,8 @@ impl IpNetworkError {
         }
     }
 
-    /// A copy of the error. Allocates at most once, and only if the error carries a text; returns `AllocError` only if
-    /// that fails.
+    /// A copy of the error. Allocates at most once, and only if the error carries a text; returns
+    /// `AllocError` only if that fails.
     ///
     /// ```
     /// # use fosibegan::in_examples::*;
@@ -132,8 +133,8 @@ impl IpNetworkError {
         )
     }
 
-    /// The error for an input that was refused for this cause when an address of this kind was asked for, or
-    /// `OutOfMemory`. Allocates at most once, and not at all for `CidrFault::Prefix`.
+    /// The error for an input that was refused for this cause when an address of this kind was
+    /// expected, or `OutOfMemory`. Allocates at most once, and not at all for `CidrFault::Prefix`.
     ///
     /// - `Format`: `InvalidCidrFormat` with `CIDR must contain a single '/': ` and the input.
     /// - `Addr`: `InvalidAddr` with the text of the kind, or for `AddrParseError::Ip` with the input.
@@ -175,7 +176,7 @@ impl IpNetworkError {
     }
 }
 
-/// Two texts, one after the other. Allocates once.
+/// Concatenates two texts. Allocates once.
 fn joined(alloc: Global, front: &str, back: &str) -> Result<String, AllocError> {
     let mut text = String::with_capacity(alloc, front.len() + back.len())?;
     text.push_str(front)?;

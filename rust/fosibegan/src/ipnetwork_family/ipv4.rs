@@ -1,6 +1,6 @@
 // Written by scripts/plain out of crates/ipnetwork_family/src/ipv4.rt
 
-//! IPv4 addresses as networks need them, and what only IPv4 networks have.
+//! IPv4: the implementation of `Address`, the number of members and the nth member, and masks.
 
 use crate::ipnetwork_family::network::mask_to_prefix;
 use crate::ipnetwork_family::parse::read_prefix;
@@ -90,15 +90,15 @@ impl Address for Ipv4Addr {
     }
 }
 
-/// The ones after the first `prefix` bits.
+/// The number with ones in all bits after the first `prefix`.
 fn host_ones(prefix: u8) -> u32 {
-    // In 64 bits a shift by 32 needs no case of its own.
+    // In 64 bits, a shift by 32 needs no special case.
     (u64::from(u32::MAX) >> prefix) as u32
 }
 
 impl Network<Ipv4Addr> {
-    /// The number of members. At prefix length 0, where that would need 33 bits, it is one less:
-    /// 4,294,967,295.
+    /// The number of members. At prefix length 0, where that would need 33 bits, the result is one
+    /// less: 4,294,967,295.
     ///
     /// ```
     /// # use fosibegan::in_examples::*;
@@ -112,7 +112,7 @@ impl Network<Ipv4Addr> {
         host_ones(self.prefix()).saturating_add(1)
     }
 
-    /// The member number `n`, counted from 0 in ascending order; `None` if `n` is not less than
+    /// The member at index `n`, counted from 0 in ascending order; `None` if `n` is not less than
     /// `size`.
     ///
     /// ```

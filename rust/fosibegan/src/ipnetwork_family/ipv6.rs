@@ -1,6 +1,6 @@
 // Written by scripts/plain out of crates/ipnetwork_family/src/ipv6.rt
 
-//! IPv6 addresses as networks need them, and what only IPv6 networks have.
+//! IPv6: the implementation of `Address`, the number of members and the nth member, and masks.
 
 use crate::ipnetwork_family::mask_table::mask_segments;
 use crate::ipnetwork_family::network::mask_to_prefix;
@@ -83,14 +83,14 @@ impl Address for Ipv6Addr {
     }
 }
 
-/// The ones after the first `prefix` bits.
+/// The number with ones in all bits after the first `prefix`.
 fn host_ones(prefix: u8) -> u128 {
     u128::MAX.checked_shr(u32::from(prefix)).unwrap_or(0)
 }
 
 impl Network<Ipv6Addr> {
-    /// The number of members. At prefix length 0, where that would need 129 bits, it is one less:
-    /// 2^128 - 1.
+    /// The number of members. At prefix length 0, where that would need 129 bits, the result is one
+    /// less: 2^128 - 1.
     ///
     /// ```
     /// # use fosibegan::in_examples::*;
@@ -104,7 +104,7 @@ impl Network<Ipv6Addr> {
         host_ones(self.prefix()).saturating_add(1)
     }
 
-    /// The member number `n`, counted from 0 in ascending order; `None` if `n` is not less than
+    /// The member at index `n`, counted from 0 in ascending order; `None` if `n` is not less than
     /// `size`.
     ///
     /// ```

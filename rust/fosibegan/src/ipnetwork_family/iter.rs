@@ -29,7 +29,7 @@ fn same<A: Address>(a: A, b: A) -> bool {
 }
 
 impl<A: Address> NetworkIterator<A> {
-    /// The addresses from `first` to `last`, both included.
+    /// The addresses from `first` to `last`, inclusive.
     pub(crate) fn between(first: A, last: A) -> Self {
         NetworkIterator {
             next: first,

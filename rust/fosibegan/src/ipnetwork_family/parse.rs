@@ -5,8 +5,8 @@
 use crate::ipnetwork_family::CidrFault;
 use crate::byte_search::find_from;
 
-/// The part before the only `/` of a text and the part after it, or the whole text and `None` if there is no `/`. Two
-/// or more `/` are `CidrFault::Format`.
+/// The parts of a text before and after its only `/`, or the whole text and `None` if there is no
+/// `/`. Two or more `/` are refused with `CidrFault::Format`.
 ///
 /// ```
 /// # use fosibegan::in_examples::*;
@@ -20,8 +20,9 @@ pub fn cidr_parts(cidr: &str) -> Result<(&str, Option<&str>), CidrFault> {
     }
 }
 
-/// The number that a prefix length text names, if it is at most `max`: an optional `+` and one or more decimal
-/// digits, with any number of leading zeros. Any other text is `CidrFault::Prefix`.
+/// The number that the text of a prefix length names: an optional `+` and one or more decimal
+/// digits, with any number of leading zeros. Any other text, or a number greater than `max`, is
+/// refused with `CidrFault::Prefix`.
 ///
 /// ```
 /// # use fosibegan::in_examples::*;
@@ -35,7 +36,7 @@ pub fn parse_prefix(prefix: &str, max: u8) -> Result<u8, CidrFault> {
     }
 }
 
-/// `cidr_parts`, over bytes.
+/// `cidr_parts` for bytes.
 #[inline(always)]
 pub(crate) fn split(text: &[u8]) -> Result<(&[u8], Option<&[u8]>), CidrFault> {
     match only_slash(text)? {
@@ -44,7 +45,7 @@ pub(crate) fn split(text: &[u8]) -> Result<(&[u8], Option<&[u8]>), CidrFault> {
     }
 }
 
-/// `parse_prefix`, over bytes.
+/// `parse_prefix` for bytes.
 pub(crate) fn read_prefix(text: &[u8], max: u8) -> Option<u8> {
     if let Some(value) = read_two_digits(text, max) {
         return Some(value);
@@ -55,7 +56,7 @@ pub(crate) fn read_prefix(text: &[u8], max: u8) -> Option<u8> {
     }
 }
 
-/// The same of two digits, as most prefix lengths are written. `None` says nothing.
+/// `read_prefix` for two digits, as in most prefix lengths. `None` says nothing about the text.
 #[inline(always)]
 fn read_two_digits(text: &[u8], max: u8) -> Option<u8> {
     if text.len() != 2 {
@@ -73,8 +74,9 @@ fn read_two_digits(text: &[u8], max: u8) -> Option<u8> {
     if value > max { None } else { Some(value) }
 }
 
-/// The number that a text names, if it is at most `max`, in the spelling of prefix lengths: an optional `+` and one
-/// or more decimal digits, with any number of leading zeros. `None` for any other text.
+/// The number that a text names as prefix lengths are written: an optional `+` and one or more
+/// decimal digits, with any number of leading zeros. `None` for any other text, or if the number is
+/// greater than `max`.
 ///
 /// ```
 /// # use fosibegan::in_examples::*;
@@ -88,7 +90,8 @@ pub fn read_number(text: &[u8], max: u32) -> Option<u32> {
     }
 }
 
-/// The value of one or more decimal digits, if it is at most `max`.
+/// The value of one or more decimal digits, or `None` if it is greater than `max` or the text is
+/// not such digits.
 fn read_digits(text: &[u8], max: u32) -> Option<u32> {
     if text.is_empty() {
         return None;
@@ -107,7 +110,7 @@ fn read_digits(text: &[u8], max: u32) -> Option<u32> {
     Some(value)
 }
 
-/// Where the only `/` of a text stands, if there is one.
+/// The position of the only `/` of a text, or `None` if there is no `/`.
 #[inline(always)]
 fn only_slash(text: &[u8]) -> Result<Option<usize>, CidrFault> {
     let Some(at) = find_from(text, 0, b'/') else {
@@ -119,22 +122,22 @@ fn only_slash(text: &[u8]) -> Result<Option<usize>, CidrFault> {
     }
 }
 
-/// Where a `/` stands with one to three bytes after it. It may not be the only one, and `None` says nothing: the text
-/// is then to be searched.
+/// The position of a `/` that has one to three bytes after it. There may be another `/` in the
+/// text. `None` says nothing about the text, which must then be searched.
 #[inline(always)]
 pub(crate) fn slash_near_end(text: &[u8]) -> Option<usize> {
     let count = text.len();
     if count < 4 {
         return None;
     }
-    // No branch asks how long the suffix is: that would be guessed wrongly too often.
+    // No branch depends on the length of the suffix: it would be mispredicted too often.
     let second = count - 2;
     let third = second - other_than_slash(text[second]);
     let at = third - other_than_slash(text[third]);
     if text[at] == b'/' { Some(at) } else { None }
 }
 
-/// 0 if the byte is a `/`, else 1.
+/// 0 if the byte is a `/`, otherwise 1.
 #[inline(always)]
 fn other_than_slash(byte: u8) -> usize {
     usize::from(byte != b'/')

@@ -1,6 +1,7 @@
 // Written by scripts/plain out of crates/ipnetwork_family/src/segments.rt
 
-//! The eight segments of an IPv6 address under a mask, each by itself, without a branch.
+//! Operations on the eight segments of an IPv6 address and a mask, one segment at a time and
+//! without branches.
 
 /// The address with the bits outside the mask cleared.
 pub(crate) fn kept(segments: &[u16; 8], mask: &[u16; 8]) -> [u16; 8] {
@@ -20,7 +21,7 @@ pub(crate) fn filled(segments: &[u16; 8], mask: &[u16; 8]) -> [u16; 8] {
     filled
 }
 
-/// Whether two addresses are the same in the bits of the mask.
+/// Whether two addresses agree in the bits of the mask.
 pub(crate) fn agree(a: &[u16; 8], b: &[u16; 8], mask: &[u16; 8]) -> bool {
     let mut differ = 0;
     for i in 0..8 {
@@ -29,7 +30,7 @@ pub(crate) fn agree(a: &[u16; 8], b: &[u16; 8], mask: &[u16; 8]) -> bool {
     differ == 0
 }
 
-/// How many ones each segment begins with, all together: of a mask its prefix length.
+/// The sum of the numbers of leading ones of the segments; for a mask, its prefix length.
 pub(crate) fn leading_ones(segments: &[u16; 8]) -> u8 {
     let mut ones = 0;
     for i in 0..8 {

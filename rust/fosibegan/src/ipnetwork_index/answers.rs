@@ -8,20 +8,20 @@ use crate::ipnetwork_index::sweep::answers_by_sweep;
 use crate::ipnetwork_table::PrefixTable;
 use crate::plain_std::alloc::{AllocError, Global};
 
-// In place of a prefix length: no block has the addresses of the range.
+// Takes the place of a prefix length if no block holds the addresses of the range.
 pub(crate) const NO_BLOCK: u8 = 255;
 
-/// What a look-up finds in each range, without the address of the block: that is made of the
-/// address that is looked up. There is nothing if the table is empty.
+/// What a look-up finds in each range, without the address of the block, which is computed from the
+/// address that is looked up. Empty if the table is empty.
 pub(crate) struct Answers<V: Copy> {
-    // The prefix length of the block that has the addresses of the range.
+    // The prefix length of the block that holds the addresses of each range.
     pub(crate) prefixes: Vec<u8>,
-    // Its value, or some value if there is no block.
+    // The value of that block, or any value if there is no block.
     pub(crate) values: Vec<V>,
 }
 
 impl<V: Copy> Answers<V> {
-    /// The answer at this place, for this address.
+    /// The answer for this address, which lies in the range at this place.
     pub(crate) fn of<N: IndexedNetwork>(&self, place: usize, addr: N::Addr) -> Option<(N, V)> {
         if place >= self.values.len() {
             return None;
@@ -34,8 +34,9 @@ impl<V: Copy> Answers<V> {
         Some((block, value))
     }
 
-    // What stands at this place. Not inlined, so that the value is read before it is known whether
-    // there is a block: else a branch would depend on it, which random addresses take at random.
+    // The prefix length and the value at this place. Not inlined, so that the value is read before
+    // it is known whether there is a block: otherwise a branch would depend on that, unpredictable
+    // for random addresses.
     #[inline(never)]
     fn read(&self, place: usize) -> (u8, V) {
         (self.prefixes[place], self.values[place])
@@ -57,7 +58,7 @@ pub(crate) fn answers_of<N: IndexedNetwork, V: Copy>(
     answers_by_sweep(alloc, entries, lasts)
 }
 
-/// The entries of the table, in their order.
+/// The entries of the table, in order.
 pub(crate) fn entries_of<N: IndexedNetwork, V: Copy>(
     alloc: Global,
     table: &PrefixTable<N, V>,

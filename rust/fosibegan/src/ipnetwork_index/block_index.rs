@@ -1,6 +1,6 @@
 // Written by scripts/plain out of crates/ipnetwork_index/src/block_index.rt
 
-//! The index over the blocks of a list.
+//! The index of the blocks of a list.
 
 use crate::plain_std::vec::Vec;
 use crate::ipnetwork_index::indexed_network::IndexedNetwork;
@@ -8,8 +8,8 @@ use crate::ipnetwork_index::listing::entries_of_list;
 use crate::ipnetwork_index::ranges::Ranges;
 use crate::plain_std::alloc::{AllocError, Global};
 
-/// The blocks of a list of networks, which is asked for the longest block of addresses and does not
-/// change: a `RouteIndex` that is made without a table.
+/// The blocks of a list of networks, which is searched for the longest block of addresses and does
+/// not change: a `RouteIndex` that is made without a table.
 ///
 /// ```
 /// # use fosibegan::in_examples::*;
@@ -21,14 +21,15 @@ use crate::plain_std::alloc::{AllocError, Global};
 /// # });
 /// ```
 pub struct BlockIndex<N: IndexedNetwork, V: Copy> {
-    // The blocks in their order, each once.
+    // The blocks in order, each once.
     entries: Vec<(N, V)>,
     ranges: Ranges<N, V>,
 }
 
 impl<N: IndexedNetwork, V: Copy> BlockIndex<N, V> {
-    /// The index over the blocks of networks, which may have host bits and stand in any order, and
-    /// of which each has this value. Sorts the blocks, and where they begin and end.
+    /// The index of the blocks of networks, which may have host bits and be in any order; each
+    /// block gets this value. Sorts the blocks, and where they begin and end. `AllocError` when out
+    /// of memory.
     ///
     /// ```
     /// # use fosibegan::in_examples::*;
@@ -45,8 +46,8 @@ impl<N: IndexedNetwork, V: Copy> BlockIndex<N, V> {
         Ok(BlockIndex { entries, ranges })
     }
 
-    /// The block of greatest prefix length whose set holds the address, with the value; `None` if
-    /// no block holds it.
+    /// The block with the greatest prefix length that holds the address, and the value; `None` if
+    /// no block holds the address.
     ///
     /// ```
     /// # use fosibegan::in_examples::*;

@@ -6,7 +6,7 @@ use crate::ipnetwork_index::indexed_network::IndexedNetwork;
 use crate::ipnetwork_table::PrefixTable;
 use crate::plain_std::alloc::{AllocError, Global};
 
-/// The table of the blocks of the entries. Of those with the same block the last counts.
+/// The table of the blocks of the entries. Of several with the same block, the last one counts.
 pub(crate) fn table_of<N: IndexedNetwork, V: Copy>(
     alloc: Global,
     entries: &[(N, V)],

@@ -1,6 +1,6 @@
 // Written by scripts/plain out of crates/ipnetwork_index/src/halves.rt
 
-//! The search for a number by its high half first.
+//! The search for a number, first by its high half.
 
 use crate::plain_std::vec::Vec;
 use crate::ipnetwork_index::indexed_network::IndexedNetwork;
@@ -8,8 +8,8 @@ use crate::ipnetwork_index::key::Key;
 use crate::ipnetwork_index::search::{place_from, place_of};
 use crate::plain_std::alloc::{AllocError, Global};
 
-// The place of the first number that is not less than this one: it is searched for among the high
-// halves, and then, unless these tell the place, from there on among the whole numbers.
+// The place of the first number that is not less than this one: searched for among the high halves
+// and then, unless these determine the place, from there on among the whole numbers.
 pub(crate) fn place_by_halves<N: IndexedNetwork>(
     lasts: &[N::Number],
     highs: &[N::High],
@@ -40,7 +40,7 @@ pub(crate) fn highs_of<N: IndexedNetwork>(
 }
 
 // Whether enough of the high halves differ from the one before: every fourth or more. The contract
-// leaves the answer open: another would cost time and change no answer.
+// leaves the result open: another would cost time but change no look-up.
 pub(crate) fn are_worth_it<K: Key>(highs: &[K]) -> bool {
     let mut differ = 0usize;
     for place in 1..highs.len() {
@@ -51,7 +51,7 @@ pub(crate) fn are_worth_it<K: Key>(highs: &[K]) -> bool {
     differ.saturating_mul(4) >= highs.len()
 }
 
-// Whether each number is the greatest of those that have its high half.
+// Whether each number is known to be the greatest with its high half.
 pub(crate) fn all_end<N: IndexedNetwork>(lasts: &[N::Number]) -> bool {
     for last in lasts {
         let ends = N::ends_high(*last);

@@ -1,24 +1,24 @@
 // Written by scripts/plain out of crates/ipnetwork_index/src/indexed_network.rt
 
-//! What an index needs of a family of addresses.
+//! What an index needs from a family of addresses.
 
 use crate::ipnetwork_index::key::Key;
 use crate::ipnetwork_addr::{Ipv4Addr, Ipv6Addr};
 use crate::ipnetwork_blocks::AddressSpace;
 use crate::ipnetwork_family::{Ipv4Network, Ipv6Network};
 
-/// Networks whose addresses can be indexed: as bare numbers, which are compared all at once. No
-/// call allocates.
+/// Networks whose addresses can be indexed as plain numbers, which are compared as a whole. No call
+/// allocates.
 ///
 /// ```
 /// # use fosibegan::in_examples::*;
 /// assert_eq!(Ipv4Network::number_of(Ipv4Addr::new(0, 0, 1, 2)), 258);
 /// ```
 pub trait IndexedNetwork: AddressSpace {
-    /// The bare numbers of the family.
+    /// The plain numbers of the family.
     type Number: Key;
 
-    /// Their high halves.
+    /// The high halves of these numbers.
     type High: Key;
 
     /// The number of an address.
@@ -49,7 +49,7 @@ pub trait IndexedNetwork: AddressSpace {
     /// ```
     fn high_of(number: Self::Number) -> Self::High;
 
-    /// Whether the number is known to be the greatest of those that have its high half.
+    /// Whether the number is known to be the greatest with its high half.
     ///
     /// ```
     /// # use fosibegan::in_examples::*;
@@ -58,7 +58,7 @@ pub trait IndexedNetwork: AddressSpace {
     /// ```
     fn ends_high(number: Self::Number) -> bool;
 
-    /// The last 32 bits of a number: all that the number of an IPv4 address has.
+    /// The last 32 bits of a number, which are all bits of an IPv4 address.
     ///
     /// ```
     /// # use fosibegan::in_examples::*;
@@ -67,7 +67,7 @@ pub trait IndexedNetwork: AddressSpace {
     /// ```
     fn low_word(number: Self::Number) -> u32;
 
-    /// Whether numbers are to be compared by halves: those of an IPv6 address are, since most
+    /// Whether numbers are to be compared by halves. Those of IPv6 addresses are, since most
     /// networks end where a high half does.
     ///
     /// ```

@@ -1,15 +1,15 @@
 // Written by scripts/plain out of crates/ipnetwork_index/src/key.rt
 
-//! Bare numbers that are searched for.
+//! Plain numbers to search for.
 
-/// A bare number that is searched for among others: `u32`, `u64` and `u128`. No call allocates.
+/// A plain number that is searched for among others: `u32`, `u64` or `u128`. No call allocates.
 ///
 /// ```
 /// # use fosibegan::in_examples::*;
 /// assert!(1u32.is_less(2));
 /// ```
 pub trait Key: Copy {
-    /// Whether it is less than the other.
+    /// Whether this number is less than `other`.
     ///
     /// ```
     /// # use fosibegan::in_examples::*;
@@ -17,8 +17,9 @@ pub trait Key: Copy {
     /// ```
     fn is_less(self, other: Self) -> bool;
 
-    /// In which part of the numbers from `base` on it lies, if each has 2^`shift` numbers: the
-    /// first for the numbers before `base`, and the part `last` for those after it.
+    /// The part in which this number lies, if the parts begin at `base` and have 2^`shift` numbers
+    /// each: the first for the numbers before `base`, and the part `last` for those after it.
+    /// `shift` must be less than the number of bits.
     ///
     /// ```
     /// # use fosibegan::in_examples::*;
@@ -27,8 +28,8 @@ pub trait Key: Copy {
     /// ```
     fn part_of(self, base: Self, shift: u32, last: usize) -> usize;
 
-    /// How large parts are, as a power of two, if about 2^`bits` of them reach from `base` to this
-    /// number. The contract leaves the size open: another would cost time and change no answer.
+    /// The size of parts, as a power of two, if about 2^`bits` of them extend from `base` to this
+    /// number. The contract leaves the size open: another would cost time but change no result.
     ///
     /// ```
     /// # use fosibegan::in_examples::*;

@@ -1,13 +1,13 @@
 // Written by scripts/plain out of crates/ipnetwork_index/src/listing.rt
 
-//! The blocks of a list of networks, in their order.
+//! The blocks of a list of networks, in order.
 
 use crate::plain_std::vec::Vec;
 use crate::ipnetwork_index::indexed_network::IndexedNetwork;
 use crate::ipnetwork_blocks::block;
 use crate::plain_std::alloc::{AllocError, Global};
 
-/// The blocks of the networks in their order, each once with this value.
+/// The blocks of the networks in order, each once and with this value.
 pub(crate) fn entries_of_list<N: IndexedNetwork, V: Copy>(
     alloc: Global,
     networks: &[N],

@@ -1,25 +1,25 @@
 // Written by scripts/plain out of crates/ipnetwork_index/src/low_halves.rt
 
-//! Numbers of 32 bits, known by the part that they lie in and by their low halves.
+//! Numbers of 32 bits, represented by the part that they lie in and by their low halves.
 
 use crate::plain_std::vec::Vec;
 use crate::plain_std::vec;
 use crate::plain_std::alloc::{AllocError, Global};
 use crate::plain_std::simd::prelude::*;
 
-/// Ascending numbers, of which only the last 16 bits are kept: the part that a number lies in tells
+/// Ascending numbers of which only the last 16 bits are kept: the part that a number lies in gives
 /// the others. A number is searched for among those of its part.
 pub(crate) struct LowHalves {
-    // The last 16 bits of each number, and eight more, so that eight can always be read.
+    // The last 16 bits of each number, and eight more elements, so that eight can always be read.
     pub(crate) lows: Vec<u16>,
-    // For each part how many of the numbers lie before it, and then how many there are.
+    // For each part, how many of the numbers lie before it, and finally how many there are.
     pub(crate) starts: Vec<u32>,
     // Each part has 2 ^ shift numbers, at most 2 ^ 16.
     pub(crate) shift: u32,
 }
 
 impl LowHalves {
-    /// Those of no numbers.
+    /// The low halves of no numbers.
     pub(crate) fn none(alloc: Global) -> Self {
         LowHalves {
             lows: Vec::new(alloc),
@@ -28,7 +28,7 @@ impl LowHalves {
         }
     }
 
-    /// Those of these numbers.
+    /// The low halves of these numbers.
     pub(crate) fn of(alloc: Global, numbers: &[u32], shift: u32) -> Result<Self, AllocError> {
         let starts = starts_of(alloc, numbers, shift)?;
         let lows = lows_of(alloc, numbers)?;
@@ -39,8 +39,8 @@ impl LowHalves {
         })
     }
 
-    /// At which place the first of the numbers stands that is not less than this one. Not inlined,
-    /// since in a caller's loop the least of two numbers would be found by a branch.
+    /// The place of the first of the numbers that is not less than this one. Not inlined, since in
+    /// a caller's loop the lesser of two numbers would be found by a branch.
     #[inline(never)]
     pub(crate) fn place_of(&self, number: u32) -> usize {
         let part = (number >> self.shift) as usize;
@@ -55,24 +55,24 @@ impl LowHalves {
         start + less
     }
 
-    /// How many numbers there are.
+    /// The number of numbers.
     pub(crate) fn len(&self) -> usize {
         self.lows.len() - 8
     }
 }
 
-// How many of the eight from this place on are less, before the first that is not.
+// How many of the eight from this place on come before the first that is not less than `low`.
 #[inline(always)]
 fn less_of_eight(lows: &[u16], at: usize, low: u16) -> usize {
     let eight = u16x8::from_slice(&lows[at..]);
     let marks = eight.simd_ge(u16x8::splat(low)).to_bitmask();
-    // A ninth mark, so that no branch depends on whether there is one.
+    // The ninth mark means that no branch depends on whether there is one among the eight.
     let ended = marks + 256;
     ended.trailing_zeros() as usize
 }
 
-// The place of the first of these that is not less, or `end`. Not inlined, so that a search that
-// ends with the first eight is short.
+// The place of the first of these that is not less than `low`, or `end`. Not inlined, to keep a
+// search that ends within the first eight short.
 #[inline(never)]
 fn first_from(lows: &[u16], from: usize, end: usize, low: u16) -> usize {
     let mut at = from;
@@ -88,7 +88,7 @@ fn first_from(lows: &[u16], from: usize, end: usize, low: u16) -> usize {
     at
 }
 
-// The last 16 bits of the numbers, and eight more.
+// The last 16 bits of the numbers, and eight more elements.
 fn lows_of(alloc: Global, numbers: &[u32]) -> Result<Vec<u16>, AllocError> {
     let mut lows = vec![in alloc; 0u16; numbers.len() + 8]?;
     write_lows(numbers, lows.as_mut_slice());
@@ -101,7 +101,7 @@ fn write_lows(numbers: &[u32], lows: &mut [u16]) {
     }
 }
 
-// For each part how many of the numbers lie before it, and then how many there are.
+// For each part, how many of the numbers lie before it, and finally how many there are.
 fn starts_of(alloc: Global, numbers: &[u32], shift: u32) -> Result<Vec<u32>, AllocError> {
     let mut starts = vec![in alloc; 0u32; (u32::MAX >> shift) as usize + 2]?;
     write_starts(numbers, shift, starts.as_mut_slice());
@@ -116,7 +116,7 @@ fn write_starts(numbers: &[u32], shift: u32, starts: &mut [u32]) {
     }
 }
 
-// How many of the numbers lie before the part, if those before `from` do.
+// How many of the numbers lie before the part, given that those before `from` do.
 fn first_of(numbers: &[u32], from: usize, part: usize, shift: u32) -> usize {
     let mut at = from;
     while at < numbers.len() && ((numbers[at] >> shift) as usize) < part {

@@ -11,18 +11,18 @@ use crate::ipnetwork_index::search::place_of;
 use crate::ipnetwork_index::starts::{span_of, write_starts};
 use crate::plain_std::alloc::{AllocError, Global};
 
-/// The addresses, cut into ranges.
+/// The addresses of a family, cut into ranges.
 pub(crate) struct Partition<N: IndexedNetwork> {
-    // The last number of each range, and three times more that of the last range.
+    // The last number of each range, and three more times that of the last range.
     lasts: Vec<N::Number>,
     // For each part of the numbers or of the high halves from a base on, how many ranges end before
-    // it. A greater part has more.
+    // it. The counts do not decrease.
     starts: Vec<u32>,
     base: N::Number,
     // Each part has 2 ^ shift numbers or high halves.
     shift: u32,
-    // Whether the high halves are searched first, of which these are those of the last numbers, and
-    // whether all of the last numbers end their high halves: then the place is known by these.
+    // Whether the high halves are searched first; these are then those of the last numbers. If each
+    // last number is the greatest with its high half, the high halves determine the place.
     by_halves: bool,
     highs: Vec<N::High>,
     high_base: N::High,
@@ -36,7 +36,7 @@ impl<N: IndexedNetwork> Partition<N> {
         Self::of_padded(alloc, lasts, bits)
     }
 
-    // The ranges with these last numbers, which are searched by halves if these differ.
+    // The ranges with these last numbers, searched by high halves if enough of these differ.
     fn of_padded(alloc: Global, lasts: Vec<N::Number>, bits: u32) -> Result<Self, AllocError> {
         if N::has_halves() {
             let highs = highs_of::<N>(alloc, lasts.as_slice())?;
@@ -47,7 +47,7 @@ impl<N: IndexedNetwork> Partition<N> {
         Self::of_wholes(alloc, lasts, bits)
     }
 
-    // The same, searched by whole numbers.
+    // The ranges with these last numbers, searched by whole numbers.
     fn of_wholes(alloc: Global, lasts: Vec<N::Number>, bits: u32) -> Result<Self, AllocError> {
         let (base, shift) = span_of::<N::Number>(lasts.as_slice(), bits);
         let starts = starts_of::<N::Number>(alloc, lasts.as_slice(), base, shift, 1 << bits)?;
@@ -63,7 +63,7 @@ impl<N: IndexedNetwork> Partition<N> {
         })
     }
 
-    // The same, searched by these high halves first.
+    // The ranges with these last numbers, searched first by these high halves.
     fn of_halves(
         alloc: Global,
         lasts: Vec<N::Number>,
@@ -86,15 +86,15 @@ impl<N: IndexedNetwork> Partition<N> {
         })
     }
 
-    /// How many ranges there are.
+    /// The number of ranges.
     pub(crate) fn len(&self) -> usize {
         self.lasts.len() - 3
     }
 
-    /// At which place the range stands that the number lies in.
+    /// The place of the range that the number lies in.
     pub(crate) fn place_of(&self, number: N::Number) -> usize {
         let lasts = self.lasts.as_slice();
-        // One range has all numbers.
+        // A single range has all numbers.
         if lasts.len() == 4 {
             return 0;
         }
@@ -128,7 +128,7 @@ fn numbers_of<N: IndexedNetwork>(
     Ok(numbers)
 }
 
-// The last numbers of ranges, and three times more that of the last of them.
+// The last numbers of ranges, and three more times the last of them.
 fn padded<N: IndexedNetwork>(mut lasts: Vec<N::Number>) -> Result<Vec<N::Number>, AllocError> {
     let greatest = N::greatest();
     lasts.push(greatest)?;
@@ -137,7 +137,7 @@ fn padded<N: IndexedNetwork>(mut lasts: Vec<N::Number>) -> Result<Vec<N::Number>
     Ok(lasts)
 }
 
-// Where the search for the numbers of each of so many parts begins.
+// Where the search for the numbers of each of `count` parts begins.
 fn starts_of<K: Key>(
     alloc: Global,
     keys: &[K],

@@ -1,6 +1,6 @@
 // Written by scripts/plain out of crates/ipnetwork_index/src/places.rt
 
-//! Where an index of routes looks up the ranges of a table.
+//! The places of a table's ranges in an index of routes.
 
 use crate::plain_std::vec::Vec;
 use crate::ipnetwork_index::indexed_network::IndexedNetwork;
@@ -9,10 +9,10 @@ use crate::ipnetwork_index::partition::Partition;
 use crate::ipnetwork_index::starts::{low_shift, route_bits};
 use crate::plain_std::alloc::{AllocError, Global};
 
-/// The ranges, as a partition or, if there are many that lie spread, by the low halves of their last
-/// numbers: these take half the memory, and one read of eight.
+/// The ranges, as a partition or, if there are many that are spread out, by the low halves of their
+/// last numbers, which take half the memory and one read of eight numbers.
 pub(crate) struct Places<N: IndexedNetwork> {
-    // The addresses cut into ranges, unless these are known by low halves.
+    // The addresses cut into ranges, unless low halves represent these.
     pub(crate) partition: Option<Partition<N>>,
     pub(crate) halves: LowHalves,
 }
@@ -37,7 +37,7 @@ impl<N: IndexedNetwork> Places<N> {
         })
     }
 
-    /// How many ranges there are.
+    /// The number of ranges.
     pub(crate) fn len(&self) -> usize {
         match &self.partition {
             Some(partition) => partition.len(),
@@ -45,7 +45,7 @@ impl<N: IndexedNetwork> Places<N> {
         }
     }
 
-    /// At which place the range stands that the address lies in.
+    /// The place of the range that the address lies in.
     #[inline(always)]
     pub(crate) fn place_of(&self, addr: N::Addr) -> usize {
         match &self.partition {
@@ -56,8 +56,8 @@ impl<N: IndexedNetwork> Places<N> {
 }
 
 // Whether there are so many ranges that low halves are worth it, and those without a 64th at either
-// end reach over a fourth of all numbers: else most of them could lie in one part. Only numbers of 32
-// bits or fewer have low halves.
+// end extend over a fourth of all numbers: otherwise most of them could lie in one part. Only
+// numbers of at most 32 bits have low halves.
 fn are_many_and_spread<N: IndexedNetwork>(lasts: &[N::Addr]) -> bool {
     if N::WIDTH > 32 {
         return false;
@@ -71,7 +71,7 @@ fn are_many_and_spread<N: IndexedNetwork>(lasts: &[N::Addr]) -> bool {
     last.saturating_sub(first) >= 1 << 30
 }
 
-// The numbers of the addresses, which have 32 bits at most.
+// The numbers of the addresses, which have at most 32 bits.
 fn words_of<N: IndexedNetwork>(alloc: Global, addresses: &[N::Addr]) -> Result<Vec<u32>, AllocError> {
     let mut words = Vec::with_capacity(alloc, addresses.len())?;
     for address in addresses {

@@ -8,16 +8,16 @@ use crate::ipnetwork_index::indexed_network::IndexedNetwork;
 use crate::ipnetwork_index::places::Places;
 use crate::plain_std::alloc::{AllocError, Global};
 
-/// The ranges that the blocks of a table cut the addresses into, with what a look-up finds in each.
+/// The ranges that a table's blocks cut the addresses into, with what a look-up finds in each.
 pub(crate) struct Ranges<N: IndexedNetwork, V: Copy> {
     // The addresses, cut where a block begins or ends.
     pub(crate) places: Places<N>,
-    // The longest block of the addresses of each range.
+    // The longest block that holds the addresses of each range.
     pub(crate) answers: Answers<V>,
 }
 
 impl<N: IndexedNetwork, V: Copy> Ranges<N, V> {
-    /// Those of a table with these entries.
+    /// The ranges of a table with these entries.
     pub(crate) fn of(alloc: Global, entries: &[(N, V)]) -> Result<Self, AllocError> {
         let lasts = ranges_of(alloc, entries)?;
         let answers = answers_of(alloc, entries, lasts.as_slice())?;
@@ -25,12 +25,12 @@ impl<N: IndexedNetwork, V: Copy> Ranges<N, V> {
         Ok(Ranges { places, answers })
     }
 
-    /// How many there are.
+    /// The number of ranges.
     pub(crate) fn len(&self) -> usize {
         self.places.len()
     }
 
-    /// The longest block that has the address, with its value.
+    /// The longest block that holds the address, with its value.
     #[inline(always)]
     pub(crate) fn lookup(&self, addr: N::Addr) -> Option<(N, V)> {
         let place = self.places.place_of(addr);

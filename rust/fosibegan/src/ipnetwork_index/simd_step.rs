@@ -4,8 +4,8 @@
 
 use crate::ipnetwork_index::key::Key;
 
-// From `at` on each fourth of so many keys and one more is the last of a step: how many of the ends
-// of the next four steps are less than this key. No branch depends on what they are.
+// How many of the next four steps from `at` on, each over `step` + 1 keys, end with a key that is
+// less than `key`. No branch depends on the keys.
 pub(crate) fn below_of_four<K: Key>(keys: &[K], at: usize, step: usize, key: K) -> usize {
     let first = one_if_less::<K>(keys[at + step], key);
     let second = one_if_less::<K>(keys[at + (2 * step + 1)], key);
@@ -14,7 +14,7 @@ pub(crate) fn below_of_four<K: Key>(keys: &[K], at: usize, step: usize, key: K) 
     first + second + third + fourth
 }
 
-// 1 if the first is less than the second, and 0 if not.
+// 1 if the first is less than the second, and 0 otherwise.
 fn one_if_less<K: Key>(first: K, second: K) -> usize {
     usize::from(first.is_less(second))
 }

@@ -4,8 +4,8 @@
 
 use crate::ipnetwork_index::key::Key;
 
-/// How many parts an index has for so many ranges, as a power of two: two to four for each range, one
-/// to two from 2^14 ranges on, and at most 2^20.
+/// The number of parts of an index with this many ranges, as a power of two: two to four for each
+/// range, one to two from 2^14 ranges on, and at most 2^20.
 ///
 /// ```
 /// # use fosibegan::in_examples::*;
@@ -19,8 +19,8 @@ pub fn part_bits(ranges: usize) -> u32 {
     bits.min(20)
 }
 
-// The same, for the index of a table, which is small if it has many ranges: from 2^16 of them on
-// it has one part for one or two of them.
+// `part_bits` for the index of a table, which is kept small if it has many ranges: from 2^16 ranges
+// on, it has one part for one or two of them.
 pub(crate) fn route_bits(ranges: usize) -> u32 {
     if ranges < 16_384 {
         part_bits(ranges)
@@ -31,18 +31,18 @@ pub(crate) fn route_bits(ranges: usize) -> u32 {
     }
 }
 
-// How large the parts are, as a power of two, in which numbers of 32 bits that end ranges are known
-// by their low halves: a part has less than eight of them, up to 2^23, and at least two from 2^17
-// on.
+// The size of the parts, as a power of two, if ranges of 32-bit numbers are represented by low
+// halves: on average, a part has fewer than eight ranges if there are fewer than 2^23, and at least
+// two from 2^17 on.
 pub(crate) fn low_shift(ranges: usize) -> u32 {
     let bits = usize::BITS - ranges.leading_zeros();
     35u32.saturating_sub(bits).max(12).min(16)
 }
 
-// From which of so many parts on, and how large they are: from the first key to the last of a range
-// but one, so that the first bits that all of them share are left out; or, if that makes them much
-// smaller, from the first to the last of those in the middle, without a 64th at either end. The
-// contract leaves both open: others would cost time and change no answer.
+// The first number of 2^`bits` parts, and their size as a power of two. They extend from the first
+// key to that of the last range but one, which skips the leading bits that all of these share; or,
+// if that makes the parts much smaller, over the keys in the middle, without a 64th at either end.
+// The contract leaves both open: other values would cost time but change no result.
 pub(crate) fn span_of<K: Key>(keys: &[K], bits: u32) -> (K, u32) {
     let last = keys.len() - 4;
     let end = last.saturating_sub(1);
@@ -55,10 +55,11 @@ pub(crate) fn span_of<K: Key>(keys: &[K], bits: u32) -> (K, u32) {
     (keys[0], whole)
 }
 
-/// Writes for each part of the numbers from `base` on, which has 2^`shift` numbers, the place that
-/// the search for a number of it may begin at: how many of the keys are less than each of them, or
-/// fewer if there are 2^32 or more. There are as many parts as places to write to, at least one;
-/// the last part has the numbers after it too, and the first one those before it.
+/// Writes, for each part of the numbers from `base` on, the place where the search for a number of
+/// the part may begin: how many of the keys are less than each of these numbers, or fewer if that
+/// is 2^32 or more. Each part has 2^`shift` numbers; `shift` must be less than the number of bits
+/// of a key. There are as many parts as elements of `starts`, at least one; the last part also has
+/// the numbers after it, and the first one those before it.
 pub(crate) fn write_starts<K: Key>(keys: &[K], base: K, shift: u32, starts: &mut [u32]) {
     let mut at = 0;
     for part in 0..starts.len() {
@@ -67,7 +68,7 @@ pub(crate) fn write_starts<K: Key>(keys: &[K], base: K, shift: u32, starts: &mut
     }
 }
 
-// How many keys are less than each number of the part. Those before `from` are.
+// How many keys are less than each number of the part, given that those before `from` are.
 fn start_of<K: Key>(keys: &[K], from: usize, base: K, shift: u32, part: usize) -> usize {
     let mut at = from;
     while at < keys.len() && keys[at].part_of(base, shift, usize::MAX) < part {

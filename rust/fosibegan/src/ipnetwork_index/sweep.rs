@@ -1,9 +1,9 @@
 // Written by scripts/plain out of crates/ipnetwork_index/src/sweep.rt
 
-//! What a table finds in ranges, by one sweep over its blocks in their order. Those that are open
-//! are on a stack: the sweep has come to their first address, and not past their last one. Each is
-//! within the one below it and longer, so that the last of them is the longest, and there is at
-//! most one of each prefix length.
+//! What a table finds in ranges, by one sweep over its blocks in order. The open blocks are on a
+//! stack: those whose first address the sweep has reached and whose last address it has not passed.
+//! Each lies in the one below it and is longer, so the top one is the longest, and there is at most
+//! one of each prefix length.
 
 use crate::plain_std::vec::Vec;
 use crate::ipnetwork_index::answers::{Answers, NO_BLOCK};
@@ -12,7 +12,7 @@ use crate::ipnetwork_index::key::Key;
 use crate::plain_std::arrayvec::ArrayVec;
 use crate::plain_std::alloc::{AllocError, Global};
 
-// How many blocks are open at once, at most: one of each prefix length from 0 to 128.
+// The greatest number of open blocks: one of each prefix length from 0 to 128.
 const MOST_OPEN: usize = 129;
 
 /// What a table with these entries, at least one, finds for the last address of each range.
@@ -36,7 +36,7 @@ pub(crate) fn answers_by_sweep<N: IndexedNetwork, V: Copy>(
 }
 
 // Opens the blocks after the first `count` that begin at the address or before it, each after
-// closing those that end before it: how many of the blocks have been opened then.
+// closing those that end before it. Returns how many of the blocks have then been opened.
 fn open_up_to<N: IndexedNetwork, V: Copy>(
     entries: &[(N, V)],
     count: usize,
@@ -56,7 +56,7 @@ fn open_up_to<N: IndexedNetwork, V: Copy>(
     at
 }
 
-// Closes the last blocks that end before the address.
+// Closes blocks from the top of the stack while they end before the address.
 fn close_before<N: IndexedNetwork, V: Copy>(
     entries: &[(N, V)],
     opened: &mut ArrayVec<usize, MOST_OPEN>,
@@ -71,7 +71,7 @@ fn close_before<N: IndexedNetwork, V: Copy>(
     }
 }
 
-// The prefix length of the last block, and its value.
+// The prefix length and the value of the last open block, or `NO_BLOCK` and any value.
 fn innermost<N: IndexedNetwork, V: Copy>(entries: &[(N, V)], opened: &[usize]) -> (u8, V) {
     match opened.last().copied() {
         Some(place) => {

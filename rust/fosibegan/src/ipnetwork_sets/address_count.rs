@@ -1,6 +1,6 @@
 // Written by scripts/plain out of crates/ipnetwork_sets/src/address_count.rt
 
-//! How many addresses there are in a set.
+//! The number of addresses in a set.
 
 use crate::plain_std::arrayvec::ArrayString;
 use crate::ipnetwork_addr::decimal::push_number;
@@ -9,10 +9,10 @@ use crate::ipnetwork_family::NetworkSizeError;
 use core::cmp::Ordering;
 use core::fmt;
 
-/// The most bytes that a count is printed as.
+/// The greatest number of bytes that a count is printed as.
 const DECIMAL_MAX: usize = 39;
 
-/// A number of addresses, exact up to 2^128: that of all IPv6 addresses.
+/// A number of addresses, from 0 to 2^128, which is the number of all IPv6 addresses.
 ///
 /// Counts are compared by their numbers, and printed in decimal.
 ///
@@ -42,9 +42,10 @@ impl AddressCount {
     /// ```
     pub const ZERO: AddressCount = AddressCount::Number(0);
 
-    /// The count plus the number of addresses of the network, or 2^128 if the sum is greater. Host bits are ignored.
+    /// The count plus the number of addresses of the network, or 2^128 if the sum is greater. Host
+    /// bits are ignored.
     ///
-    /// Added up over blocks that share no address, of one family, the count is exact.
+    /// The sum over blocks of one family that share no addresses is exact.
     ///
     /// ```
     /// # use fosibegan::in_examples::*;
@@ -70,7 +71,7 @@ impl AddressCount {
 }
 
 impl From<u128> for AddressCount {
-    /// The count of this number.
+    /// The count with this number.
     fn from(number: u128) -> Self {
         AddressCount::Number(number)
     }
@@ -79,7 +80,8 @@ impl From<u128> for AddressCount {
 impl TryFrom<AddressCount> for u128 {
     type Error = NetworkSizeError;
 
-    /// The number. 2^128, which a `u128` cannot hold, is `NetworkIsTooLarge`.
+    /// The number of the count. The error for 2^128, which a `u128` cannot hold, is
+    /// `NetworkIsTooLarge`.
     fn try_from(count: AddressCount) -> Result<Self, NetworkSizeError> {
         match count {
             AddressCount::Number(number) => Ok(number),
@@ -109,7 +111,7 @@ impl PartialOrd for AddressCount {
     }
 }
 
-// Which of two counts is the smaller.
+// Compares two counts by their numbers.
 fn compare(first: AddressCount, second: AddressCount) -> Ordering {
     match first {
         AddressCount::Number(number) => match second {

@@ -8,8 +8,8 @@ use crate::ipnetwork_sets::{changes, search};
 use crate::ipnetwork_blocks::{AddressSpace, aggregate_vec};
 use crate::plain_std::alloc::AllocError;
 
-/// A set of addresses of one family: the maximal blocks of the set, in ascending order. Each set has one such
-/// list, and no list of networks with the same addresses is shorter.
+/// A set of addresses of one family: the maximal blocks of the set, in ascending order. Each set
+/// has one such list, and no list of networks with the same addresses is shorter.
 ///
 /// ```
 /// # use fosibegan::in_examples::*;
@@ -27,10 +27,9 @@ pub struct AddressSet<N: AddressSpace> {
 }
 
 impl<N: AddressSpace> AddressSet<N> {
-    /// The set of the addresses of the networks, which may have host bits and stand in any order.
+    /// The set of the addresses of the networks, which may have host bits and be in any order.
     ///
-    /// Sorts the networks in their list, and goes over them once. `into_blocks` gives the list
-    /// back.
+    /// Sorts the networks in place and goes over them once. `into_blocks` returns the list.
     ///
     /// ```
     /// # use fosibegan::in_examples::*;
@@ -47,10 +46,10 @@ impl<N: AddressSpace> AddressSet<N> {
         AddressSet { blocks: networks }
     }
 
-    /// The set with these blocks, if they are maximal in it, without host bits, and in ascending order. If they are
-    /// not, the list is returned as the error; `from_networks` takes any list.
+    /// The set with these blocks, if they are maximal in it, have no host bits and are in ascending
+    /// order. If not, the list is returned as the error; `from_networks` accepts any list.
     ///
-    /// Goes over the list once. `into_blocks` gives it back.
+    /// Goes over the list once. `into_blocks` returns it.
     ///
     /// ```
     /// # use fosibegan::in_examples::*;
@@ -69,7 +68,7 @@ impl<N: AddressSpace> AddressSet<N> {
         }
     }
 
-    // The set of which these are the blocks.
+    // The set with these blocks.
     pub(crate) fn of_blocks(blocks: Vec<N>) -> Self {
         AddressSet { blocks }
     }
@@ -90,8 +89,8 @@ impl<N: AddressSpace> AddressSet<N> {
         self.blocks.as_slice()
     }
 
-    /// The blocks as a list, in ascending order. It is the set's own, which may serve as the memory
-    /// for another set, such as a union.
+    /// The set's own list of blocks, in ascending order. It can serve as the memory for another
+    /// set, such as a union.
     ///
     /// ```
     /// # use fosibegan::in_examples::*;
@@ -108,13 +107,13 @@ impl<N: AddressSpace> AddressSet<N> {
         blocks
     }
 
-    /// Adds the addresses of the network to the set, in its own list, and returns whether one of them is new. Host bits
-    /// are ignored. One block takes the place of the blocks within the network and of those that make a larger block
-    /// with it, so the list grows by one block at most. `AllocError` means that it had to grow and memory ran out; the
-    /// set is unchanged then.
+    /// Adds the addresses of the network to the set, in place, and returns whether any of them is
+    /// new. Host bits are ignored. One block replaces the blocks within the network and those that
+    /// form a larger block with it, so the list grows by at most one block. `AllocError` means that
+    /// it had to grow and memory ran out; the set is then unchanged.
     ///
-    /// Takes a few binary searches, at most one step for each bit of the prefix length, and one move of the blocks after
-    /// the network.
+    /// Takes a few binary searches, at most one step for each bit of the prefix length, and one
+    /// move of the blocks after the network.
     ///
     /// ```
     /// # use fosibegan::in_examples::*;
@@ -131,12 +130,14 @@ impl<N: AddressSpace> AddressSet<N> {
         changes::insert(&mut self.blocks, network)
     }
 
-    /// Takes the addresses of the network from the set, in its own list, and returns whether one of them was in it.
-    /// Host bits are ignored. A block that has other addresses too is split into as many blocks as its prefix length is
-    /// shorter than the network's, `WIDTH` at most. `AllocError` means that the list had to grow and memory ran out; the
-    /// set is unchanged then.
+    /// Removes the addresses of the network from the set, in place, and returns whether any of them
+    /// was in it. Host bits are ignored. A block that has other addresses too is split into one
+    /// block for each bit by which its prefix length is shorter than the network's: at most
+    /// `WIDTH`. `AllocError` means that the list had to grow and memory ran out; the set is then
+    /// unchanged.
     ///
-    /// Takes a few binary searches, one step for each block of a split, and one move of the blocks after the network.
+    /// Takes a few binary searches, one step for each block of a split, and one move of the blocks
+    /// after the network.
     ///
     /// ```
     /// # use fosibegan::in_examples::*;
@@ -153,7 +154,7 @@ impl<N: AddressSpace> AddressSet<N> {
         changes::remove(&mut self.blocks, network)
     }
 
-    /// Whether there is no address in the set.
+    /// Whether the set has no addresses.
     ///
     /// ```
     /// # use fosibegan::in_examples::*;
@@ -164,7 +165,7 @@ impl<N: AddressSpace> AddressSet<N> {
         self.blocks.is_empty()
     }
 
-    /// Whether the address is in the set. One binary search over the blocks.
+    /// Whether the address is in the set. Takes one binary search over the blocks.
     ///
     /// ```
     /// # use fosibegan::in_examples::*;
@@ -180,7 +181,8 @@ impl<N: AddressSpace> AddressSet<N> {
         search::contains(self.blocks.as_slice(), addr)
     }
 
-    /// Whether each address of the network is in the set. Host bits are ignored. One binary search over the blocks.
+    /// Whether each address of the network is in the set. Host bits are ignored. Takes one binary
+    /// search over the blocks.
     ///
     /// ```
     /// # use fosibegan::in_examples::*;
@@ -196,7 +198,8 @@ impl<N: AddressSpace> AddressSet<N> {
         search::covers(self.blocks.as_slice(), network)
     }
 
-    /// Whether some address of the network is in the set. Host bits are ignored. One binary search over the blocks.
+    /// Whether some address of the network is in the set. Host bits are ignored. Takes one binary
+    /// search over the blocks.
     ///
     /// ```
     /// # use fosibegan::in_examples::*;

@@ -10,8 +10,9 @@ use crate::ipnetwork_sets::search;
 use crate::ipnetwork_sets::union::Union;
 use crate::ipnetwork_blocks::AddressSpace;
 
-/// A set of addresses of one family over a borrowed list: its maximal blocks, in ascending order. It can be asked what
-/// an `AddressSet` can, for a list that is stored elsewhere, such as in a table or an array.
+/// A set of addresses of one family over a borrowed list of its maximal blocks, in ascending order.
+/// It has the queries of an `AddressSet`, for a list that is stored elsewhere, such as in a table
+/// or an array.
 ///
 /// ```
 /// # use fosibegan::in_examples::*;
@@ -28,8 +29,8 @@ pub struct AddressSlice<'a, N: AddressSpace> {
 }
 
 impl<'a, N: AddressSpace> AddressSlice<'a, N> {
-    /// The set with these blocks, if they are maximal in it, without host bits, and in ascending order; `None` if they
-    /// are not. Goes over the list once.
+    /// The set with these blocks, if they are maximal in it, have no host bits and are in ascending
+    /// order; `None` if not. Goes over the list once.
     ///
     /// ```
     /// # use fosibegan::in_examples::*;
@@ -46,7 +47,7 @@ impl<'a, N: AddressSpace> AddressSlice<'a, N> {
         None
     }
 
-    // The set of which these are the blocks.
+    // The set with these blocks.
     pub(crate) fn of_blocks(blocks: &'a [N]) -> Self {
         AddressSlice { blocks }
     }
@@ -65,7 +66,7 @@ impl<'a, N: AddressSpace> AddressSlice<'a, N> {
         self.blocks
     }
 
-    /// Whether there is no address in the set.
+    /// Whether the set has no addresses.
     ///
     /// ```
     /// # use fosibegan::in_examples::*;
@@ -75,7 +76,7 @@ impl<'a, N: AddressSpace> AddressSlice<'a, N> {
         self.blocks.is_empty()
     }
 
-    /// Whether the address is in the set. One binary search over the blocks.
+    /// Whether the address is in the set. Takes one binary search over the blocks.
     ///
     /// ```
     /// # use fosibegan::in_examples::*;
@@ -90,7 +91,8 @@ impl<'a, N: AddressSpace> AddressSlice<'a, N> {
         search::contains(self.blocks, addr)
     }
 
-    /// Whether each address of the network is in the set. Host bits are ignored. One binary search over the blocks.
+    /// Whether each address of the network is in the set. Host bits are ignored. Takes one binary
+    /// search over the blocks.
     ///
     /// ```
     /// # use fosibegan::in_examples::*;
@@ -105,7 +107,8 @@ impl<'a, N: AddressSpace> AddressSlice<'a, N> {
         search::covers(self.blocks, network)
     }
 
-    /// Whether some address of the network is in the set. Host bits are ignored. One binary search over the blocks.
+    /// Whether some address of the network is in the set. Host bits are ignored. Takes one binary
+    /// search over the blocks.
     ///
     /// ```
     /// # use fosibegan::in_examples::*;
@@ -120,8 +123,8 @@ impl<'a, N: AddressSpace> AddressSlice<'a, N> {
         search::overlaps(self.blocks, network)
     }
 
-    /// The blocks of the addresses that are in both sets, in ascending order. Goes over both lists once, as the
-    /// iterator advances.
+    /// The blocks of the addresses that are in both sets, in ascending order. Goes over both lists
+    /// once, as the iterator advances.
     ///
     /// ```
     /// # use fosibegan::in_examples::*;
@@ -137,8 +140,8 @@ impl<'a, N: AddressSpace> AddressSlice<'a, N> {
         Intersection::of(self.blocks(), other.blocks())
     }
 
-    /// The blocks of the addresses that are in this set and not in the other, in ascending order. Goes over both lists
-    /// once, as the iterator advances.
+    /// The blocks of the addresses that are in this set and not in the other, in ascending order.
+    /// Goes over both lists once, as the iterator advances.
     ///
     /// ```
     /// # use fosibegan::in_examples::*;
@@ -154,8 +157,9 @@ impl<'a, N: AddressSpace> AddressSlice<'a, N> {
         Difference::of(self.blocks(), other.blocks())
     }
 
-    /// The blocks of the addresses that are in the network and not in the set, in ascending order: what is free in the
-    /// network. Host bits are ignored. Goes over the list once, as the iterator advances.
+    /// The blocks of the addresses that are in the network and not in the set, in ascending order:
+    /// the free part of the network. Host bits are ignored. Goes over the list once, as the
+    /// iterator advances.
     ///
     /// ```
     /// # use fosibegan::in_examples::*;
@@ -170,8 +174,8 @@ impl<'a, N: AddressSpace> AddressSlice<'a, N> {
         Difference::within(network, self.blocks())
     }
 
-    /// The blocks of the addresses that are in one of the two sets or in both, in ascending order. Goes over both lists
-    /// once, as the iterator advances.
+    /// The blocks of the addresses that are in one of the two sets or in both, in ascending order.
+    /// Goes over both lists once, as the iterator advances.
     ///
     /// ```
     /// # use fosibegan::in_examples::*;
@@ -223,7 +227,7 @@ impl<'a, N: AddressSpace> AddressSlice<'a, N> {
 }
 
 impl<N: AddressSpace> AddressSet<N> {
-    /// The same set over the list of this one.
+    /// The same set, as a slice that borrows the list of this one.
     ///
     /// ```
     /// # use fosibegan::in_examples::*;

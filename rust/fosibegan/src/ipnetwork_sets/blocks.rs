@@ -57,7 +57,7 @@ pub struct Blocks<'a, N: AddressSpace> {
 }
 
 impl<N: AddressSpace> AddressSet<N> {
-    /// The blocks one after the other, in ascending order.
+    /// An iterator over the blocks, in ascending order.
     ///
     /// ```
     /// # use fosibegan::in_examples::*;
@@ -75,7 +75,7 @@ impl<N: AddressSpace> AddressSet<N> {
 }
 
 impl<'a, N: AddressSpace> AddressSlice<'a, N> {
-    /// The blocks one after the other, in ascending order.
+    /// An iterator over the blocks, in ascending order.
     ///
     /// ```
     /// # use fosibegan::in_examples::*;

@@ -1,6 +1,6 @@
 // Written by scripts/plain out of crates/ipnetwork_sets/src/changes.rt
 
-//! Networks added to a set and taken from it, in its own list.
+//! Adding networks to a set and removing them, in place.
 
 use crate::plain_std::vec::Vec;
 use crate::ipnetwork_sets::joining::join_around;
@@ -10,7 +10,8 @@ use crate::ipnetwork_sets::search::covers;
 use crate::ipnetwork_blocks::{AddressSpace, exclude};
 use crate::plain_std::alloc::AllocError;
 
-/// Adds the addresses of the network to the set with these blocks, and tells whether one of them is new.
+/// Adds the addresses of the network to the set with these blocks, and returns whether any of them
+/// is new.
 pub(crate) fn insert<N: AddressSpace>(blocks: &mut Vec<N>, network: N) -> Result<bool, AllocError> {
     let Some(found) = block_to_add(blocks.as_slice(), network) else {
         return Ok(false);
@@ -20,8 +21,8 @@ pub(crate) fn insert<N: AddressSpace>(blocks: &mut Vec<N>, network: N) -> Result
     Ok(true)
 }
 
-// The block that takes the place of the network, and of the blocks from the first index up to before the second; `None`
-// if each address of the network is one of the set.
+// The block that replaces the network and the blocks from the first index up to, but not including,
+// the second; `None` if each address of the network is in the set.
 fn block_to_add<N: AddressSpace>(blocks: &[N], network: N) -> Option<(usize, usize, N)> {
     if covers(blocks, network) {
         return None;
@@ -30,9 +31,10 @@ fn block_to_add<N: AddressSpace>(blocks: &[N], network: N) -> Option<(usize, usi
     Some(join_around(blocks, network, from, to))
 }
 
-/// Takes the addresses of the network from the set with these blocks, and tells whether one of them was in it.
+/// Removes the addresses of the network from the set with these blocks, and returns whether any of
+/// them was in it.
 pub(crate) fn remove<N: AddressSpace>(blocks: &mut Vec<N>, network: N) -> Result<bool, AllocError> {
-    // The clauses of this call say that it is a network of addresses of WIDTH bits.
+    // The clauses of this call say that `network` is a network of addresses of WIDTH bits.
     let _ = network.ip();
     let (from, to) = place_of(blocks.as_slice(), network);
     if from == to {

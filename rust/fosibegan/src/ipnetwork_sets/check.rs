@@ -5,8 +5,8 @@
 use crate::ipnetwork_sets::order::ends_before;
 use crate::ipnetwork_blocks::{AddressSpace, HoldsNetwork};
 
-/// Whether the networks that the values hold are the maximal blocks of their union, in ascending order. Goes over them
-/// once.
+/// Whether the networks that the values hold are the maximal blocks of their union, in ascending
+/// order. Goes over them once.
 #[doc(hidden)]
 pub fn is_address_set<N: AddressSpace, H: HoldsNetwork<N>>(list: &[H]) -> bool {
     for next in 0..list.len() {
@@ -21,12 +21,12 @@ pub fn is_address_set<N: AddressSpace, H: HoldsNetwork<N>>(list: &[H]) -> bool {
     true
 }
 
-// Whether the network is its own block.
+// Whether the network has no host bits.
 fn has_no_host_bits<N: AddressSpace>(network: N) -> bool {
     network.ip() == network.network()
 }
 
-// Whether the second begins after the first has ended, and they are not the halves of one block.
+// Whether the second begins after the first ends, and the two are not the halves of one block.
 fn follows<N: AddressSpace>(first: N, second: N) -> bool {
     ends_before(first, second) && !are_halves(first, second)
 }

@@ -1,6 +1,6 @@
 // Written by scripts/plain out of crates/ipnetwork_sets/src/collecting.rt
 
-//! Sets made from iterators over blocks, in a list of the caller's.
+//! Sets made from iterators over blocks, in a list that the caller provides.
 
 use crate::plain_std::vec::Vec;
 use crate::ipnetwork_sets::address_set::AddressSet;
@@ -11,8 +11,8 @@ use crate::ipnetwork_sets::union::Union;
 use crate::ipnetwork_blocks::AddressSpace;
 use crate::plain_std::alloc::AllocError;
 
-/// The set of the blocks that are still to come. The list is put into `memory`, whose content is dropped first.
-/// `AllocError` means that it had to grow and memory ran out.
+/// The set of the remaining blocks. The blocks are stored in `memory`, whose contents are dropped
+/// first. `AllocError` means that it had to grow and memory ran out.
 ///
 /// ```
 /// # use fosibegan::in_examples::*;
@@ -37,8 +37,8 @@ pub fn collected<N: AddressSpace, B: SetBlocks<N>>(
 }
 
 impl<N: AddressSpace> AddressSet<N> {
-    /// A set with the same addresses. The list is put into `memory`, whose content is dropped first. `AllocError` means
-    /// that it had to grow and memory ran out.
+    /// A set with the same addresses. The blocks are stored in `memory`, whose contents are dropped
+    /// first. `AllocError` means that it had to grow and memory ran out.
     ///
     /// ```
     /// # use fosibegan::in_examples::*;
@@ -55,8 +55,8 @@ impl<N: AddressSpace> AddressSet<N> {
 }
 
 impl<'a, N: AddressSpace> Blocks<'a, N> {
-    /// The set of the remaining blocks. The list is put into `memory`, whose content is dropped first. `AllocError`
-    /// means that it had to grow and memory ran out.
+    /// The set of the remaining blocks. The blocks are stored in `memory`, whose contents are
+    /// dropped first. `AllocError` means that it had to grow and memory ran out.
     ///
     /// ```
     /// # use fosibegan::in_examples::*;
@@ -77,8 +77,8 @@ impl<'a, N: AddressSpace> Blocks<'a, N> {
 }
 
 impl<'a, N: AddressSpace> Intersection<'a, N> {
-    /// The set of the remaining blocks. The list is put into `memory`, whose content is dropped first. `AllocError`
-    /// means that it had to grow and memory ran out.
+    /// The set of the remaining blocks. The blocks are stored in `memory`, whose contents are
+    /// dropped first. `AllocError` means that it had to grow and memory ran out.
     ///
     /// ```
     /// # use fosibegan::in_examples::*;
@@ -97,8 +97,8 @@ impl<'a, N: AddressSpace> Intersection<'a, N> {
 }
 
 impl<'a, N: AddressSpace> Difference<'a, N> {
-    /// The set of the remaining blocks. The list is put into `memory`, whose content is dropped first. `AllocError`
-    /// means that it had to grow and memory ran out.
+    /// The set of the remaining blocks. The blocks are stored in `memory`, whose contents are
+    /// dropped first. `AllocError` means that it had to grow and memory ran out.
     ///
     /// ```
     /// # use fosibegan::in_examples::*;
@@ -117,8 +117,8 @@ impl<'a, N: AddressSpace> Difference<'a, N> {
 }
 
 impl<'a, N: AddressSpace> Union<'a, N> {
-    /// The set of the remaining blocks. The list is put into `memory`, whose content is dropped first. `AllocError`
-    /// means that it had to grow and memory ran out.
+    /// The set of the remaining blocks. The blocks are stored in `memory`, whose contents are
+    /// dropped first. `AllocError` means that it had to grow and memory ran out.
     ///
     /// ```
     /// # use fosibegan::in_examples::*;

@@ -1,14 +1,14 @@
 // Written by scripts/plain out of crates/ipnetwork_sets/src/common.rt
 
-//! The common part of two sets.
+//! The intersection of two sets.
 
 use crate::ipnetwork_sets::held::split_held;
 use crate::ipnetwork_sets::order::ends_before;
 use crate::ipnetwork_blocks::{AddressSpace, HoldsNetwork};
 use core::marker::PhantomData;
 
-/// An iterator over the blocks of the common part of two sets, in ascending order. `H` is what the lists of the sets have:
-/// networks, or values that hold them.
+/// An iterator over the blocks of the intersection of two sets, in ascending order. `H` is the type
+/// of the elements of the sets' lists: networks, or values that hold them.
 ///
 /// ```
 /// # use fosibegan::in_examples::*;
@@ -29,7 +29,8 @@ pub struct Intersection<'a, N: AddressSpace, H: HoldsNetwork<N> = N> {
 }
 
 impl<'a, N: AddressSpace, H: HoldsNetwork<N>> Intersection<'a, N, H> {
-    /// The blocks of the addresses that are in both of the sets of two lists.
+    /// The blocks of the addresses that are in the sets of both lists. `is_address_set` must hold
+    /// for both lists.
     #[doc(hidden)]
     pub fn of(first: &'a [H], second: &'a [H]) -> Self {
         Intersection {
@@ -39,7 +40,7 @@ impl<'a, N: AddressSpace, H: HoldsNetwork<N>> Intersection<'a, N, H> {
         }
     }
 
-    // The blocks that are still to come are those of a set.
+    // The blocks still to come are those of a set.
     pub(crate) fn law_are_sets(&self) {
         let _ = &self.first;
     }
@@ -56,8 +57,9 @@ impl<'a, N: AddressSpace, H: HoldsNetwork<N>> Iterator for Intersection<'a, N, H
     }
 }
 
-// The first block of the common part, and what is left of both sets. Passes the blocks that end before the other's
-// begins; of two that share an address the smaller lies in the other.
+// The first block of the intersection, and what is left of both sets. Skips a block that ends
+// before the other set's first block begins; of two blocks that share an address, the smaller lies
+// in the other.
 fn next_common<'a, N: AddressSpace, H: HoldsNetwork<N>>(
     mut first: &'a [H],
     mut second: &'a [H],

@@ -8,8 +8,8 @@ use crate::ipnetwork_sets::difference::Difference;
 use crate::ipnetwork_blocks::AddressSpace;
 
 impl<N: AddressSpace> AddressSet<N> {
-    /// The blocks of all addresses of the family that are not in the set, in ascending order. Goes over the list once,
-    /// as the iterator advances.
+    /// The blocks of all addresses of the family that are not in the set, in ascending order. Goes
+    /// over the list once, as the iterator advances.
     ///
     /// ```
     /// # use fosibegan::in_examples::*;
@@ -26,8 +26,8 @@ impl<N: AddressSpace> AddressSet<N> {
 }
 
 impl<'a, N: AddressSpace> AddressSlice<'a, N> {
-    /// The blocks of all addresses of the family that are not in the set, in ascending order. Goes over the list once,
-    /// as the iterator advances.
+    /// The blocks of all addresses of the family that are not in the set, in ascending order. Goes
+    /// over the list once, as the iterator advances.
     ///
     /// ```
     /// # use fosibegan::in_examples::*;

@@ -1,6 +1,6 @@
 // Written by scripts/plain out of crates/ipnetwork_sets/src/counting.rt
 
-//! The number of addresses of a set.
+//! The number of addresses in a set.
 
 use crate::ipnetwork_sets::address_count::AddressCount;
 use crate::ipnetwork_sets::address_set::AddressSet;
@@ -8,7 +8,7 @@ use crate::ipnetwork_sets::address_slice::AddressSlice;
 use crate::ipnetwork_blocks::AddressSpace;
 
 impl<N: AddressSpace> AddressSet<N> {
-    /// How many addresses there are in the set. Goes over the blocks once.
+    /// The number of addresses in the set. Goes over the blocks once.
     ///
     /// ```
     /// # use fosibegan::in_examples::*;
@@ -25,7 +25,7 @@ impl<N: AddressSpace> AddressSet<N> {
 }
 
 impl<'a, N: AddressSpace> AddressSlice<'a, N> {
-    /// How many addresses there are in the set. Goes over the blocks once.
+    /// The number of addresses in the set. Goes over the blocks once.
     ///
     /// ```
     /// # use fosibegan::in_examples::*;
@@ -40,7 +40,7 @@ impl<'a, N: AddressSpace> AddressSlice<'a, N> {
     }
 }
 
-// The numbers of addresses of the networks together.
+// The sum of the sizes of the networks, or 2^128 if it is greater.
 fn count_blocks<N: AddressSpace>(blocks: &[N]) -> AddressCount {
     let mut count = AddressCount::ZERO;
     for block in blocks {

@@ -1,13 +1,13 @@
 // Written by scripts/plain out of crates/ipnetwork_sets/src/difference.rt
 
-//! What one set has and another has not.
+//! The addresses that are in one set and not in another.
 
 use crate::ipnetwork_sets::held::split_held;
 use crate::ipnetwork_sets::pieces::{first_free, piece_behind};
 use crate::ipnetwork_blocks::{AddressSpace, HoldsNetwork, block};
 
-/// An iterator over the blocks of a difference of sets, in ascending order. `H` is what the lists of the sets have:
-/// networks, or values that hold them.
+/// An iterator over the blocks of a difference of sets, in ascending order. `H` is the type of the
+/// elements of the sets' lists: networks, or values that hold them.
 ///
 /// ```
 /// # use fosibegan::in_examples::*;
@@ -27,7 +27,7 @@ pub struct Difference<'a, N: AddressSpace, H: HoldsNetwork<N> = N> {
     cut: &'a [H],
 }
 
-/// A block, and a piece of it: what lies before the piece in the block is done.
+/// A block and a piece of it; the addresses of the block before the piece are done.
 #[derive(Clone, Copy, Debug)]
 struct Part<N: AddressSpace> {
     whole: N,
@@ -35,7 +35,8 @@ struct Part<N: AddressSpace> {
 }
 
 impl<'a, N: AddressSpace, H: HoldsNetwork<N>> Difference<'a, N, H> {
-    /// The blocks of the addresses that the set of the first list has and that of the cut one has not.
+    /// The blocks of the addresses that are in the set of `first` and not in that of `cut`.
+    /// `is_address_set` must hold for both lists.
     #[doc(hidden)]
     pub fn of(first: &'a [H], cut: &'a [H]) -> Self {
         Difference {
@@ -45,7 +46,7 @@ impl<'a, N: AddressSpace, H: HoldsNetwork<N>> Difference<'a, N, H> {
         }
     }
 
-    /// The blocks of the addresses that the network has and the cut set has not.
+    /// The blocks of the addresses that are in the network and not in the cut set.
     pub(crate) fn within(network: N, cut: &'a [H]) -> Self {
         let whole = block(network);
         Difference {
@@ -58,7 +59,7 @@ impl<'a, N: AddressSpace, H: HoldsNetwork<N>> Difference<'a, N, H> {
         }
     }
 
-    // The blocks that are still to come are those of a set.
+    // The blocks still to come are those of a set.
     pub(crate) fn law_are_sets(&self) {
         let _ = &self.rest;
     }
@@ -97,7 +98,8 @@ fn next_left<'a, N: AddressSpace, H: HoldsNetwork<N>>(
     }
 }
 
-// What is at hand, or the first of the others, whole; and the others.
+// The current part or, if there is none, the first of the remaining blocks as a whole; and the
+// blocks that remain after it.
 fn take_part<'a, N: AddressSpace, H: HoldsNetwork<N>>(
     at_hand: Option<Part<N>>,
     rest: &'a [H],
@@ -117,7 +119,7 @@ fn take_part<'a, N: AddressSpace, H: HoldsNetwork<N>>(
     }
 }
 
-// The piece after this one, if the whole goes on after it.
+// The part of the whole after the piece; `None` if the whole ends with it.
 fn part_behind<N: AddressSpace>(whole: N, piece: N) -> Option<Part<N>> {
     match piece_behind(whole, piece) {
         Some(piece) => Some(Part { whole, piece }),

@@ -1,6 +1,6 @@
 // Written by scripts/plain out of crates/ipnetwork_sets/src/from_ranges.rt
 
-//! Sets made of ranges of addresses.
+//! Sets made from ranges of addresses.
 
 use crate::plain_std::vec::Vec;
 use crate::ipnetwork_sets::address_set::AddressSet;
@@ -8,9 +8,10 @@ use crate::ipnetwork_blocks::{AddressSpace, range_to_blocks};
 use crate::plain_std::alloc::AllocError;
 
 impl<N: AddressSpace> AddressSet<N> {
-    /// The set of the addresses of the ranges, each given by its first and its last address. They may stand in any
-    /// order and overlap. A range whose first address comes after its last has no addresses. The list is put into
-    /// `memory`, whose content is dropped first. `AllocError` means that it had to grow and memory ran out.
+    /// The set of the addresses of the ranges, each given by its first and its last address. The
+    /// ranges may be in any order and overlap. A range whose first address comes after its last has
+    /// no addresses. The blocks are stored in `memory`, whose contents are dropped first.
+    /// `AllocError` means that it had to grow and memory ran out.
     ///
     /// ```
     /// # use fosibegan::in_examples::*;
@@ -33,9 +34,10 @@ impl<N: AddressSpace> AddressSet<N> {
     }
 }
 
-/// Adds the blocks whose addresses are those from `first` to `last`, both included, to the networks: the fewest
-/// possible, and none if `first` comes after `last`. What the list had stays at its front. `AllocError` means that the
-/// list had to grow and memory ran out; the first of the blocks may have been added. The capacity never shrinks.
+/// Appends to the networks the fewest blocks that have exactly the addresses from `first` to
+/// `last`, both included; none if `first` comes after `last`. The networks already in the list are
+/// unchanged. `AllocError` means that the list had to grow and memory ran out; the first of the
+/// blocks may have been appended. The capacity never shrinks.
 ///
 /// ```
 /// # use fosibegan::in_examples::*;

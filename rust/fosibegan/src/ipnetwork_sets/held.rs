@@ -4,7 +4,7 @@
 
 use crate::ipnetwork_blocks::{AddressSpace, HoldsNetwork};
 
-/// The network that the first value holds, and the other values.
+/// The network that the first value holds, and the other values; `None` if there are no values.
 #[inline(always)]
 pub(crate) fn split_held<'a, N: AddressSpace, H: HoldsNetwork<N>>(
     list: &'a [H],

@@ -1,6 +1,6 @@
 // Written by scripts/plain out of crates/ipnetwork_sets/src/ip_sets.rt
 
-//! Sets of addresses of either family: of each family one set.
+//! Sets of addresses of either family, each made of one set per family.
 
 mod blocks;
 mod collecting;

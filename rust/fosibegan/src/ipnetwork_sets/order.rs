@@ -1,6 +1,6 @@
 // Written by scripts/plain out of crates/ipnetwork_sets/src/order.rt
 
-//! Which of two networks comes first.
+//! The order of networks and addresses.
 
 use crate::ipnetwork_blocks::AddressSpace;
 
@@ -33,7 +33,8 @@ fn begins_behind<N: AddressSpace>(last: N::Addr, network: N) -> bool {
     }
 }
 
-/// Whether the network begins up to the address or right after it: no address lies between them.
+/// Whether the network begins at or before the address or right after it, so that no address lies
+/// between them.
 pub(crate) fn goes_on<N: AddressSpace>(last: N::Addr, network: N) -> bool {
     network.ip() <= last || begins_behind(last, network)
 }

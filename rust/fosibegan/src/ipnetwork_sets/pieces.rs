@@ -1,15 +1,16 @@
 // Written by scripts/plain out of crates/ipnetwork_sets/src/pieces.rt
 
-//! The pieces of a block that a set leaves: the block halved until a piece shares no address with the set, or lies in
-//! it.
+//! The pieces of a block that are not in a set: the block is halved until each piece shares no
+//! address with the set or lies in it.
 
 use crate::ipnetwork_sets::held::split_held;
 use crate::ipnetwork_sets::order::{begin_alike, ends_before};
 use crate::ipnetwork_blocks::{AddressSpace, HoldsNetwork};
 
-/// The first piece of the whole, from this piece on, that has no address of the cut set, and what is left of that set;
-/// `None` if there is no such piece. Passes the cut blocks that end before the piece, goes on after a piece that lies
-/// in a cut block, and to the lower half of one that has such a block in it.
+/// The first piece of the whole, from `from` on, that has no address of the cut set, or `None` if
+/// there is none; and what is left of the cut set. Skips the cut blocks that end before the piece.
+/// Goes on to the next piece if the piece lies in a cut block, and to its lower half if a cut block
+/// lies in the piece.
 pub(crate) fn first_free<'a, N: AddressSpace, H: HoldsNetwork<N>>(
     whole: N,
     from: N,
@@ -37,7 +38,8 @@ pub(crate) fn first_free<'a, N: AddressSpace, H: HoldsNetwork<N>>(
     }
 }
 
-/// The widest piece of the whole that begins right after this one; `None` if the whole ends with it.
+/// The widest piece of the whole that begins right after this one; `None` if the whole ends with
+/// it.
 pub(crate) fn piece_behind<N: AddressSpace>(whole: N, piece: N) -> Option<N> {
     let widest = whole.prefix();
     let mut ended = piece;

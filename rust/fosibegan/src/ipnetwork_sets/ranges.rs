@@ -1,6 +1,6 @@
 // Written by scripts/plain out of crates/ipnetwork_sets/src/ranges.rt
 
-//! The ranges of addresses that a set is made of.
+//! The ranges of addresses of a set.
 
 use crate::ipnetwork_sets::address_set::AddressSet;
 use crate::ipnetwork_sets::address_slice::AddressSlice;
@@ -11,8 +11,9 @@ use crate::ipnetwork_sets::order::touches;
 use crate::ipnetwork_sets::union::Union;
 use crate::ipnetwork_blocks::AddressSpace;
 
-/// An iterator over the ranges of a set, in ascending order: the first and the last address of each. The ranges are as
-/// long as possible, so between two of them lies at least one address that is not in the set.
+/// An iterator over the ranges of a set, in ascending order: the first and the last address of
+/// each. The ranges are as long as possible, so there is at least one address between two of them
+/// that is not in the set.
 ///
 /// ```
 /// # use fosibegan::in_examples::*;
@@ -32,7 +33,7 @@ pub struct Ranges<N: AddressSpace, B: SetBlocks<N>> {
 }
 
 impl<N: AddressSpace, B: SetBlocks<N>> Ranges<N, B> {
-    /// The ranges of the blocks that are still to come.
+    /// The ranges of the remaining blocks.
     ///
     /// ```
     /// # use fosibegan::in_examples::*;
@@ -60,7 +61,7 @@ impl<N: AddressSpace, B: SetBlocks<N>> Iterator for Ranges<N, B> {
     }
 }
 
-// The last block of the run that begins with this one, and the block after the run.
+// The last block of the run that begins with `first`, and the block after the run, if there is one.
 fn last_of_run<N: AddressSpace, B: SetBlocks<N>>(first: N, blocks: &mut B) -> (N, Option<N>) {
     let mut last = first;
     loop {
@@ -75,8 +76,8 @@ fn last_of_run<N: AddressSpace, B: SetBlocks<N>>(first: N, blocks: &mut B) -> (N
 }
 
 impl<N: AddressSpace> AddressSet<N> {
-    /// The first and the last address of each range of the set, in ascending order: the fewest ranges possible. Goes
-    /// over the blocks once, as the iterator advances.
+    /// The first and the last address of each range of the set, in ascending order: the fewest
+    /// ranges possible. Goes over the blocks once, as the iterator advances.
     ///
     /// ```
     /// # use fosibegan::in_examples::*;
@@ -95,8 +96,8 @@ impl<N: AddressSpace> AddressSet<N> {
 }
 
 impl<'a, N: AddressSpace> AddressSlice<'a, N> {
-    /// The first and the last address of each range of the set, in ascending order: the fewest ranges possible. Goes
-    /// over the blocks once, as the iterator advances.
+    /// The first and the last address of each range of the set, in ascending order: the fewest
+    /// ranges possible. Goes over the blocks once, as the iterator advances.
     ///
     /// ```
     /// # use fosibegan::in_examples::*;

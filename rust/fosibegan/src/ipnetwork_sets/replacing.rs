@@ -1,13 +1,14 @@
 // Written by scripts/plain out of crates/ipnetwork_sets/src/replacing.rt
 
-//! Blocks of a list, replaced by others where they stand.
+//! Replacing blocks of a list in place.
 
 use crate::plain_std::vec::Vec;
 use crate::ipnetwork_blocks::{AddressSpace, Exclusion};
 use crate::plain_std::alloc::AllocError;
 
-/// Makes room for so many blocks in place of those from the first index up to before the second. Those after them are
-/// moved once. `AllocError` means that the list had to grow and memory ran out; it is unchanged then.
+/// Makes room for `count` blocks in place of those at the indices `from..to`. The blocks after them
+/// are moved once. `AllocError` means that the list had to grow and memory ran out; it is then
+/// unchanged.
 pub(crate) fn make_room<N: AddressSpace>(
     blocks: &mut Vec<N>,
     from: usize,
@@ -22,7 +23,7 @@ pub(crate) fn make_room<N: AddressSpace>(
     Ok(())
 }
 
-/// Writes the blocks that are still to come over those from the index on.
+/// Writes the remaining blocks of `others` over those from the index `from` on.
 pub(crate) fn write_over<N: AddressSpace>(blocks: &mut [N], from: usize, mut others: Exclusion<N>) {
     let mut next = from;
     while let Some(block) = others.next() {

@@ -1,10 +1,11 @@
 // Written by scripts/plain out of crates/ipnetwork_sets/src/search.rt
 
-//! Questions to a set: each by one binary search for the last block up to an address.
+//! Queries on a set, each by one binary search for the last block that begins at or before an
+//! address.
 
 use crate::ipnetwork_blocks::AddressSpace;
 
-/// Whether the address is one of the set.
+/// Whether the address is in the set.
 pub(crate) fn contains<N: AddressSpace>(blocks: &[N], addr: N::Addr) -> bool {
     match last_up_to(blocks, addr) {
         Some(block) => block.contains(addr),
@@ -12,9 +13,9 @@ pub(crate) fn contains<N: AddressSpace>(blocks: &[N], addr: N::Addr) -> bool {
     }
 }
 
-/// Whether each address of the network is one of the set.
+/// Whether each address of the network is in the set.
 pub(crate) fn covers<N: AddressSpace>(blocks: &[N], network: N) -> bool {
-    // The clauses of this call say that it is a network of addresses of WIDTH bits.
+    // The clauses of this call say that `network` is a network of addresses of WIDTH bits.
     let _ = network.ip();
     match last_up_to(blocks, network.network()) {
         Some(block) => network.is_subnet_of(block),
@@ -22,9 +23,9 @@ pub(crate) fn covers<N: AddressSpace>(blocks: &[N], network: N) -> bool {
     }
 }
 
-/// Whether an address of the network is one of the set.
+/// Whether some address of the network is in the set.
 pub(crate) fn overlaps<N: AddressSpace>(blocks: &[N], network: N) -> bool {
-    // The clauses of this call say that it is a network of addresses of WIDTH bits.
+    // The clauses of this call say that `network` is a network of addresses of WIDTH bits.
     let _ = network.ip();
     match last_up_to(blocks, network.broadcast()) {
         Some(block) => network.overlaps(block),
@@ -32,7 +33,7 @@ pub(crate) fn overlaps<N: AddressSpace>(blocks: &[N], network: N) -> bool {
     }
 }
 
-// The last of the blocks that begins at the address or before it.
+// The last of the blocks that begin at or before the address.
 fn last_up_to<N: AddressSpace>(blocks: &[N], addr: N::Addr) -> Option<N> {
     let count = count_up_to(blocks, addr);
     if count == 0 {
@@ -41,8 +42,8 @@ fn last_up_to<N: AddressSpace>(blocks: &[N], addr: N::Addr) -> Option<N> {
     Some(blocks[count - 1])
 }
 
-/// How many of the blocks begin at the address or before it. No branch depends on what the blocks are: it would be
-/// mispredicted every other time.
+/// The number of blocks that begin at or before the address. No branch depends on the blocks, since
+/// it would be mispredicted half the time.
 #[inline(always)]
 pub(crate) fn count_up_to<N: AddressSpace>(blocks: &[N], addr: N::Addr) -> usize {
     let (mut from, mut left) = by_quarters(blocks, addr);
@@ -53,7 +54,7 @@ pub(crate) fn count_up_to<N: AddressSpace>(blocks: &[N], addr: N::Addr) -> usize
     from
 }
 
-// Where the blocks begin among which the search goes on, and how many they are: two at the most.
+// The index of the first block that is left to search, and the number of blocks left: at most two.
 fn by_quarters<N: AddressSpace>(blocks: &[N], addr: N::Addr) -> (usize, usize) {
     let mut from = 0;
     let mut left = blocks.len();
@@ -63,16 +64,16 @@ fn by_quarters<N: AddressSpace>(blocks: &[N], addr: N::Addr) -> (usize, usize) {
     (from, left)
 }
 
-// One step of the search among the `left` blocks from `from` on. It reads the last blocks of the first three quarters,
-// all at once, and goes on in one quarter: where that begins, and how many blocks are searched there, as many as the
-// last quarter has: a quarter of them, and less than two more.
+// One step of the search among the `left` blocks from the index `from` on. Reads the last blocks of
+// the first three quarters, all at once, and returns the index at which the quarter to search
+// begins and the number of blocks to search there. That is the size of the last quarter: less than
+// two more than a quarter of `left`.
 fn quarter_of<N: AddressSpace>(
     blocks: &[N],
     addr: N::Addr,
     from: usize,
     left: usize,
-) -> (usize, usize)
-{
+) -> (usize, usize) {
     let quarter = size_of_quarter(left);
     let first = begins_up_to(blocks[from + (quarter - 1)], addr);
     let second = begins_up_to(blocks[from + (2 * quarter - 1)], addr);
@@ -83,13 +84,13 @@ fn quarter_of<N: AddressSpace>(
     )
 }
 
-// How many blocks each of the first three quarters has: a quarter of one block more, rounded down.
+// The number of blocks in each of the first three quarters: a quarter of `left + 1`, rounded down.
 fn size_of_quarter(left: usize) -> usize {
     (left - 3) / 4 + 1
 }
 
-// The size once for each condition that holds. A sum of three is multiplied, since a compiler makes a branch of a
-// product with a single condition.
+// The size times the number of conditions that hold. The sum of the three is multiplied, since a
+// compiler makes a branch of a product with a single condition.
 fn times_if(first: bool, second: bool, third: bool, size: usize) -> usize {
     (one_if(first) + one_if(second) + one_if(third)) * size
 }
@@ -99,7 +100,7 @@ fn one_if(holds: bool) -> usize {
     usize::from(holds)
 }
 
-// Whether the network's own address is this one, or comes before it.
+// Whether the network's own address is at or before the address `addr`.
 fn begins_up_to<N: AddressSpace>(network: N, addr: N::Addr) -> bool {
     network.ip() <= addr
 }

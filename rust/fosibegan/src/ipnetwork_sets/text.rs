@@ -6,7 +6,8 @@ use crate::ipnetwork_sets::address_set::AddressSet;
 use crate::ipnetwork_family::{Address, Network};
 use core::fmt;
 
-/// Prints the canonical texts of the blocks, in ascending order, each on a line of its own: a list file of the set.
+/// Prints the canonical texts of the blocks, in ascending order, each on a line of its own: a list
+/// file of the set.
 impl<A: Address> fmt::Display for AddressSet<Network<A>> {
     fn fmt(&self, f: &mut fmt::Formatter<'_>) -> fmt::Result {
         let blocks = self.blocks();

@@ -6,8 +6,8 @@ use crate::ipnetwork_sets::held::split_held;
 use crate::ipnetwork_sets::order::{ends_at, goes_on};
 use crate::ipnetwork_blocks::{AddressSpace, HoldsNetwork, RangeBlocks, range_to_blocks};
 
-/// An iterator over the blocks of the union of two sets, in ascending order. `H` is what the lists of the sets have:
-/// networks, or values that hold them.
+/// An iterator over the blocks of the union of two sets, in ascending order. `H` is the type of the
+/// elements of the sets' lists: networks, or values that hold them.
 ///
 /// ```
 /// # use fosibegan::in_examples::*;
@@ -42,7 +42,8 @@ where
 }
 
 impl<'a, N: AddressSpace, H: HoldsNetwork<N>> Union<'a, N, H> {
-    /// The blocks of the addresses that one of the sets of two lists has, or both.
+    /// The blocks of the addresses that are in the set of one of the lists or of both.
+    /// `is_address_set` must hold for both lists.
     #[doc(hidden)]
     pub fn of(first: &'a [H], second: &'a [H]) -> Self {
         Union {
@@ -52,7 +53,7 @@ impl<'a, N: AddressSpace, H: HoldsNetwork<N>> Union<'a, N, H> {
         }
     }
 
-    // The blocks that are still to come are those of a set.
+    // The blocks still to come are those of a set.
     pub(crate) fn law_are_sets(&self) {
         let _ = &self.run;
     }
@@ -79,7 +80,7 @@ impl<'a, N: AddressSpace, H: HoldsNetwork<N>> Iterator for Union<'a, N, H> {
     }
 }
 
-// The next block of the run at hand, if it has one.
+// The next block of the current run, if there is one.
 fn next_at_hand<N: AddressSpace>(run: &mut Option<RangeBlocks<N>>) -> Option<N> {
     match run {
         Some(blocks) => blocks.next(),
@@ -87,8 +88,8 @@ fn next_at_hand<N: AddressSpace>(run: &mut Option<RangeBlocks<N>>) -> Option<N> 
     }
 }
 
-// The first run of the union without a gap, by the block that begins with it and its last address, and what is left of
-// both sets after it.
+// The first run of the union, up to the first gap: the block that it begins with, its last address,
+// and what is left of both sets after it.
 #[inline(always)]
 fn next_run<'a, N: AddressSpace, H: HoldsNetwork<N>>(
     first: &'a [H],
@@ -114,7 +115,8 @@ fn next_run<'a, N: AddressSpace, H: HoldsNetwork<N>>(
     }
 }
 
-// The first of the blocks and the others, if no address lies between the last one and it.
+// The first of the blocks and the others, if there is no gap between the address `last` and that
+// block.
 #[inline(always)]
 fn take_next<'a, N: AddressSpace, H: HoldsNetwork<N>>(
     last: N::Addr,
@@ -130,7 +132,7 @@ fn take_next<'a, N: AddressSpace, H: HoldsNetwork<N>>(
     }
 }
 
-// Of the first blocks of both sets the one that begins first, and the others of both.
+// Of the first blocks of both sets, the one that begins first, and the two lists without it.
 fn take_first<'a, N: AddressSpace, H: HoldsNetwork<N>>(
     first: &'a [H],
     second: &'a [H],
@@ -149,7 +151,7 @@ fn take_first<'a, N: AddressSpace, H: HoldsNetwork<N>>(
     }
 }
 
-// Of two addresses the later one.
+// The later of two addresses.
 fn later<N: AddressSpace>(first: N::Addr, second: N::Addr) -> N::Addr {
     if first < second { second } else { first }
 }

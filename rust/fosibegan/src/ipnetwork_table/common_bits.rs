@@ -1,10 +1,10 @@
 // Written by scripts/plain out of crates/ipnetwork_table/src/common_bits.rt
 
-//! How many bits the addresses of two networks share.
+//! The number of leading bits that the addresses of two networks share.
 
 use crate::ipnetwork_family::CidrNetwork;
 
-/// How many bits the addresses of two networks have in common in front, found by halves.
+/// The number of leading bits that the addresses of two networks share, found by bisection.
 pub(crate) fn shared_length<N: CidrNetwork>(one: N, other: N) -> u8 {
     let first = one.ip();
     let second = other.ip();

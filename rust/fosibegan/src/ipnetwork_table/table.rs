@@ -11,10 +11,11 @@ use crate::plain_std::alloc::{AllocError, Global};
 use core::fmt;
 use core::fmt::{Debug, Formatter, Write};
 
-/// Values by block, and the longest block that holds an address (RFC 4632, section 5.1). A table has
-/// networks of one family.
+/// Values by block, and look-ups of the longest block that holds an address (RFC 4632, section
+/// 5.1). All networks of a table are of one family.
 ///
-/// A network given as a key stands for its block: its host bits are cleared. Only `insert` allocates.
+/// A network given as a key stands for its block: its host bits are cleared. Only `insert`
+/// allocates.
 ///
 /// ```
 /// # use fosibegan::in_examples::*;
@@ -28,7 +29,7 @@ use core::fmt::{Debug, Formatter, Write};
 /// ```
 pub struct PrefixTable<N: CidrNetwork, V: Copy> {
     values: Values<N, V>,
-    // `used[p]` is how many stored blocks have the prefix length p.
+    // `used[p]` is the number of stored blocks with prefix length p.
     used: [usize; 256],
 }
 
@@ -40,8 +41,8 @@ fn key_of<N: CidrNetwork>(net: N) -> N {
     block
 }
 
-// The clause `blocks` tells a proof in another crate that each key is a network without host bits: the fields are
-// private, so a proof knows of them only what a clause says.
+// The clause `blocks` tells a proof in another crate that each key is a network without host bits:
+// such a proof cannot see the private fields.
 impl<N: CidrNetwork, V: Copy> PrefixTable<N, V> {
     /// The empty table.
     ///
@@ -87,7 +88,7 @@ impl<N: CidrNetwork, V: Copy> PrefixTable<N, V> {
         self.len() == 0
     }
 
-    /// The value of the block of `net`; `None` if it has none.
+    /// The value of the block of `net`; `None` if the block has none.
     ///
     /// ```
     /// # use fosibegan::in_examples::*;
@@ -119,8 +120,8 @@ impl<N: CidrNetwork, V: Copy> PrefixTable<N, V> {
         self.get(net).is_some()
     }
 
-    /// The blocks and their values, in the order of networks: a block comes before the smaller ones that lie in
-    /// it.
+    /// The blocks and their values, in the order of networks: a block comes before the smaller ones
+    /// that lie in it.
     ///
     /// ```
     /// # use fosibegan::in_examples::*;
@@ -135,7 +136,7 @@ impl<N: CidrNetwork, V: Copy> PrefixTable<N, V> {
         self.values.entries()
     }
 
-    /// Removes every block, and frees the memory.
+    /// Removes all blocks and frees the memory.
     ///
     /// ```
     /// # use fosibegan::in_examples::*;
@@ -152,7 +153,8 @@ impl<N: CidrNetwork, V: Copy> PrefixTable<N, V> {
         self.used = [0; 256];
     }
 
-    /// Sets the value of the block of `net`, and returns the value that it had.
+    /// Sets the value of the block of `net`, and returns the previous value, or `None` if it had
+    /// none.
     ///
     /// Allocates only for a new block. If memory runs out, the result is an error and the table is unchanged.
     ///
@@ -169,7 +171,7 @@ impl<N: CidrNetwork, V: Copy> PrefixTable<N, V> {
         self.insert_block(key_of(net), value)
     }
 
-    // A block that is new is counted with those of its prefix length.
+    // Inserts the block. A new block is counted with those of its prefix length.
     fn insert_block(&mut self, block: N, value: V) -> Result<Option<V>, AllocError> {
         let old = self.values.insert(block, value)?;
         if old.is_some() {
@@ -182,7 +184,7 @@ impl<N: CidrNetwork, V: Copy> PrefixTable<N, V> {
         Ok(None)
     }
 
-    /// Removes the block of `net`, and returns the value that it had, or `None` if it had none.
+    /// Removes the block of `net`, and returns its value, or `None` if it had none.
     ///
     /// ```
     /// # use fosibegan::in_examples::*;
@@ -209,8 +211,8 @@ impl<N: CidrNetwork, V: Copy> PrefixTable<N, V> {
         self.used[length as usize] > 0
     }
 
-    /// The stored block of greatest prefix length whose set holds the address, with its value; `None` if no stored
-    /// block holds it.
+    /// The stored block with the greatest prefix length that holds the address, and its value;
+    /// `None` if no stored block holds the address.
     ///
     /// ```
     /// # use fosibegan::in_examples::*;
@@ -227,9 +229,11 @@ impl<N: CidrNetwork, V: Copy> PrefixTable<N, V> {
         self.counted_lookup(&mut steps, addr)
     }
 
-    // `lookup`, whose searches in the map are counted: at most `WIDTH + 1`. The first finds the last stored block up to
-    // the address. If it holds the address it is the longest that does: a longer one would come after it. If not, the
-    // address shares fewer bits with it than its prefix length, and no block of more bits than these holds the address.
+    // `lookup`, which also counts the searches in the map: at most `WIDTH + 1`. The first finds the
+    // last stored block that does not come after the address. If that block holds the address, it
+    // is the longest that does, since a longer one would come after it. If not, the address shares
+    // fewer bits with it than its prefix length, and no block with more bits than these holds the
+    // address.
     fn counted_lookup(&self, steps: &mut u32, addr: N::Addr) -> Option<(N, V)> {
         let Some(end) = N::block(addr, N::WIDTH) else {
             unreachable!()
@@ -241,10 +245,9 @@ impl<N: CidrNetwork, V: Copy> PrefixTable<N, V> {
         self.longest_up_to(steps, addr, shared_length(end, near))
     }
 
-    // `lookup` where no stored block of a prefix length above `most` holds the address: asks for the blocks of the
-    // other prefix lengths in turn, without those that no stored block has.
-    fn longest_up_to(&self, steps: &mut u32, addr: N::Addr, most: u8) -> Option<(N, V)>
-    {
+    // `lookup`, given that no stored block with a prefix length above `most` holds the address:
+    // tries the blocks of the other prefix lengths in turn, except those that no stored block has.
+    fn longest_up_to(&self, steps: &mut u32, addr: N::Addr, most: u8) -> Option<(N, V)> {
         let mut length = most;
         'shorter: loop {
             if self.has_length(length) {
@@ -262,11 +265,11 @@ impl<N: CidrNetwork, V: Copy> PrefixTable<N, V> {
         }
     }
 
-    /// What `lookup` returns, and the number of look-ups in the map that it takes to ask for the block of each prefix
-    /// length in turn, from `WIDTH` down: `WIDTH + 1` less the prefix length of the block that is found, `WIDTH + 1`
-    /// if none is.
+    /// What `lookup` returns, and the number of look-ups in the map needed to try the block of each
+    /// prefix length in turn, from `WIDTH` down: `WIDTH + 1` minus the prefix length of the block
+    /// that is found, or `WIDTH + 1` if none is found.
     ///
-    /// This is a call for tests and proofs: `lookup` finds the same in fewer steps.
+    /// This call is for tests and proofs: `lookup` finds the same in fewer steps.
     ///
     /// ```
     /// # use fosibegan::in_examples::*;

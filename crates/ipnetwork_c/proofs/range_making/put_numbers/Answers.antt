@@ -4,7 +4,7 @@ use Rattle.ipnetwork_c.specs.Ranges.{number_at}
 use Rattle.ipnetwork_c.proofs.Rows.{row_written}
 use Rattle.ipnetwork_c.proofs.range_making.put_numbers.Goals as goal
 
--- behind the numbers stand the places that are left
+-- after the numbers come the places that are not replaced yet
 pub place_left : (f : ℕ → ℕ) (old places : List ℕ) (row d : ℕ) → row < length old → places ≡ map f (take row old) ++ drop row old → get_or places row d ≡ get_or old row d
 place_left f old places row d below is =
     let size : length (map f (take row old)) ≡ row = length-map (take row old) f ∙ length-take-le row old (omega (arith, below)) in

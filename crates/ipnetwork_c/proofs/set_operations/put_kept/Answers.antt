@@ -9,7 +9,7 @@ use Rattle.ipnetwork_c.specs.declared.set_operations.Operation.TheVariants.{Unio
 use Rattle.ipnetwork_c.proofs.BlocksPut.{given}
 use Rattle.ipnetwork_c.proofs.set_operations.put_kept.Goals as goal
 
--- the blocks that one operation keeps are put
+-- the blocks of the addresses that one operation keeps are put
 kept : {N C : Type 0} (pair : N → Network) (held : C → Network) (operation other : Operation) → operation ≡ other → (w : ℕ) (first second : List Network) (before after : List C) (count : ℕ) (blocks : List Network)
     → IsLeastList w (kept_by other w first second) blocks → PutsItems (YieldsFirstBy pair (λ (left : List Network). left)) pair held blocks before after count → PutsSet w held (kept_by operation w first second) before after count
 kept pair held operation other e w first second before after count blocks least put =

@@ -5,9 +5,9 @@
 use crate::ipnetwork_sets::SetBlocks;
 use crate::ipnetwork::{IpNetwork, Ipv4Network, Ipv6Network};
 
-/// An iterator over the blocks of a set: those of IPv4, and after them those of IPv6, each in ascending order. `V4` and
-/// `V6` give those of each family: the iterators of `ipnetwork_sets` over a set, a common part, a difference or a
-/// union.
+/// An iterator over the blocks of a set: the IPv4 blocks, followed by the IPv6 blocks, each in
+/// ascending order. `V4` and `V6` iterate over the blocks of each family: they are the iterators of
+/// `ipnetwork_sets` over a set, an intersection, a difference or a union.
 ///
 /// ```
 /// # use fosibegan::in_examples::*;
@@ -27,7 +27,7 @@ pub struct IpBlocks<V4: SetBlocks<Ipv4Network>, V6: SetBlocks<Ipv6Network>> {
 }
 
 impl<V4: SetBlocks<Ipv4Network>, V6: SetBlocks<Ipv6Network>> IpBlocks<V4, V6> {
-    // The blocks of both.
+    // The blocks of both iterators.
     pub(crate) fn of(v4: V4, v6: V6) -> Self {
         IpBlocks { v4, v6 }
     }

@@ -1,6 +1,6 @@
 // Written by scripts/plain out of crates/ipnetwork_sets/src/ip_sets/collecting.rt
 
-//! Sets made from iterators over blocks, in lists of the caller's.
+//! Sets made from iterators over blocks, in lists that the caller provides.
 
 use crate::plain_std::vec::Vec;
 use crate::ipnetwork_sets::ip_sets::blocks::IpBlocks;
@@ -10,8 +10,9 @@ use crate::ipnetwork::{Ipv4Network, Ipv6Network};
 use crate::plain_std::alloc::AllocError;
 
 impl IpAddressSet {
-    /// A set with the same addresses. The lists of the families are put into `v4_memory` and `v6_memory`, whose content
-    /// is dropped first. `AllocError` means that one of them had to grow and memory ran out.
+    /// A set with the same addresses. The blocks of the families are stored in `v4_memory` and
+    /// `v6_memory`, whose contents are dropped first. `AllocError` means that one of them had to
+    /// grow and memory ran out.
     ///
     /// ```
     /// # use fosibegan::in_examples::*;
@@ -33,8 +34,9 @@ impl IpAddressSet {
 }
 
 impl<V4: SetBlocks<Ipv4Network>, V6: SetBlocks<Ipv6Network>> IpBlocks<V4, V6> {
-    /// The set of the remaining blocks. The lists of the families are put into `v4_memory` and `v6_memory`, whose
-    /// content is dropped first. `AllocError` means that one of them had to grow and memory ran out.
+    /// The set of the remaining blocks. The blocks of the families are stored in `v4_memory` and
+    /// `v6_memory`, whose contents are dropped first. `AllocError` means that one of them had to
+    /// grow and memory ran out.
     ///
     /// ```
     /// # use fosibegan::in_examples::*;

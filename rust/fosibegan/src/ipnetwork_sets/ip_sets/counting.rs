@@ -1,12 +1,13 @@
 // Written by scripts/plain out of crates/ipnetwork_sets/src/ip_sets/counting.rt
 
-//! The numbers of addresses and of blocks of a set.
+//! The numbers of addresses and blocks in a set.
 
 use crate::ipnetwork_sets::AddressCount;
 use crate::ipnetwork_sets::ip_sets::ip_address_set::IpAddressSet;
 
 impl IpAddressSet {
-    /// How many IPv4 addresses there are in the set, and how many IPv6 addresses. Goes over the blocks once.
+    /// The number of IPv4 addresses in the set, and the number of IPv6 addresses. Goes over the
+    /// blocks once.
     ///
     /// ```
     /// # use fosibegan::in_examples::*;
@@ -24,7 +25,7 @@ impl IpAddressSet {
         (self.v4().address_count(), self.v6().address_count())
     }
 
-    /// How many blocks there are in the set, of both families.
+    /// The number of blocks in the set, of both families together.
     ///
     /// ```
     /// # use fosibegan::in_examples::*;

@@ -8,9 +8,10 @@ use crate::ipnetwork_sets::{AddressSet, Blocks};
 use crate::ipnetwork::{IpAddr, IpNetwork, Ipv4Network, Ipv6Network};
 use crate::plain_std::alloc::AllocError;
 
-/// A set of addresses of either family: the maximal blocks of its IPv4 addresses, in ascending order, and after them
-/// those of its IPv6 addresses. Each set has one such list, and no list of networks with the same addresses is shorter.
-/// An IPv4-mapped IPv6 address is an IPv6 address, not an IPv4 address.
+/// A set of addresses of either family: the maximal blocks of its IPv4 addresses, in ascending
+/// order, followed by those of its IPv6 addresses. Each set has one such list, and no list of
+/// networks with the same addresses is shorter. An IPv4-mapped IPv6 address is an IPv6 address, not
+/// an IPv4 address.
 ///
 /// ```
 /// # use fosibegan::in_examples::*;
@@ -28,9 +29,10 @@ pub struct IpAddressSet {
 }
 
 impl IpAddressSet {
-    /// The set of the addresses of the networks of either family, which may have host bits and stand in any order. The
-    /// networks of each family are put into a list of the caller's, whose content is dropped first. `AllocError` means
-    /// that one of the lists had to grow and memory ran out.
+    /// The set of the addresses of networks of either family, which may have host bits and be in
+    /// any order. The networks of the families are stored in `v4_memory` and `v6_memory`, whose
+    /// contents are dropped first. `AllocError` means that one of them had to grow and memory ran
+    /// out.
     ///
     /// Sorts each family and goes over it once.
     ///
@@ -56,10 +58,11 @@ impl IpAddressSet {
         Ok(IpAddressSet::from_lists(v4_memory, v6_memory))
     }
 
-    /// The set of the addresses of the networks of both lists, which may have host bits and stand in any order.
+    /// The set of the addresses of the networks of both lists, which may have host bits and be in
+    /// any order.
     ///
-    /// Sorts each list in itself, and goes over it once. `into_parts`, and `into_blocks` of each part,
-    /// give the lists back.
+    /// Sorts each list in place and goes over it once. `into_parts`, and `into_blocks` of each
+    /// part, return the lists.
     ///
     /// ```
     /// # use fosibegan::in_examples::*;
@@ -88,7 +91,7 @@ impl IpAddressSet {
     /// # });
     /// ```
     pub fn from_parts(v4: AddressSet<Ipv4Network>, v6: AddressSet<Ipv6Network>) -> Self {
-        // The clauses of these calls say that they are lists of sets.
+        // The clauses of these calls say that the lists are those of sets.
         let _ = v4.blocks();
         let _ = v6.blocks();
         IpAddressSet { v4, v6 }
@@ -144,7 +147,7 @@ impl IpAddressSet {
         &self.v6
     }
 
-    /// The blocks of IPv4, and after them those of IPv6, each in ascending order.
+    /// An iterator over the IPv4 blocks, followed by the IPv6 blocks, each in ascending order.
     ///
     /// ```
     /// # use fosibegan::in_examples::*;
@@ -160,9 +163,9 @@ impl IpAddressSet {
         IpBlocks::of(self.v4.iter(), self.v6.iter())
     }
 
-    /// Adds the addresses of the network to the set, in the list of its family, and returns whether one of them is new.
-    /// Host bits are ignored. `AllocError` means that the list had to grow, by the one block that it grows by at most,
-    /// and memory ran out; the set is unchanged then.
+    /// Adds the addresses of the network to the set, in the list of its family, and returns whether
+    /// any of them is new. Host bits are ignored. The list grows by at most one block. `AllocError`
+    /// means that it had to grow and memory ran out; the set is then unchanged.
     ///
     /// ```
     /// # use fosibegan::in_examples::*;
@@ -183,9 +186,10 @@ impl IpAddressSet {
         }
     }
 
-    /// Takes the addresses of the network from the set, in the list of its family, and returns whether one of them was
-    /// in it. Host bits are ignored. A block that has other addresses too is split. `AllocError` means that the list had
-    /// to grow and memory ran out; the set is unchanged then.
+    /// Removes the addresses of the network from the set, in the list of its family, and returns
+    /// whether any of them was in it. Host bits are ignored. A block that has other addresses too
+    /// is split. `AllocError` means that the list had to grow and memory ran out; the set is then
+    /// unchanged.
     ///
     /// ```
     /// # use fosibegan::in_examples::*;
@@ -206,7 +210,7 @@ impl IpAddressSet {
         }
     }
 
-    /// Whether there is no address in the set.
+    /// Whether the set has no addresses.
     ///
     /// ```
     /// # use fosibegan::in_examples::*;
@@ -216,7 +220,7 @@ impl IpAddressSet {
         self.v4().is_empty() && self.v6().is_empty()
     }
 
-    /// Whether the address is in the set. One binary search over the blocks of its family.
+    /// Whether the address is in the set. Takes one binary search over the blocks of its family.
     ///
     /// ```
     /// # use fosibegan::in_examples::*;
@@ -236,8 +240,8 @@ impl IpAddressSet {
         }
     }
 
-    /// Whether each address of the network is in the set. Host bits are ignored. One binary search over the blocks of
-    /// its family.
+    /// Whether each address of the network is in the set. Host bits are ignored. Takes one binary
+    /// search over the blocks of its family.
     ///
     /// ```
     /// # use fosibegan::in_examples::*;
@@ -257,8 +261,8 @@ impl IpAddressSet {
         }
     }
 
-    /// Whether some address of the network is in the set. Host bits are ignored. One binary search over the blocks of
-    /// its family.
+    /// Whether some address of the network is in the set. Host bits are ignored. Takes one binary
+    /// search over the blocks of its family.
     ///
     /// ```
     /// # use fosibegan::in_examples::*;
@@ -279,7 +283,7 @@ impl IpAddressSet {
     }
 }
 
-// Adds the network to those of its family.
+// Appends the network to the list of its family.
 fn push_network(
     v4: &mut Vec<Ipv4Network>,
     v6: &mut Vec<Ipv6Network>,
