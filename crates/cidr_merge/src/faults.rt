@@ -15,14 +15,14 @@ use options::reading::is_plain;
 use options::table::{Kind, Row, Table, kind_at, named};
 use program::words::count_of;
 
-/// This is wrong with a word.
+/// The fault of a word, with the problem to report.
 pub(crate) fn at<'a>(word: &'a str, problem: &'a str) -> Fault<'a>
     ensures { result ≡ at word.now problem.now }
 {
     about(Subject::Word(Text::new(word)), problem)
 }
 
-// What is told of an option that stands in a wrong place: this, unless it stands alone.
+// The problem of an option in a wrong place: the usual one, or its own if it is only taken alone.
 fn problem_of_row(rows: &[Row], row: usize, usual: &'static str) -> &'static str
     ensures { result.now ≡ problem_of_row rows.now row usual.now }
 {
@@ -32,7 +32,7 @@ fn problem_of_row(rows: &[Row], row: usize, usual: &'static str) -> &'static str
     }
 }
 
-/// What is wrong with a first word that says nothing to do.
+/// The fault of a first word that names no task.
 pub(crate) fn no_task_fault<'a>(rows: &[Row], word: &'a str) -> Fault<'a>
     ensures { result ≡ no_task_fault rows.now word.now }
 {
@@ -53,7 +53,7 @@ fn takes(task: Task, row: usize) -> bool
     taken(task).iter().any(|one| *one == row)
 }
 
-// That a task does not take the option of a row.
+// The fault if a task does not take the option of a row.
 fn option_fault<'a>(rows: &[Row], task: Task, row: usize) -> Option<Fault<'a>>
     ensures { result ≡ option_fault rows.now task row }
 {
@@ -76,7 +76,7 @@ fn is_value(row: usize, text: &str) -> bool
     }
 }
 
-// That a text is no value of the option of a row.
+// The fault if a text is not a valid value of the option of a row.
 fn value_fault<'a>(rows: &[Row], row: usize, text: &'a str) -> Option<Fault<'a>>
     ensures { result ≡ value_fault rows.now row text.now }
 {
@@ -104,7 +104,7 @@ fn item_fault<'a>(rows: &[Row], task: Task, item: &Item<'a>) -> Option<Fault<'a>
     }
 }
 
-// What is wrong with the first option with which something is wrong.
+// The fault of the first item that has one.
 fn items_fault<'a>(rows: &[Row], task: Task, items: &[Item<'a>]) -> Option<Fault<'a>>
     ensures { result ≡ items_fault rows.now task items.now }
 {
@@ -118,14 +118,14 @@ fn items_fault<'a>(rows: &[Row], task: Task, items: &[Item<'a>]) -> Option<Fault
     None
 }
 
-// Whether `--strict` is given without the `--json` that it says more of.
+// Whether `--strict` is given without the `--json` that it needs.
 fn lacks_json(task: Task, items: &[Item<'_>]) -> bool
     ensures { result ≡ lacks_json task items.now }
 {
     takes(task, JSON) && is_given(items, STRICT) && !is_given(items, JSON)
 }
 
-// Whether a `split` is without its length.
+// Whether a `split` has no prefix length.
 fn lacks_prefix(task: Task, items: &[Item<'_>]) -> bool
     ensures { result ≡ lacks_prefix task items.now }
 {

@@ -32,7 +32,7 @@ use std::io::Write;
 /// The exit status if an entry was printed.
 const FOUND: u8 = 0;
 
-/// The exit status if no entry has an address that is sought.
+/// The exit status if no entry has a sought address.
 const NOTHING_FOUND: u8 = 1;
 
 /// Prints the entries of lists that have addresses, and returns the exit status. The names before this index are

@@ -71,13 +71,13 @@ const ROWS: [Row; 15] = [
     ),
 ];
 
-// What is told of a value of `--set` or `--table` that is no name.
+// The message for a value of `--set` or `--table` that is not a name.
 const NO_NAME: &str = "not a name of 1 to 22 letters, digits, _, - and ., the first a letter";
 
-// What is told of `--format` beside an option that says how to print.
+// The message for `--format` together with another option for the output form.
 const ANOTHER_FORM: &str = "--format: given twice, or together with --ranges or --count";
 
-// Which do not go together.
+// The pairs of options that exclude each other.
 const PAIRS: [Pair; 10] = [
     pair!(RANGES, COUNT, "--ranges: not together with --count"),
     pair!(FORMAT, FORMAT, ANOTHER_FORM),

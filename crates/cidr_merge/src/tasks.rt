@@ -7,9 +7,9 @@ use crate::command_line::Operation;
 /// What the first word says to do.
 #[derive(Clone, Copy, Debug, PartialEq, Eq)]
 pub enum Task {
-    /// An operation, of which the blocks are printed.
+    /// An operation, whose result is printed.
     Merge(Operation),
-    /// The union, of which each address is printed.
+    /// The union, with each of its addresses printed.
     List,
     /// The union, in pieces of one length.
     Split,
