@@ -80,9 +80,9 @@ pub struct SplitRequest {
 pub enum Inspection {
     /// Their wrong entries are printed.
     Check,
-    /// These and host bits are printed, then each entry that shares addresses with an earlier one.
+    /// Wrong entries and host bits are printed, then the entries that overlap an earlier one.
     Strict,
-    /// The wrong entries are printed, then the pairs of entries that overlap.
+    /// Wrong entries are printed, then the pairs of entries that overlap.
     Overlaps,
 }
 
@@ -95,7 +95,7 @@ pub enum Command {
     Split(SplitRequest),
     /// Lists are looked over.
     Inspect(Inspection),
-    /// Lists are searched for addresses: the first so many names, and the lines of so many lists after them.
+    /// The lists after so many addresses, and so many lists of addresses, are searched for these.
     Find(usize, usize),
 }
 
@@ -110,7 +110,7 @@ pub struct Asked<'a> {
     pub sets: SetNames<'a>,
 }
 
-/// What the words after the program's name ask for, or what is wrong with them, unless memory runs out.
+/// What the words after the program's name ask for, or their fault; `AllocError` if memory runs out.
 pub(crate) fn command_of<'a>(
     alloc: Global,
     table: &Table<'_>,

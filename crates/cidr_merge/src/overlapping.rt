@@ -66,7 +66,7 @@ fn overlaps(entries: &[Placed], place: usize, earlier: usize) -> bool
     is_up_to(&entries[place].first, &entries[earlier].last.0)
 }
 
-// Prints the finding for an entry with each of these earlier ones, and returns whether there is one.
+// Prints the finding for an entry with each of these earlier ones; returns whether there are any.
 fn tell_with<W: Write>(
     names: &[String],
     before: &[Placed],

@@ -29,7 +29,7 @@ pub(crate) struct Reported {
     pub told: bool,
 }
 
-/// Prints the entries with the addresses sought of lists, and tells the refused lines.
+/// Prints the entries of lists that have sought addresses, and reports the refused lines.
 pub(crate) fn search_lists<W: Write, E: Write>(
     query: &Query<'_>,
     lists: &WholeLists<'_>,
