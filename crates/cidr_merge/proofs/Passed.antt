@@ -182,7 +182,8 @@ all_placed sought places sorted place l h same order = record {
   each = λ at d m. Contains-permutation places sorted (number_of (get_or sought at d).address, at) same (h at d (omega (arith, l, m)));
 }
 
--- the first `count` places have each place with a number up to `last`, if they end before a greater number or at the end
+-- the first `count` places have each place with a number up to `last`, if the next one has a greater number or there is
+-- none
 pub are_among : (places : List (ℕ × ℕ)) (count last : ℕ) → AreAscending places → count ≤ length places
     → ((d : ℕ × ℕ) → count < length places → length (take count places) ≤ 64 → last < (get_or places count d).0)
     → (number place : ℕ) → Contains places (number, place) → number ≤ last → length (take count places) ≤ 64

@@ -1,4 +1,4 @@
--- What a search of lists for addresses prints, and what it tells. Each of the texts is a line.
+-- What a search of lists for addresses prints and reports. Each of the texts is a line.
 use Rattle.std.specs.Prelude.{ℕ, ◌&&◌, Bool, List, [], ◌∷◌, ◌++◌, Option, None, Some, Result, Ok}
 use Rattle.std.specs.Prelude.{Err, if◌then◌else◌, codes, String}
 use Rattle.std.specs.List.{flat_map}

@@ -1,4 +1,4 @@
--- What the first word says to do, and what is told of words that it does not take.
+-- The tasks, and the messages for words that a task does not take.
 use Rattle.std.specs.Prelude.{ℕ, Bool, true, false, List, ◌++◌, Option, None, Some, if◌then◌else◌, codes, bytes_eq}
 use Rattle.cidr_merge.specs.declared.command_line.Operation.TheVariants as operations
 use Rattle.cidr_merge.specs.declared.tasks.Task.{Task}
@@ -25,7 +25,7 @@ is_two_sided (tasks.Merge operation) = true
 is_two_sided tasks.Find = true
 is_two_sided task = false
 
--- what is told of a word that begins with a `-` and is no option of a task
+-- the message for a word that begins with a `-` and is no option of a task
 abbrev pub no_option : Task → List ℕ
 no_option tasks.Split = codes "not an option of split; it takes --prefix N, --line-prefix TEXT, --line-suffix TEXT, "
     ++ codes "--skip-bad, --json and --strict"

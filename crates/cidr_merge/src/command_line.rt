@@ -36,7 +36,7 @@ pub enum Operation {
     Differ,
 }
 
-/// How the answer is printed.
+/// The form in which the result is printed.
 #[derive(Clone, Copy, Debug, PartialEq, Eq)]
 pub enum Form {
     /// The blocks of the least list.
@@ -106,11 +106,11 @@ pub struct Asked<'a> {
     pub command: Command,
     /// The FILEs.
     pub names: Vec<String>,
-    /// The names of the sets that an export fills, and what stands around each line.
+    /// The names of the sets that an export fills, and the texts around each line.
     pub sets: SetNames<'a>,
 }
 
-/// What the words after the program's name ask for, or their fault; `AllocError` if memory runs out.
+/// What the words after the program's name ask for, or their fault. `AllocError`: out of memory.
 pub(crate) fn command_of<'a>(
     alloc: Global,
     table: &Table<'_>,

@@ -158,7 +158,7 @@ fn search<W: Write, E: Write>(
     end(written, status, errors)
 }
 
-// The exit status by whether an entry was printed, and whether a refused line was told.
+// The exit status, given whether an entry was printed and whether a refused line was reported.
 fn status(printed: bool, told: bool) -> u8
     ensures { result ≡ (if told then 2 else if printed then 0 else 1) }
 {
