@@ -13,7 +13,7 @@ use lines::fault::RunFault;
 use lines::output::Output;
 use std::io::Write;
 
-/// Prints the subnets of this prefix length of each block of a set, and each longer block itself.
+/// Prints the subnets of this prefix length of each block of a set, or the block if it has none.
 #[tactic(auto, using(crate::proofs::Printed::none_printed, crate::proofs::Printed::all_printed, crate::proofs::Merging::shorter))]
 pub(crate) fn print_pieces<A: Address, W: Write>(
     names: &SetNames<'_>,

@@ -1,4 +1,4 @@
-//! The run of a `find`.
+//! Runs a `find`.
 ghost use Rattle.std.specs.Prelude.{◌≡◌, ◌≤◌, ◌+◌, ◌++◌, take, length, map, if◌then◌else◌, IfOk};
 ghost use Rattle.program.specs.Endings.{ending};
 ghost use Rattle.program.specs.Messages.{Reports};

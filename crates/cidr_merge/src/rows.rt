@@ -103,7 +103,7 @@ pub(crate) fn table() -> Table<'static>
     }
 }
 
-// Those of an operation that merges, of a `split` and of a `check`, by the indices of their rows.
+// The options of a merge, a `split` and a `check`, by the indices of their rows.
 const OF_MERGES: [usize; 10] = [
     RANGES, COUNT, FORMAT, SET, TABLE, BEFORE, AFTER, SKIP_BAD, JSON, STRICT,
 ];
