@@ -45,6 +45,6 @@ without_plus (byte ∷ text) = if byte == 43 then text else byte ∷ text
 abbrev pub prefix_in : List ℕ → Option ℕ
 prefix_in text = length_in 128 (without_plus text)
 
--- the prefix length of the networks into which a `split` divides
+-- the prefix length of a `split`: 0 if no option gives one
 abbrev pub length_of : List Item → ℕ
 length_of items = unwrap_or (prefix_in (value_of items own.prefix)) 0

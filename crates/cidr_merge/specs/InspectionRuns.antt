@@ -28,8 +28,8 @@ abbrev pub EndsChecking : {Z W E : Type 0} → List (String Z) → List (List �
 EndsChecking names texts end =
     FailsToWrite end ⊎ WritesFindings (lists_findings false names texts) end
 
--- these findings and then those for the entries in order were written, or the writer failed, or memory ran out before
--- anything was written
+-- the findings for the lines, strictly or not, and then those for the entries in order were written, or the writer
+-- failed, or memory ran out before anything was written
 abbrev pub EndsOrdered : {Z W E : Type 0} → Bool → List (String Z) → List (List ℕ) → Ending W E
     → Type 0
 EndsOrdered strictly names texts end = Refuses (codes "out of memory\n") end

@@ -50,7 +50,7 @@ listed_cmp a b = ordering_then (ip_cmp a.first b.first)
     (ordering_then (ip_cmp b.last a.last)
     (ordering_then (nat_cmp a.list b.list) (nat_cmp a.number b.number)))
 
--- the same entries in that order
+-- `sorted` has the entries of `found` in that order
 pub record IsInOrder (found sorted : List Listed) : Type 0 where
   pub same : IsPermutation found sorted
   pub ordered : IsSorted listed_cmp sorted
