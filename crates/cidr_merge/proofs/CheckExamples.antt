@@ -1,4 +1,4 @@
--- Values at which a misreading of what a strict check finds would show. Each of these computes.
+-- Values at which a wrong definition of a strict check's findings would show. Each of these computes.
 use Rattle.std.proofs.Common.{◌≡◌, ℕ, List, ◌∷◌, [], true, false, refl}
 use Rattle.std.specs.Prelude.{codes, map, String, Some}
 use Rattle.std.specs.Fmt.{digits}
@@ -9,24 +9,24 @@ use Rattle.cidr_merge.specs.Findings.{has_host_bits, host_findings}
 use Rattle.cidr_merge.specs.Overlaps.{Listed, pair_text}
 use Rattle.cidr_merge.specs.Repetitions.{repetitions}
 
--- the addresses of these numbers, on this line
+-- the entry with these IPv4 addresses, on this line
 abbrev pub entry : ℕ → ℕ → ℕ → Listed
 entry first last number = record { first = V4 first; last = V4 last; list = 0; number = number }
 
--- entries in one that is wider, of which the second has no address of the first
+-- two entries that lie in a wider one, and share no address with each other
 pub both_in_the_widest : {Z : Type 0} (names : List (String Z))
     → repetitions names (entry 0 9 1 ∷ entry 1 2 2 ∷ entry 3 4 3 ∷ [])
     ≡ pair_text names (entry 1 2 2) (entry 0 9 1) ∷ pair_text names (entry 3 4 3) (entry 0 9 1) ∷ []
 both_in_the_widest names = refl
 
--- the one just before, if it has the same addresses
+-- an entry with the same addresses as the one just before it is reported with that one
 pub same_as_the_one_before : {Z : Type 0} (names : List (String Z))
     → repetitions names (entry 0 9 1 ∷ entry 1 2 2 ∷ entry 1 2 3 ∷ [])
     ≡ pair_text names (entry 1 2 2) (entry 0 9 1) ∷ pair_text names (entry 1 2 3) (entry 1 2 2) ∷ []
 same_as_the_one_before names = refl
 
--- of several with the greatest last address the first; an entry that only touches another is not
--- told
+-- of several entries with the greatest last address, the first is named; an entry that only touches another is not
+-- reported
 pub first_of_the_furthest : {Z : Type 0} (names : List (String Z))
     → repetitions names (entry 0 9 1 ∷ entry 5 9 2 ∷ entry 9 12 3 ∷ entry 13 14 4 ∷ [])
     ≡ pair_text names (entry 5 9 2) (entry 0 9 1) ∷ pair_text names (entry 9 12 3)
@@ -46,7 +46,7 @@ pub the_only_address : has_host_bits (Some (Network (networks.V4
     (record { address = 167772161; prefix = 32 })))) ≡ false
 the_only_address = refl
 
--- of IPv6, ::1/0 and 2001:db8::1/64 have host bits, and ::/0 and ::1/128 have none
+-- for IPv6, ::1/0 and 2001:db8::1/64 have host bits, and ::/0 and ::1/128 have none
 pub of_ipv6 : map (λ n. has_host_bits (Some (Network (networks.V6 n))))
     (record { address = 1; prefix = 0 } ∷ record { address = 0x20010db8000000000000000000000001; prefix = 64 } ∷ record { address = 0; prefix = 0 }
     ∷ record { address = 1; prefix = 128 } ∷ []) ≡ true ∷ true ∷ false ∷ false ∷ []

@@ -1,4 +1,4 @@
--- A strict check tells each entry that lies in another.
+-- A strict check reports each entry that lies in another.
 use Rattle.std.proofs.Common.{◌≡◌, ◌+◌, ◌-◌, ◌∙◌, ◌&&◌, ℕ, suc, Bool, true, false, List, [], ◌∷◌}
 use Rattle.std.proofs.Common.{◌++◌, refl, sym, ap, subst, arith, inl, inr, length, get_or}
 use Rattle.std.proofs.Common.{append_assoc, length-append, codes}
@@ -22,7 +22,7 @@ use Rattle.cidr_merge.proofs.FilledEntries.{IsFilled, all_by_ends, first_within,
 use Rattle.cidr_merge.proofs.FilledEntries.{lists_filled}
 use Rattle.cidr_merge.proofs.ListedOrder.{up_to_all, up_to_itself, up_to_other, ascends, descends}
 
--- ---- what is said of an entry and one before it
+-- ---- the relation of an entry to one before it
 
 is_overlap : (later earlier : Listed) → is_up_to later.last earlier.last ≡ false
     → relation later earlier ≡ codes "overlaps"
@@ -79,7 +79,7 @@ not_told : {Z : Type 0} (names : List (String Z)) (later earlier : Listed)
 not_told names later earlier e =
     ap (λ (b : Bool). if b then pair_text names later earlier ∷ [] else []) e
 
--- ---- the entries with which the next is compared, behind these
+-- ---- the entries, among those before it, with which the next entry is compared
 
 abbrev previous_of : Listed → List Listed → Listed
 previous_of previous [] = previous
@@ -107,7 +107,7 @@ found_in_turn names previous furthest (next ∷ others) entry behind =
     ∙ sym (append_assoc one (middle ++ own) rest)
     ∙ ap (λ l. l ++ rest) (sym (append_assoc one middle own))
 
--- each of the two is one of those before
+-- each of the two is one of the entries before
 previous_in : (P : Listed → Type 0) (previous : Listed) (others : List Listed) → P previous
     → ((entry : Listed) → Contains others entry → P entry) → P (previous_of previous others)
 previous_in P previous [] p all = p
@@ -129,7 +129,7 @@ furthest_in P furthest (entry ∷ others) p all =
     furthest_in P (further furthest entry) others (further_in P furthest entry p
     (all entry (contains_head entry others))) (λ e c. all e (contains_tail entry others e c))
 
--- the second ends where none of them ends later
+-- the second has the greatest last address of the entries before
 further_ends : (earlier later : Listed)
     → (is_up_to earlier.last (further earlier later).last ≡ true)
     × (is_up_to later.last (further earlier later).last ≡ true)
@@ -154,7 +154,7 @@ furthest_ends furthest (entry ∷ others) =
     (furthest_of (further furthest entry) others).last (further_ends furthest entry).0
     (furthest_ends (further furthest entry) others)
 
--- an entry is the next or one of the others
+-- the furthest entry reaches at least as far as the next entry and each of the others
 next_ends : (furthest next : Listed) (others : List Listed) (entry : Listed)
     → (Contains others entry
     → is_up_to entry.last (furthest_of (further furthest next) others).last ≡ true)
@@ -197,7 +197,7 @@ module _ (before : List Listed) (entry : Listed) (behind : List Listed)
       (subst (λ (k : ℕ). is_up_to (get_or all c.0 other).first (get_or all k other).first ≡ true) at
       (ascends all c.0 (length before + 0 - c.0) other sorted (omega (arith, within, many)))))
 
-  -- those behind begin no earlier, and if they begin with the entry, end no later
+  -- those after it begin no earlier, and those that begin at the same address end no later
   behind_first : (other : Listed) → Contains behind other
       → (is_up_to entry.first other.first ≡ true) × (is_up_to other.first entry.first ≡ true
       → is_up_to other.last entry.last ≡ true)
@@ -218,14 +218,14 @@ module _ (before : List Listed) (entry : Listed) (behind : List Listed)
         descends all start (suc c.0) other sorted (omega (arith, within, many)),
       ))
 
-  -- none behind has all addresses of the entry, and more
+  -- none after it has all addresses of the entry, and more
   none_behind : IsFilled entry → (other : Listed) → Contains behind other → HasAllOf other entry
       → HasAllOf entry other
   none_behind full other c all =
       let h = behind_first other c in
       all_by_ends entry other h.0 (h.1 (first_within other entry full all))
 
-  -- an entry before it ends no earlier: it is told with that
+  -- if an entry before it ends no earlier, it is reported as lying in one
   told_within : {Z : Type 0} (names : List (String Z)) (other : Listed) → IsFilled entry
       → IsFilled other → Contains before other → is_up_to entry.last other.last ≡ true
       → LiesInAnother before entry behind × TellsWithin names before entry
@@ -243,7 +243,7 @@ module _ (before : List Listed) (entry : Listed) (behind : List Listed)
         ),
       )
 
-  -- none does: it is told with none, or as one that overlaps
+  -- otherwise, it is not reported, or only as overlapping
   told_apart : {Z : Type 0} (names : List (String Z)) (furthest : Listed) → IsFilled entry
       → Contains before furthest → is_up_to entry.last furthest.last ≡ false
       → ((other : Listed) → Contains before other → is_up_to other.last furthest.last ≡ true)
@@ -266,7 +266,7 @@ and_both true true e = (refl, refl)
 and_both true false e = absurd (let q = e in cc)
 and_both false b e = absurd (let q = e in cc)
 
--- an entry behind others
+-- an entry after others
 behind_some : {Z : Type 0} (names : List (String Z)) (first : Listed) (others : List Listed)
     (entry : Listed) (behind : List Listed) → IsSorted listed_cmp ((first ∷ others)
     ++ entry ∷ behind)
@@ -344,7 +344,7 @@ behind_some {Z} names first others entry behind sorted filled =
           else furthest_of first others) e)
           (far (is_up_to entry.last (furthest_of first others).last) refl)
 
--- the first of all
+-- the first entry
 first_of_all : {Z : Type 0} (names : List (String Z)) (entry : Listed) (behind : List Listed)
     → IsSorted listed_cmp (entry ∷ behind) → IsFilled entry → IsToldWithin names [] entry behind []
 first_of_all names entry behind sorted full = inr (lies, inl refl) where

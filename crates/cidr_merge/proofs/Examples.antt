@@ -1,4 +1,4 @@
--- Values at which a misreading of the definitions would show. Each of these computes.
+-- Values at which a wrong definition would show. Each of these computes.
 use Rattle.std.proofs.Common.{◌≡◌, ℕ, List, ◌∷◌, [], true, false, refl, map}
 use Rattle.std.specs.Prelude.{codes, String, Some, None}
 use Rattle.std.specs.Option.{is_some}
@@ -72,7 +72,7 @@ part = record { address = 167837696; prefix = 16 }
 abbrev pub eleven : Network
 eleven = record { address = 184549376; prefix = 8 }
 
--- in ascending order, whichever side has them
+-- the parts are in ascending order, whichever side they belong to
 pub sides_in_order : merged (part ∷ []) (ten ∷ eleven ∷ [])
     ≡ record { side = Second; part = ten } ∷ record { side = First; part = part }
     ∷ record { side = Second; part = eleven } ∷ []
@@ -126,12 +126,12 @@ pub unequal_sides : (answer_status Differ false one one ≡ 0)
     × (answer_status Minus false one none ≡ 0)
 unequal_sides = (refl, refl, refl, refl)
 
--- that lines were skipped comes first, whatever the sides are
+-- the status for skipped lines takes precedence, whatever the sides are
 pub skipped_lines : (answer_status Differ true one none ≡ 3)
     × (answer_status Differ true none none ≡ 3) × (answer_status Union true one none ≡ 3)
 skipped_lines = (refl, refl, refl)
 
--- ---- what is told
+-- ---- what is reported
 
 pub a_refused_line : {Z : Type 0} (union list : String Z) → string_bytes list ≡ codes "a.txt"
     → refusals_text (union ∷ list ∷ []) in_list (record {
@@ -155,23 +155,23 @@ pub tasks_called : map task_called (codes "differ" ∷ codes "Union" ∷ codes "
     ≡ Some (tasks.Merge Differ) ∷ None ∷ Some tasks.List ∷ None ∷ None ∷ []
 tasks_called = refl
 
--- the word after a `--format` or a `--prefix` is its value, and nothing is said twice by one word
+-- the items of each word by itself; `--format` by itself has none, since its value is the next word
 pub what_words_say : map (free_items rows) (codes "--skip-bad" ∷ codes "--format" ∷ codes "--format=csv" ∷ codes "-x" ∷ codes "-" ∷ codes "a" ∷ [] ∷ [])
     ≡ (says.Flag 3 ∷ []) ∷ [] ∷ (says.Joined 2 (codes "csv") (codes "--format=csv") ∷ []) ∷ (says.Unknown (codes "-x") ∷ []) ∷ (says.File (codes "-") ∷ [])
     ∷ (says.File (codes "a") ∷ []) ∷ (says.File [] ∷ []) ∷ []
 what_words_say = refl
 
--- a file behind a dot and standard input are no wrong names, standard input twice and an empty word are
+-- a path that begins with a dot and standard input are valid names; standard input twice and an empty name are not
 pub wrong_names : map (λ files. is_some (files_fault files)) ((codes "./-x" ∷ codes "-" ∷ []) ∷ (codes "-" ∷ codes "a" ∷ codes "-" ∷ []) ∷ (codes "a" ∷ [] ∷ []) ∷ [] ∷ [])
     ≡ false ∷ true ∷ true ∷ false ∷ []
 wrong_names = refl
 
--- what stands before the `--` of a `find` names no file
+-- the words before the `--` of a `find` name no files
 pub no_files : (files_among tasks.Find 2 (codes "-" ∷ [] ∷ codes "-" ∷ []) ≡ codes "-" ∷ [])
     × (files_among tasks.Check 2 (codes "-" ∷ [] ∷ codes "-" ∷ []) ≡ codes "-" ∷ [] ∷ codes "-" ∷ [])
 no_files = (refl, refl)
 
--- of `--ranges`, `--skip-bad`, `--strict`, `--line-prefix`, `--prefix`, `--from` and `--help` each task takes its own
+-- which of `--ranges`, `--skip-bad`, `--strict`, `--line-prefix`, `--prefix`, `--from` and `--help` each task takes
 pub options_of_tasks : map (λ task. map (takes task) (0 ∷ 3 ∷ 5 ∷ 8 ∷ 10 ∷ 11 ∷ 12 ∷ [])) (tasks.Merge Differ ∷ tasks.List ∷ tasks.Split ∷ tasks.Check ∷ tasks.Overlaps ∷ tasks.Find ∷ [])
     ≡ (true ∷ true ∷ true ∷ true ∷ false ∷ false ∷ false ∷ []) ∷ (true ∷ true ∷ true ∷ true ∷ false ∷ false ∷ false ∷ [])
     ∷ (false ∷ true ∷ true ∷ true ∷ true ∷ false ∷ false ∷ []) ∷ (false ∷ false ∷ true ∷ false ∷ false ∷ false ∷ false ∷ [])
@@ -179,7 +179,7 @@ pub options_of_tasks : map (λ task. map (takes task) (0 ∷ 3 ∷ 5 ∷ 8 ∷ 1
     ∷ (false ∷ false ∷ false ∷ false ∷ false ∷ true ∷ false ∷ []) ∷ []
 options_of_tasks = refl
 
--- two ways to print, one of them twice, a form that is given twice, also without a value, and two lengths
+-- two output forms, the same one twice, `--format` given twice, also without a value, and two prefix lengths
 pub ways_to_print : map (λ items. is_some (pair_fault items (pairs_of pairs)))
     ((says.Flag 0 ∷ says.Flag 1 ∷ []) ∷ (says.Flag 1 ∷ says.Flag 1 ∷ []) ∷ (says.Value 2 (codes "csv") ∷ []) ∷ (says.Value 2 (codes "csv") ∷ says.Lacks 2 ∷ [])
     ∷ (says.Value 2 (codes "csv") ∷ says.Flag 1 ∷ []) ∷ (says.Value 2 (codes "csv") ∷ says.Flag 0 ∷ [])
@@ -196,12 +196,12 @@ usual_form = refl
 pub shapes_said : map shape_of ((says.Flag 4 ∷ []) ∷ (says.Flag 4 ∷ says.Flag 5 ∷ []) ∷ (says.Flag 3 ∷ []) ∷ []) ≡ shapes.Json ∷ shapes.StrictJson ∷ shapes.Lines ∷ []
 shapes_said = refl
 
--- a `+` may stand before a prefix length, and zeros
+-- a prefix length may have a `+` before it, and leading zeros
 pub prefix_lengths : map prefix_in (codes "24" ∷ codes "+024" ∷ codes "128" ∷ codes "129" ∷ codes "++8" ∷ codes "+" ∷ [] ∷ codes "-1" ∷ codes "8 " ∷ [])
     ≡ Some 24 ∷ Some 24 ∷ Some 128 ∷ None ∷ None ∷ None ∷ None ∷ None ∷ None ∷ []
 prefix_lengths = refl
 
--- the sides are cut at the first `--`, which is of neither
+-- the sides are split at the first `--`, which belongs to neither
 pub two_sides : {Z : Type 0} (list dashes other : String Z)
     → is (codes "--") list ≡ false → is (codes "--") dashes ≡ true
     → (before_dashes (list ∷ dashes ∷ other ∷ []) ≡ list ∷ [])

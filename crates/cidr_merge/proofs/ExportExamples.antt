@@ -28,7 +28,7 @@ pub values : (export_text usual_names Csv [] [] ≡ codes "family,network,first,
 unfolding digits
 values = (refl, refl)
 
--- what `nft -f` reads, and `ipset restore`, with the whole of IPv6
+-- the input for `nft -f`, and that for `ipset restore` with the block of all IPv6 addresses
 abbrev blocked : Names
 blocked = record { table = codes "fw"; set = codes "blocked"; before = codes "deny "; after = codes ";" }
 
@@ -49,7 +49,7 @@ pub sets : (export_text blocked Nft (ten ∷ one ∷ []) []
 unfolding digits
 sets = (refl, refl)
 
--- names of 1 and of 22 bytes, one of 23, and others that are none
+-- names of 1 and of 22 bytes are valid; one of 23 bytes and others are not
 abbrev twenty_two : List ℕ
 twenty_two = codes "abcdefghijklmnopqrstuv"
 
@@ -58,7 +58,7 @@ pub names_of_sets : (map is_set_name (codes "b" ∷ codes "Z-9_.a" ∷ twenty_tw
     ≡ false ∷ false ∷ false ∷ false ∷ false ∷ false ∷ [])
 names_of_sets = (refl, refl)
 
--- of both families, of one, and of none
+-- JSON arrays with blocks of both families, of one, and of neither
 pub arrays : (export_text usual_names Json (ten ∷ one ∷ []) (half ∷ [])
     ≡ codes "[\n\"10.0.0.0/8\",\n\"192.0.2.7/32\",\n\"::/1\"\n]\n")
     × (export_text usual_names Json [] (half ∷ []) ≡ codes "[\n\"::/1\"\n]\n")

@@ -1,4 +1,4 @@
--- Exports: texts that are written one after the other.
+-- Exports are texts that are written one after the other.
 use Rattle.std.proofs.Common.{◌≡◌, ◌||◌, ℕ, Bool, true, false, List, [], ◌∷◌, ◌++◌, refl, sym, ap}
 use Rattle.std.proofs.Common.{◌∙◌, subst}
 use Rattle.std.specs.Prelude.{Option, Result, Ok, Err, OnOk}
@@ -50,7 +50,7 @@ put_four_ok
     (Err fault) held first second third holds waited after_first after_second after_third waits x y
     z u front back text e f is p q r s = tt
 
--- whether there was a block
+-- whether blocks were printed by now: yes if this family has one, else if the other family, which comes first, had
 pub there_is_one : {X : Type 0} (follows : Bool) (all rest : List X) (x : X) → all ≡ x ∷ rest
     → true ≡ (follows || is_any all)
 there_is_one true all rest x e = refl
@@ -61,7 +61,7 @@ pub there_is_none : {X : Type 0} (follows : Bool) (all : List X) → all ≡ []
 there_is_none true all e = refl
 there_is_none false all e = sym (ap is_any e)
 
--- no block is written as nothing
+-- if there are no blocks, nothing is written
 pub puts_no_block : {w : ℕ} (names : Names) (export : Export) (version : Version) (family : Family w)
     (follows : Bool) (all : List Network) (held : Option (List ℕ)) (waits : List ℕ)
     → all ≡ [] → Puts held waits held waits (listed names export version family follows all)

@@ -1,4 +1,4 @@
--- Which addresses entries have: those of lists have one each, at least.
+-- The addresses of entries: each entry of a list has at least one.
 use Rattle.std.proofs.Common.{◌≡◌, ℕ, Bool, true, false, List, [], ◌∷◌, length, refl, subst, inl}
 use Rattle.std.proofs.Common.{inr}
 use Rattle.std.specs.Prelude.{◌⊎◌, if◌then◌else◌, nat_lt, Option, None, Some, Result, Ok, Err}
@@ -80,7 +80,7 @@ last_within entry other full all =
 abbrev IsFilledEntry : Entry → Type 0
 IsFilledEntry entry = is_up_to (ends_of entry).0 (ends_of entry).1 ≡ true
 
--- what a text names has one
+-- the entry that a text names has an address
 abbrev IsFilledText : Result Entry EntryFault → Type 0
 IsFilledText (Ok entry) = IsFilledEntry entry
 IsFilledText (Err fault) = Unit {0}
@@ -122,7 +122,7 @@ told_filled text (Err cause) h = tt
 text_filled : (text : List ℕ) → IsFilledText (text_entry text)
 text_filled text = told_filled text (plain_entry text) (plain_filled text)
 
--- what a line says
+-- the entry that a line has, if any, has an address
 abbrev AreFilledBy : Result (Option Entry) LineFault → Type 0
 AreFilledBy said =
     (list number : ℕ) (one : Listed) → Contains (entries_by list number said) one → IsFilled one

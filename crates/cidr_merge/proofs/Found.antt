@@ -1,4 +1,4 @@
--- What was found and told so far, and what is still to be found.
+-- The findings printed so far, and those that are left.
 use Rattle.std.proofs.Common.{◌≡◌, ◌==◌, ◌||◌, ◌∙◌, ℕ, Bool, true, false, not, List, [], ◌∷◌, ◌++◌}
 use Rattle.std.proofs.Common.{refl, sym, ap, length, append_assoc, append-nil}
 use Rattle.std.specs.List.{concat}
@@ -13,7 +13,7 @@ use Rattle.cidr_merge.specs.Private.Reported.{TellsFound}
 is_some : (one : List ℕ) (found : List (List ℕ)) → not (length (one ∷ found) == 0) ≡ true
 is_some one found = ap not (eqb-suc-zero (length found))
 
--- whether there is one
+-- whether there is a finding in either of two lists
 found_more : (found more : List (List ℕ)) (is_found is_more both : Bool)
     → IsFound found is_found → IsFound more is_more → both ≡ (is_found || is_more)
     → IsFound (found ++ more) both
@@ -39,7 +39,7 @@ tells_both found more old mid new is_found is_more both h k e = (
   found_more found more is_found is_more both h.1 k.1 e,
 )
 
--- of all that is to be found a part was told, and this is left
+-- a part of all findings was printed, and these are left
 abbrev pub ToldSoFar : {W : Type 0} → List (List ℕ) → List (List ℕ) → Written W → Written W → Bool
     → Type 0
 ToldSoFar all left old new is_found =

@@ -1,4 +1,4 @@
--- How a run ends that looks lists over.
+-- How a run ends that inspects lists.
 use Rattle.std.proofs.Common.{◌≡◌, ◌||◌, ◌∙◌, ℕ, Bool, true, false, not, List, []}
 use Rattle.std.proofs.Common.{◌∷◌, ◌++◌, refl, sym, ap, subst, inl, inr, length, map}
 use Rattle.std.specs.Prelude.{◌⊎◌, if◌then◌else◌, Option, Result, Ok, Err, OnOk}
@@ -20,7 +20,7 @@ use Rattle.cidr_merge.specs.Private.Reported.{TellsFound}
 use Rattle.cidr_merge.specs.Writing.{FailsToWrite}
 use Rattle.cidr_merge.specs.declared.command_line.Inspection.{Inspection}
 
--- ---- what was found is written
+-- ---- findings that are written
 
 pub status_is : (findings : List (List ℕ)) (found : Bool) → IsFound findings found
     → (if found then 1 else 0) ≡ findings_status findings
@@ -80,7 +80,7 @@ checked names texts end mid written found status h s wrote works failed is told 
 -- ---- the lists
 
 module _ {Z W E : Type 0} (known : KnownLists) (words : List (String Z)) (inspection : Inspection) (end : Ending W E) where
-  -- all were read
+  -- all lists were read
   pub read : {X : Type 0} (texts held : List X) (items : X → List ℕ) → held ≡ texts
       → AreTexts known words (map items texts) → EndsFinding inspection words (map items held) end
       → EndsInspecting known words inspection end

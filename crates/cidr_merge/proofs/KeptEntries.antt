@@ -1,5 +1,4 @@
--- Which of the earlier elements are kept while a list is swept: all that an element to come may ask
--- for.
+-- The earlier elements that are kept while a list is swept: all for which a test with a later element may hold.
 use Rattle.std.proofs.Common.{◌≡◌, ◌+◌, ◌-◌, ◌<◌, ◌≤◌, ◌∙◌, ℕ, Bool, true, false, List, [], ◌∷◌}
 use Rattle.std.proofs.Common.{◌++◌, refl, sym, ap, subst, arith, inl, inr, cond, length, take, drop}
 use Rattle.std.proofs.Common.{get_or, set, filter}
@@ -10,7 +9,7 @@ use Rattle.std.proofs.lemmas.List.{take_more, take_more_set, take-set, take-set-
 use Rattle.std.proofs.lemmas.List.{drop-drop, get_or-drop, get_or_default, length-set}
 use Rattle.std.proofs.lemmas.List.Elements.{filter-append}
 
--- what a stricter test keeps of what another kept
+-- filtering by a test, then by a stricter one, is filtering by the stricter one
 kept_again : {X : Type 0} (p q : X → Bool) (xs : List X) → ((x : X) → q x ≡ true → p x ≡ true)
     → filter q (filter p xs) ≡ filter q xs
 kept_again p q [] h = refl
@@ -25,7 +24,7 @@ kept_again p q (x ∷ xs) h = by (kept_again p q xs h) (p x) (q x) refl refl whe
       ap (λ c. filter q (cond c (x ∷ filter p xs) (filter p xs))) e ∙ k
       ∙ sym (ap (λ c. cond c (x ∷ filter q xs) (filter q xs)) f)
 
--- the element at a place was put behind those that stand before another
+-- the element at a place was swapped with the one at `count`, after the first `count` elements
 module _ {X : Type 0} (mid new : List X) (count place : ℕ) (x : X)
     (swapped : SwappedAt mid new count place) (l : count ≤ place) (within : place < length mid)
     (is : x ≡ get_or mid place x) where
@@ -53,7 +52,7 @@ module _ {X : Type 0} (mid new : List X) (count place : ℕ) (x : X)
       (set mid count (get_or mid place x)) place (get_or mid count x) (omega arith)
       ∙ drop-set-lt (place + 1) mid count (get_or mid place x) (omega (arith, l))
 
--- nothing behind the two has changed
+-- nothing after the two has changed
 pub swapped_rest : {X : Type 0} (mid new : List X) (count place : ℕ) → SwappedAt mid new count place
     → count ≤ place → place < length mid → drop (place + 1) new ≡ drop (place + 1) mid
 swapped_rest [] new count place swapped l within = absurd (omega (arith, within))
@@ -62,7 +61,7 @@ swapped_rest (x ∷ mid) new count place swapped l within =
     (set (x ∷ mid) count (get_or (x ∷ mid) place x)) place (get_or (x ∷ mid) count x) (omega arith)
     ∙ drop-set-lt (place + 1) (x ∷ mid) count (get_or (x ∷ mid) place x) (omega (arith, l))
 
--- what is the same from one place on is from a later one
+-- lists that are the same from one place on are the same from a later one
 pub same_further : {X : Type 0} (a b : List X) (from to : ℕ) → from ≤ to → drop from a ≡ drop from b
     → drop to a ≡ drop to b
 same_further a b from to l e =
@@ -70,7 +69,7 @@ same_further a b from to l e =
     ap (λ n. drop n a) (sym at) ∙ sym (drop-drop (to - from) from a) ∙ ap (drop (to - from)) e
     ∙ drop-drop (to - from) from b ∙ ap (λ n. drop n b) at
 
--- the lists, and those that may be asked for
+-- the list before and now, and the elements kept in it
 pub record Swept {X : Type 0} (r : X → X → Bool) (old now : List X) (kept place : ℕ) : Type 0 where
   pub ahead : drop place now ≡ drop place old
   pub long : length now ≡ length old
@@ -78,7 +77,7 @@ pub record Swept {X : Type 0} (r : X → X → Bool) (old now : List X) (kept pl
   pub same : (j : ℕ) (d : X) → place ≤ j → j < length old
       → filter (r (get_or old j d)) (take kept now) ≡ filter (r (get_or old j d)) (take place old)
 
--- what a later one asks for, an earlier one does: the test is so on a list
+-- if the test holds for an element of the list, with a given second argument, it holds for all earlier elements
 abbrev pub Falls : {X : Type 0} → (X → X → Bool) → List X → Type 0
 Falls {X} r old =
     (i j : ℕ) (d e : X) → i ≤ j → j < length old → r (get_or old j d) e ≡ true

@@ -1,4 +1,4 @@
--- What the laws let one conclude, where weaker laws would not.
+-- Conclusions from the laws that weaker laws would not allow.
 use Rattle.std.proofs.Common.{◌≡◌, ◌≢◌, ◌∙◌, ℕ, Bool, List, [], ◌∷◌, ◌++◌, true, false, ap, sym, subst}
 use Rattle.std.proofs.Common.{arith, inl, inr, length, refl}
 use Rattle.std.specs.Prelude.{◌⊎◌, bytes_eq, codes, None, Ok, String, drop}
@@ -36,7 +36,7 @@ use Rattle.cidr_merge.specs.declared.tasks.Task.TheVariants as tasks
 use Rattle.cidr_merge.proofs.CheckExamples.{entry}
 use Rattle.cidr_merge.proofs.UsageExamples.{table}
 
--- a list may be cut into two parts, and into three
+-- a list can be cut into two parts, and into three
 pub of_two_parts : UnionsOfPartsPrintTheSame
     → (one other whole joined : List (List ℕ)) (first second text again : List ℕ)
     → HaveLines (one ∷ other ∷ []) whole → UnionPrints one first → UnionPrints other second
@@ -57,7 +57,7 @@ of_three_parts law one other third whole joined first second last text again par
     law whole joined (one ∷ other ∷ third ∷ []) (first ∷ second ∷ last ∷ []) text again parts
     (a, (b, (c, tt))) have short all prints
 
--- so that no other text is printed
+-- so no other text is printed
 pub no_other_text : UnionsOfPartsPrintTheSame
     → (one other whole joined : List (List ℕ)) (first second : List ℕ)
     → HaveLines (one ∷ other ∷ []) whole → UnionPrints one first → UnionPrints other second
@@ -73,7 +73,7 @@ no_other_text law one other whole joined first second parts a b have short all p
 no : {text name : List ℕ} → bytes_eq text name ≡ false → text ≢ name
 no {text} {name} e same = true≢false (sym ((bytes_eq-Decides text name).1 same) ∙ e)
 
--- a word that is shorter than a name by a letter or two, and one that differs from it by a letter
+-- words that are a letter or two shorter than a name, one in capitals, and the empty word name no task
 pub no_tasks : NoOtherTask → (task_called (codes "diff") ≡ None)
     × (task_called (codes "COMMON") ≡ None) × (task_called [] ≡ None) × (task_called (codes "overlap") ≡ None)
 no_tasks law = (
@@ -104,7 +104,7 @@ ranges_are_no_form law =
 
 -- ---- command lines
 
--- `--ranges` behind the list of the second side of `minus a -- b` is an option of both
+-- `--ranges` after the list of the second side of `minus a -- b` applies to both sides
 module _ {Z : Type 0} (minus a dashes b ranges : String Z) (o : string_bytes minus ≡ codes "minus") (p : string_bytes a ≡ codes "a")
     (d : string_bytes dashes ≡ codes "--") (q : string_bytes b ≡ codes "b") (r : string_bytes ranges ≡ codes "--ranges") where
   abbrev words : List (String Z)
@@ -159,11 +159,11 @@ module _ {Z : Type 0} (minus a dashes b ranges : String Z) (o : string_bytes min
     files = refl;
   })
 
-  -- and so of its two sides each has its own list
+  -- each of the two sides has its own list
   pub its_sides : RightWordsAreTaken table words → SidesAreCut table words → drop request.middle (codes "a" ∷ codes "b" ∷ []) ≡ files_of (second_said table.rows.now (a ∷ dashes ∷ b ∷ ranges ∷ []))
   its_sides law cut = (cut request (codes "a" ∷ codes "b" ∷ []) (option_behind_lists law)).1
 
--- what is not right: an option of another task, an unknown one, and one without its value,
+-- items that are not valid: an option of another task, an unknown one, and one without its value
 abbrev flag_of : Item → ℕ
 flag_of (says.Flag row) = row
 flag_of (says.Value row text) = row
@@ -195,7 +195,7 @@ no_unknown task word right = true≢false (sym (right_is_said task (says.Unknown
 pub no_missing_value : (task : Task) (row : ℕ) → IsRightItem task (says.Lacks row) → ⊥
 no_missing_value task row right = true≢false (sym (right_is_said task (says.Lacks row) right))
 
--- two ways to print, of which each stands on a side of its own, no length, and standard input on both sides
+-- words that are not valid: two output forms, one on each side; no prefix length; and standard input on both sides
 pub no_two_forms : AreRight table (tasks.Merge Minus) (says.Flag 0 ∷ says.Flag 1 ∷ []) (codes "a" ∷ []) (codes "b" ∷ []) → ⊥
 no_two_forms right = true≢false right.apart.0
 
@@ -207,7 +207,7 @@ no_second_standard_input right = let i = right.input in omega (arith, i)
 
 -- ---- entries that lie in another
 
--- of three entries the second and the third have no address in common, and both lie in the first
+-- three entries: the second and the third share no address, and both lie in the first
 
 lies_in_the_first : LiesInAnother (entry 0 9 1 ∷ entry 1 2 2 ∷ []) (entry 3 4 3) []
 lies_in_the_first = inl (entry 0 9 1, contains_head (entry 0 9 1) (entry 1 2 2 ∷ []), has_all) where
@@ -231,13 +231,13 @@ the_third_is_told {Z} names law texts sorted =
     within own (inl k) = k.1
     within own (inr k) = absurd (k.0 lies_in_the_first)
 
--- so that a check which compares each entry only with the one just before it is none
+-- so a check that compares each entry only with the one just before it does not satisfy the law
 pub no_finding_of_the_third : {Z : Type 0} (names : List (String Z))
     → ¬ (IsToldWithin names (entry 0 9 1 ∷ entry 1 2 2 ∷ []) (entry 3 4 3) [] [])
 no_finding_of_the_third names (inl h) = let e : 0 ≡ 1 = ap length h.1.3 in omega (arith, e)
 no_finding_of_the_third names (inr h) = h.0 lies_in_the_first
 
--- of two entries with the same addresses the first is not told
+-- of two entries with the same addresses, the first is not reported
 pub the_first_of_two_is_not_told : {Z : Type 0} (names : List (String Z))
     → EachWithinAnotherIsTold names → (texts : List (List ℕ)) → IsInOrder (lists_entries texts) (entry 1 2 1 ∷ entry 1 2 2 ∷ [])
     → (own others : List (List ℕ)) × (repetitions names (entry 1 2 1 ∷ entry 1 2 2 ∷ []) ≡ own
@@ -260,7 +260,7 @@ the_first_of_two_is_not_told {Z} names law texts sorted =
     apart own (inl k) = absurd (lies k.0)
     apart own (inr k) = k.1
 
--- of two entries side by side the last is not told as lying in the first
+-- of two adjacent entries, the last is not reported as lying in the first
 pub the_last_of_two_is_not_told : {Z : Type 0} (names : List (String Z))
     → EachWithinAnotherIsTold names → (texts : List (List ℕ)) → IsInOrder (lists_entries texts) (entry 0 4 1 ∷ entry 5 9 2 ∷ [])
     → TellsNotWithin names (entry 0 4 1 ∷ []) (entry 5 9 2)

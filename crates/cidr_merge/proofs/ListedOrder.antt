@@ -68,7 +68,7 @@ up_to_other (V4 a) (V6 b) e = absurd (let g = e in cc)
 up_to_other (V6 a) (V4 b) e = refl
 up_to_other (V6 a) (V6 b) e = of_le b a (not_up_to a b e)
 
--- addresses of which each is up to the other are the same
+-- two addresses, neither of which is after the other, are the same
 both_equal : (a b : IpAddr) → is_up_to a b ≡ true → is_up_to b a ≡ true → ip_cmp a b ≡ Equal
 both_equal (V4 a) (V4 b) e f = sym (nat_cmp_is a b Equal (omega (arith, le_of a b e, le_of b a f)))
 both_equal (V4 a) (V6 b) e f = absurd (let g = f in cc)
@@ -94,7 +94,7 @@ ascends xs i (suc n) d h l =
     (nat_cmp (get_or xs (i + n + 1) d).number (get_or xs (i + n) d).number)))
     (h (i + n) d (omega arith) (omega (arith, l)))))
 
--- of two with one first address the later ends no later
+-- of two entries with the same first address, the later in order ends no later
 one_first : (a b : Listed) → is_lt (listed_cmp b a) ≡ false → is_up_to b.first a.first ≡ true
     → is_up_to a.first b.first ≡ true → is_up_to b.last a.last ≡ true
 one_first a b e down up =
@@ -103,7 +103,7 @@ one_first a b e down up =
     (ordering_then o (ordering_then (ip_cmp a.last b.last) places)))
     (sym (both_equal b.first a.first down up)) ∙ e)
 
--- and so do all with one first address
+-- so the last addresses of entries with the same first address descend
 pub descends : (xs : List Listed) (i n : ℕ) (d : Listed) → IsSorted listed_cmp xs
     → i + n < length xs → is_up_to (get_or xs (i + n) d).first (get_or xs i d).first ≡ true
     → is_up_to (get_or xs (i + n) d).last (get_or xs i d).last ≡ true
@@ -169,7 +169,7 @@ sorted_as (x ∷ xs) h k d low less =
     ∙ ap (λ y. is_lt (listed_cmp (listed_as one) y)) first
     ∙ ap is_lt (sym (same_order one (get_or (x ∷ xs) k x))) ∙ h k x low within
 
--- of the entries as they are held
+-- the same, for the entries as the code holds them
 pub overlaps_falls : (xs : List Placed) → IsSorted listed_cmp (map listed_as xs) → Falls overlaps xs
 overlaps_falls xs h i j d e l m asks =
     let later = get_or-map listed_as xs j d (listed_as d) m in

@@ -1,4 +1,4 @@
--- What no other text is.
+-- No other text names a task, an option or a form.
 use Rattle.std.proofs.Common.{◌≡◌, ◌≢◌, ◌≤◌, ◌∙◌, ◌+◌, ℕ, Bool, List, [], ◌∷◌, true, false, not, cond, refl, sym, ap, subst, arith, map, length}
 use Rattle.std.specs.Prelude.{None, Some, bytes_eq, nat_lt}
 use Rattle.std.specs.List.{position_or_len}
@@ -40,7 +40,7 @@ same_place : (text : List ℕ) (rows : List Row) → position_or_len (has_name t
 same_place text [] = refl
 same_place text (row ∷ rows) = ap (λ (n : ℕ). cond (not (bytes_eq row.name.now text)) (1 + n) 0) (same_place text rows)
 
--- the operations take those of the first ten rows
+-- the operations take only options of the first ten rows
 behind_ten : (operation : Operation) (row : ℕ) → 10 ≤ row → takes (tasks.Merge operation) row ≡ false
 behind_ten operation row far =
     rw (ne_eqb 0 row (λ e. omega (arith, far, e)), ne_eqb 1 row (λ e. omega (arith, far, e)), ne_eqb 2 row (λ e. omega (arith, far, e)))

@@ -1,4 +1,4 @@
--- Lists at which a misreading of their lines would show. Each of these computes.
+-- Lists at which a wrong definition of their lines would show. Each of these computes.
 use Rattle.std.proofs.Common.{◌≡◌, ◌∷◌, ℕ, List, [], true, false, map, refl}
 use Rattle.std.specs.Fmt.{digits}
 use Rattle.std.specs.Prelude.{codes, Option, None, Some, Result, Ok, Err}
@@ -19,7 +19,7 @@ use Rattle.cidr_merge.specs.NumberedLines.{NumberedLine, is_range, numbered_line
 abbrev line : ℕ → ℕ → List ℕ → NumberedLine
 line list number text = record { list = list; number = number; text = text }
 
--- each list begins at 1 again, one without lines too has its number, and the last line needs no end
+-- line numbers restart at 1 in each list, a list without lines has an index too, and the last line needs no line feed
 pub lines_of_three_lists :
     numbered_lines 0 (codes "a\n\nb" ∷ [] ∷ codes "c\r\n" ∷ [])
     ≡ line 0 1 (codes "a") ∷ line 0 2 [] ∷ line 0 3 (codes "b") ∷ line 2 1 (codes "c") ∷ []
@@ -47,21 +47,20 @@ pub why_ranges_are_refused :
 unfolding digits v6_of gap_below
 why_ranges_are_refused = refl
 
--- a range may have one address, and is none across families or backwards
+-- a range may have only one address; its ends must be of one family and in order
 pub ranges_of_addresses :
     (is_range (V4 5) (V4 5) ≡ true) × (is_range (V4 5) (V4 4) ≡ false)
     × (is_range (V4 0) (V6 0) ≡ false) × (is_range (V6 0) (V4 0) ≡ false)
     × (is_range (V6 0) (V6 1) ≡ true)
 ranges_of_addresses = (refl, refl, refl, refl, refl)
 
--- a range has both its ends, and not the address behind it, and that number of the other family is
--- none of its addresses
+-- a range has both its ends, but not the address after it, nor an address of the other family with a number in it
 pub what_entries_have :
     map (has (Range (V4 5) (V4 7))) (V4 4 ∷ V4 5 ∷ V4 7 ∷ V4 8 ∷ V6 6 ∷ [])
     ≡ false ∷ true ∷ true ∷ false ∷ false ∷ []
 what_entries_have = refl
 
--- ---- what the laws say, at lines that no shorter statement would reach
+-- ---- the laws, for lines to which weaker laws would not apply
 
 pub a_backward_range_is_no_entry : LinesAreReadAsComputed → (entry : Entry)
     → ReadsEntry (codes "::2 - ::1") (Ok (Some entry)) → ⊥

@@ -1,4 +1,4 @@
--- How a run ends that tells what is found in entries in order.
+-- How a run ends that prints the findings for entries in order.
 use Rattle.std.proofs.Common.{◌≡◌, ◌||◌, ℕ, Bool, List, ◌++◌, ap, inl, inr, map}
 use Rattle.std.specs.Prelude.{if◌then◌else◌, Result, OnOk, IsFalse, is_err, String}
 use Rattle.std.specs.Io.KnownBytes.{Appends}

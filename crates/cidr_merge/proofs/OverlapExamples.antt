@@ -1,5 +1,4 @@
--- Entries at which a misreading of `listed_cmp`, `reaches`, `relation` or `search_status` would
--- show.
+-- Entries at which a wrong definition of `listed_cmp`, `reaches`, `relation` or `search_status` would show.
 use Rattle.std.proofs.Common.{◌≡◌, [], ◌∷◌, true, false, refl}
 use Rattle.std.specs.Prelude.{codes}
 use Rattle.std.specs.declared.cmp.Ordering.TheVariants.{Less}
@@ -8,8 +7,8 @@ use Rattle.cidr_merge.specs.FindRuns.{search_status}
 use Rattle.cidr_merge.specs.Overlaps.{Listed, listed_cmp, reaches, relation}
 use Rattle.cidr_merge.proofs.CheckExamples.{entry}
 
--- 10.0.0.0/8 and, in another list, again; the first /16 in it; a range that ends behind it; what
--- comes right behind it
+-- 10.0.0.0/8, and the same in another list; the first /16 in it; a range that ends after it; the entry right after
+-- it
 abbrev wide : Listed
 wide = entry 0x0a000000 0x0affffff 7
 
@@ -31,21 +30,20 @@ across = entry 0x0affffff 0x0b000000 3
 abbrev behind : Listed
 behind = entry 0x0b000000 0x0b000000 4
 
--- the same addresses; within, from the first address on; some within and some not
+-- the same addresses; within, from the first address; partly within
 pub relations : (relation again wide ≡ codes "same as") × (relation narrow wide ≡ codes "in")
     × (relation across wide ≡ codes "overlaps")
 relations = (refl, refl, refl)
 
--- the last address is common, and the next is not
+-- the last address is shared, and the next is not
 pub up_to_the_last_address : (reaches across wide ≡ true) × (reaches behind wide ≡ false)
 up_to_the_last_address = (refl, refl)
 
--- of those with one first address the widest comes first, and of equal ones that of the earlier
--- list
+-- of entries with the same first address, the widest comes first; of equal ones, that of the earlier list
 pub which_comes_first : (listed_cmp wide narrow ≡ Less) × (listed_cmp wide again ≡ Less)
 which_comes_first = (refl, refl)
 
--- nothing is found; a line is found; a refused line counts more than a line that is found
+-- no line is found; a line is found; a refused line takes precedence over one that is found
 pub exit_statuses : (search_status [] [] ≡ 1) × (search_status ([] ∷ []) [] ≡ 0)
     × (search_status ([] ∷ []) ([] ∷ []) ≡ 2)
 exit_statuses = (refl, refl, refl)

@@ -20,7 +20,7 @@ use Rattle.cidr_merge.proofs.Found.{tells_both}
 use Rattle.cidr_merge.proofs.KeptEntries.{Swept, swept_more, as_it_was, same_further}
 use Rattle.cidr_merge.proofs.ListedOrder.{overlaps_falls}
 
--- an entry more
+-- the findings with one more entry
 pub pairs_more : {Z : Type 0} (names : List (String Z)) (before entries : List Listed)
     (entry : Listed)
     → pairs_after names before (entries ++ entry ∷ []) ≡ pairs_after names before entries
@@ -48,7 +48,7 @@ filter_map_is f p (x ∷ xs) = by (filter_map_is f p xs) (p (f x)) refl where
   by k false e = ap (λ c. cond c (f x ∷ filter p (map f xs)) (filter p (map f xs))) e ∙ k
       ∙ sym (ap (λ c. map f (cond c (x ∷ filter (λ y. p (f y)) xs) (filter (λ y. p (f y)) xs))) e)
 
--- an earlier entry more was told
+-- the finding with one more earlier entry was printed
 pairs_with_more : {Z W : Type 0} (names : List (String Z)) (later : Placed) (before : List Placed)
     (index : ℕ) (one : Placed) (old mid new : Written W) → index < length before
     → one ≡ get_or before index one
@@ -82,7 +82,7 @@ pairs_with_next names later before index other old mid new l h k =
     pairs_with_more names later before index (get_or before index other) old mid new l
     (get_or_default before index other (get_or before index other) l) h k
 
--- the pairs of the entries before a place were told
+-- the pairs of the entries before a place were printed
 abbrev pub PairsTold : {Z W : Type 0} → List (String Z) → List Placed → Written W → Written W → Bool
     → Type 0
 PairsTold names entries old new found =
@@ -119,7 +119,7 @@ pairs_told_more names entries now mid kept_ones kept place count later old betwe
     (tells_both (pairs_after names [] (map listed_as (take place entries))) texts old between new
     found more both h (told, some) b)
 
--- an entry more was swept, and told with those that it overlaps
+-- one more entry was swept, and printed with those that it overlaps
 pairs_step : {Z W : Type 0} (names : List (String Z)) (old now mid new : List Placed)
     (kept place count : ℕ) (later : Placed) (output between after : Written W)
     (found more both : Bool)

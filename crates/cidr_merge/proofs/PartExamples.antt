@@ -1,5 +1,4 @@
--- What the definitions promise, part by part: a definition without one of these parts would not
--- give it.
+-- What the definitions guarantee, part by part: without that part, a definition would not imply it.
 use Rattle.std.proofs.Common.{◌≡◌, ◌+◌, ◌≤◌, ◌↔◌, ◌⊎◌, inl, inr, ◌++◌, ◌∙◌, ◌==◌, sym, not}
 use Rattle.std.proofs.Common.{ℕ, Bool, List, [], ◌∷◌, true, false, length, map, take, drop, refl}
 use Rattle.std.specs.Prelude.{codes, ◌&&◌, if◌then◌else◌, String, None, Ok, Err}
@@ -155,7 +154,7 @@ pub what_a_run_does : {Z W E : Type 0} (program help version usage : List ℕ) (
 what_a_run_does program help version usage known words end e h =
     otherwise help version words _ end e h
 
--- by what is asked for, and by what is wrong
+-- how a run ends, by its command or by the fault of its words
 pub what_is_asked_is_done : {W E : Type 0} (program usage : List ℕ) (rows : List Row) (known : KnownLists)
     (sets : Names) (request : Request) (files : List (List ℕ)) (end : Ending W E)
     → EndsAsked program usage rows known sets (Ok (commands.Merge request, files)) end
@@ -206,7 +205,7 @@ pub what_a_find_does : {Z W E : Type 0} (program usage : List ℕ) (rows : List 
     then (if length (found_in words middle from addresses texts) == 0 then 1 else 0) else 2)))))))))
 what_a_find_does program usage rows known words middle from end h = h
 
--- ---- what the laws take: no more than this
+-- ---- what suffices for the premises of the laws
 
 pub a_union_prints : (list : List (List ℕ)) (text : List ℕ) (number : ℕ) (read : ReadLists)
     (sets others : Sets) → TakesLines (at_list (nothing_read no_refusals) number) list read

@@ -1,4 +1,4 @@
--- Merges in parts.
+-- Merging a list in parts.
 use Rattle.std.proofs.Common.{◌≡◌, ◌↔◌, ◌⊎◌, inl, inr, ⊎_elim, ℕ, List, [], ◌∷◌, ◌++◌, refl, sym}
 use Rattle.std.proofs.Common.{ap, ap₂, subst, ◌∙◌}
 use Rattle.std.specs.Prelude.{map}
@@ -40,7 +40,7 @@ of_the_first family [] = refl
 of_the_first family (b ∷ blocks) =
     ap (λ t. (text_of family b ++ 10 ∷ []) ++ t) (of_the_first family blocks)
 
--- of one family: the least list of a set, and its lines
+-- the output for one family: the least list of a set, and its lines
 record Half {w : ℕ} (family : Family w) (set : ℕ → Type 0) (text : List ℕ) : Type 0 where
   blocks : List Network
   least : IsLeastList w set blocks
@@ -75,7 +75,7 @@ half has {w} family set read first second text aggregate names lines_are =
           ∙ of_the_first family firsts;
     }
 
--- of both
+-- the output for both families
 record Both (list : List (List ℕ)) (text : List ℕ) : Type 0 where
   v4_text : List ℕ
   v6_text : List ℕ
@@ -135,9 +135,9 @@ is_printed list text b =
     ∙ sym (flat_map-append (λ n. ip_network_text n ++ 10 ∷ [])
     (map (λ n. networks.V4 n) b.v4.blocks) (map (λ n. networks.V6 n) b.v6.blocks))
 
--- ---- what is printed names what the list does
+-- ---- the output names the same addresses as the list
 
--- a network of both is that of a block of one family
+-- the network is that of a block of one family
 abbrev OneOf : (Network → IpNetwork) → List Network → IpNetwork → Type 0
 OneOf network blocks n = (m : Network) × Contains blocks m × (network m ≡ n)
 
@@ -158,7 +158,7 @@ are_networks list text b n c = elim (one_of b.v4.blocks b.v6.blocks n c) [
   | inr m ↦ subst IsIpNetwork m.2 ((b.v6.least.maximal m.0).0 m.1).network
 ]
 
--- those of both that have a property are those of either family
+-- a network with a property is that of a block of one family or the other
 abbrev Having : (Network → IpNetwork) → List Network → (IpNetwork → Type 0) → Type 0
 Having network blocks P = (m : Network) × Contains blocks m × P (network m)
 
@@ -233,7 +233,7 @@ of_lists lists whole h a = (
   (λ s. let n = s.2 in (n.0, (h n.0).1 (s.0, s.1, n.1), n.2)),
 )
 
--- a list more, and a list more that names the same
+-- one more list on each side, where the second names each address that the first names
 any_more : (list other : List (List ℕ)) (lists others : List (List (List ℕ))) (a : IpAddr)
     → (LinesName list a → LinesName other a) → (AnyNames lists a → AnyNames others a)
     → AnyNames (list ∷ lists) a → AnyNames (other ∷ others) a

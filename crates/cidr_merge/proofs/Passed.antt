@@ -1,4 +1,4 @@
--- The places of addresses that are sought, by number.
+-- The places of sought addresses, by number.
 use Rattle.std.proofs.Common.{◌≡◌, ◌+◌, ◌-◌, ◌*◌, ◌/◌, ◌^◌, ◌<◌, ◌≤◌, ◌==◌, ◌&&◌, ◌∙◌, ℕ, zero, suc, Bool, true, false}
 use Rattle.std.proofs.Common.{List, [], ◌∷◌, ◌++◌, refl, sym, ap, subst, arith, inl, inr, length, map, take, drop, get_or, length-take}
 use Rattle.std.specs.Prelude.{◌⊎◌, nat_lt, nat_le, IsTrue, Option, None, Some, Result, Ok, Err}
@@ -87,7 +87,7 @@ parted first xs h i j d l m e =
     let less = ltb-true (get_or xs j d).0 first e in
     let up = h i j d l m in lt-ltb (get_or xs i d).0 first (omega (arith, less, up))
 
--- a place that is not before a number stands behind those that are
+-- a place whose number is at least `first` is not among the first `count` places, whose numbers are less
 pub stands_behind : (places : List (ℕ × ℕ)) (count first : ℕ) (one : ℕ × ℕ) → count ≤ length places
     → AreBefore first places count → Contains places one → first ≤ one.0 → Contains (drop count places) one
 stands_behind places count first one within before c l = by (cases_lt c.0 count) where
@@ -103,13 +103,13 @@ stands_behind places count first one within before c l = by (cases_lt c.0 count)
         get_or-drop count places (c.0 - count) one ∙ ap (λ (k : ℕ). get_or places k one) at ∙ c.2,
       )
 
--- and one that stands before the first that is above a number
+-- a place at an index less than `count` is among the first `count` places
 pub stands_among : (places : List (ℕ × ℕ)) (count : ℕ) (one : ℕ × ℕ) (c : Contains places one)
     → count ≤ length places → c.0 < count → Contains (take count places) one
 stands_among places count one c within l =
     let n = length-take count places in (c.0, omega (arith, n, l, within), get_or-take count places c.0 one l ∙ c.2)
 
--- ---- what is passed over
+-- ---- places that are skipped
 
 pub passed_over : (entry : Entry) (places found : List (ℕ × ℕ)) (sought : List Sought) (i j : ℕ)
     → ((at : ℕ) (d : Sought) → at < length sought → Contains places (number_of (get_or sought at d).address, at))
@@ -130,7 +130,7 @@ passed_over entry places found sought i j each finds least many p d low less wit
             let l = least (number_of (get_or sought p d).address) p is
             (finds (get_or sought p d).address p e (each p d within) is) low in absurd (omega (arith, l, less))
 
--- nothing comes of those between two places
+-- the elements between two places contribute nothing
 pub skipped : {X Y : Type 0} (f : X → List Y) (xs : List X) (i j : ℕ) → i ≤ j
     → ((p : ℕ) (d : X) → i ≤ p → p < j → p < length xs → f (get_or xs p d) ≡ [])
     → flat_map f (drop i xs) ≡ flat_map f (drop j xs)
@@ -145,7 +145,7 @@ skipped f (x ∷ xs) (suc i) (suc j) l none =
     skipped f xs i j (omega (arith, l))
     (λ p d a b c. none (suc p) d (omega (arith, a)) (omega (arith, b)) (omega (arith, c)))
 
--- an entry that has not the address has no line for it
+-- an entry that does not have an address has no line for it
 pub unmatched : (name : List ℕ) (number : ℕ) (line : List ℕ) (entry : Entry) (one : Sought)
     → has entry one.address ≡ false → match_lines name number line entry (sought_as one) ≡ []
 unmatched name number line entry one e = rw e refl
@@ -182,7 +182,8 @@ all_placed sought places sorted place l h same order = record {
   each = λ at d m. Contains-permutation places sorted (number_of (get_or sought at d).address, at) same (h at d (omega (arith, l, m)));
 }
 
--- the first of places, up to one that is above a number or to the end
+-- the first `count` places have each place with a number up to `last`, if the next one has a greater number or there is
+-- none
 pub are_among : (places : List (ℕ × ℕ)) (count last : ℕ) → AreAscending places → count ≤ length places
     → ((d : ℕ × ℕ) → count < length places → length (take count places) ≤ 64 → last < (get_or places count d).0)
     → (number place : ℕ) → Contains places (number, place) → number ≤ last → length (take count places) ≤ 64

@@ -1,4 +1,4 @@
--- Lists up to a place, and with one item more.
+-- Lists up to a place, and with one more item.
 use Rattle.std.proofs.Common.{◌≡◌, ◌+◌, ◌<◌, ◌∙◌, ℕ, List, [], ◌∷◌, ◌++◌, refl, sym, ap}
 use Rattle.std.proofs.Common.{length, take, drop, get_or, append_assoc}
 use Rattle.std.specs.Prelude.{String, map}
@@ -8,12 +8,12 @@ use Rattle.cidr_merge.specs.Faults.{files_among}
 use Rattle.cidr_merge.specs.declared.tasks.Task.{Task}
 use Rattle.cidr_merge.specs.declared.tasks.Task.TheVariants as tasks
 
--- what stands up to a place and the item at it stand up to the next place
+-- the items before a place, then the item at it, are those before the next place
 pub up_to_next : {X : Type 0} (xs : List X) (place : ℕ) (x : X) → place < length xs
     → x ≡ get_or xs place x → take (place + 1) xs ≡ take place xs ++ x ∷ []
 up_to_next xs place x l is = take_more xs place x l ∙ ap (λ y. take place xs ++ y ∷ []) (sym is)
 
--- and with what stands behind it they are the list
+-- followed by the items after it, they are the whole list
 pub cut_at : {X : Type 0} (xs : List X) (place : ℕ) (x : X) → place < length xs
     → x ≡ get_or xs place x → xs ≡ take place xs ++ x ∷ drop (place + 1) xs
 cut_at xs place x l is =
@@ -21,7 +21,7 @@ cut_at xs place x l is =
     ∙ ap (λ ys. ys ++ drop (place + 1) xs) (up_to_next xs place x l is)
     ∙ append_assoc (take place xs) (x ∷ []) (drop (place + 1) xs)
 
--- the lists among names, as they are spelled
+-- the names of lists among names, as bytes
 pub named_among : {Z : Type 0} (task : Task) (middle : ℕ) (names : List (String Z))
     → map string_bytes (files_among task middle names) ≡ files_among task middle (map string_bytes names)
 named_among (tasks.Merge operation) middle names = refl

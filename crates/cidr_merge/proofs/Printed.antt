@@ -6,7 +6,7 @@ use Rattle.std.proofs.lemmas.Grind.{flat_map-append}
 use Rattle.lines.specs.Outputs.{Prints, Written}
 use Rattle.lines.proofs.Putting.{puts_nothing, puts_more}
 
--- those before the ones that are left were printed, and no write failed
+-- the items before those that are left were printed, and no write failed
 pub record Printed {X W : Type 0} (line : X → List ℕ) (all left : List X) (old now : Written W)
     : Type 0 where
   pub done : List X
@@ -19,7 +19,7 @@ module _ {X W : Type 0} (line : X → List ℕ) (all left : List X) (old : Writt
   none_printed e =
       record { done = []; cut = e; prints = puts_nothing old.holds old.waits; works = refl }
 
-  -- one more was
+  -- one more item was printed
   pub printed_more : (mid new : Written W) (after : List X) (x : X) → Printed line all left old mid
       → left ≡ x ∷ after → Prints mid new (line x) → new.failed ≡ (mid.failed || false)
       → Printed line all after old new
@@ -37,7 +37,7 @@ module _ {X W : Type 0} (line : X → List ℕ) (all left : List X) (old : Writt
     still false after e f = f ∙ e
     still true after e f = f ∙ e
 
-  -- all were
+  -- all items were printed
   pub all_printed : (now : Written W) → Printed line all left old now → left ≡ []
       → Prints old now (flat_map line all)
   all_printed now h e =

@@ -11,7 +11,7 @@ use Rattle.cidr_merge.specs.Reading.{ReadsLists, ReadsSide}
 use Rattle.cidr_merge.specs.declared.reading.Sets.{Sets}
 use Rattle.cidr_merge.proofs.Places.{up_to_next}
 
--- a list more
+-- one more list was read
 reads_more : {Z : Type 0} (known : Source) (number place : ℕ) (names : List (String Z))
     (name : String Z) (before mid after : ReadLists) → place ≡ number + length names
     → ReadsLists known number names before mid → ReadsOne known place (string_bytes name) mid after

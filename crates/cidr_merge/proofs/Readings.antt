@@ -1,4 +1,4 @@
--- What a line says is computed.
+-- What a line says can be computed.
 use Rattle.std.proofs.Common.{◌≡◌, ◌≢◌, ◌↔◌, ◌∙◌, ◌<◌, ◌≤◌, ◌&&◌, ℕ, Bool, true, false, List, []}
 use Rattle.std.proofs.Common.{◌∷◌, length, refl, sym, ap, arith, inl, inr}
 use Rattle.std.specs.Prelude.{nat_lt, nat_le, if◌then◌else◌, Option, None, Some, Result, Ok, Err}
@@ -127,7 +127,7 @@ module _ (networks : (text : List ℕ) (result : Result IpNetwork CidrFault)
   no_network_named text dash none =
       without_dash text dash ∙ no_network text (λ n named. none (Network n) (dash, named))
 
-  -- of at most one `/`, by the address before it
+  -- a text with at most one `/`: the fault depends on the address before it
   few_slashes : (text : List ℕ) (o : Option IpAddr) → slashes text ≤ 1
       → ip_of (before_slash text) ≡ o → network_fault text ≡ address_or_prefix o
   few_slashes text o few e =

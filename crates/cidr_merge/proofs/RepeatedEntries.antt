@@ -1,4 +1,4 @@
--- Which entries have addresses that another has, entry by entry.
+-- The entries that share addresses with an earlier one, entry by entry.
 use Rattle.std.proofs.Common.{◌≡◌, ◌+◌, ◌||◌, ◌<◌, ◌∙◌, ℕ, Bool, List, ◌++◌, sym, ap, length}
 use Rattle.std.proofs.Common.{map, drop, get_or}
 use Rattle.std.specs.Prelude.{String}
@@ -10,12 +10,12 @@ use Rattle.cidr_merge.specs.Repetitions.{further, other_of, overlap_with, repeti
 use Rattle.cidr_merge.specs.declared.placed.Placed.{Placed}
 use Rattle.cidr_merge.proofs.Found.{ToldSoFar, more_so_far}
 
--- the findings of these last entries
+-- the findings for the entries that are left
 abbrev pub left_of : {Z : Type 0} → List (String Z) → Placed → Placed → List Placed → List (List ℕ)
 left_of names previous furthest others =
     repetitions_after names (listed_as previous) (listed_as furthest) (map listed_as others)
 
--- an entry more was told, if it overlaps another
+-- one more entry was compared, and printed if it overlaps another
 pub repetitions_told_more : {Z W : Type 0} (names : List (String Z)) (all : List (List ℕ))
     (previous furthest other next : Placed) (entries : List Placed) (place : ℕ) (d : Placed)
     (old mid new : Written W) (found more both : Bool)

@@ -1,4 +1,4 @@
--- Words are taken exactly if they are right.
+-- Words are accepted exactly if they are valid.
 use Rattle.std.proofs.Common.{◌≡◌, ◌≢◌, ◌≤◌, ◌∙◌, ◌+◌, ◌-◌, ◌==◌, ℕ, Bool, true, false, not, List, [], ◌∷◌, ◌++◌, refl, sym, ap, subst, arith, length, drop, get_or, true≢false}
 use Rattle.std.specs.Prelude.{◌&&◌, Option, None, Some, Result, Ok, Err, String, codes, nat_lt, if◌then◌else◌}
 use Rattle.std.specs.List.{AllByRecursion, find}
@@ -42,7 +42,7 @@ no_or : (a b : Option Fault) → option_or a b ≡ None → (a ≡ None) × (b �
 no_or None b h = (refl, h)
 no_or (Some fault) b h = absurd (none-some fault (sym h))
 
--- a fault that is told unless a test passes, or if it does
+-- a fault that is reported unless a test passes, or if it passes
 passes : (b : Bool) (fault : Fault) → ◌≡◌ {A = Option Fault} (if b then None else Some fault) None → b ≡ true
 passes true fault h = refl
 passes false fault h = absurd (none-some fault (sym h))
@@ -62,7 +62,7 @@ needed true true c h = rw (h refl refl) refl
 needed true false c h = refl
 needed false b c h = refl
 
--- the second has to hold where the first does
+-- the second must hold if the first does
 implied : (a c : Bool) → (a && not c) ≡ false → a ≡ true → c ≡ true
 implied true true h e = refl
 implied true false h e = absurd (true≢false h)
@@ -222,7 +222,7 @@ right_files files h =
 no_files_fault : (files : List (List ℕ)) → times_named [] files ≡ 0 → times_named (codes "-") files ≤ 1 → files_fault files ≡ None
 no_files_fault files e i = rw (le-ltb 0 (times_named [] files) (omega (arith, e)), le-ltb 1 (times_named (codes "-") files) i) refl
 
--- ---- all words behind the first
+-- ---- all words after the first
 
 module _ (table : Table) (task : Task) (name : List ℕ) (dashes : ℕ) (items : List Item) (firsts seconds : List (List ℕ)) where
   abbrev froms : List (List ℕ)

@@ -25,7 +25,7 @@ use Rattle.cidr_merge.specs.declared.command_line.Request.{Request}
 use Rattle.lists.specs.declared.named.ReadFault.{ReadFault}
 use Rattle.cidr_merge.specs.declared.reading.Sets.{Sets}
 
--- the reading stopped at a list of the first side,
+-- the reading stopped at a list of the first side
 pub first_stopped : {Z : Type 0} (fault : ReadFault) (known : KnownLists) (words : List (String Z))
     (request : Request) (between refused : Refused)
     → Stops (source known request.shape) 0 (take request.middle words) (nothing_read no_refusals) fault between
@@ -34,7 +34,7 @@ first_stopped fault known words request between refused stops r =
     inl (subst (λ (l : Refused). Stops (source known request.shape) 0 (take request.middle words)
     (nothing_read no_refusals) fault l) (sym r) stops)
 
--- or both sides were read, or the reading stopped at a list of the second
+-- both sides were read, or the reading stopped at a list of the second side
 pub sides_read : {Z T : Type 0} (result : Result T ReadFault) (known : KnownLists)
     (words others : List (String Z)) (request : Request) (first second : Sets) (between refused : Refused)
     → others ≡ drop request.middle words
@@ -56,7 +56,7 @@ sides_read (Err fault) known words others request first second between refused o
   inr (first, between, firsts, subst (λ names. Stops (source known request.shape) request.middle names (nothing_read between) fault refused) o stops),
 )
 
--- the answer was given
+-- both sides were read, and the run ended accordingly
 pub merged : {Z W E : Type 0} (known : KnownLists) (words : List (String Z)) (sets : Names) (request : Request)
     (first second : Sets) (refused : Refused) (is_empty : Bool) (end : Ending W E)
     (told : Written E) → ReadsSides known words request first second refused
@@ -79,11 +79,11 @@ merged known words sets request first second refused is_empty end told sides tel
 
 module _ {Z W E : Type 0} (program help version usage : List ℕ) (known : KnownLists) (words : List (String Z))
     (end : Ending W E) (no_text : text_asked help version words ≡ None) where
-  -- there is no memory for what the words say
+  -- memory ran out while the words were read
   pub no_memory : Refuses (codes "out of memory\n") end → EndsAs program help version usage known words end
   no_memory h = not_asked help version words _ end no_text (inl h)
 
-  -- they ask for this, or this is wrong with them
+  -- the words ask for a command, or have a fault
   pub asked_ends : (table : Table) → IsOptions table → (asked : Result (Command × List (List ℕ)) Fault) → asked ≡ command_of table words
       → EndsAsked program usage table.rows.now known (sets_of table words) asked end → EndsAs program help version usage known words end
   asked_ends table options asked e h =

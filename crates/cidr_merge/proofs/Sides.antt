@@ -1,4 +1,4 @@
--- The sides of a command line: what its words say before the first `--` and behind it, and the FILEs of a request.
+-- The sides of a command line: the items before and after its first `--`, and the FILEs of a request.
 use Rattle.std.proofs.Common.{◌≡◌, ◌+◌, ◌∙◌, ℕ, Bool, true, false, cond, List, [], ◌∷◌, ◌++◌, refl, sym, ap, subst, arith, length, take, drop}
 use Rattle.std.specs.Prelude.{String, codes, if◌then◌else◌}
 use Rattle.std.specs.List.{count_by, position_or_len}
@@ -17,7 +17,7 @@ use Rattle.cidr_merge.specs.CommandLines.{first_said, second_said}
 use Rattle.cidr_merge.specs.RightWords.{SaySides, OneSide, TwoSides}
 use Rattle.cidr_merge.specs.Sides.{before_dashes, behind_dashes}
 
--- ---- the first of some, and what is before it and behind it
+-- ---- the first element that passes a test, and those before and after it
 
 module _ {X : Type 0} (p : X → Bool) where
   counted : (x : X) (xs : List X) (b : Bool) → p x ≡ b → count_by p (x ∷ xs) ≡ (0 + cond b 1 0) + count_by p xs
@@ -97,7 +97,7 @@ module _ {Z : Type 0} (before : List (String Z)) (dashes : String Z) (behind : L
 abbrev pub dashes_of : Bool → ℕ
 dashes_of two = if two then 1 else 0
 
--- what the words say is what is read of them, and there are so many `--`
+-- the words mean the items read from them, if the number of `--` is right
 module _ {Z : Type 0} (rows : List Row) where
   pub said_sides : (two : Bool) (others : List (String Z)) → SayWhatIsRead rows (before_dashes others) → SayWhatIsRead rows (behind_dashes others)
       → count (codes "--") others ≡ dashes_of two → SaySides rows two others (first_said rows others) (second_said rows others)

@@ -19,7 +19,7 @@ as_many_addresses (word ∷ words) [] h = absurd h
 as_many_addresses (word ∷ words) (address ∷ addresses) h =
     let e = as_many_addresses words addresses h.1 in omega (arith, e)
 
--- a word more
+-- one more word names an address
 addresses_more : {Z : Type 0} (words : List (String Z)) (addresses : List IpAddr) (word : String Z)
     (address : IpAddr) → AreAddresses words addresses → NamesIp (string_bytes word) address
     → AreAddresses (words ++ word ∷ []) (addresses ++ address ∷ [])
@@ -41,14 +41,14 @@ addresses_on words addresses place word bytes address l is b h k =
     (addresses_more (take place words) addresses word address h
     (subst (λ (t : List ℕ). NamesIp t address) b k))
 
--- all were
+-- all words were read
 pub all_addresses : {Z : Type 0} (words : List (String Z)) (addresses : List IpAddr) (place : ℕ)
     → length words ≤ place → AreAddresses (take place words) addresses
     → AreAddresses words addresses
 all_addresses words addresses place l h =
     subst (λ ws. AreAddresses ws addresses) (take_all place words l) h
 
--- or that at a place is wrong
+-- the word at a place is not an address
 pub first_wrong : {Z : Type 0} (first : ℕ) (words : List (String Z)) (addresses : List IpAddr)
     (place : ℕ) (word : String Z) (bytes : List ℕ) → place < length words
     → word ≡ get_or words place word

@@ -1,4 +1,4 @@
--- How a run ends that splits lists.
+-- How a run ends that splits networks.
 use Rattle.std.proofs.Common.{◌≡◌, ◌==◌, List, Bool, not, subst, inr, length}
 use Rattle.std.specs.Prelude.{String}
 use Rattle.lines.specs.Outputs.{Written}

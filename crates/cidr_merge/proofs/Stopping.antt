@@ -59,7 +59,7 @@ reads_no_more : {Z : Type 0} (known : Source) (number : ℕ) (names : List (Stri
 reads_no_more known number [] start read e h = h
 reads_no_more known number (name ∷ names) start read e h = absurd (let q = e in cc)
 
--- where there are no lists, no line is refused
+-- if there are no lists, no line is refused
 pub none_refused : {Z T : Type 0} (result : Result T ReadFault) (known : Source) (names : List (String Z))
     (number : ℕ) (before : Refused) (sets : Sets) (refused : Refused) → names ≡ []
     → OnOk result (ReadsSide known number names before sets refused)

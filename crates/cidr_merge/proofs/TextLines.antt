@@ -24,7 +24,7 @@ last_alone [] some absent = absurd (omega (arith, some))
 last_alone (byte ∷ text) some absent =
     lines_last (byte ∷ text) (none_behind 10 (byte ∷ text) 0 absent)
 
--- nothing is left of a text behind its end
+-- nothing is left of a text after its end
 pub none_left : (text : List ℕ)
     → lines (take (length text - length text) (drop (length text) text)) ≡ []
 none_left text = ap lines (take_rest text (length text) ∙ drop-length text)

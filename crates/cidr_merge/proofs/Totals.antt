@@ -1,4 +1,4 @@
--- How many blocks and addresses there are.
+-- The numbers of blocks and addresses.
 use Rattle.std.proofs.Common.{◌≡◌, ◌≢◌, ◌↔◌, ◌<◌, ◌≤◌, ◌+◌, ◌-◌, ◌^◌, ◌++◌, ◌∷◌, [], ℕ, List}
 use Rattle.std.proofs.Common.{◌∙◌, refl, sym, ap, subst, arith, length, min, codes, decimal}
 use Rattle.std.proofs.Common.{append_assoc, ⊎_elim}
@@ -17,8 +17,7 @@ use Rattle.cidr_merge.specs.Private.Totals.{AddUp}
 use Rattle.cidr_merge.specs.declared.command_line.Operation.{Operation}
 use Rattle.cidr_merge.specs.declared.command_line.Operation.TheVariants as operations
 
--- the least list of a set is that of its own union, of which the blocks are fewer than the
--- addresses
+-- the least list of a set is that of its own union, which has fewer blocks than addresses
 adds_up : (w : ℕ) (set : ℕ → Type 0) (blocks : List Network) → IsLeastList w set blocks
     → ((x : ℕ) → InUnion w blocks x ↔ set x) → SetHasFewerBlocks
     → HasCount set (total w blocks) → total w blocks ≤ 2 ^ w → AddUp w set blocks
@@ -30,7 +29,7 @@ adds_up w set blocks h same fewer count within = record {
       (λ x. ((same x).1, (same x).0)) h);
 }
 
--- what is left, by another name of the operation and of the blocks
+-- the result of an operation, where the operation and the blocks have other names
 pub left_by : (operation other : Operation) → operation ≡ other
     → (w : ℕ) (first second left blocks : List Network) → left ≡ blocks
     → IsLeastList w (IsLeft other w first second) blocks
@@ -45,7 +44,7 @@ left_by operation other e w first second left blocks is h same fewer count withi
     × AddUp w (IsLeft other w first second) l) (sym is)
     (h, adds_up w (IsLeft other w first second) blocks h same fewer count within))
 
--- the other operations leave what the first side alone has
+-- the result of the other operations has the addresses that are only in the first side
 pub alone_by : (operation : Operation) → operation ≢ operations.Union
     → operation ≢ operations.Common
     → (w : ℕ) (first second left blocks : List Network) → left ≡ blocks
@@ -65,9 +64,9 @@ alone_by operations.Differ u c w first second left blocks is h same fewer count 
     left_by operations.Differ operations.Differ refl w first second left blocks is h same fewer
     count within
 
--- ---- sums that are kept to a greatest number
+-- ---- sums with an upper limit
 
--- what was counted and what is left are as many as before, with one block more
+-- the count and what is left have the same sum after one more block
 pub counted_on : (count next size left whole cap : ℕ) → next ≡ min (count + size) cap
     → min (count + (size + left)) cap ≡ min whole cap → min (next + left) cap ≡ min whole cap
 counted_on count next size left whole cap e f =
@@ -83,7 +82,7 @@ counted_on count next size left whole cap e f =
     min-eq_right over ∙ sym (min-eq_right more) ∙ f)
     (cases_lt (count + size) cap)
 
--- so it is with the numbers of addresses
+-- the same, for the number of addresses
 pub totalled_on : (w count next cap : ℕ) (block : Network) (before after : List Network) (whole : ℕ)
     → before ≡ block ∷ after → next ≡ min (count + block_size w block.prefix) cap
     → min (count + total w before) cap ≡ min whole cap
@@ -92,7 +91,7 @@ totalled_on w count next cap block before after whole e f h =
     counted_on count next (block_size w block.prefix) (total w after) whole cap f
     (subst (λ l. min (count + total w l) cap ≡ min whole cap) e h)
 
--- and of blocks
+-- the same, for the number of blocks
 pub listed_on : (count next cap : ℕ) (block : Network) (before after : List Network) (whole : ℕ)
     → before ≡ block ∷ after → next ≡ min (count + 1) cap
     → min (count + length before) cap ≡ min whole cap
@@ -106,7 +105,7 @@ listed_on count next cap block before after whole e f h =
 pub kept_within : (next sum cap : ℕ) → next ≡ min sum cap → next ≤ cap
 kept_within next sum cap e = omega (arith, e)
 
--- nothing is left
+-- nothing is left, so the count is the whole sum
 pub at_end : (count left whole cap : ℕ) → left ≡ 0 → count ≤ cap
     → min (count + left) cap ≡ min whole cap → count ≡ min whole cap
 at_end count left whole cap e le h =
@@ -115,7 +114,7 @@ at_end count left whole cap e le h =
 
 -- ---- the line of the counts
 
--- what is counted to a greatest number is all, where that is no more
+-- the count with an upper limit is the true one if that is within the limit
 pub count_line : (w : ℕ) (name counts : List ℕ) (set : ℕ → Type 0) (blocks : List Network)
     (count addresses : ℕ) → IsLeastList w set blocks → AddUp w set blocks → 1 ≤ w → w ≤ 128
     → count ≡ min (length blocks) (2 ^ 128 - 1) → addresses ≡ min (total w blocks) (2 ^ 128)

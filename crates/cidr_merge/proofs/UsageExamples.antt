@@ -1,4 +1,4 @@
--- What is wrong with words, at values at which a misreading would show. Each of these computes.
+-- Faults of words, at values at which a wrong definition would show. Each of these computes.
 use Rattle.std.proofs.Common.{◌≡◌, ℕ, List, ◌∷◌, ◌++◌, [], refl}
 use Rattle.std.specs.Prelude.{codes, false, true, String, Option, Result, Ok, Err, None, Some}
 use Rattle.std.specs.String.{string_bytes}
@@ -22,12 +22,12 @@ use Rattle.cidr_merge.specs.declared.tasks.Task.TheVariants as tasks
 abbrev pub table : Table
 table = record { rows = record { ref_ptr = (0, 0); now = rows_of entries }; pairs = record { ref_ptr = (0, 0); now = pairs_of pairs }; needs = record { ref_ptr = (0, 0); now = [] }; lacking = record { ref_ptr = (0, 0); now = [] } }
 
--- what is told of words
+-- the report of the fault of words
 abbrev pub told : Result (Command × List (List ℕ)) Fault → List ℕ
 told (Ok asked) = []
 told (Err fault) = subject_text table.rows.now fault.subject ++ fault.problem
 
--- of words of these bytes, behind others, this is told
+-- for words of these bytes, after others, this is reported
 abbrev Behind : (Z : Type 0) → List (String Z) → List (List ℕ) → List ℕ → Type 0
 Behind Z words [] text = told (command_of table words) ≡ text
 Behind Z words (bytes ∷ others) text = (word : String Z) → string_bytes word ≡ bytes → Behind Z (words ++ word ∷ []) others text
@@ -35,12 +35,12 @@ Behind Z words (bytes ∷ others) text = (word : String Z) → string_bytes word
 abbrev Have : (Z : Type 0) → List (List ℕ) → List ℕ → Type 0
 Have Z words text = Behind Z [] words text
 
--- what comes first is told: the operation before all others
+-- the first fault is reported: that of the operation before all others
 pub no_task_before_all : {Z : Type 0} (word : String Z) (others : List (String Z)) → task_called (string_bytes word) ≡ None
     → command_of table (word ∷ others) ≡ Err (no_task_fault table.rows.now (string_bytes word))
 no_task_before_all word others e = rw e refl
 
--- of options the first that is wrong, wherever it stands, before what they are together, and both before the sides
+-- the first wrong option, wherever it is, then options that do not go together, both before the sides
 pub options_first : {Z : Type 0}
     → Have Z (codes "union" ∷ [] ∷ codes "--count" ∷ codes "-x" ∷ []) (codes "-x: " ++ no_option (tasks.Merge Union))
     × Have Z (codes "union" ∷ codes "--count" ∷ codes "--ranges" ∷ codes "--x" ∷ []) (codes "--x: " ++ no_option (tasks.Merge Union))
@@ -61,7 +61,7 @@ options_first = (
   (λ _ o _ a _ b _ c. simp (o, a, b, c)),
 )
 
--- then the sides, and then the names of lists
+-- the sides before the names of lists
 pub sides_before_names : {Z : Type 0}
     → Have Z (codes "union" ∷ codes "-" ∷ codes "-" ∷ []) (codes "-: standard input can be read only once")
     × Have Z (codes "minus" ∷ codes "-" ∷ codes "--" ∷ codes "-" ∷ []) (codes "-: standard input can be read only once")
@@ -101,7 +101,7 @@ options_of_others = (
   (λ _ o _ a _ b. simp (o, a, b)),
 )
 
--- ---- what is taken
+-- ---- words that are accepted
 
 abbrev pub taken : Result (Command × List (List ℕ)) Fault → Option (Command × List (List ℕ))
 taken (Ok asked) = Some asked
@@ -115,7 +115,7 @@ BehindAsked Z words (bytes ∷ others) command names = (word : String Z) → str
 abbrev Ask : (Z : Type 0) → List (List ℕ) → Command → List (List ℕ) → Type 0
 Ask Z words command names = BehindAsked Z [] words command names
 
--- an option behind the lists of the second side, one before the `--`, and a value in its word or behind it
+-- an option after the lists of the second side, one before the `--`, and a value in the option's word or after it
 pub options_anywhere : {Z : Type 0}
     → Ask Z (codes "minus" ∷ codes "a" ∷ codes "--" ∷ codes "b" ∷ codes "--ranges" ∷ [])
     (commands.Merge (record { operation = Minus; form = Ranges; skips_bad = false; shape = shapes.Lines; middle = 1 })) (codes "a" ∷ codes "b" ∷ [])

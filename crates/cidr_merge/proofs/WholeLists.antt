@@ -15,7 +15,7 @@ use Rattle.cidr_merge.proofs.Places.{up_to_next, cut_at}
 
 -- ---- one list
 
--- it was not read
+-- a list was not read
 pub text_stops : (known : KnownLists) (name : List ℕ) (number most : ℕ) (fault : BytesFault)
     → BytesStop known name most fault → TextStops known number name (not_read number fault)
 text_stops known name number most (bytes.Open cause) h = (refl, h.0, h.1)
@@ -25,7 +25,7 @@ text_stops known name number most bytes.OutOfMemory h = tt
 
 -- ---- lists in turn
 
--- a list more
+-- one more list was read
 texts_more : {Z : Type 0} (known : KnownLists) (names : List (String Z)) (texts : List (List ℕ))
     (name : String Z) (text : List ℕ) → AreTexts known names texts
     → IsAllOf known (string_bytes name) text
@@ -73,7 +73,7 @@ text_more items known names place name word texts text l is w h k =
     (texts_on known names place name (map items texts) (items text) l is h
     (subst (λ (n : List ℕ). IsAllOf known n (items text)) w k))
 
--- or it was not
+-- the list at a place was not read
 pub texts_stop : {Z : Type 0} (known : KnownLists) (number place at : ℕ) (names : List (String Z))
     (name : String Z) (texts : List (List ℕ)) (fault : ReadFault) → place < length names
     → name ≡ get_or names place name

@@ -1,4 +1,4 @@
--- What the words of a command line ask for.
+-- The command that the words of a command line ask for.
 use Rattle.std.specs.Prelude.{ℕ, Bool, List, [], ◌∷◌, ◌++◌, Option, None, Some, Result, Ok, Err, length, map, drop}
 use Rattle.std.specs.Prelude.{if◌then◌else◌, codes, String}
 use Rattle.std.specs.String.{string_bytes}
@@ -32,7 +32,7 @@ use Rattle.cidr_merge.specs.declared.exports.Export.TheVariants.{Addresses}
 use Rattle.cidr_merge.specs.declared.tasks.Task.{Task}
 use Rattle.cidr_merge.specs.declared.tasks.Task.TheVariants as tasks
 
--- how lists are merged by these options, of which so many are of the first side
+-- the merge that these options ask for; the first `middle` lists are those of the first side
 abbrev pub request_of : Operation → Form → List Item → ℕ → Request
 request_of operation usual items middle = record {
   operation = operation;
@@ -42,11 +42,11 @@ request_of operation usual items middle = record {
   middle = middle;
 }
 
--- how a `check` looks lists over, strictly or not
+-- the inspection that a `check` makes, strict or not
 abbrev pub inspection_of : Bool → Inspection
 inspection_of strictly = if strictly then inspections.Strict else inspections.Check
 
--- what is asked for by options and so many FILEs of the first side: `list` prints each address
+-- the command for a task, its options and the number of names on the first side; `list` prints each address of a union
 abbrev pub asked_for : Task → List Item → ℕ → Command
 asked_for (tasks.Merge operation) items middle = commands.Merge (request_of operation Blocks items middle)
 asked_for tasks.List items middle = commands.Merge (request_of operations.Union (Exported Addresses) items middle)
@@ -60,31 +60,33 @@ asked_for tasks.Check items middle = commands.Inspect (inspection_of (is_given i
 asked_for tasks.Overlaps items middle = commands.Inspect inspections.Overlaps
 asked_for tasks.Find items middle = commands.Find middle (length (from_of tasks.Find items))
 
--- what the words before the first `--` say, and those behind it
+-- the items (options and FILEs) in the words before the first `--`, and in those after it
 abbrev pub first_said : {Z : Type 0} → List Row → List (String Z) → List Item
 first_said rows others = items_of rows modes.Free (before_dashes others)
 
 abbrev pub second_said : {Z : Type 0} → List Row → List (String Z) → List Item
 second_said rows others = items_of rows modes.Free (behind_dashes others)
 
--- what the sets of an export are called by both
+-- the names of an export's sets, and the texts around each line, as the options before and after the `--` give them
 abbrev pub sets_by : {Z : Type 0} → Table → List (String Z) → Names
 sets_by table others = names_of (first_said table.rows.now others ++ second_said table.rows.now others)
 
--- and by all words after the program's name
+-- the same, from all words after the program's name; the first of them names the task
 abbrev pub sets_of : {Z : Type 0} → Table → List (String Z) → Names
 sets_of table words = sets_by table (drop 1 words)
 
--- this is wrong, or that is asked for of these FILEs
+-- the fault, if there is one, else the command and its FILEs
 abbrev pub unless : Option Fault → Command → List (List ℕ) → Result (Command × List (List ℕ)) Fault
 unless None command names = Ok (command, names)
 unless (Some fault) command names = Err fault
 
+-- the command of a task, from the number of its `--`, its items, the number of FILEs on the first side, and all FILEs
 abbrev pub command_by : Table → List ℕ → Task → ℕ → List Item → ℕ → List (List ℕ)
     → Result (Command × List (List ℕ)) Fault
 command_by table name task dashes items middle names =
     unless (fault_of table task name dashes items middle names) (asked_for task items middle) names
 
+-- the command of a task, from the words after the one that names it
 abbrev pub command_for : {Z : Type 0} → Table → List ℕ → Task → List (String Z)
     → Result (Command × List (List ℕ)) Fault
 command_for table name task others =
@@ -95,20 +97,19 @@ command_for table name task others =
     ++ from_of task (first_said table.rows.now others ++ second_said table.rows.now others)
     ++ files_of (second_said table.rows.now others))
 
--- what the first word says to do
+-- the same, or a fault if the first word names no task
 abbrev pub command_if : {Z : Type 0} → Table → List ℕ → Option Task → List (String Z)
     → Result (Command × List (List ℕ)) Fault
 command_if table name None others = Err (no_task_fault table.rows.now name)
 command_if table name (Some task) others = command_for table name task others
 
--- what the words after the program's name ask for, and of which FILEs, those of the first side first, and then the one
--- of `--from`; or what is wrong
--- with them
+-- the command that the words after the program's name ask for, with its FILEs: those of the first side, the one of
+-- `--from`, then those of the second side; or the fault in the words
 abbrev pub command_of : {Z : Type 0} → Table → List (String Z) → Result (Command × List (List ℕ)) Fault
 command_of table [] = Err (about subjects.CommandLine (codes "no operation"))
 command_of table (name ∷ others) = command_if table (string_bytes name) (task_called (string_bytes name)) others
 
--- what was found of them
+-- the result of the code's `command_of`, in the form of the definition above
 abbrev pub told_of : Result Asked Fault → Result (Command × List (List ℕ)) Fault
 told_of (Ok asked) = Ok (asked.command, map string_bytes asked.names.items)
 told_of (Err fault) = Err fault

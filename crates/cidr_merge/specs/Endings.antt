@@ -1,4 +1,4 @@
--- How the program ends: what its words ask for.
+-- How a run of the program ends, by its words.
 use Rattle.std.specs.Prelude.{◌≡◌, ℕ, List, ◌⊎◌, Result, Ok, Err, map, codes, String}
 use Rattle.std.specs.String.{string_bytes}
 use Rattle.std.specs.declared.alloc.Global.{Global}
@@ -19,7 +19,7 @@ use Rattle.cidr_merge.specs.Splits.{EndsSplitting}
 use Rattle.cidr_merge.specs.declared.command_line.Command.{Command}
 use Rattle.cidr_merge.specs.declared.command_line.Command.TheVariants as commands
 
--- what is asked for is done, of the FILEs of these names; sets have those, and those texts stand around each line
+-- the command was run with the FILEs of these names, and with these names of sets and texts around each line
 abbrev pub EndsCommand : {Z W E : Type 0} → List ℕ → List ℕ → List Row → KnownLists → List (String Z) → Names → Command
     → Ending W E → Type 0
 EndsCommand program usage rows known words sets (commands.Merge request) end =
@@ -31,7 +31,7 @@ EndsCommand program usage rows known words sets (commands.Inspect inspection) en
 EndsCommand program usage rows known words sets (commands.Find middle from) end =
     EndsFind program usage rows known words middle from end
 
--- or something is wrong with the words, and that and the usage are reported
+-- the words name a command, which was run, or have a fault, which was reported with the usage
 abbrev pub EndsAsked : {W E : Type 0} → List ℕ → List ℕ → List Row → KnownLists → Names
     → Result (Command × List (List ℕ)) Fault → Ending W E → Type 0
 EndsAsked program usage rows known sets (Ok asked) end = (names : List (String Global))
@@ -39,8 +39,8 @@ EndsAsked program usage rows known sets (Ok asked) end = (names : List (String G
     × EndsCommand program usage rows known names sets asked.0 end
 EndsAsked program usage rows known sets (Err fault) end = Refuses (refusal_text program usage rows fault) end
 
--- how a run ends of a program of this name, help, version and usage: with the help or the version, if the words ask for
--- it. Else they are read by the table of its options, unless there is no memory for that
+-- how a run of a program with this name, help, version and usage ends: it prints the help or the version if the words
+-- ask for it; otherwise it reads the words by the table of its options, or reports that memory ran out
 abbrev pub EndsAs : {Z W E : Type 0} → List ℕ → List ℕ → List ℕ → List ℕ → KnownLists → List (String Z) → Ending W E
     → Type 0
 EndsAs program help version usage known words end = EndsRun help version words

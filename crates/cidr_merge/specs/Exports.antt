@@ -1,5 +1,4 @@
--- The forms that other programs read: what stands before, between and after the blocks, and how
--- each block is written.
+-- The forms that other programs read: the texts before, between and after the blocks, and how each block is written.
 use Rattle.std.specs.Prelude.{ℕ, ◌-◌, ◌==◌, Bool, true, false, List, [], ◌∷◌, ◌++◌, if◌then◌else◌}
 use Rattle.std.specs.Prelude.{codes}
 use Rattle.std.specs.List.{concat, flat_map}
@@ -14,7 +13,7 @@ use Rattle.cidr_merge.specs.declared.exports.Frame.TheVariants.{Head, FamilyHead
 use Rattle.cidr_merge.specs.declared.exports.Version.{Version}
 use Rattle.cidr_merge.specs.declared.exports.Version.TheVariants.{V4, V6}
 
--- the end of the name of a family's set, the addresses of one of nftables, and how one of ipset is made
+-- for a family: the suffix of its set's name, the type of the nftables set, and the options of the ipset set
 abbrev pub family_word : Version → List ℕ
 family_word V4 = codes "_ipv4"
 family_word V6 = codes "_ipv6"
@@ -27,9 +26,10 @@ abbrev pub made : Version → List ℕ
 made V4 = codes " hash:net family inet maxelem 4294967295 -exist\n"
 made V6 = codes " hash:net family inet6 maxelem 4294967295 -exist\n"
 
--- what stands around the blocks: nothing, where a form is not named. nftables makes a table and sets, if they are not
--- there, and sets lose their elements and get others; ipset makes a set, if it is not there, and a new one without
--- elements, which takes the place of the old one. The blocks of a family may follow those of the other
+-- the text at a place around the blocks; empty in all cases not listed. For nftables, it creates the table and the sets
+-- if they do not exist, and flushes the sets before elements are added. For ipset, it creates the set if it does not
+-- exist, and an empty new set, which replaces the old one once it is filled. An `Opening` has `true` if blocks of the
+-- other family come before it
 abbrev pub frame_text : Names → Export → Frame → List ℕ
 frame_text names Csv Head = codes "family,network,first,last\n"
 frame_text names Json Head = codes "["
@@ -52,21 +52,21 @@ frame_text names Ipset (FamilyFoot version) = concat
     ∷ codes "\ndestroy " ∷ names.set ∷ family_word version ∷ codes "_new\n" ∷ [])
 frame_text names _ _ = []
 
--- between two blocks of a family
+-- the text between two blocks of a family
 abbrev pub separator : Export → List ℕ
 separator Nft = codes ",\n\t"
 separator Json = codes ",\n"
 separator _ = []
 
--- after the last block of a family
+-- the text after the last block of a family
 abbrev pub closing : Export → List ℕ
 closing Nft = codes "\n}\n"
 closing _ = []
 
 -- ---- a block
 
--- a line with the address of an IPv4 block and a mask; IPv6 has no masks, and there the block's
--- text stands
+-- a line with the address of an IPv4 block and a mask; an IPv6 block is written as its text, since IPv6 does not use
+-- masks
 abbrev pub with_mask : {w : ℕ} → Names → Version → Family w → Network → ℕ → List ℕ
 with_mask names V4 family block mask =
     line_of names (family.canonical block.address ∷ codes " " ∷ family.canonical mask ∷ [])
@@ -82,12 +82,12 @@ csv_line {w} version family block =
     family_name version ++ codes "," ++ text_of family block ++ codes ","
     ++ family.canonical (low w block) ++ codes "," ++ family.canonical (high w block) ++ codes "\n"
 
--- the sets of ipset cannot have the block of all addresses, but both halves of it
+-- the two halves of the block of all addresses: ipset sets accept these, but not the whole block
 abbrev pub half_blocks : Version → List ℕ × List ℕ
 half_blocks V4 = (codes "0.0.0.0/1", codes "128.0.0.0/1")
 half_blocks V6 = (codes "::/1", codes "8000::/1")
 
--- a network is added to the new set, or these two
+-- the line that adds a network to the new set, and the lines that add the two halves
 abbrev pub ipset_line : List ℕ → List ℕ → List ℕ → List ℕ
 ipset_line set word network =
     concat (codes "add " ∷ set ∷ word ∷ codes "_new " ∷ network ∷ codes "\n" ∷ [])
@@ -106,7 +106,7 @@ ipset_lines set version family block =
 abbrev pub address_line : {w : ℕ} → Names → Family w → ℕ → List ℕ
 address_line names family address = line_of names (family.canonical address ∷ [])
 
--- how a block is written; the bits of a wildcard are those of the mask turned round
+-- the text of a block; a wildcard mask is the complement of the mask
 abbrev pub element : {w : ℕ} → Names → Export → Version → Family w → Network → List ℕ
 element {w} names Netmask version family block = with_mask names version family block (mask_of w block.prefix)
 element {w} names Wildcard version family block =
@@ -119,18 +119,18 @@ element {w} names Addresses version family block = flat_map (address_line names 
 
 -- ---- all blocks
 
--- a block after another of its family
+-- a block that follows another of its family, with the separator between them
 abbrev pub following : {w : ℕ} → Names → Export → Version → Family w → Network → List ℕ
 following names export version family block = separator export ++ element names export version family block
 
--- the blocks of a family
+-- the blocks of a family, with the texts that are written only if there is a block
 abbrev pub listed : {w : ℕ} → Names → Export → Version → Family w → Bool → List Network → List ℕ
 listed names export version family follows [] = []
 listed names export version family follows (block ∷ blocks) =
     frame_text names export (Opening version follows) ++ element names export version family block
     ++ flat_map (following names export version family) blocks ++ closing export
 
--- with what stands there even if there is none
+-- the same, with the texts that are written even if there is no block
 abbrev pub family_text : {w : ℕ} → Names → Export → Version → Family w → Bool → List Network → List ℕ
 family_text names export version family follows blocks =
     frame_text names export (FamilyHead version) ++ listed names export version family follows blocks

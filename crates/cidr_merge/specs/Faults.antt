@@ -27,11 +27,11 @@ use Rattle.cidr_merge.specs.declared.exports.Export.TheVariants.{Csv, Nft, Ipset
 use Rattle.cidr_merge.specs.declared.tasks.Task.{Task}
 use Rattle.cidr_merge.specs.declared.tasks.Task.TheVariants as tasks
 
--- this is wrong with a word
+-- the fault of a word, with the problem to report
 abbrev pub at : List ℕ → List ℕ → Fault
 at word problem = about (subjects.Word word) problem
 
--- what is told of an option that stands in a wrong place: this, unless it stands alone
+-- the problem with an option in a wrong place: the usual one, or its own if the option is only taken alone
 abbrev pub alone_or : Kind → List ℕ → List ℕ → List ℕ
 alone_or kinds.Alone own usual = own
 alone_or kind own usual = usual
@@ -39,7 +39,7 @@ alone_or kind own usual = usual
 abbrev pub problem_of_row : List Row → ℕ → List ℕ → List ℕ
 problem_of_row rows row usual = alone_or (kind_at rows row) (problem_at rows row) usual
 
--- a first word that says nothing to do
+-- the problem with a first word that names no task
 abbrev pub unnamed : List ℕ
 unnamed = codes "not an operation; options stand behind one"
 
@@ -53,7 +53,7 @@ no_task_fault rows word =
 
 -- ---- options
 
--- the task takes the option of a row, and that it does not
+-- whether the task takes the option of a row, and the fault if it does not
 abbrev pub takes : Task → ℕ → Bool
 takes task row = list_any (λ one. one == row) (taken task)
 
@@ -61,7 +61,7 @@ abbrev pub option_fault : List Row → Task → ℕ → Option Fault
 option_fault rows task row = if takes task row then None
     else Some (about (subjects.Option row) (problem_of_row rows row (no_option task)))
 
--- a text is a value of the option of a row, and that it is none
+-- whether a text is a valid value of the option of a row, and the fault if it is not
 abbrev pub is_value : ℕ → List ℕ → Bool
 is_value row text =
     if row == own.format then is_some (form_called text)
@@ -72,7 +72,7 @@ is_value row text =
 abbrev pub value_fault : List Row → ℕ → List ℕ → Option Fault
 value_fault rows row text = if is_value row text then None else Some (at text (problem_at rows row))
 
--- what is wrong with an option, and with the first with which something is
+-- the fault of an item, and the first fault of several items
 abbrev pub item_fault : List Row → Task → Item → Option Fault
 item_fault rows task (says.Flag row) = option_fault rows task row
 item_fault rows task (says.Value row text) = option_or (option_fault rows task row) (value_fault rows row text)
@@ -86,7 +86,7 @@ abbrev pub items_fault : List Row → Task → List Item → Option Fault
 items_fault rows task [] = None
 items_fault rows task (item ∷ items) = option_or (item_fault rows task item) (items_fault rows task items)
 
--- `--strict` is given without the `--json` that it says more of, and a `split` is without its length
+-- whether `--strict` is given without the `--json` that it needs, and whether a `split` has no prefix length
 abbrev pub lacks_json : Task → List Item → Bool
 lacks_json task items = takes task own.json && is_given items own.strict && not (is_given items own.json)
 
@@ -94,7 +94,7 @@ abbrev pub lacks_prefix : Task → List Item → Bool
 lacks_prefix tasks.Split items = not (is_given items own.prefix)
 lacks_prefix task items = false
 
--- the forms that other programs read cannot tell the sides of `differ`
+-- the forms that other programs read, which cannot show the two sides of a `differ`
 abbrev pub is_exported : Form → Bool
 is_exported (Exported export) = true
 is_exported form = false
@@ -103,7 +103,7 @@ abbrev pub cannot_print : Task → Form → Bool
 cannot_print (tasks.Merge operations.Differ) form = is_exported form
 cannot_print task form = false
 
--- a form has sets, and a table, and an option names them in another
+-- whether a form has sets, and whether it has a table, which an option can name
 abbrev pub has_sets : Form → Bool
 has_sets (Exported Nft) = true
 has_sets (Exported Ipset) = true
@@ -113,7 +113,7 @@ abbrev pub has_table : Form → Bool
 has_table (Exported Nft) = true
 has_table form = false
 
--- a form has lines, around which texts can stand, and an option says such a text in another
+-- whether a form has lines with a text before and after each, and the problem if an option gives one in another form
 abbrev pub has_lines : Form → Bool
 has_lines Counts = false
 has_lines (Exported Csv) = false
@@ -135,7 +135,7 @@ names_fault items form =
     else if is_given items own.after && not (has_lines form) then Some (about (subjects.Option own.after) no_lines)
     else None
 
--- what is wrong with options together
+-- the fault of options that do not go together
 abbrev pub together_fault : Table → Task → List Item → Option Fault
 together_fault table task items =
     option_or (pair_fault items table.pairs.now)
@@ -147,8 +147,8 @@ together_fault table task items =
 
 -- ---- lists
 
--- what is wrong with the sides, which have so many FILEs: with one a `--`, or that there is no FILE; with two that
--- there is no `--`, another one, or nothing before or behind it
+-- the fault of the sides, from the number of `--` and of FILEs on each side. If the task has one side: a `--`, or no
+-- FILE. If it has two: no `--`, more than one, or nothing before or after it
 abbrev pub sides_fault : Task → List ℕ → ℕ → ℕ → ℕ → Option Fault
 sides_fault task name dashes first second =
     if not (is_two_sided task) then (if nat_lt 0 dashes then Some (at (codes "--") one_side)
@@ -163,7 +163,7 @@ sides_fault task name dashes first second =
 abbrev pub times_named : List ℕ → List (List ℕ) → ℕ
 times_named text names = count_by (λ name. bytes_eq name text) names
 
--- what is wrong with the names of lists: that one is empty, or that standard input is among them twice
+-- the fault of the names of lists: one is empty, or standard input is named twice
 abbrev pub files_fault : List (List ℕ) → Option Fault
 files_fault files =
     if nat_lt 0 (times_named [] files) then Some (at [] (codes "not a file name"))
@@ -171,7 +171,7 @@ files_fault files =
     then Some (at (codes "-") (codes "standard input can be read only once"))
     else None
 
--- the lists that are read: those of both sides, but what stands before the `--` of a `find` are addresses
+-- the names of lists among all names: all of them, except that the words before the `--` of a `find` are addresses
 abbrev pub files_among : {X : Type 0} → Task → ℕ → List X → List X
 files_among tasks.Find middle names = drop middle names
 files_among task middle names = names
@@ -183,8 +183,8 @@ from_of task items = []
 
 -- ---- all words
 
--- what is wrong with the words behind the first, which has this name: with an option, the first that is wrong; then
--- with options together, with the sides, and with the names of lists
+-- the first fault of a command line whose first word is `name`: that of the first wrong option, of options together, of
+-- the sides, or of the names of lists
 abbrev pub fault_of : Table → Task → List ℕ → ℕ → List Item → ℕ → List (List ℕ) → Option Fault
 fault_of table task name dashes items middle names =
     option_or (option_or (option_or (items_fault table.rows.now task items) (together_fault table task items))

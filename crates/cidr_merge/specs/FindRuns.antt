@@ -20,17 +20,17 @@ use Rattle.cidr_merge.specs.Writing.{FailsToWrite}
 use Rattle.cidr_merge.specs.declared.query.QueryFault.{QueryFault}
 use Rattle.cidr_merge.specs.declared.query.QueryFault.TheVariants.{NotAnAddress, OutOfMemory}
 
--- the exit status: 2 if a refused line was told, else 0 if a line was printed, and else 1
+-- the exit status: 2 if a refused line was reported, else 0 if a line was printed, else 1
 abbrev pub search_status : List (List ℕ) → List (List ℕ) → ℕ
 search_status printed told = if length told == 0 then (if length printed == 0 then 1 else 0) else 2
 
--- what there is to print was written, and nothing more was told
+-- the lines to print were written, and nothing more was reported
 abbrev pub WritesReport : {W E : Type 0} → List (List ℕ) → List (List ℕ) → Ending W E → Type 0
 WritesReport printed told end =
     HasWritten end (concat printed) × HasTold end [] × (end.status ≡ search_status printed told)
 
--- lists of these names and bytes were searched for these addresses: these lines and the refused ones of the lists were
--- told, and what there is to print was written, or the writer failed
+-- lists of these names and bytes were searched for these addresses: the given lines and the refused lines of the lists
+-- were reported, and the matches were written, or the writer failed
 abbrev pub EndsSearching : {Z W E : Type 0} → List (List ℕ × IpAddr) → List (List ℕ) → List (String Z)
     → List (List ℕ) → Ending W E → Type 0
 EndsSearching {Z} {W} {E} sought others names texts end =
@@ -39,15 +39,15 @@ EndsSearching {Z} {W} {E} sought others names texts end =
     ⊎ WritesReport (lists_matches sought names texts) (others ++ lists_refusals names texts)
     (record end { errors = errors }))
 
--- these lists were read: the lines of so many of the first are sought too, in the others
+-- all lists were read: the addresses in the first `from` lists are searched for too, in the other lists
 abbrev pub EndsReading : {Z W E : Type 0} → List (List ℕ × IpAddr) → List (String Z) → ℕ → List (List ℕ)
     → Ending W E → Type 0
 EndsReading sought names from texts end =
     EndsSearching (sought ++ lists_sought (take from texts)) (lists_others (take from names) (take from texts))
     (drop from names) (drop from texts) end
 
--- a list was not read, or there was no memory for what is sought: nothing was written, and the cause was reported; or
--- all were read
+-- a list could not be read, or memory for the addresses ran out: nothing was written, and the cause was reported; or
+-- all lists were read
 abbrev pub EndsReadingAll : {Z W E : Type 0} → KnownLists → List (String Z) → ℕ → ℕ → List IpAddr
     → Ending W E → Type 0
 EndsReadingAll known words middle from addresses end =
@@ -57,15 +57,15 @@ EndsReadingAll known words middle from addresses end =
     ⊎ ((texts : List (List ℕ)) × AreTexts known (drop middle words) texts
     × EndsReading (with_addresses (take middle words) addresses) (drop middle words) from texts end))
 
--- what is reported of words that are not taken as addresses: the first that is none, and the usage,
--- or that memory ran out
+-- the report if words are not accepted as addresses: the first word that is not an address, and the usage, or that
+-- memory ran out
 abbrev pub sought_fault_text : {Z : Type 0} → List ℕ → List ℕ → List Row → List (String Z) → QueryFault → List ℕ
 sought_fault_text program usage rows words (NotAnAddress place) =
     refusal_text program usage rows (at (name_at words place) (codes "not an address"))
 sought_fault_text program usage rows words OutOfMemory = fault_text words faults.OutOfMemory
 
--- that is reported before anything is read, or the words before this index name addresses, and those from it on lists,
--- of which so many of the first have addresses too
+-- the first `middle` words name addresses, and the others name lists, the first `from` of which are lists of addresses;
+-- or the first words are not accepted as addresses, which is reported before any list is read
 abbrev pub EndsFind : {Z W E : Type 0} → List ℕ → List ℕ → List Row → KnownLists → List (String Z) → ℕ → ℕ
     → Ending W E → Type 0
 EndsFind program usage rows known words middle from end =

@@ -1,4 +1,4 @@
--- What the words of a `find` say: addresses, and lists in which they are sought.
+-- The words of a `find`: addresses, and lists that are searched for them.
 use Rattle.std.specs.Prelude.{◌≡◌, ℕ, ◌+◌, List, [], ◌∷◌, ◌++◌, length, map, String}
 use Rattle.std.specs.List.{zip}
 use Rattle.std.specs.String.{string_bytes}
@@ -19,8 +19,8 @@ AreAddresses (word ∷ words) (address ∷ addresses) =
 abbrev pub with_addresses : {Z : Type 0} → List (String Z) → List IpAddr → List (List ℕ × IpAddr)
 with_addresses words addresses = zip (map string_bytes words) addresses
 
--- of these words, of which the first has this index, the one at the other is the first that is not
--- the text of an address
+-- the word at index `place` is the first that is not the text of an address; the first of these words has the index
+-- `first`
 pub record IsFirstWrong {Z : Type 0} (first : ℕ) (words : List (String Z))
     (place : ℕ) : Type 0 where
   pub before : List (String Z)
@@ -32,7 +32,7 @@ pub record IsFirstWrong {Z : Type 0} (first : ℕ) (words : List (String Z))
   pub right : AreAddresses before addresses
   pub wrong : (address : IpAddr) → ¬ (NamesIp (string_bytes word) address)
 
--- the words are not taken: one is wrong, or memory ran out
+-- the words are not accepted: one is not an address, or memory ran out
 abbrev pub StopsAtWord : {Z : Type 0} → ℕ → List (String Z) → QueryFault → Type 0
 StopsAtWord first words (NotAnAddress place) = IsFirstWrong first words place
 StopsAtWord first words OutOfMemory = Unit {0}

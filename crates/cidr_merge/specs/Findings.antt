@@ -1,4 +1,4 @@
--- What is found in lists that are looked over. A finding is a line of the output.
+-- The findings of an inspection of lists. A finding is a line of the output.
 use Rattle.std.specs.Prelude.{◌≡◌, ◌==◌, ◌&&◌, ℕ, Bool, false, not, List, [], ◌∷◌, ◌++◌, length}
 use Rattle.std.specs.Prelude.{Option, None, Some, Result, Ok, Err, if◌then◌else◌, codes, decimal}
 use Rattle.std.specs.Prelude.{String}
@@ -15,32 +15,32 @@ use Rattle.program.specs.Escapes.{escaped}
 use Rattle.program.specs.Reported.{name_at}
 use Rattle.cidr_merge.specs.NumberedLines.{NumberedLine, numbered_lines, said_by}
 
--- where a line stands: `FILE:LINE`
+-- the place of a line: `FILE:LINE`
 abbrev pub place_text : List ℕ → ℕ → List ℕ
 place_text name number = name ++ codes ":" ++ decimal number
 
--- what is shown of a refused line: the line, unless it is too long
+-- the text shown of a refused line: the line itself, or nothing if it is too long
 abbrev pub shown : LineFault → List ℕ → List ℕ
 shown (faults.Entry fault) line = line
 shown faults.Length line = []
 
--- what stands between a fault and that
+-- the text between a fault and the text of its line
 abbrev pub separator : List ℕ → List ℕ
 separator line = if length line == 0 then [] else codes ": "
 
--- a refused line is a finding: `FILE:LINE: refused FAULT: TEXT`
+-- the finding for a refused line: `FILE:LINE: refused FAULT: TEXT`
 abbrev pub refusal_text : List ℕ → ℕ → LineFault → List ℕ → List ℕ
 refusal_text name number fault line =
     place_text name number ++ codes ": refused " ++ line_fault_text fault
     ++ separator (shown fault line) ++ escaped (shown fault line) ++ codes "\n"
 
--- the entry is a network whose address is behind its first: that has host bits
+-- whether an entry is a network with host bits: its address is after the first address of the block
 abbrev pub has_host_bits : Option Entry → Bool
 has_host_bits None = false
 has_host_bits (Some (entries.Network n)) = not (is_le (ip_cmp (address_of n) (ip_low n)))
 has_host_bits (Some (entries.Range first last)) = false
 
--- strictly it is a finding: `FILE:LINE: host bits: TEXT`
+-- the finding of a strict check for host bits: `FILE:LINE: host bits: TEXT`
 abbrev pub host_bits_text : List ℕ → ℕ → List ℕ → List ℕ
 host_bits_text name number line =
     place_text name number ++ codes ": host bits: " ++ escaped line ++ codes "\n"
@@ -49,7 +49,7 @@ abbrev pub host_findings : Bool → List ℕ → ℕ → List ℕ → List (List
 host_findings is_loose name number line =
     if is_loose then host_bits_text name number line ∷ [] else []
 
--- the findings of a line of the list of this name, strictly or not, by what it says
+-- the findings for a line of the list of this name, strictly or not, by the result of reading the line
 abbrev pub findings_by : Bool → List ℕ → ℕ → List ℕ → Result (Option Entry) LineFault
     → List (List ℕ)
 findings_by strictly name number line (Ok said) =
@@ -60,11 +60,11 @@ abbrev pub line_findings : {Z : Type 0} → Bool → List (String Z) → Numbere
 line_findings strictly names line =
     findings_by strictly (name_at names line.list) line.number line.text (said_by line.text)
 
--- those of the lists of these names, which have these bytes
+-- the findings for all lines of the lists of these names and bytes
 abbrev pub lists_findings : {Z : Type 0} → Bool → List (String Z) → List (List ℕ) → List (List ℕ)
 lists_findings strictly names texts =
     flat_map (line_findings strictly names) (numbered_lines 0 texts)
 
--- whether there is one
+-- the Boolean says whether there is a finding
 abbrev pub IsFound : List (List ℕ) → Bool → Type 0
 IsFound findings found = found ≡ not (length findings == 0)

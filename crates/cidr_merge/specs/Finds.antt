@@ -1,4 +1,4 @@
--- What a search of lists for addresses prints, and what it tells. Each of the texts is a line.
+-- What a search of lists for addresses prints and reports. Each of the texts is a line.
 use Rattle.std.specs.Prelude.{ℕ, ◌&&◌, Bool, List, [], ◌∷◌, ◌++◌, Option, None, Some, Result, Ok}
 use Rattle.std.specs.Prelude.{Err, if◌then◌else◌, codes, String}
 use Rattle.std.specs.List.{flat_map}
@@ -17,7 +17,7 @@ abbrev pub has_text : List ℕ → ℕ → List ℕ → List ℕ → List ℕ
 has_text name number word line =
     place_text name number ++ codes ": has " ++ word ++ codes ": " ++ escaped line ++ codes "\n"
 
--- it has it
+-- whether an entry has an address
 abbrev pub has : Entry → IpAddr → Bool
 has (entries.Network n) address = is_ip_member n address
 has (entries.Range first last) address = is_range first address && is_range address last
@@ -28,7 +28,7 @@ abbrev pub match_lines : List ℕ → ℕ → List ℕ → Entry → List ℕ ×
 match_lines name number line entry sought =
     if has entry sought.1 then has_text name number sought.0 line ∷ [] else []
 
--- of a line, by what it says, for these texts and addresses in turn
+-- the lines printed for a line, by what it says: one for each text whose address its entry has, in turn
 abbrev pub matches_by : List (List ℕ × IpAddr) → List ℕ → ℕ → List ℕ
     → Result (Option Entry) LineFault → List (List ℕ)
 matches_by sought name number line (Ok None) = []
@@ -36,7 +36,7 @@ matches_by sought name number line (Ok (Some entry)) =
     flat_map (match_lines name number line entry) sought
 matches_by sought name number line (Err fault) = []
 
--- what is told of it: that it is refused
+-- the report about a line, by what it says: why it is refused, if it is
 abbrev pub refusals_by : List ℕ → ℕ → List ℕ → Result (Option Entry) LineFault → List (List ℕ)
 refusals_by name number line (Ok said) = []
 refusals_by name number line (Err fault) = refusal_text name number fault line ∷ []
@@ -50,7 +50,7 @@ abbrev pub line_refusals : {Z : Type 0} → List (String Z) → NumberedLine →
 line_refusals names line =
     refusals_by (name_at names line.list) line.number line.text (said_by line.text)
 
--- of all lines of the lists of these names, which have these bytes
+-- what is printed and reported for all lines of the lists of these names and bytes
 abbrev pub lists_matches : {Z : Type 0} → List (List ℕ × IpAddr) → List (String Z) → List (List ℕ)
     → List (List ℕ)
 lists_matches sought names texts = flat_map (line_matches sought names) (numbered_lines 0 texts)

@@ -1,4 +1,4 @@
--- What options say: how to print, how lists are written, and how networks are cut.
+-- The meaning of the options for the output form, the input format and the prefix length of a `split`.
 use Rattle.std.specs.Prelude.{ℕ, ◌==◌, List, [], ◌∷◌, Option, None, Some, if◌then◌else◌, codes, bytes_eq}
 use Rattle.std.specs.Option.{unwrap_or}
 use Rattle.options.specs.Given.{is_given, value_of}
@@ -11,7 +11,7 @@ use Rattle.cidr_merge.specs.declared.exports.Export.TheVariants.{Netmask, Wildca
 use Rattle.cidr_merge.specs.declared.shapes.Shape.{Shape}
 use Rattle.cidr_merge.specs.declared.shapes.Shape.TheVariants as shapes
 
--- the forms that `--format` names
+-- the form that `--format` names
 abbrev pub form_called : List ℕ → Option Form
 form_called text =
     if bytes_eq text (codes "plain") then Some Blocks
@@ -25,19 +25,19 @@ form_called text =
     else if bytes_eq text (codes "addresses") then Some (Exported Addresses)
     else None
 
--- how to print, or else this
+-- the form in which to print: the one that the options give, else the usual one
 abbrev pub form_of : Form → List Item → Form
 form_of usual items =
     if is_given items own.ranges then Ranges
     else if is_given items own.count then Counts
     else unwrap_or (form_called (value_of items own.format)) usual
 
--- how lists are written
+-- the format in which lists are written
 abbrev pub shape_of : List Item → Shape
 shape_of items = if is_given items own.json then if is_given items own.strict then shapes.StrictJson else shapes.Json
     else shapes.Lines
 
--- the prefix length that a text names: a number up to 128, behind a `+` (byte 43) or none
+-- the prefix length that a text names: a number up to 128, which may have a `+` (byte 43) before it
 abbrev pub without_plus : List ℕ → List ℕ
 without_plus [] = []
 without_plus (byte ∷ text) = if byte == 43 then text else byte ∷ text
@@ -45,6 +45,6 @@ without_plus (byte ∷ text) = if byte == 43 then text else byte ∷ text
 abbrev pub prefix_in : List ℕ → Option ℕ
 prefix_in text = length_in 128 (without_plus text)
 
--- that into which networks are cut
+-- the prefix length of a `split`: 0 if no option gives one
 abbrev pub length_of : List Item → ℕ
 length_of items = unwrap_or (prefix_in (value_of items own.prefix)) 0

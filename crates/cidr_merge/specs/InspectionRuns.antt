@@ -1,4 +1,4 @@
--- How a run ends that looks lists over.
+-- How a run ends that inspects lists.
 use Rattle.std.specs.Prelude.{◌≡◌, ◌==◌, ◌⊎◌, ℕ, Bool, true, false, List, [], ◌++◌, length, if◌then◌else◌, codes}
 use Rattle.std.specs.Prelude.{String}
 use Rattle.std.specs.List.{concat}
@@ -14,7 +14,7 @@ use Rattle.cidr_merge.specs.Writing.{FailsToWrite}
 use Rattle.cidr_merge.specs.declared.command_line.Inspection.{Inspection}
 use Rattle.cidr_merge.specs.declared.command_line.Inspection.TheVariants.{Check, Strict, Overlaps}
 
--- the exit status: 1 if there is a finding, and 0 if there is none
+-- the exit status: 1 if there is a finding, else 0
 abbrev pub findings_status : List (List ℕ) → ℕ
 findings_status findings = if length findings == 0 then 0 else 1
 
@@ -23,13 +23,13 @@ abbrev pub WritesFindings : {W E : Type 0} → List (List ℕ) → Ending W E �
 WritesFindings findings end =
     HasWritten end (concat findings) × HasTold end [] × (end.status ≡ findings_status findings)
 
--- what is found in the lines of lists of these names and bytes was, or the writer failed
+-- the findings for the lines of lists of these names and bytes were written, or the writer failed
 abbrev pub EndsChecking : {Z W E : Type 0} → List (String Z) → List (List ℕ) → Ending W E → Type 0
 EndsChecking names texts end =
     FailsToWrite end ⊎ WritesFindings (lists_findings false names texts) end
 
--- that and then what is found in their entries in order was, or memory ran out before anything was
--- written
+-- the findings for the lines, strictly or not, and then those for the entries in order were written, or the writer
+-- failed, or memory ran out before anything was written
 abbrev pub EndsOrdered : {Z W E : Type 0} → Bool → List (String Z) → List (List ℕ) → Ending W E
     → Type 0
 EndsOrdered strictly names texts end = Refuses (codes "out of memory\n") end
@@ -37,15 +37,15 @@ EndsOrdered strictly names texts end = Refuses (codes "out of memory\n") end
     × OrderedFindings (found_among strictly names) texts more
     × WritesFindings (lists_findings strictly names texts ++ more) end))
 
--- what there is to say of them was
+-- the findings of this inspection were written, or the run failed
 abbrev pub EndsFinding : {Z W E : Type 0} → Inspection → List (String Z) → List (List ℕ)
     → Ending W E → Type 0
 EndsFinding Check names texts end = EndsChecking names texts end
 EndsFinding Strict names texts end = EndsOrdered true names texts end
 EndsFinding Overlaps names texts end = EndsOrdered false names texts end
 
--- the lists are looked over: one was not read, nothing was written, and the cause was
--- reported; or all were read
+-- lists were inspected: one could not be read, so nothing was written and the cause was reported; or all were
+-- read
 abbrev pub EndsInspecting : {Z W E : Type 0} → KnownLists → List (String Z) → Inspection → Ending W E → Type 0
 EndsInspecting known words inspection end =
     ((fault : ReadFault) × TextsStop known 0 words fault × Refuses (fault_text words fault) end)

@@ -1,4 +1,4 @@
--- What no other text is, and what is computed of lists.
+-- Laws: no other text names a task, an option or a form; and what a line or an entry means can be computed.
 use Rattle.std.specs.Prelude.{◌≡◌, ◌≢◌, ◌↔◌, ℕ, Bool, List, Option, None, Some, Result, Ok, false, drop}
 use Rattle.std.specs.Prelude.{take, codes, IsTrue, String}
 use Rattle.ipnetwork_addr.specs.declared.ip.IpAddr.{IpAddr}
@@ -22,19 +22,19 @@ use Rattle.cidr_merge.specs.declared.command_line.Request.{Request}
 use Rattle.cidr_merge.specs.declared.tasks.Task.{Task}
 use Rattle.cidr_merge.specs.declared.tasks.Task.TheVariants as tasks
 
--- no word but these nine says to do something
+-- no word but these nine names a task
 abbrev pub NoOtherTask : Type 0
 NoOtherTask =
     (text : List ℕ) → text ≢ codes "union" → text ≢ codes "common" → text ≢ codes "minus"
     → text ≢ codes "differ" → text ≢ codes "list" → text ≢ codes "split" → text ≢ codes "check"
     → text ≢ codes "overlaps" → text ≢ codes "find" → task_called text ≡ None
 
--- the row of an option that a task takes
+-- whether there is a row, and the task takes its option
 abbrev pub is_of : Task → Option ℕ → Bool
 is_of task None = false
 is_of task (Some row) = takes task row
 
--- no text but these ten is an option of an operation
+-- no text but these ten is an option of a merge
 abbrev pub NoOtherOption : List Row → Type 0
 NoOtherOption rows =
     (operation : Operation) (text : List ℕ) → text ≢ codes "--ranges" → text ≢ codes "--count"
@@ -42,7 +42,7 @@ NoOtherOption rows =
     → text ≢ codes "--json" → text ≢ codes "--strict" → text ≢ codes "--line-prefix" → text ≢ codes "--line-suffix"
     → is_of (tasks.Merge operation) (named text rows) ≡ false
 
--- the lists of the sides of a request are the FILEs before the first `--`, and those behind it
+-- the lists of the two sides of a request are the FILEs before the first `--` and those after it
 abbrev pub AreCut : {Z : Type 0} → Table → List (String Z) → Request → List (List ℕ) → Type 0
 AreCut table words request names =
     (take request.middle names ≡ files_of (first_said table.rows.now (drop 1 words)))
@@ -59,13 +59,13 @@ NoOtherForm =
     → text ≢ codes "wildcard" → text ≢ codes "csv" → text ≢ codes "nft" → text ≢ codes "ipset"
     → text ≢ codes "json" → text ≢ codes "addresses" → form_called text ≡ None
 
--- what reading a line gives is what is computed
+-- reading a line gives what `reading_of` computes
 abbrev pub LinesAreReadAsComputed : Type 0
 LinesAreReadAsComputed =
     (line : List ℕ) (reading : Result (Option Entry) EntryFault) → ReadsEntry line reading
     → reading ≡ reading_of line
 
--- an entry has the addresses that it names
+-- `has` computes whether an entry names an address
 abbrev pub EntriesHaveWhatTheyName : Type 0
 EntriesHaveWhatTheyName =
     (entry : Entry) (address : IpAddr) → IsTrue (has entry address) ↔ Names entry address

@@ -1,4 +1,4 @@
--- What the contracts of this crate cite.
+-- The definitions that the contracts of this crate use.
 pub mod Answers
 pub mod CommandLines
 pub mod Endings

@@ -6,7 +6,7 @@ use Rattle.options.specs.declared.table.Table.{Table}
 use Rattle.cidr_merge.specs.declared.tasks.Task.{Task}
 use Rattle.cidr_merge.specs.declared.tasks.Task.TheVariants as tasks
 
--- their rows
+-- the indices of the options' rows in the table
 abbrev pub ranges : ℕ
 ranges = 0
 
@@ -43,7 +43,7 @@ prefix = 10
 abbrev pub from : ℕ
 from = 11
 
--- what is told of a name that is none
+-- the message for a value of `--set` or `--table` that is not a name
 abbrev pub no_name : List ℕ
 no_name = codes "not a name of 1 to 22 letters, digits, _, - and ., the first a letter"
 
@@ -62,7 +62,7 @@ entries =
     ∷ alone (codes "--version") (codes "taken only alone")
     ∷ alone (codes "--quiet") (codes "taken only once, as the first word") ∷ []
 
--- those that say how to print exclude each other, and there is one length
+-- the pairs of options that exclude each other: two output forms, or an option with a value given twice
 abbrev pub another_form : List ℕ
 another_form = codes "--format: given twice, or together with --ranges or --count"
 
@@ -74,11 +74,11 @@ pairs = (ranges, count, codes "--ranges: not together with --count") ∷ (format
     ∷ (before, before, codes "--line-prefix: given twice") ∷ (after, after, codes "--line-suffix: given twice")
     ∷ (from, from, codes "--from: given twice") ∷ []
 
--- the table has these
+-- the table has these options and pairs
 abbrev pub IsOptions : Table → Type 0
 IsOptions options = IsTable options entries pairs [] []
 
--- those that a task takes
+-- the options that a task takes, by the indices of their rows
 abbrev pub taken : Task → List ℕ
 taken (tasks.Merge operation) =
     ranges ∷ count ∷ format ∷ set ∷ table ∷ before ∷ after ∷ skip_bad ∷ json ∷ strict ∷ []

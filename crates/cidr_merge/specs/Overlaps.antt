@@ -15,15 +15,14 @@ use Rattle.program.specs.Reported.{name_at}
 use Rattle.cidr_merge.specs.Findings.{place_text}
 use Rattle.cidr_merge.specs.NumberedLines.{NumberedLine, numbered_lines, said_by}
 
--- an entry: its first and its last address, and the numbers of its list, from 0 on, and of its
--- line, from 1 on
+-- an entry: its first and its last address, the index of its list, from 0, and the number of its line, from 1
 pub record Listed : Type 0 where
   pub first : IpAddr
   pub last : IpAddr
   pub list : ℕ
   pub number : ℕ
 
--- the first and the last address of what a line names
+-- the first and the last address of an entry
 abbrev pub ends_of : Entry → IpAddr × IpAddr
 ends_of (entries.Network n) = (ip_low n, ip_high n)
 ends_of (entries.Range first last) = (first, last)
@@ -32,7 +31,7 @@ abbrev pub listed : ℕ → ℕ → Entry → Listed
 listed list number entry =
     record { first = (ends_of entry).0; last = (ends_of entry).1; list = list; number = number }
 
--- the entries of a line: one, or none if it says nothing or is refused
+-- the entries of a line: one, or none if the line has no entry or is refused
 abbrev pub entries_by : ℕ → ℕ → Result (Option Entry) LineFault → List Listed
 entries_by list number (Ok None) = []
 entries_by list number (Ok (Some entry)) = listed list number entry ∷ []
@@ -41,32 +40,31 @@ entries_by list number (Err fault) = []
 abbrev pub line_entries : NumberedLine → List Listed
 line_entries line = entries_by line.list line.number (said_by line.text)
 
--- of lists with these bytes
+-- the entries of lists with these bytes
 abbrev pub lists_entries : List (List ℕ) → List Listed
 lists_entries texts = flat_map line_entries (numbered_lines 0 texts)
 
--- the order of entries: by the first address, the last address from the greatest on, the list, the
--- line
+-- the order of entries: by the first address, then the last address in descending order, the list, and the line
 abbrev pub listed_cmp : Listed → Listed → Ordering
 listed_cmp a b = ordering_then (ip_cmp a.first b.first)
     (ordering_then (ip_cmp b.last a.last)
     (ordering_then (nat_cmp a.list b.list) (nat_cmp a.number b.number)))
 
--- the same entries in that order
+-- `sorted` has the entries of `found` in that order
 pub record IsInOrder (found sorted : List Listed) : Type 0 where
   pub same : IsPermutation found sorted
   pub ordered : IsSorted listed_cmp sorted
 
--- the first address is not after the second
+-- whether the first address is not after the second
 abbrev pub is_up_to : IpAddr → IpAddr → Bool
 is_up_to a b = is_le (ip_cmp a b)
 
--- an entry that stands before another in that order overlaps it: its last address is not before the
--- other's first
+-- whether an entry overlaps one that is before it in that order: its first address is not after the other's last
+-- address
 abbrev pub reaches : Listed → Listed → Bool
 reaches later earlier = is_up_to later.first earlier.last
 
--- what the later is to the earlier then: of the same addresses, within it, or neither
+-- how the later entry overlaps the earlier one: it has the same addresses, lies in it, or neither
 abbrev pub relation : Listed → Listed → List ℕ
 relation later earlier =
     if is_up_to later.last earlier.last
@@ -74,23 +72,23 @@ relation later earlier =
     then codes "same as" else codes "in")
     else codes "overlaps"
 
--- two entries that overlap are a finding: `FILE:LINE: in FILE:LINE`
+-- the finding for two entries that overlap: `FILE:LINE: in FILE:LINE`
 abbrev pub pair_text : {Z : Type 0} → List (String Z) → Listed → Listed → List ℕ
 pair_text names later earlier =
     place_text (name_at names later.list) later.number ++ codes ": " ++ relation later earlier
     ++ codes " " ++ place_text (name_at names earlier.list) earlier.number ++ codes "\n"
 
--- the findings of an entry with those of the earlier ones that overlap it
+-- the findings for an entry with each of the earlier ones that it overlaps
 abbrev pub pairs_with : {Z : Type 0} → List (String Z) → List Listed → Listed → List (List ℕ)
 pairs_with names before later = map (pair_text names later) (filter (reaches later) before)
 
--- those of entries in order, before which these stand
+-- the findings for the entries in order that follow the entries `before`
 abbrev pub pairs_after : {Z : Type 0} → List (String Z) → List Listed → List Listed → List (List ℕ)
 pairs_after names before [] = []
 pairs_after names before (entry ∷ others) =
     pairs_with names before entry ++ pairs_after names (before ++ entry ∷ []) others
 
--- the findings of lists with these bytes, by what is found in entries in order
+-- the findings for lists with these bytes, where `finds` gives those for entries in order
 abbrev pub OrderedFindings : (List Listed → List (List ℕ)) → List (List ℕ) → List (List ℕ) → Type 0
 OrderedFindings finds texts findings =
     (sorted : List Listed) × IsInOrder (lists_entries texts) sorted × (findings ≡ finds sorted)

@@ -1,4 +1,4 @@
--- Merges in parts.
+-- Merging a list in parts.
 use Rattle.std.specs.Prelude.{◌≡◌, ◌↔◌, ◌≤◌, ℕ, false, List, [], ◌∷◌, map, length}
 use Rattle.std.specs.List.{Contains}
 use Rattle.std.specs.Str.Lines.{lines}
@@ -23,14 +23,14 @@ pub record UnionPrints (list : List (List ℕ)) (text : List ℕ) : Type 0 where
   pub v6 : IsAggregate 128 read.v6 sets.v6
   pub answer : IsAnswer usual_names Union Blocks sets others text
 
--- that of each of these lists prints the text in its place
+-- the union of each of these lists prints the text at the same place
 abbrev pub UnionsPrint : List (List (List ℕ)) → List (List ℕ) → Type 0
 UnionsPrint [] [] = Unit {0}
 UnionsPrint (list ∷ lists) (text ∷ texts) = UnionPrints list text × UnionsPrint lists texts
 UnionsPrint [] (text ∷ texts) = ⊥
 UnionsPrint (list ∷ lists) [] = ⊥
 
--- these lists have together the lines of one, in any order, and no others
+-- these lists together have exactly the lines of the whole list, in any order
 abbrev pub HaveLines : List (List (List ℕ)) → List (List ℕ) → Type 0
 HaveLines lists whole =
     (line : List ℕ) → Contains whole line
@@ -40,8 +40,8 @@ HaveLines lists whole =
 abbrev pub AreShort : List (List ℕ) → Type 0
 AreShort list = (line : List ℕ) → Contains list line → length line ≤ 1024
 
--- if a list is cut into parts, and what the unions of the parts print is joined, in any order, then
--- the union of that prints what the union of the list does
+-- if a list is cut into parts, and the outputs of the unions of the parts are joined, in any order, then the union of
+-- the joined list prints the same as the union of the whole list
 abbrev pub UnionsOfPartsPrintTheSame : Type 0
 UnionsOfPartsPrintTheSame =
     (whole joined : List (List ℕ)) (parts : List (List (List ℕ))) (texts : List (List ℕ))

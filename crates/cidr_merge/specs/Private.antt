@@ -1,4 +1,4 @@
--- What the private functions promise each other, and how contracts see private fields.
+-- The contracts of private functions, and the meaning of private fields in contracts.
 pub mod Entries
 pub mod LinesLeft
 pub mod Numbers

@@ -1,4 +1,4 @@
--- What is read of lists.
+-- The result of reading lists.
 use Rattle.std.specs.Prelude.{◌≡◌, ℕ, ◌+◌, List, [], ◌∷◌, false, String, take, drop}
 use Rattle.std.specs.String.{string_bytes}
 use Rattle.ipnetwork_blocks.specs.Aggregate.{IsAggregate}
@@ -9,15 +9,15 @@ use Rattle.cidr_merge.specs.Shapes.{Source, source, ReadsOne}
 use Rattle.cidr_merge.specs.declared.command_line.Request.{Request}
 use Rattle.cidr_merge.specs.declared.reading.Sets.{Sets}
 
--- the lists of these names are read, in turn; the first has this number, the next the one after it
+-- the lists of these names are read, in turn; the first has this number, the second the next, and so on
 abbrev pub ReadsLists : {Z : Type 0} → Source → ℕ → List (String Z) → ReadLists → ReadLists → Type 0
 ReadsLists from number [] before after = after ≡ before
 ReadsLists from number (name ∷ names) before after =
     (between : ReadLists) × ReadsOne from number (string_bytes name) before between
     × ReadsLists from (number + 1) names between after
 
--- the lists of these names were read, after others of which some lines were refused: the sets have
--- the addresses of their networks, and these are the refused lines now
+-- the lists of these names were read, after the lines in `before` were refused: the sets have the addresses of their
+-- networks, and `refused` has all lines refused up to now
 pub record ReadsSide {Z : Type 0} (from : Source) (number : ℕ) (names : List (String Z))
     (before : Refused) (sets : Sets) (refused : Refused) : Type 0 where
   pub read : ReadLists

@@ -1,4 +1,4 @@
--- Which command lines are right, and what they ask for, whatever reads them.
+-- The valid command lines, and what they ask for, defined as relations.
 use Rattle.std.specs.Prelude.{◌≡◌, ◌≢◌, ◌↔◌, ◌≤◌, ℕ, Bool, true, false, List, [], ◌∷◌, ◌++◌, Some, Ok, length, codes}
 use Rattle.std.specs.Prelude.{IsTrue, String}
 use Rattle.std.specs.List.{AllByRecursion}
@@ -25,7 +25,7 @@ use Rattle.cidr_merge.specs.declared.command_line.Operation.TheVariants as opera
 use Rattle.cidr_merge.specs.declared.tasks.Task.{Task}
 use Rattle.cidr_merge.specs.declared.tasks.Task.TheVariants as tasks
 
--- the words behind the first say this: of one side, without a `--`, or of two, with one between them
+-- the items that the words after the first mean: one side, without a `--`, or two sides with one `--` between them
 pub data SaySides {Z : Type 0} (rows : List Row) : Bool → List (String Z) → List Item → List Item → Type 0 where
   OneSide : (words : List (String Z)) (items : List Item) → count (codes "--") words ≡ 0 → Says rows words items
       → SaySides rows false words items []
@@ -34,14 +34,14 @@ pub data SaySides {Z : Type 0} (rows : List Row) : Bool → List (String Z) → 
       → Says rows before first → Says rows behind second
       → SaySides rows true (before ++ dashes ∷ behind) first second
 
--- a value of the option of a row
+-- the text is a valid value of the option of a row
 pub record IsValue (row : ℕ) (text : List ℕ) : Type 0 where
   pub form : row ≡ own.format → IsTrue (is_some (form_called text))
   pub prefix : row ≡ own.prefix → IsTrue (is_some (prefix_in text))
   pub set : row ≡ own.set → IsTrue (is_set_name text)
   pub table : row ≡ own.table → IsTrue (is_set_name text)
 
--- an option that the task takes, with a value if it has one, or a FILE
+-- the item is a FILE, or an option that the task takes, with a valid value if it has one
 pub data IsRightItem (task : Task) : Item → Type 0 where
   AFlag : (row : ℕ) → IsTrue (takes task row) → IsRightItem task (says.Flag row)
   AValue : (row : ℕ) (text : List ℕ) → IsTrue (takes task row) → IsValue row text
@@ -50,8 +50,9 @@ pub data IsRightItem (task : Task) : Item → Type 0 where
       → IsRightItem task (says.Joined row text word)
   AFile : (name : List ℕ) → IsRightItem task (says.File name)
 
--- these options of both sides, and these FILEs of each, are right: no two options exclude each other, those are there
--- that another or the task needs, FILEs are on each side, none without a name, and standard input is read at most once
+-- the options of both sides, and the FILEs of each side, are valid: no two options exclude each other, every option is
+-- given that the task or another option needs, each side has FILEs, no FILE has an empty name, and standard input is
+-- read at most once
 pub record AreRight (table : Table) (task : Task) (items : List Item) (first second : List (List ℕ)) : Type 0 where
   pub each : AllByRecursion (IsRightItem task) items
   pub apart : AllByRecursion (λ (pair : Pair). are_both items pair ≡ false) table.pairs.now
@@ -67,7 +68,7 @@ pub record AreRight (table : Table) (task : Task) (items : List Item) (first sec
   pub named : times_named [] (files_among task (length first) (first ++ from_of task items ++ second)) ≡ 0
   pub input : times_named (codes "-") (files_among task (length first) (first ++ from_of task items ++ second)) ≤ 1
 
--- the words are right, and this is what they ask for, of these FILEs
+-- the words are valid, and ask for this command with these FILEs
 pub record AskFor {Z : Type 0} (table : Table) (words : List (String Z)) (command : Command)
     (names : List (List ℕ)) : Type 0 where
   pub name : String Z
@@ -82,7 +83,7 @@ pub record AskFor {Z : Type 0} (table : Table) (words : List (String Z)) (comman
   pub asked : command ≡ asked_for task (first ++ second) (length (files_of first))
   pub files : names ≡ files_of first ++ from_of task (first ++ second) ++ files_of second
 
--- words are taken exactly if they are right, as what they ask for
+-- words are accepted exactly if they are valid, and then give the command and the FILEs that they ask for
 abbrev pub RightWordsAreTaken : {Z : Type 0} → Table → List (String Z) → Type 0
 RightWordsAreTaken table words = (command : Command) (names : List (List ℕ))
     → (command_of table words ≡ Ok (command, names)) ↔ AskFor table words command names

@@ -1,4 +1,4 @@
--- How a run ends: its exit status, what was written, and what was reported.
+-- How a merge ends: its exit status, what was written, and what was reported.
 use Rattle.std.specs.Prelude.{◌≡◌, ℕ, List, [], Bool, true, false, not, ◌&&◌, ◌⊎◌, if◌then◌else◌, String}
 use Rattle.lists.specs.Refusals.{Refused}
 use Rattle.ipnetwork_sets.specs.Equality.{same_blocks}
@@ -19,7 +19,7 @@ use Rattle.cidr_merge.specs.SetNames.{Names}
 use Rattle.cidr_merge.specs.declared.command_line.Request.{Request}
 use Rattle.cidr_merge.specs.declared.reading.Sets.{Sets}
 
--- whether the operation is `differ`, and the blocks of its sides are not the same
+-- whether the operation is `differ` and its sides do not have the same blocks
 abbrev pub are_unequal : Operation → Sets → Sets → Bool
 are_unequal Union first second = false
 are_unequal Common first second = false
@@ -27,36 +27,37 @@ are_unequal Minus first second = false
 are_unequal Differ first second =
     not (same_blocks first.v4 second.v4 && same_blocks first.v6 second.v6)
 
--- the exit status of an answer: 3 if lines were skipped, else 1 if the sides of `differ` are not
--- equal, else 0
+-- the exit status after the result was written: 3 if lines were skipped, else 1 if the sides of `differ` are not equal,
+-- else 0
 abbrev pub answer_status : Operation → Bool → Sets → Sets → ℕ
 answer_status operation skips first second =
     if skips then 3 else if are_unequal operation first second then 1 else 0
 
--- the answer was written, and nothing more was reported
+-- the result was written, and nothing more was reported
 abbrev pub WritesAnswer : {W E : Type 0} → Names → Request → Bool → Sets → Sets → Ending W E → Type 0
 WritesAnswer sets request skips first second end =
     (text : List ℕ) × IsAnswer sets request.operation request.form first second text
     × HasWritten end text × HasTold end []
     × (end.status ≡ answer_status request.operation skips first second)
 
--- the lists of both sides were read: if lines were refused and are not to be skipped, nothing is
--- written, and else the answer is, unless the writer fails
+-- the lists of both sides were read: if lines were refused and are not to be skipped, nothing is written; otherwise the
+-- result is written, unless the writer fails
 abbrev pub EndsAnswering : {W E : Type 0} → Names → Request → Bool → Sets → Sets → Ending W E → Type 0
 EndsAnswering sets request skips first second end =
     ((skips && not request.skips_bad ≡ true) × IsSilent end × HasTold end [])
     ⊎ ((skips && not request.skips_bad ≡ false)
     × (FailsToWrite end ⊎ WritesAnswer sets request skips first second end))
 
--- the lists were not read to their ends, and these lines were refused before: nothing was written,
--- and the cause was reported
+-- the lists were not read to their ends, after these lines were refused: nothing was written, and the cause was
+-- reported
 abbrev pub StopsReading : {Z W E : Type 0} → KnownLists → List (String Z) → Request → Refused
     → Ending W E → Type 0
 StopsReading known words request refused end =
     (fault : ReadFault) × StopsInSides known words request fault refused × IsSilent end
     × HasTold end (fault_text words fault)
 
--- the refused lines were reported, and then either why the reading stopped, or the answer was given
+-- the refused lines were reported; then either the cause for which the reading stopped was reported, or the result was
+-- written
 abbrev pub EndsMerging : {Z W E : Type 0} → KnownLists → List (String Z) → Names → Request → Ending W E
     → Type 0
 EndsMerging {Z} {W} {E} known words sets request end = (refused : Refused) × (told : Written E)

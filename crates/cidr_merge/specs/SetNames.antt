@@ -1,4 +1,4 @@
--- What other programs call the sets that an export fills, and what stands around each line.
+-- The names of the sets that an export fills, and the texts around each line.
 use Rattle.std.specs.Prelude.{ℕ, ◌==◌, ◌&&◌, ◌||◌, Bool, false, List, [], ◌∷◌, ◌++◌, length, nat_lt, nat_le, if◌then◌else◌}
 use Rattle.std.specs.Prelude.{codes}
 use Rattle.std.specs.List.{concat, list_all}
@@ -6,18 +6,18 @@ use Rattle.options.specs.Given.{is_given, value_of}
 use Rattle.options.specs.declared.items.Item.{Item}
 use Rattle.cidr_merge.specs.Options as own
 
--- the table of nftables, what the names of both sets begin with, and what stands before and after each line
+-- the table of nftables, the beginning of the names of both sets, and the texts before and after each line
 pub record Names : Type 0 where
   pub table : List ℕ
   pub set : List ℕ
   pub before : List ℕ
   pub after : List ℕ
 
--- a text as a name; nothing, if it has more than 22 bytes
+-- a text as a name; empty if it has more than 22 bytes
 abbrev pub name_in : List ℕ → List ℕ
 name_in text = if nat_le (length text) 22 then text else []
 
--- the name that the option of a row says, or else `cidr_merge`
+-- the name that the option of a row gives, else `cidr_merge`
 abbrev pub name_by : ℕ → List Item → List ℕ
 name_by row items = if is_given items row then name_in (value_of items row) else name_in (codes "cidr_merge")
 
@@ -29,15 +29,15 @@ names_of items = record {
   after = value_of items own.after;
 }
 
--- a line of these texts, with what stands before and after each line
+-- a line of these texts, with the texts before and after each line
 abbrev pub line_of : Names → List (List ℕ) → List ℕ
 line_of names texts = concat (names.before ∷ texts ++ names.after ∷ codes "\n" ∷ [])
 
--- those without an option
+-- the names and texts if no option gives any
 abbrev pub usual_names : Names
 usual_names = names_of []
 
--- a name: 1 to 22 letters of ASCII, digits, `_`, `-` and `.`, of which the first is a letter
+-- a name: 1 to 22 ASCII letters, digits, `_`, `-` and `.`, the first of which is a letter
 abbrev pub is_letter : ℕ → Bool
 is_letter byte = (nat_le 97 byte && nat_le byte 122) || (nat_le 65 byte && nat_le byte 90)
 

@@ -1,4 +1,4 @@
--- How lists are written, and what is read of one.
+-- The formats of lists, and the result of reading one list.
 use Rattle.std.specs.Prelude.{◌≡◌, ℕ, true, false, List}
 use Rattle.lists.specs.Documents.{ReadsDocument, StopsAtDocument}
 use Rattle.lists.specs.KnownLists.{KnownLists}
@@ -9,7 +9,7 @@ use Rattle.lists.specs.declared.named.ReadFault.{ReadFault}
 use Rattle.cidr_merge.specs.declared.shapes.Shape.{Shape}
 use Rattle.cidr_merge.specs.declared.shapes.Shape.TheVariants.{Lines, Json, StrictJson}
 
--- what is known of lists, and how they are written
+-- what is known of the lists, and their format
 pub record Source : Type 1 where
   pub known : KnownLists
   pub shape : Shape
@@ -17,11 +17,11 @@ pub record Source : Type 1 where
 abbrev pub source : KnownLists → Shape → Source
 source known shape = record { known = known; shape = shape }
 
--- the list of this name and number is read
+-- the list of this name and number is read in this format
 abbrev pub ReadsBy : Shape → KnownLists → ℕ → List ℕ → ReadLists → ReadLists → Type 0
--- its lines are taken
+-- its lines are read
 ReadsBy Lines known number name before after = ReadsList known number name before after
--- or the strings of its document
+-- the strings of its JSON document are read
 ReadsBy Json known number name before after = ReadsDocument known false number name before after
 ReadsBy StrictJson known number name before after =
     ReadsDocument known true number name before after
@@ -30,7 +30,7 @@ abbrev pub ReadsOne : Source → ℕ → List ℕ → ReadLists → ReadLists �
 ReadsOne source number name before after =
     ReadsBy source.shape source.known number name before after
 
--- the reading stops at it
+-- the reading stops at this list
 abbrev pub StopsBy : Shape → KnownLists → ℕ → List ℕ → ReadLists → ReadFault → Refused → Type 0
 StopsBy Lines known number name before fault refused =
     StopsAt known number name before fault refused

@@ -1,4 +1,4 @@
--- The addresses that the lines of lists of addresses name.
+-- The addresses in lists of addresses, one on a line.
 use Rattle.std.specs.Prelude.{ℕ, Bool, true, false, List, [], ◌∷◌, Option, None, Some, if◌then◌else◌, String}
 use Rattle.std.specs.List.{flat_map}
 use Rattle.ipnetwork_addr.specs.Computed.Either.{ip_of}
@@ -10,12 +10,12 @@ use Rattle.program.specs.Reported.{name_at}
 use Rattle.cidr_merge.specs.Findings.{refusal_text}
 use Rattle.cidr_merge.specs.NumberedLines.{NumberedLine, numbered_lines}
 
--- a text and the address that it names, if it names one
+-- a text with the address that it names, if it names one
 abbrev pub sought_by : List ℕ → Option IpAddr → List (List ℕ × IpAddr)
 sought_by text None = []
 sought_by text (Some address) = (text, address) ∷ []
 
--- those of a line, but for the blanks around it, and of lists with these bytes
+-- the address in a line, without the blanks around it, and the addresses in all lines of lists with these bytes
 abbrev pub sought_of : List ℕ → List (List ℕ × IpAddr)
 sought_of line = sought_by (trimmed line) (ip_of (trimmed line))
 
@@ -25,13 +25,13 @@ line_sought line = sought_of line.text
 abbrev pub lists_sought : List (List ℕ) → List (List ℕ × IpAddr)
 lists_sought texts = flat_map line_sought (numbered_lines 0 texts)
 
--- a line has something that names no address
+-- whether a text is not empty and names no address
 abbrev pub is_other : List ℕ → Option IpAddr → Bool
 is_other text (Some address) = false
 is_other [] None = false
 is_other (byte ∷ text) None = true
 
--- and is refused then
+-- the refusal of a line that has such a text
 abbrev pub others_by : List ℕ → ℕ → List ℕ → List (List ℕ)
 others_by name number line =
     if is_other (trimmed line) (ip_of (trimmed line))
@@ -40,6 +40,6 @@ others_by name number line =
 abbrev pub line_others : {Z : Type 0} → List (String Z) → NumberedLine → List (List ℕ)
 line_others names line = others_by (name_at names line.list) line.number line.text
 
--- of all lines of the lists of these names, which have these bytes
+-- the refusals of all lines of the lists of these names and bytes
 abbrev pub lists_others : {Z : Type 0} → List (String Z) → List (List ℕ) → List (List ℕ)
 lists_others names texts = flat_map (line_others names) (numbered_lines 0 texts)

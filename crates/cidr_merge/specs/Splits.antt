@@ -1,4 +1,4 @@
--- How a run ends that splits lists.
+-- How a run ends that splits networks.
 use Rattle.std.specs.Prelude.{◌≡◌, ℕ, List, [], Bool, true, false, not, ◌&&◌, ◌⊎◌}
 use Rattle.std.specs.Prelude.{if◌then◌else◌, String}
 use Rattle.lines.specs.Outputs.{Written}
@@ -18,15 +18,14 @@ use Rattle.cidr_merge.specs.Writing.{FailsToWrite}
 use Rattle.cidr_merge.specs.declared.reading.Sets.{Sets}
 use Rattle.cidr_merge.specs.declared.command_line.SplitRequest.{SplitRequest}
 
--- the pieces were written, and nothing more was reported; the exit status is 3 if lines were
--- skipped, and else 0
+-- the pieces were written, and nothing more was reported; the exit status is 3 if lines were skipped, else 0
 abbrev pub WritesPieces : {W E : Type 0} → Names → ℕ → Bool → Sets → Ending W E → Type 0
 WritesPieces names number skips sets end =
     HasWritten end (split_text names number sets) × HasTold end []
     × (end.status ≡ (if skips then 3 else 0))
 
--- the lists were read: if lines were refused and are not to be skipped, nothing is written, and else the pieces are,
--- unless the writer fails
+-- the lists were read: if lines were refused and are not to be skipped, nothing is written; otherwise the pieces are
+-- written, unless the writer fails
 abbrev pub EndsCutting : {W E : Type 0} → Names → SplitRequest → Bool → Sets → Ending W E → Type 0
 EndsCutting names request skips sets end =
     ((skips && not request.skips_bad ≡ true) × IsSilent end × HasTold end [])
@@ -40,8 +39,8 @@ StopsSplitting known words request refused end = (fault : ReadFault)
     × Stops (source known request.shape) 0 words
     (nothing_read no_refusals) fault refused × IsSilent end × HasTold end (fault_text words fault)
 
--- the refused lines were reported, and then either why the reading stopped, or the pieces were
--- printed of the least list of what the lists name
+-- the refused lines were reported; then either the cause for which the reading stopped was reported, or the blocks of
+-- the lists' least list were written in pieces
 abbrev pub EndsSplitting : {Z W E : Type 0} → KnownLists → List (String Z) → Names → SplitRequest
     → Ending W E → Type 0
 EndsSplitting {Z} {W} {E} known words names request end = (refused : Refused) × (told : Written E)

@@ -11,8 +11,8 @@ use Rattle.cidr_merge.specs.Reading.{ReadsLists, ReadsSide}
 use Rattle.cidr_merge.specs.declared.command_line.Request.{Request}
 use Rattle.cidr_merge.specs.declared.reading.Sets.{Sets}
 
--- of the lists of these names, of which the first has this number, those before one are read in
--- turn, and the reading stops at that one
+-- the lists of these names, the first of which has this number, are read in turn up to one at which the reading
+-- stops
 pub record Stops {Z : Type 0} (from : Source) (number : ℕ) (names : List (String Z))
     (before : ReadLists) (fault : ReadFault) (refused : Refused) : Type 0 where
   pub first : List (String Z)
@@ -24,8 +24,7 @@ pub record Stops {Z : Type 0} (from : Source) (number : ℕ) (names : List (Stri
   pub memory : between.is_out_of_memory ≡ false
   pub stops : StopsOne from (number + length first) (string_bytes name) between fault refused
 
--- the reading stops among the lists of the first side, or, if those were read, among those of the
--- second
+-- the reading stops at a list of the first side, or, if those were read, at one of the second
 abbrev pub StopsInSides : {Z : Type 0} → KnownLists → List (String Z) → Request → ReadFault
     → Refused → Type 0
 StopsInSides known words request fault refused =

@@ -1,10 +1,10 @@
--- What the first word says to do, and what is told of words that it does not take.
+-- The tasks, and the messages for words that a task does not take.
 use Rattle.std.specs.Prelude.{ℕ, Bool, true, false, List, ◌++◌, Option, None, Some, if◌then◌else◌, codes, bytes_eq}
 use Rattle.cidr_merge.specs.declared.command_line.Operation.TheVariants as operations
 use Rattle.cidr_merge.specs.declared.tasks.Task.{Task}
 use Rattle.cidr_merge.specs.declared.tasks.Task.TheVariants as tasks
 
--- what a word says to do
+-- the task that a word names
 abbrev pub task_called : List ℕ → Option Task
 task_called text =
     if bytes_eq text (codes "union") then Some (tasks.Merge operations.Union)
@@ -18,14 +18,14 @@ task_called text =
     else if bytes_eq text (codes "find") then Some tasks.Find
     else None
 
--- a `--` stands between two sides
+-- whether a task has two sides, with a `--` between them
 abbrev pub is_two_sided : Task → Bool
 is_two_sided (tasks.Merge operations.Union) = false
 is_two_sided (tasks.Merge operation) = true
 is_two_sided tasks.Find = true
 is_two_sided task = false
 
--- what is told of a word that begins with a `-` and is no option of a task
+-- the message for a word that begins with a `-` and is no option of a task
 abbrev pub no_option : Task → List ℕ
 no_option tasks.Split = codes "not an option of split; it takes --prefix N, --line-prefix TEXT, --line-suffix TEXT, "
     ++ codes "--skip-bad, --json and --strict"
@@ -35,7 +35,7 @@ no_option tasks.Find = codes "not an option of find; it takes --from FILE"
 no_option task = codes "not an option of union, common, minus, differ or list; they take --ranges, --count, "
     ++ codes "--format FORM, --set NAME, --table NAME, --line-prefix TEXT, --line-suffix TEXT, --skip-bad, --json and --strict"
 
--- and of a `--` where there is one side, and with nothing before it
+-- the messages for a `--` of a task with one side, and for a `--` with nothing before it
 abbrev pub one_side : List ℕ
 one_side = codes "only common, minus, differ and find take a --"
 

@@ -7,7 +7,7 @@ use Rattle.lists.specs.declared.named.ReadFault.{ReadFault}
 use Rattle.lists.specs.declared.named.ReadFault.TheVariants.{Open, Read, Length, NotJson}
 use Rattle.lists.specs.declared.named.ReadFault.TheVariants.{OutOfMemory}
 
--- those of the lists of these names are these, in their order
+-- these are the bytes of the lists of these names, in order
 abbrev pub AreTexts : {Z : Type 0} → KnownLists → List (String Z) → List (List ℕ) → Type 0
 AreTexts known [] [] = Unit {0}
 AreTexts known (name ∷ names) (text ∷ texts) =
@@ -15,7 +15,7 @@ AreTexts known (name ∷ names) (text ∷ texts) =
 AreTexts known [] (text ∷ texts) = ⊥
 AreTexts known (name ∷ names) [] = ⊥
 
--- the list of this name, which the fault tells by the number, is not read to its end
+-- the list of this name cannot be read to its end; the fault has its number
 abbrev pub TextStops : KnownLists → ℕ → List ℕ → ReadFault → Type 0
 -- it is not opened, for this cause
 TextStops known number name (Open place cause) =
@@ -29,8 +29,8 @@ TextStops known number name (NotJson place line) = ⊥
 -- memory runs out for it
 TextStops known number name OutOfMemory = Unit {0}
 
--- of the lists of these names, of which the first has this number, those before one are read, and
--- that one is not
+-- the lists of these names, the first of which has this number, are read up to one that cannot be
+-- read
 pub record TextsStop {Z : Type 0} (known : KnownLists) (number : ℕ) (names : List (String Z))
     (fault : ReadFault) : Type 0 where
   pub before : List (String Z)

@@ -1,8 +1,8 @@
--- How a run ends whose writer fails.
+-- How a run ends if its writer fails.
 use Rattle.std.specs.Prelude.{◌≡◌, true, codes}
 use Rattle.program.specs.Endings.{Ending, HasTold}
 
--- the writer failed
+-- the writer failed, which was reported; the exit status is 2
 abbrev pub FailsToWrite : {W E : Type 0} → Ending W E → Type 0
 FailsToWrite end =
     (end.output_after.failed ≡ true) × HasTold end (codes "write error\n") × (end.status ≡ 2)

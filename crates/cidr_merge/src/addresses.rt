@@ -11,7 +11,7 @@ use lines::fault::RunFault;
 use lines::output::Output;
 use std::io::Write;
 
-/// Prints each of the addresses on a line.
+/// Prints each address on a line of its own.
 #[tactic(auto, using(crate::proofs::Printed::none_printed, crate::proofs::Printed::all_printed, crate::proofs::Merging::shorter))]
 pub(crate) fn print_addresses<A: Address, W: Write>(
     names: &SetNames<'_>,

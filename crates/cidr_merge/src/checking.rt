@@ -1,4 +1,4 @@
-//! Tells the wrong entries of lists, and strictly those with host bits too.
+//! Reports the wrong entries of lists, and, in a strict check, those with host bits.
 ghost use Rattle.std.specs.Prelude.{◌≡◌, ◌&&◌, map};
 ghost use Rattle.cidr_merge.specs.Findings.{findings_by, has_host_bits, host_findings};
 ghost use Rattle.cidr_merge.specs.Findings.{lists_findings};
@@ -15,7 +15,7 @@ use lines::output::Output;
 use lists::Entry;
 use std::io::Write;
 
-/// Tells what is found in the lines of lists, strictly or not, and returns whether anything is.
+/// Prints the findings for the lines of lists, strictly or not, and returns whether there are any.
 pub(crate) fn check_lists<W: Write>(
     strictly: bool,
     lists: &WholeLists<'_>,
@@ -33,7 +33,7 @@ pub(crate) fn check_lists<W: Write>(
     found
 }
 
-// Tells what is found in a line, strictly or not, and returns whether anything is.
+// Prints the finding for a line, strictly or not, and returns whether there is one.
 fn check_line<W: Write>(strictly: bool, line: &Line<'_>, output: &mut Output<'_, W>) -> bool
     ensures { TellsFound (findings_by strictly line.now.name.now line.now.number line.now.text.now
         (said_by line.now.text.now)) output.old output.new result }
@@ -47,7 +47,7 @@ fn check_line<W: Write>(strictly: bool, line: &Line<'_>, output: &mut Output<'_,
     }
 }
 
-// Tells a line if its entry has host bits that are to be told, and returns whether it has.
+// Prints the finding for host bits if `is_loose`, and returns `is_loose`.
 fn tell_if_loose<W: Write>(is_loose: bool, line: &Line<'_>, output: &mut Output<'_, W>) -> bool
     ensures { TellsFound
         (host_findings is_loose line.now.name.now line.now.number line.now.text.now)
@@ -60,14 +60,14 @@ fn tell_if_loose<W: Write>(is_loose: bool, line: &Line<'_>, output: &mut Output<
     false
 }
 
-// Whether host bits of an entry, if there are any, are to be told.
+// Returns whether an entry has host bits and the check is strict.
 fn is_loose(strictly: bool, said: Option<Entry>) -> bool
     ensures { result ≡ (strictly && has_host_bits said) }
 {
     strictly && has_host_bits(said)
 }
 
-// Whether an entry has host bits.
+// Returns whether an entry has host bits.
 fn has_host_bits(said: Option<Entry>) -> bool
     ensures { result ≡ has_host_bits said }
 {

@@ -1,4 +1,4 @@
-//! How many blocks and addresses there are.
+//! The numbers of blocks and of addresses.
 ghost use Rattle.std.specs.Prelude.{◌≡◌, ◌≤◌, ◌-◌, ◌^◌, ◌++◌, min, length, codes, decimal};
 ghost use Rattle.arrayvec.specs.ArrayString.{array_string_len};
 ghost use Rattle.ipnetwork_sets.specs.Counts.{count_number, total};
@@ -11,7 +11,7 @@ use ipnetwork_addr::decimal::push_number;
 use ipnetwork_blocks::AddressSpace;
 use ipnetwork_sets::{AddressCount, SetBlocks};
 
-/// How many blocks there are, and how many addresses they have.
+/// The number of blocks, and of the addresses in them.
 #[derive(Clone, Copy, Debug)]
 pub(crate) struct Counts {
     blocks: u128,
@@ -19,7 +19,7 @@ pub(crate) struct Counts {
 }
 
 impl Counts {
-    /// The counts of these blocks.
+    /// Counts these blocks and their addresses.
     pub(crate) fn of<N: AddressSpace>(mut blocks: Sweep<'_, N>) -> Counts
         ensures blocks { result.blocks ≡ min (length (blocks_left blocks.entry)) (2 ^ 128 - 1) }
         ensures addresses { count_number result.addresses ≡ min
@@ -37,7 +37,7 @@ impl Counts {
         }
     }
 
-    /// Both numbers, with a blank between them.
+    /// Returns both numbers, with a space between them.
     pub(crate) fn text(self) -> ArrayString<80>
         ensures { result.bytes ≡ decimal self.blocks ++ codes " " ++ decimal
             (count_number self.addresses) }
@@ -50,7 +50,7 @@ impl Counts {
     }
 }
 
-// Writes a count of addresses at the end of a text.
+// Appends a count of addresses to a text.
 fn push_count(text: &mut ArrayString<80>, count: AddressCount)
     requires { array_string_len text.old ≤ 40 }
     ensures { text.new.bytes ≡ text.old.bytes ++ decimal (count_number count) }

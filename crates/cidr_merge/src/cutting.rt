@@ -1,4 +1,4 @@
-//! Cuts networks into those of one prefix length.
+//! Splits networks into subnets of one prefix length.
 ghost use Rattle.std.specs.Prelude.{◌≡◌, ◌||◌, OnOk, is_err};
 ghost use Rattle.std.specs.List.{flat_map};
 ghost use Rattle.lines.specs.Outputs.{Prints};
@@ -13,7 +13,7 @@ use lines::fault::RunFault;
 use lines::output::Output;
 use std::io::Write;
 
-/// Prints the pieces of this prefix length of each block of a set.
+/// Prints the subnets of this prefix length of each block of a set, or the block if it has none.
 #[tactic(auto, using(crate::proofs::Printed::none_printed, crate::proofs::Printed::all_printed, crate::proofs::Merging::shorter))]
 pub(crate) fn print_pieces<A: Address, W: Write>(
     names: &SetNames<'_>,
@@ -32,7 +32,7 @@ pub(crate) fn print_pieces<A: Address, W: Write>(
     Ok(())
 }
 
-// Prints the pieces of a block.
+// Prints the pieces of a block, or the block itself if it has no subnets of this length.
 #[tactic(auto, using(crate::proofs::Printed::none_printed, crate::proofs::Printed::all_printed, crate::proofs::Merging::shorter))]
 fn print_block<A: Address, W: Write>(
     names: &SetNames<'_>,
@@ -52,7 +52,7 @@ fn print_block<A: Address, W: Write>(
     Ok(())
 }
 
-/// Prints a network on a line.
+/// Prints a network on a line of its own.
 pub(crate) fn put_network<A: Address, W: Write>(
     names: &SetNames<'_>,
     network: Network<A>,

@@ -1,4 +1,4 @@
-//! How a block is written in an export.
+//! The text of a block in an export.
 ghost use Rattle.std.specs.Prelude.{◌≡◌, ◌≤◌, ◌||◌, ◌+◌, ◌-◌, ◌++◌, OnOk, is_err, length};
 ghost use Rattle.arrayvec.specs.ArrayString.{array_string_len};
 ghost use Rattle.ipnetwork_family.specs.Family.{text_of};
@@ -20,7 +20,7 @@ use lines::output::Output;
 use program::putting::put_all;
 use std::io::Write;
 
-/// The most bytes of a line of comma-separated values.
+/// The greatest length of a line of comma-separated values, in bytes.
 const LINE_CAPACITY: usize = 129;
 
 /// A line of comma-separated values.
@@ -49,7 +49,7 @@ pub(crate) fn print_element<A: Address, W: Write>(
     }
 }
 
-// The mask with each bit turned round.
+// Returns the wildcard mask of a block: the complement of its mask.
 fn wildcard<A: Address>(block: Network<A>) -> A
     ensures { A.number result ≡ block_size A.WIDTH block.prefix - 1 }
 {
@@ -83,7 +83,7 @@ fn put_with_mask<A: Address, W: Write>(
     }
 }
 
-// A line of comma-separated values.
+// Returns the line of comma-separated values for a block.
 fn csv_line<A: Address>(version: Version, block: Network<A>) -> Line
     ensures { result.bytes ≡ csv_line version A.family block }
 {
@@ -99,8 +99,8 @@ fn csv_line<A: Address>(version: Version, block: Network<A>) -> Line
     text
 }
 
-// Writes what adds a block to the new set of ipset: a set cannot have the block of all addresses, but
-// both halves of it.
+// Writes the command that adds a block to the new set of ipset. Since a set cannot have the block
+// of all addresses, its two halves are added instead.
 fn put_ipset<A: Address, W: Write>(
     set: Name,
     version: Version,
@@ -126,7 +126,7 @@ fn put_ipset<A: Address, W: Write>(
     )
 }
 
-// Writes what adds all addresses to the new set of ipset.
+// Writes the commands that add all addresses to the new set of ipset.
 fn put_halves<W: Write>(
     set: Name,
     version: Version,
@@ -146,7 +146,7 @@ fn put_halves<W: Write>(
     )
 }
 
-// The name of a family.
+// Returns the name of a family.
 fn family_name(version: Version) -> &'static str
     ensures name { result.now ≡ family_name version }
     ensures short { length result.now ≤ 4 }
@@ -157,7 +157,7 @@ fn family_name(version: Version) -> &'static str
     }
 }
 
-// The halves of the block of all addresses.
+// Returns the two halves of the block of all addresses.
 fn half_blocks(version: Version) -> (&'static str, &'static str)
     ensures first { result.0.now ≡ (half_blocks version).0 }
     ensures second { result.1.now ≡ (half_blocks version).1 }
@@ -168,7 +168,7 @@ fn half_blocks(version: Version) -> (&'static str, &'static str)
     }
 }
 
-// Writes the canonical text of an address at the end of a text.
+// Appends the canonical text of an address to a text.
 fn push_address<A: Address>(text: &mut Line, address: A)
     requires { array_string_len text.old + 39 ≤ 129 }
     ensures bytes { text.new.bytes ≡ text.old.bytes ++ A.family.canonical (A.number address) }
@@ -177,7 +177,7 @@ fn push_address<A: Address>(text: &mut Line, address: A)
     text.push_str(address.canonical().as_str());
 }
 
-// Writes the canonical text of a block at the end of a text.
+// Appends the canonical text of a block to a text.
 fn push_network<A: Address>(text: &mut Line, block: Network<A>)
     requires { array_string_len text.old + 43 ≤ 129 }
     ensures bytes { text.new.bytes ≡ text.old.bytes ++ text_of A.family block }

@@ -1,4 +1,4 @@
-//! What the lines of lists name.
+//! The entries in the lines of lists, and the addresses they have.
 ghost use Rattle.std.specs.Prelude.{◌≡◌};
 ghost use Rattle.cidr_merge.specs.Finds.{has};
 ghost use Rattle.cidr_merge.specs.NumberedLines.{is_range, said_by};
@@ -7,11 +7,11 @@ use crate::laws;
 use ipnetwork::{IpAddr, laws as network_laws};
 use lists::{Entry, LINE_MAX, LineFault, read_entry};
 
-/// The entry of a line, or nothing, or why it is refused.
+/// Returns the entry of a line, if it has one, or why the line is refused.
 pub(crate) fn entry_of(line: &[u8]) -> Result<Option<Entry>, LineFault>
     ensures { result ≡ said_by line.now }
 {
-    // Does nothing. The proof needs the law: what reading a line gives can be computed.
+    // Does nothing. The proof needs the law: the result of reading a line can be computed.
     laws::lines_are_read_as_computed();
     if line.len() > LINE_MAX {
         return Err(LineFault::Length);
@@ -22,7 +22,7 @@ pub(crate) fn entry_of(line: &[u8]) -> Result<Option<Entry>, LineFault>
     }
 }
 
-/// Whether an entry has an address.
+/// Returns whether an entry has an address.
 pub(crate) fn has_address(entry: &Entry, address: &IpAddr) -> bool
     ensures { result ≡ has entry.now address.now }
 {
@@ -34,7 +34,7 @@ pub(crate) fn has_address(entry: &Entry, address: &IpAddr) -> bool
     }
 }
 
-// Whether the addresses are of one family, and the first is not after the last.
+// Returns whether the addresses are of one family and the first is not greater than the last.
 fn is_range(first: &IpAddr, last: &IpAddr) -> bool
     ensures { result ≡ is_range first.now last.now }
 {

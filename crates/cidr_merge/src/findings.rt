@@ -1,4 +1,4 @@
-//! The lines that tell what was found in lists.
+//! The lines in which findings are printed.
 ghost use Rattle.std.specs.Prelude.{◌≡◌, ◌++◌, ◌||◌, codes};
 ghost use Rattle.program.specs.Escapes.{escaped};
 ghost use Rattle.program.specs.Messages.{Reports};
@@ -12,7 +12,7 @@ use program::escapes::tell_escaped;
 use program::messages::{tell, tell_bytes, tell_number};
 use std::io::Write;
 
-/// Tells why a line is refused, and the line.
+/// Prints why a line is refused, and the line, unless it is too long.
 pub(crate) fn tell_wrong<W: Write>(line: &Line<'_>, fault: LineFault, output: &mut Output<'_, W>)
     ensures { Reports output.old output.new
         (refusal_text line.now.name.now line.now.number fault line.now.text.now) }
@@ -28,7 +28,7 @@ pub(crate) fn tell_wrong<W: Write>(line: &Line<'_>, fault: LineFault, output: &m
     );
 }
 
-/// Tells that the entry of a line has host bits, and the line.
+/// Prints that the entry of a line has host bits, and the line.
 pub(crate) fn tell_host_bits<W: Write>(line: &Line<'_>, output: &mut Output<'_, W>)
     ensures { Reports output.old output.new
         (host_bits_text line.now.name.now line.now.number line.now.text.now) }
@@ -36,8 +36,8 @@ pub(crate) fn tell_host_bits<W: Write>(line: &Line<'_>, output: &mut Output<'_, 
     tell_line(line, ": host bits", b"", ": ", output);
 }
 
-/// Tells where a line stands, what there is to say of it, in two parts, and behind a separator the
-/// line.
+/// Prints the place of a line, two texts about it (`what` and `about`), a separator, and the line,
+/// escaped.
 pub(crate) fn tell_line<W: Write>(
     line: &Line<'_>,
     what: &str,
@@ -57,7 +57,7 @@ pub(crate) fn tell_line<W: Write>(
     tell("\n", output);
 }
 
-/// Tells where a line stands.
+/// Prints the place of a line: `FILE:LINE`.
 pub(crate) fn tell_place<W: Write>(name: &str, number: usize, output: &mut Output<'_, W>)
     ensures { Reports output.old output.new (place_text name.now number) }
 {
@@ -66,14 +66,14 @@ pub(crate) fn tell_place<W: Write>(name: &str, number: usize, output: &mut Outpu
     tell_number(number as u64, output);
 }
 
-/// Whether something was found here or there.
+/// Returns whether something was found in either of two places.
 pub(crate) fn either(here: bool, there: bool) -> bool
     ensures { result ≡ (here || there) }
 {
     here || there
 }
 
-// What is shown of a refused line: the line, unless it is too long.
+// Returns the text to show of a refused line: the line, or nothing if it is too long.
 fn shown(fault: LineFault, line: &[u8]) -> &[u8]
     ensures { result.now ≡ shown fault line.now }
 {
@@ -83,7 +83,7 @@ fn shown(fault: LineFault, line: &[u8]) -> &[u8]
     }
 }
 
-// What stands between a fault and that.
+// Returns the text between a fault and the text of its line.
 fn separator(line: &[u8]) -> &'static str
     ensures { result.now ≡ separator line.now }
 {

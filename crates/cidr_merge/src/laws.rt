@@ -1,5 +1,5 @@
-//! What follows from the clauses of a run. The contract of each function is a law: it does nothing,
-//! and a proof that calls it may use the law.
+//! Laws that follow from the contract of a run. Each function does nothing; its contract is a law,
+//! which a proof can use by calling it.
 ghost use Rattle.cidr_merge.specs.EntriesWithin.{EachWithinAnotherIsTold};
 ghost use Rattle.cidr_merge.specs.Laws.{EntriesHaveWhatTheyName, LinesAreReadAsComputed};
 ghost use Rattle.cidr_merge.specs.Laws.{NoOtherForm, NoOtherOption, NoOtherTask, SidesAreCut};
@@ -15,8 +15,8 @@ use lists::laws as list_laws;
 use options::laws as option_laws;
 use options::table::Table;
 
-/// A list may be merged in parts, of any number and in any order: the union of what the unions of
-/// the parts print prints what the union of the list does.
+/// A list can be merged in any number of parts, in any order: the union of the joined outputs of
+/// the parts' unions prints the same as the union of the whole list.
 pub fn unions_of_parts_print_the_same()
     ensures { UnionsOfPartsPrintTheSame }
 {
@@ -25,20 +25,22 @@ pub fn unions_of_parts_print_the_same()
     block_laws::same_union();
 }
 
-/// No word but `union`, `common`, `minus`, `differ`, `list`, `split`, `check`, `overlaps` and `find` says to do something.
+/// No word but `union`, `common`, `minus`, `differ`, `list`, `split`, `check`, `overlaps` and
+/// `find` names a task.
 pub fn no_other_tasks()
     ensures { NoOtherTask }
 {}
 
-/// No word but `--ranges`, `--count`, `--format`, `--set`, `--table`, `--line-prefix`, `--line-suffix`, `--skip-bad`, `--json` and
-/// `--strict` is an option of an operation.
+/// No word but `--ranges`, `--count`, `--format`, `--set`, `--table`, `--line-prefix`,
+/// `--line-suffix`, `--skip-bad`, `--json` and `--strict` is an option of a merge.
 pub fn no_other_options(table: &Table<'_>)
     ensures { IsOptions table.now → NoOtherOption table.now.rows.now }
 {
     let _table = table;
 }
 
-/// Words are taken exactly if they are right, by a relation that reads nothing; and what is taken is what they ask for.
+/// The words of a command line are accepted exactly if they are valid, and then give the command
+/// that they ask for. `AskFor`, which defines both, is a relation that does not read the words.
 pub fn right_words_are_taken(table: &Table<'_>, words: &[String])
     ensures { RightWordsAreTaken table.now words.now }
 {
@@ -48,7 +50,7 @@ pub fn right_words_are_taken(table: &Table<'_>, words: &[String])
     }
 }
 
-/// The lists of the sides of a request are the FILEs before the first `--`, and those behind it.
+/// The lists of the two sides of a request are the FILEs before the first `--` and those after it.
 pub fn sides_are_cut(table: &Table<'_>, words: &[String])
     ensures { SidesAreCut table.now words.now }
 {
@@ -62,15 +64,15 @@ pub fn no_other_forms()
     ensures { NoOtherForm }
 {}
 
-/// A strict check tells an entry of lists as lying in another, or as the same as another before it,
-/// exactly if it is so.
+/// A strict check reports an entry as lying in another, or as having the same addresses as one
+/// before it, exactly if that is the case.
 pub fn each_entry_within_another_is_told(names: &[String])
     ensures { EachWithinAnotherIsTold names.now }
 {
     let _names = names;
 }
 
-/// What reading a line gives is what is computed of it.
+/// Reading a line gives what `reading_of` computes.
 pub fn lines_are_read_as_computed()
     ensures { LinesAreReadAsComputed }
 {
@@ -78,7 +80,7 @@ pub fn lines_are_read_as_computed()
     address_laws::ip_reading_is_computed();
 }
 
-/// An entry has, as it is computed, the addresses that it names, and no others.
+/// `has` computes whether an entry names an address.
 pub fn entries_have_what_they_name()
     ensures { EntriesHaveWhatTheyName }
 {

@@ -1,4 +1,4 @@
-//! Merges lists of networks: prints the least list of what an operation leaves of them.
+//! Merges lists of networks: prints the result of an operation on them as the shortest list.
 #![tactic(auto)]
 
 mod addresses;

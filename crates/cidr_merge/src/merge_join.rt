@@ -1,4 +1,4 @@
-//! The parts that an operation leaves of both sides, in one ascending list.
+//! The result of an operation on two sides, as one ascending list of parts.
 ghost use Rattle.std.specs.Prelude.{◌≡◌, ◌∷◌, [], MatchOption};
 ghost use Rattle.cidr_merge.specs.Answers.{merged_by};
 ghost use Rattle.cidr_merge.specs.Private.Sweeps.{with_head, left_of_second};
@@ -23,7 +23,7 @@ pub(crate) struct MergeJoin<P: Parts> {
 }
 
 impl<P: Parts> MergeJoin<P> {
-    /// The parts of the first side, and, for `differ` only, those of the second.
+    /// Merges the parts of the first side and, only for `differ`, those of the second.
     pub(crate) fn of(operation: Operation, mut firsts: P, mut seconds: P) -> MergeJoin<P>
         ensures first { with_head P.seen result.first (P.left result.firsts) ≡ P.left firsts }
         ensures second { with_head P.seen result.second
@@ -39,7 +39,7 @@ impl<P: Parts> MergeJoin<P> {
         }
     }
 
-    /// The part that comes first, and its side.
+    /// Removes and returns the part that begins first, with its side.
     pub(crate) fn next(&mut self) -> Option<(Side, P::Part)>
         ensures { let left = merged_by P.begin
             (with_head P.seen self.old.first (P.left self.old.firsts))
@@ -62,7 +62,7 @@ impl<P: Parts> MergeJoin<P> {
         }
     }
 
-    // The part of the first side that is at hand.
+    // Returns this part, the next one of the first side, and moves on to the one after it.
     fn next_of_first(&mut self, part: P::Part) -> (Side, P::Part)
         ensures side { result.0 ≡ Side.First }
         ensures part { result.1 ≡ part }
@@ -75,7 +75,7 @@ impl<P: Parts> MergeJoin<P> {
         (Side::First, part)
     }
 
-    // The part of the second side that is at hand.
+    // Returns this part, the next one of the second side, and moves on to the one after it.
     fn next_of_second(&mut self, part: P::Part) -> (Side, P::Part)
         ensures side { result.0 ≡ Side.Second }
         ensures part { result.1 ≡ part }
@@ -89,7 +89,7 @@ impl<P: Parts> MergeJoin<P> {
     }
 }
 
-// The first part that the operation leaves of the second side.
+// Returns the first part of the second side that the operation prints.
 fn first_of_second<P: Parts>(operation: Operation, seconds: &mut P) -> Option<P::Part>
     ensures { with_head P.seen result (P.left seconds.new) ≡ left_of_second operation
         (P.left seconds.old) }

@@ -1,4 +1,4 @@
-//! The lines of lists, one after the other, with their numbers.
+//! An iterator over the lines of lists, with their numbers.
 ghost use Rattle.std.specs.Prelude.{◌+◌, ◌^◌, ◌<◌, length};
 
 use crate::text_lines::TextLines;
@@ -12,21 +12,21 @@ pub(crate) struct Line<'a> {
     pub list: usize,
     /// The name of the list.
     pub name: &'a str,
-    /// The number of the line, from 1 on.
+    /// The number of the line, from 1.
     pub number: usize,
-    /// The line, without its line end.
+    /// The line, without its line ending.
     pub text: &'a [u8],
 }
 
-/// The lines of lists that are to come.
+/// The lines of lists that are still to come.
 #[derive(Drop)]
 pub(crate) struct NumberedLines<'a> {
     // The names of all lists.
     names: &'a [String],
-    // The bytes of those that are not begun, of which the first has the index `next`.
+    // The bytes of the lists after the current one; the first of them has the index `next`.
     texts: &'a [Vec<u8>],
     next: usize,
-    // The list that is begun, how many of its lines were taken, and the others.
+    // The index of the current list, how many of its lines were returned, and its other lines.
     list: usize,
     number: usize,
     lines: TextLines<'a>,
@@ -41,7 +41,7 @@ impl<'a> NumberedLines<'a> {
     ghost use Rattle.cidr_merge.specs.NumberedLines.{numbered_lines};
     ghost use Rattle.cidr_merge.specs.Private.LinesLeft.{as_numbered, lines_left};
 
-    /// All lines of lists.
+    /// Returns an iterator over all lines of lists.
     pub(crate) fn of(lists: &WholeLists<'a>) -> NumberedLines<'a>
         ensures lines { lines_left result
             ≡ numbered_lines 0 (map (λ text. text.items) lists.now.texts.now) }
@@ -57,7 +57,7 @@ impl<'a> NumberedLines<'a> {
         }
     }
 
-    /// The next line.
+    /// Returns the next line.
     pub(crate) fn next(&mut self) -> Option<Line<'a>>
         ensures line { MatchOption result (lines_left self.old ≡ [])
             (λ line. lines_left self.old ≡ as_numbered line ∷ lines_left self.new) }

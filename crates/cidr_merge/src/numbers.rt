@@ -1,4 +1,4 @@
-//! The places of addresses that are sought, by number: what an entry does not have is passed over.
+//! The places of sought addresses, by number, so that a search can skip those an entry lacks.
 ghost use Rattle.std.specs.Prelude.{◌≡◌, ◌≤◌, ◌<◌, ℕ, IsTrue, IfOk, length, nat_lt};
 ghost use Rattle.std.specs.List.{Contains};
 ghost use Rattle.cidr_merge.specs.Finds.{has};
@@ -25,10 +25,10 @@ pub(crate) fn places_of(alloc: Global, sought: &[Sought]) -> Result<Vec<Place>, 
     Ok(places)
 }
 
-/// The most places among which the next one is looked for.
+/// The greatest number of places among which `next_place` searches.
 const FEW: usize = 64;
 
-/// The places of addresses that an entry may have, or more than so few of them. It has none of those at other places.
+/// The places of the addresses that an entry may have, unless there are more than `FEW`.
 pub(crate) fn places_in<'a>(places: &'a [Place], entry: &Entry) -> &'a [Place]
     requires { AreAscending places.now }
     ensures { (address : IpAddr) (place : ℕ) → IsTrue (has entry.now address)
@@ -42,7 +42,7 @@ pub(crate) fn places_in<'a>(places: &'a [Place], entry: &Entry) -> &'a [Place]
     )
 }
 
-// How many of places are passed over before the first that may have this number.
+// The number of places whose number is less than this one.
 fn count_before(places: &[Place], first: u64) -> usize
     requires { AreAscending places.now }
     ensures within { result ≤ length places.now }
@@ -55,7 +55,7 @@ fn count_before(places: &[Place], first: u64) -> usize
     )
 }
 
-// The first of places, up to this number, or more than so few of them.
+// The first places, up to this number, or the first `FEW + 1`.
 fn few_up_to(places: &[Place], last: u64) -> &[Place]
     requires { AreAscending places.now }
     ensures { (number place : ℕ) → Contains places.now (number, place) → number ≤ last
@@ -68,7 +68,7 @@ fn few_up_to(places: &[Place], last: u64) -> &[Place]
     &places[..count]
 }
 
-/// The least of these places from one on, or, of more than so few, that one.
+/// The least of these places that is at least `from`; `from` itself if there are more than `FEW`.
 pub(crate) fn next_place(places: &[Place], from: usize, end: usize) -> usize
     requires { from ≤ end }
     ensures from { from ≤ result }
@@ -90,7 +90,7 @@ pub(crate) fn next_place(places: &[Place], from: usize, end: usize) -> usize
     least
 }
 
-// The number of an address: of an IPv6 address that of its first 64 bits.
+// The number of an address; of an IPv6 address, that of its first 64 bits.
 fn number_of(address: &IpAddr) -> u64
     ensures { result ≡ number_of address.now }
 {

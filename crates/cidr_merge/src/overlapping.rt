@@ -1,4 +1,4 @@
-//! Tells which entries of lists overlap.
+//! Reports which entries of lists overlap.
 ghost use Rattle.std.specs.Prelude.{◌≡◌, ◌≤◌, ◌<◌, ◌==◌, []};
 ghost use Rattle.std.specs.Prelude.{not, length, map};
 ghost use Rattle.std.specs.List.{concat};
@@ -15,8 +15,8 @@ use program::messages::tell;
 use program::words::text_at;
 use std::io::Write;
 
-/// Tells each pair of entries that overlap, of entries in order, and returns whether there is one.
-/// Leaves the entries in another order.
+/// Prints each pair of overlapping entries, given entries in order, and returns whether there is
+/// one. May reorder the entries.
 pub(crate) fn tell_pairs<W: Write>(
     names: &[String],
     entries: &mut [Placed],
@@ -27,7 +27,7 @@ pub(crate) fn tell_pairs<W: Write>(
         output.old output.new result }
 {
     let mut found = false;
-    // Those of the earlier entries that may overlap one to come stand first.
+    // The first `kept` entries are the earlier ones that may overlap a later one.
     let mut kept = 0;
     for place in 0..entries.len() {
         let count = keep_reaching(entries, kept, place);
@@ -40,8 +40,8 @@ pub(crate) fn tell_pairs<W: Write>(
     found
 }
 
-// Puts those of the first entries that overlap the one at a place first, in their order, and
-// returns how many they are.
+// Moves those of the first `kept` entries that the entry at a place overlaps to the front, in their
+// order, and returns their number.
 fn keep_reaching(entries: &mut [Placed], kept: usize, place: usize) -> usize
     requires within { kept ≤ place }
     requires place { place < length entries.old }
@@ -57,7 +57,7 @@ fn keep_reaching(entries: &mut [Placed], kept: usize, place: usize) -> usize
     count
 }
 
-// Whether the entry at a place overlaps an earlier one.
+// Returns whether the entry at a place overlaps an earlier one.
 fn overlaps(entries: &[Placed], place: usize, earlier: usize) -> bool
     requires place { place < length entries.now }
     requires earlier { earlier < length entries.now }
@@ -66,7 +66,7 @@ fn overlaps(entries: &[Placed], place: usize, earlier: usize) -> bool
     is_up_to(&entries[place].first, &entries[earlier].last.0)
 }
 
-// Tells an entry with each of these earlier ones, and returns whether there is one.
+// Prints the finding for an entry with each of these earlier ones; returns whether there are any.
 fn tell_with<W: Write>(
     names: &[String],
     before: &[Placed],
@@ -83,7 +83,7 @@ fn tell_with<W: Write>(
     !before.is_empty()
 }
 
-/// Tells an entry with an earlier one.
+/// Prints the finding for an entry and an earlier one that it overlaps.
 pub(crate) fn tell_pair<W: Write>(
     names: &[String],
     later: &Placed,
@@ -101,7 +101,7 @@ pub(crate) fn tell_pair<W: Write>(
     tell("\n", output);
 }
 
-// What an entry is to an earlier one that it overlaps.
+// Returns how an entry overlaps an earlier one: as the same, within it, or in part.
 fn relation(later: &Placed, earlier: &Placed) -> &'static str
     ensures { result.now ≡ relation (listed_as later.now) (listed_as earlier.now) }
 {
@@ -115,7 +115,7 @@ fn relation(later: &Placed, earlier: &Placed) -> &'static str
     }
 }
 
-/// Whether the first address is not after the last.
+/// Returns whether the first address is not after the last.
 pub(crate) fn is_up_to(first: &Key, last: &Key) -> bool
     ensures { result ≡ is_up_to (address_of first.now) (address_of last.now) }
 {

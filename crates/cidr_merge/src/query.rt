@@ -1,4 +1,4 @@
-//! The addresses that are sought in lists, as words name them, and those that are sought at once.
+//! The addresses that are sought in lists.
 ghost use Rattle.std.specs.Prelude.{◌≡◌, ◌+◌, ◌^◌, ◌<◌, length, IfOk, IfErr};
 ghost use Rattle.cidr_merge.specs.FindWords.{AreAddresses, StopsAtWord};
 
@@ -10,13 +10,13 @@ use std::alloc::Global;
 /// The addresses that are sought.
 #[derive(Drop)]
 pub(crate) struct Query<'a> {
-    /// They, in the order in which they are printed.
+    /// The addresses, in the order in which they are printed.
     pub sought: &'a [Sought],
-    /// Their places, by number.
+    /// The places of the addresses, in ascending order of their numbers.
     pub places: &'a [Place],
 }
 
-/// Why words are not taken as addresses.
+/// Why words are not accepted as addresses.
 #[derive(Clone, Copy, Debug, PartialEq, Eq)]
 pub(crate) enum QueryFault {
     /// The word at this index is not an address.
@@ -25,7 +25,7 @@ pub(crate) enum QueryFault {
     OutOfMemory,
 }
 
-/// The addresses that these words name, of which the first is the word at the index `first`.
+/// Returns the addresses that these words name; the first of the words has the index `first`.
 pub(crate) fn addresses_of(
     alloc: Global,
     words: &[String],

@@ -1,4 +1,4 @@
-//! Tells which entries of lists have addresses that another has.
+//! Reports which entries of lists share addresses with an earlier one.
 ghost use Rattle.std.specs.Prelude.{◌≡◌, map};
 ghost use Rattle.cidr_merge.specs.Overlaps.{reaches};
 ghost use Rattle.cidr_merge.specs.Private.Entries.{listed_as};
@@ -12,7 +12,7 @@ use crate::placed::Placed;
 use lines::output::Output;
 use std::io::Write;
 
-/// Tells each entry that overlaps an earlier one with one of those, of entries in order, and
+/// Prints each entry that overlaps an earlier one, with one of those, given entries in order, and
 /// returns whether there is one.
 pub(crate) fn tell_repetitions<W: Write>(
     names: &[String],
@@ -27,7 +27,7 @@ pub(crate) fn tell_repetitions<W: Write>(
     };
     let mut found = false;
     let mut previous = *first;
-    // Of the earlier entries the first of those with the greatest last address.
+    // Of the earlier entries, the first of those with the greatest last address.
     let mut furthest = *first;
     for place in 0..others.len() {
         let later = others[place];
@@ -44,7 +44,7 @@ pub(crate) fn tell_repetitions<W: Write>(
     found
 }
 
-// Tells an entry with an earlier one if it overlaps that, and returns whether it does.
+// Prints the finding for an entry and an earlier one if they overlap, and returns whether they do.
 fn tell_overlap<W: Write>(
     names: &[String],
     later: &Placed,
@@ -61,15 +61,15 @@ fn tell_overlap<W: Write>(
     false
 }
 
-// Whether an entry overlaps an earlier one.
+// Returns whether an entry overlaps an earlier one.
 fn reaches(later: &Placed, earlier: &Placed) -> bool
     ensures { result ≡ reaches (listed_as later.now) (listed_as earlier.now) }
 {
     is_up_to(&later.first, &earlier.last.0)
 }
 
-// The entry with which a later one is told: the one just before it or the one that reaches
-// furthest.
+// Returns the entry with which a later one is compared: the one just before it, if it has the same
+// addresses, else the one that reaches furthest.
 fn other_of(previous: &Placed, furthest: &Placed, later: &Placed) -> Placed
     ensures { listed_as result ≡ other_of (listed_as previous.now) (listed_as furthest.now)
         (listed_as later.now) }
@@ -81,7 +81,7 @@ fn other_of(previous: &Placed, furthest: &Placed, later: &Placed) -> Placed
     }
 }
 
-// Whether an entry has the addresses of an earlier one.
+// Returns whether an entry has the same addresses as an earlier one.
 fn is_same(later: &Placed, earlier: &Placed) -> bool
     ensures { result ≡ is_same (listed_as later.now) (listed_as earlier.now) }
 {
@@ -90,8 +90,8 @@ fn is_same(later: &Placed, earlier: &Placed) -> bool
         && is_up_to(&earlier.last.0, &later.last.0)
 }
 
-// Of an entry and a later one that with the greater last address: the earlier one if they have the
-// same.
+// Returns that of two entries with the greater last address; the earlier one if the last addresses
+// are equal.
 fn further(earlier: &Placed, later: &Placed) -> Placed
     ensures { listed_as result ≡ further (listed_as earlier.now) (listed_as later.now) }
 {

@@ -1,4 +1,4 @@
-//! The run that the program makes.
+//! A run of the program.
 ghost use Rattle.std.specs.Prelude.{◌≡◌, ◌≤◌, ℕ, List, [], length, if◌then◌else◌, OnOk, IfErr, is_err};
 ghost use Rattle.lines.specs.Outputs.{Writes};
 ghost use Rattle.program.specs.Endings.{ending};
@@ -61,7 +61,7 @@ pub(crate) fn run<L: OpenLists, W: Write, E: Write>(
     }
 }
 
-// Does what is asked for.
+// Runs a command, and returns the exit status.
 fn obey<L: OpenLists, W: Write, E: Write>(
     command: Command,
     rows: &[Row],
@@ -82,7 +82,7 @@ fn obey<L: OpenLists, W: Write, E: Write>(
     }
 }
 
-// Reads the lists of both sides, and prints what the operation leaves of them.
+// Reads the lists of both sides, prints the result of the operation, and returns the exit status.
 fn merge<L: OpenLists, W: Write, E: Write>(
     request: Request,
     context: &Context<'_, L>,
@@ -110,8 +110,8 @@ fn merge<L: OpenLists, W: Write, E: Write>(
     }
 }
 
-// Reads the lists of both sides. Those of the second are only read if those of the first were read
-// to the end.
+// Reads the lists of both sides. The lists of the second side are read only if those of the first
+// were read to their ends.
 fn read_sides<L: OpenLists>(
     request: Request,
     context: &Context<'_, L>,
@@ -134,15 +134,15 @@ fn read_sides<L: OpenLists>(
     }
 }
 
-// Which lists of the second side are read: none, if those of the first were not read to the end.
+// Returns the lists of the second side to read: none if those of the first could not be read.
 fn lists_behind<'a>(read: &Result<(), ReadFault>, names: &'a [String]) -> &'a [String]
     ensures { result.now ≡ (if is_err read.now then [] else names.now) }
 {
     if read.is_err() { &[] } else { names }
 }
 
-// Prints what the operation leaves of the sides, unless lines were refused that are not to be
-// skipped.
+// Prints the result of the operation, unless lines were refused that are not to be skipped, and
+// returns the exit status.
 fn answer<W: Write, E: Write>(
     merging: &Merging<'_>,
     skips: bool,
@@ -162,7 +162,7 @@ fn answer<W: Write, E: Write>(
     end(written, status, errors)
 }
 
-// Writes what the operation leaves of the sides.
+// Writes the result of the operation.
 fn write_answer<W: Write>(merging: &Merging<'_>, output: &mut Output<'_, W>) -> Result<(), RunFault>
     ensures written { let m = merging.now in OnOk result ((text : List ℕ)
         × IsAnswer m.sets.now m.request.operation m.request.form m.first.now m.second.now text
@@ -173,16 +173,16 @@ fn write_answer<W: Write>(merging: &Merging<'_>, output: &mut Output<'_, W>) -> 
     output.finish()
 }
 
-/// The exit status of an answer.
+/// The exit status if the result was written and nothing below applies.
 const ANSWERED: u8 = 0;
 
 /// The exit status of `differ` if the sides are not equal.
 const UNEQUAL: u8 = 1;
 
-/// The exit status of an answer if lines were skipped.
+/// The exit status if the result was written and lines were skipped.
 const SKIPPED: u8 = 3;
 
-// The exit status of an answer.
+// Returns the exit status after the result was written.
 fn status(operation: Operation, skips: bool, first: &Sets, second: &Sets) -> u8
     ensures { result ≡ answer_status operation skips first.now second.now }
 {

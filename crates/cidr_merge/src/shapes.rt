@@ -1,18 +1,18 @@
-//! How lists are written, and how one is read.
+//! The formats of lists, and how a list is read.
 ghost use Rattle.std.specs.Prelude.{◌≡◌, false, OnOk, IfErr};
 ghost use Rattle.cidr_merge.specs.Shapes.{source, ReadsOne, StopsOne};
 
 use crate::context::Context;
 use lists::{ListReader, OpenLists, ReadFault, read_document, read_named};
 
-/// How lists are written.
+/// The format of lists.
 #[derive(Clone, Copy, Debug, PartialEq, Eq)]
 pub enum Shape {
-    /// An entry in a line.
+    /// Text with one entry on a line.
     Lines,
-    /// As documents of JSON, of which the strings that name no entry are passed over.
+    /// JSON documents; strings that name no entry are ignored.
     Json,
-    /// As documents of JSON, of which these strings are refused.
+    /// JSON documents; strings that name no entry are refused.
     StrictJson,
 }
 

@@ -1,4 +1,4 @@
-//! The parts that an operation leaves of one side: blocks, or ranges of addresses.
+//! The parts of one side that are in an operation's result: blocks, or ranges of addresses.
 ghost use Rattle.std.specs.Prelude.{◌≡◌, ◌∷◌, ◌↔◌, ◌<◌, ◌||◌, ℕ, List, [], IsTrue, MatchOption};
 ghost use Rattle.std.specs.Prelude.{OnOk, codes, is_err};
 ghost use Rattle.ipnetwork_family.specs.Network.{Network};
@@ -21,7 +21,7 @@ use lines::output::Output;
 use program::putting::put_all;
 use std::io::Write;
 
-/// Parts in the order of where they begin, one after the other.
+/// An iterator over parts, in ascending order of their first addresses.
 pub(crate) trait Parts: Drop {
     /// A part.
     type Part: Copy;
@@ -39,16 +39,16 @@ pub(crate) trait Parts: Drop {
     // The line that a part is printed as.
     ghost line: { Names → Operation → Sided Seen → List ℕ };
 
-    /// The next part.
+    /// Returns the next part.
     fn next_part(&mut self) -> Option<Self::Part>
         ensures { MatchOption result ((left self.old ≡ []) × (left self.new ≡ []))
             (λ part. left self.old ≡ seen part ∷ left self.new) };
 
-    /// Whether the first begins before the second.
+    /// Returns whether the first part begins before the second.
     fn begins_before(first: Self::Part, second: Self::Part) -> bool
         ensures { IsTrue result ↔ (begin (seen first) < begin (seen second)) };
 
-    /// Prints a part of a side.
+    /// Prints a part of a side on a line.
     fn put<W: Write>(
         names: &SetNames<'_>,
         operation: Operation,
@@ -61,7 +61,7 @@ pub(crate) trait Parts: Drop {
         ensures failed { output.new.failed ≡ (output.old.failed || is_err result) };
 }
 
-// The blocks.
+// Blocks as parts.
 impl<'a, A: Address> Parts for Sweep<'a, Network<A>> {
     type Part = Network<A>;
 
@@ -95,7 +95,7 @@ impl<'a, A: Address> Parts for Sweep<'a, Network<A>> {
     }
 }
 
-// The ranges: the first and the last address of each.
+// Ranges as parts: the first and the last address of each.
 impl<'a, A: Address> Parts for Ranges<Network<A>, Sweep<'a, Network<A>>> {
     type Part = (A, A);
 
@@ -153,7 +153,7 @@ fn put_range<A: Address, W: Write>(
     )
 }
 
-/// What stands before a part of a side.
+/// Returns the text before a part of a side.
 pub(crate) fn sign_of(operation: Operation, side: Side) -> &'static str
     ensures { result.now ≡ sign_of operation side }
 {

@@ -1,4 +1,4 @@
-//! The run of a `split`.
+//! Runs a `split`.
 ghost use Rattle.std.specs.Prelude.{◌≡◌, OnOk, is_err};
 ghost use Rattle.lines.specs.Outputs.{Writes};
 ghost use Rattle.program.specs.Endings.{ending};
@@ -17,7 +17,7 @@ use program::ending::{FAILED, end};
 use program::telling::{InLists, tell_refusals};
 use std::io::Write;
 
-/// Reads the lists, and prints their networks in pieces. Returns the exit status.
+/// Reads the lists, prints their networks in pieces, and returns the exit status.
 pub(crate) fn split<L: OpenLists, W: Write, E: Write>(
     request: SplitRequest,
     context: &Context<'_, L>,

@@ -1,4 +1,4 @@
-//! The blocks that an operation leaves of one side.
+//! The blocks of one side that are in an operation's result.
 ghost use Rattle.ipnetwork_blocks.specs.LeastList.{IsLeastList};
 ghost use Rattle.cidr_merge.specs.Answers.{IsLeft};
 ghost use Rattle.cidr_merge.specs.Private.Sweeps.{blocks_left};
@@ -8,7 +8,7 @@ use crate::command_line::Operation;
 use ipnetwork_blocks::AddressSpace;
 use ipnetwork_sets::{AddressSet, Blocks, Difference, Intersection, SetBlocks, laws};
 
-/// The blocks that are still to come, in ascending order.
+/// An iterator over blocks, in ascending order.
 #[derive(Drop)]
 pub(crate) enum Sweep<'a, N: AddressSpace> {
     Whole(Blocks<'a, N>),
@@ -17,7 +17,7 @@ pub(crate) enum Sweep<'a, N: AddressSpace> {
 }
 
 impl<'a, N: AddressSpace> Sweep<'a, N> {
-    /// What the operation leaves of the first of two sets. For a union that is all of it.
+    /// Returns the first set's blocks in the result of an operation; for a union, all of them.
     pub(crate) fn of(
         operation: Operation,
         first: &'a AddressSet<N>,
@@ -33,7 +33,7 @@ impl<'a, N: AddressSpace> Sweep<'a, N> {
         laws::fewer_blocks();
         match operation {
             Operation::Union => {
-                // The clause `set` of this call says that they are the blocks of a set.
+                // The clause `set` of this call's contract says that these are the blocks of a set.
                 let _ = first.blocks();
                 let whole = first.iter();
                 Sweep::Whole(whole)

@@ -1,15 +1,15 @@
-//! What the first word says to do, and what is told of words that it does not take.
+//! The tasks, and the messages for words that a task does not take.
 ghost use Rattle.std.specs.Prelude.{◌≡◌};
 ghost use Rattle.cidr_merge.specs.Tasks.{task_called, is_two_sided, no_option, no_first};
 
 use crate::command_line::Operation;
 
-/// What the first word says to do.
+/// The task that the first word names.
 #[derive(Clone, Copy, Debug, PartialEq, Eq)]
 pub enum Task {
-    /// An operation, of which the blocks are printed.
+    /// An operation, whose result is printed.
     Merge(Operation),
-    /// The union, of which each address is printed.
+    /// The union, with each of its addresses printed.
     List,
     /// The union, in pieces of one length.
     Split,
@@ -21,7 +21,7 @@ pub enum Task {
     Find,
 }
 
-/// What a word says to do.
+/// The task that a word names.
 pub(crate) fn task_called(text: &str) -> Option<Task>
     ensures { result ≡ task_called text.now }
 {
@@ -39,7 +39,7 @@ pub(crate) fn task_called(text: &str) -> Option<Task>
     }
 }
 
-/// Whether a `--` stands between two sides.
+/// Whether a task has two sides, with a `--` between them.
 pub(crate) fn is_two_sided(task: Task) -> bool
     ensures { result ≡ is_two_sided task }
 {
@@ -50,7 +50,7 @@ pub(crate) fn is_two_sided(task: Task) -> bool
     }
 }
 
-/// What is told of a word that begins with a `-` and is no option of a task.
+/// The message for a word that begins with a `-` and is no option of a task.
 pub(crate) fn no_option(task: Task) -> &'static str
     ensures { result.now ≡ no_option task }
 {
@@ -70,7 +70,7 @@ pub(crate) fn no_option(task: Task) -> &'static str
     }
 }
 
-/// What is told of a `--` with nothing before it.
+/// The message for a `--` with nothing before it.
 pub(crate) fn no_first(task: Task) -> &'static str
     ensures { result.now ≡ no_first task }
 {
@@ -81,5 +81,5 @@ pub(crate) fn no_first(task: Task) -> &'static str
     }
 }
 
-/// What is told of a `--` where there is one side.
+/// The message for a `--` of a task with one side.
 pub(crate) const ONE_SIDE: &str = "only common, minus, differ and find take a --";

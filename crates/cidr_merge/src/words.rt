@@ -1,4 +1,4 @@
-//! Words of a command line.
+//! The words of a command line.
 ghost use Rattle.std.specs.Prelude.{◌≡◌, ◌≤◌, length};
 ghost use Rattle.std.specs.List.{position_or_len};
 ghost use Rattle.program.specs.Words.{is};
@@ -6,7 +6,7 @@ ghost use Rattle.cidr_merge.specs.Sides.{before_dashes, behind_dashes};
 
 use program::words::is;
 
-/// The place of the first word that is this text, or the number of words.
+/// Returns the index of the first word equal to this text, or the number of words if there is none.
 pub(crate) fn place_of(words: &[String], text: &str) -> usize
     ensures within { result ≤ length words.now }
     ensures place { result ≡ position_or_len (is text.now) words.now }
@@ -18,14 +18,14 @@ pub(crate) fn place_of(words: &[String], text: &str) -> usize
     place
 }
 
-/// The words before the first `--`.
+/// Returns the words before the first `--`.
 pub(crate) fn before_dashes(words: &[String]) -> &[String]
     ensures { result.now ≡ before_dashes words.now }
 {
     &words[..place_of(words, "--")]
 }
 
-/// The words after the first `--`.
+/// Returns the words after the first `--`.
 pub(crate) fn behind_dashes(words: &[String]) -> &[String]
     ensures { result.now ≡ behind_dashes words.now }
 {

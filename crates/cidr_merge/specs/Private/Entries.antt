@@ -10,7 +10,7 @@ use Rattle.cidr_merge.specs.declared.placed.Placed.{Placed}
 abbrev pub address_of : Bool × ℕ → IpAddr
 address_of key = if key.0 then V6 key.1 else V4 key.1
 
--- an entry
+-- an entry of the code as a listed entry
 abbrev pub listed_as : Placed → Listed
 listed_as placed = record {
   first = address_of placed.first;
@@ -23,18 +23,18 @@ listed_as placed = record {
 abbrev pub Adds : List Listed → List Placed → List Placed → Type 0
 Adds found before after = map listed_as after ≡ map listed_as before ++ found
 
--- an entry overlaps an earlier one
+-- whether an entry overlaps an earlier one
 abbrev pub overlaps : Placed → Placed → Bool
 overlaps later earlier = reaches (listed_as later) (listed_as earlier)
 
--- whether the entry at one place overlaps that at another, which stands before it
+-- `answer` says whether the entry at one place overlaps the one at an earlier place
 abbrev pub Overlaps : List Placed → ℕ → ℕ → Bool → Type 0
 Overlaps entries place earlier answer =
     (later one : Placed) → later ≡ slice_index_or entries place later
     → one ≡ slice_index_or entries earlier one → answer ≡ overlaps later one
 
--- of the first `kept` entries those that overlap the one at a place stand first, in their order,
--- and nothing behind them has changed
+-- of the first `kept` entries, those that the entry at a place overlaps were moved to the front, in their order, and
+-- the entries after the first `kept` have not changed
 pub record KeepsReaching (before after : List Placed) (kept place count : ℕ) : Type 0 where
   pub front : (later : Placed) → later ≡ slice_index_or before place later
       → take count after ≡ filter (overlaps later) (take kept before)

@@ -1,4 +1,4 @@
--- The lines of lists that are to come, as the code holds them.
+-- The lines of lists that are still to come, as the code holds them.
 use Rattle.std.specs.Prelude.{ℕ, ◌+◌, List, ◌++◌, map}
 use Rattle.std.specs.Str.Lines.{lines}
 use Rattle.ipnetwork_addr.specs.declared.ip.IpAddr.{IpAddr}
@@ -8,11 +8,11 @@ use Rattle.cidr_merge.specs.declared.numbered_lines.NumberedLines.{NumberedLines
 use Rattle.cidr_merge.specs.declared.query.Query.{Query}
 use Rattle.cidr_merge.specs.declared.sought.Sought.{Sought}
 
--- a line
+-- a line of the code as a numbered line
 abbrev pub as_numbered : Line → NumberedLine
 as_numbered line = record { list = line.list; number = line.number; text = line.text.now }
 
--- those of the list that is begun, and of those that are not
+-- the lines that remain: those of the current list, and of the lists after it
 abbrev pub lines_left : NumberedLines → List NumberedLine
 lines_left left =
     lines_from left.list (1 + left.number) (lines left.lines.text.now)
@@ -22,6 +22,6 @@ lines_left left =
 abbrev pub sought_as : Sought → List ℕ × IpAddr
 sought_as one = (one.text.items, one.address)
 
--- those that are sought
+-- the texts and addresses that are sought
 abbrev pub sought_in : Query → List (List ℕ × IpAddr)
 sought_in query = map sought_as query.sought.now

@@ -15,11 +15,11 @@ number_of (V6 address) = address / 2 ^ 64
 abbrev pub AreAscending : List (ℕ × ℕ) → Type 0
 AreAscending = IsNonDecreasingBy (λ place. place.0)
 
--- those of so many of the first are before this one
+-- the numbers of the first `count` places are less than `first`
 abbrev pub AreBefore : ℕ → List (ℕ × ℕ) → ℕ → Type 0
 AreBefore first places count = (at : ℕ) (d : ℕ × ℕ) → at < count → (slice_index_or places at d).0 < first
 
--- those of the places ascend, among which is each place of an address that is sought, with its number
+-- the places ascend by number, and have the place of each address that is sought, with its number
 pub record ArePlacesOf (sought : List Sought) (places : List (ℕ × ℕ)) : Type 0 where
   pub ascend : AreAscending places
   pub each : (at : ℕ) (d : Sought) → at < length sought

@@ -5,7 +5,7 @@ use Rattle.lists.specs.declared.bytes.BytesFault.TheVariants as bytes
 use Rattle.lists.specs.declared.named.ReadFault.{ReadFault}
 use Rattle.lists.specs.declared.named.ReadFault.TheVariants.{Open, Read, OutOfMemory}
 
--- why the list was not read that the word of this number names: it may have any length
+-- why a list could not be read, with the number of its word; a list may have any length
 abbrev pub not_read : ℕ → BytesFault → ReadFault
 not_read number (bytes.Open cause) = Open number cause
 not_read number bytes.Read = Read number

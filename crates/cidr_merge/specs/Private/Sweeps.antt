@@ -18,19 +18,19 @@ blocks_left (Alone blocks) = blocks
 abbrev pub numbers : {A : Type 0} → (A → ℕ) → A × A → ℕ × ℕ
 numbers number range = (number range.0, number range.1)
 
--- the block or the range that was taken already and those after it; none if none was taken
+-- the part (a block or a range) that was already taken, then those after it; empty if none was taken
 abbrev pub with_head : {N X : Type 0} → (N → X) → Option N → List X → List X
 with_head pair None parts = []
 with_head pair (Some part) parts = pair part ∷ parts
 
--- what an operation leaves of the blocks or the ranges that only the second side has
+-- of the parts that only the second side has, those that the operation prints
 abbrev pub left_of_second : {X : Type 0} → Operation → List X → List X
 left_of_second operations.Union parts = []
 left_of_second operations.Common parts = []
 left_of_second operations.Minus parts = []
 left_of_second operations.Differ parts = parts
 
--- the lines of the ranges that an operation leaves of two sets, or else those of the blocks
+-- the text has the result of the operation on two sets, in ranges or in blocks
 abbrev pub AreLines : {w : ℕ} → Bool → Names → Operation → Family w → List Network → List Network → List ℕ
     → Type 0
 AreLines true names operation family first second text = AreRangeLines names operation family first second text

@@ -1,11 +1,11 @@
--- How many blocks and addresses there are.
+-- The numbers of blocks and addresses.
 use Rattle.std.specs.Prelude.{ℕ, ◌↔◌, ◌^◌, ◌<◌, ◌≤◌, List, length}
 use Rattle.ipnetwork_family.specs.Network.{Network}
 use Rattle.ipnetwork_blocks.specs.Aggregate.{InUnion}
 use Rattle.ipnetwork_sets.specs.Counts.{HasCount, total}
 
--- the blocks have the addresses of the set, together as many, no more than there are, and are fewer
--- than these
+-- the blocks have exactly the addresses of the set, and their sizes add up to its count; that is at most `2 ^ w`, and
+-- there are fewer blocks than that
 pub record AddUp (w : ℕ) (set : ℕ → Type 0) (blocks : List Network) : Type 0 where
   pub addresses : (x : ℕ) → InUnion w blocks x ↔ set x
   pub count : HasCount set (total w blocks)

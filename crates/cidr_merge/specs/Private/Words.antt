@@ -3,7 +3,7 @@ use Rattle.std.specs.Prelude.{ℕ, ◌≤◌, ◌+◌}
 use Rattle.cidr_merge.specs.declared.command_line.Command.{Command}
 use Rattle.cidr_merge.specs.declared.command_line.Command.TheVariants as commands
 
--- the FILEs of the first side of what is asked for are some of so many
+-- a command asks for at most `count` names before those of the second side
 abbrev pub IsCommandWithin : ℕ → Command → Type 0
 IsCommandWithin count (commands.Merge request) = request.middle ≤ count
 IsCommandWithin count (commands.Split request) = Unit {0}

@@ -9,7 +9,7 @@ use Rattle.cidr_merge.specs.declared.shapes.Shape.{Shape}
 use Rattle.cidr_merge.specs.declared.shapes.Shape.TheVariants.{Json, StrictJson}
 use Rattle.cidr_merge.proofs.shapes.read_one.Goals as goal
 
--- what the reader holds has the refused lines
+-- the reader has the refused lines
 json_stops : {T : Type 0} (known : KnownLists) (shape : Shape) (place : ℕ) (name : List ℕ)
     (before : ReadLists) (result : Result T ReadFault) (now : ReadLists)
     → shape ≡ Json → IfErr result (λ fault. StopsAtDocument known false place name before fault now)
