@@ -1,4 +1,4 @@
--- Where a run stands.
+-- The state of a run between two lines.
 use Rattle.std.specs.Prelude.{ℕ, List, Option}
 use Rattle.lines.specs.Outputs.{Written, Puts}
 use Rattle.program.specs.Counts.{Counts}
@@ -6,7 +6,7 @@ use Rattle.log_programs.specs.LogStats.{nothing}
 use Rattle.log_programs.specs.declared.log_stats.LogStats.{LogStats}
 use Rattle.cidr_filter.specs.declared.log.Tally.{Tally}
 
--- what the writer holds, what waits, how many lines of all logs were selected, and what was seen of those of this log
+-- what the writer holds, what waits, how many lines of all logs were selected, and the counts of the lines of this log
 pub record Stand : Type 0 where
   pub holds : Option (List ℕ)
   pub waits : List ℕ
@@ -21,11 +21,11 @@ stand output tally = record {
   seen = tally.seen;
 }
 
--- where it stands before the first line of a log
+-- the state before the first line of a log
 abbrev pub begun : Stand → Stand
 begun old = record old { seen = nothing }
 
--- from one stand to the next these bytes were added to the output, and this many lines were selected
+-- between the two states, these bytes were added to the output, and this many lines were selected
 abbrev pub Goes : Stand → Stand → List ℕ → ℕ → Type 0
 Goes old new added selected = Puts old.holds old.waits new.holds new.waits added
     × Counts old.selected new.selected selected

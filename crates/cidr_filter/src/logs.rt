@@ -64,9 +64,9 @@ pub(crate) fn filter_logs<'a, L: OpenLists, W: Write, E: Write>(
     }
 }
 
-// Filters the logs of these names up to the first that is enough, and returns whether one of them could not be opened, or
-// a line of one is missed, which is reported. If a fault ends the filtering of one that was opened, it is reported, and
-// there is no answer.
+// Filters the logs with these names up to the first that ends the run, and returns whether one of
+// them could not be opened or a line of one is missed, which is reported. If a fault ends the
+// filtering of a log that was opened, it is reported and `None` is returned.
 fn filter_each<'a, L: OpenLists, W: Write, E: Write>(
     filter: &mut Filter<'a>,
     tally: &mut Tally,
@@ -100,21 +100,22 @@ fn filter_each<'a, L: OpenLists, W: Write, E: Write>(
     Some(missed)
 }
 
-// Whether the run ends behind logs of which so many lines are selected.
+// Returns whether the run ends after logs with this number of selected lines.
 fn is_enough(is_silent: bool, selected: u64) -> bool
     ensures { result ≡ (is_silent && nat_lt 0 selected) }
 {
     is_silent && selected > 0
 }
 
-// Whether one of two is so.
+// Returns whether one of the two is true.
 fn either(first: bool, second: bool) -> bool
     ensures { result ≡ (first || second) }
 {
     first || second
 }
 
-// Opens the log of this name. If lines or their addresses are printed, it is not the file that they are written to.
+// Opens the log with this name. If lines or their addresses are printed, the file that they are
+// written to is refused.
 fn open_log<L: OpenLists>(
     shows: OutputMode,
     lists: &L,
@@ -133,8 +134,8 @@ fn open_log<L: OpenLists>(
     }
 }
 
-// Opens the log of this name and filters it, and returns whether it could not be opened, or a line of it is missed, as
-// `filter_each` does.
+// Opens the log with this name and filters it, and returns whether it could not be opened or a
+// line of it is missed, as `filter_each` does.
 fn filter_one<'a, L: OpenLists, W: Write, E: Write>(
     filter: &mut Filter<'a>,
     tally: &mut Tally,
@@ -205,8 +206,7 @@ fn write_number<W: Write>(number: u64, output: &mut Output<'_, W>) -> Result<(),
     put_both(number_text(number).as_str().as_bytes(), b"\n", output)
 }
 
-// The exit status by whether the selected lines end the run, whether a log or a line was missed, and how many lines were
-// selected.
+// Returns the exit status; `missed` tells whether a log or a line was missed.
 fn status(is_enough: bool, missed: bool, selected: u64) -> u8
     ensures { result ≡ status_by is_enough missed selected }
 {

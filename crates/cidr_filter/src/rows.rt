@@ -74,7 +74,7 @@ const ROWS: [Row; 26] = log_rows![
     letter!(b'6', Flag, ""),
 ];
 
-// Which do not go together.
+// The options that may not be given together.
 const PAIRS: [Pair; 17] = log_pairs![
     [
         pair!(LONGEST, INVERTS, "--longest goes with neither -v nor -c"),
@@ -98,7 +98,7 @@ const PAIRS: [Pair; 17] = log_pairs![
     ],
 ];
 
-/// The options, of which one that names a list has to be given.
+/// Returns the table of the options; it requires `-f` or `-e`.
 pub(crate) fn table() -> Table<'static>
     ensures { IsOptions result }
 {
