@@ -1,4 +1,4 @@
--- What is printed of the lines of a log.
+-- What is printed for the lines of a log.
 use Rattle.std.specs.Prelude.{◌≡◌, ℕ, ◌||◌, Bool, false, List, [], ◌∷◌, ◌++◌, Option, None, Some, length, drop, codes}
 use Rattle.std.specs.Prelude.{option_map, if◌then◌else◌}
 use Rattle.ipnetwork_addr.specs.declared.ip.IpAddr.{IpAddr}
@@ -19,16 +19,16 @@ use Rattle.cidr_join.specs.declared.found.Found.TheVariants as founds
 use Rattle.cidr_join.specs.declared.join.Join.{Join}
 use Rattle.cidr_join.specs.declared.value.Value.{Value}
 
--- the address that counts: for an IPv4-mapped one its IPv4 one, if the option says so
+-- the address that is looked up: with `--mapped`, the IPv4 address of an IPv4-mapped one
 abbrev pub asked_of : Bool → Option IpAddr → Option IpAddr
 asked_of mapped found = if mapped then option_map unmapped found else found
 
--- that of a line
+-- the address of a line that is looked up
 abbrev pub address_in : Join → List ℕ → Option IpAddr
 address_in join line = asked_of join.mapped (found_in join.area line)
 
--- what is found for an address: the value of the longest network of the list that has it, or that network, or nothing;
--- or the block of one length that has it
+-- what is found for an address: the value of the longest network of the list that contains it, or that network, or
+-- nothing if none does; or, with `--group`, the block that contains it
 abbrev pub FindsBy : Answers → IpAddr → Found → Type 0
 FindsBy (answers.Values routes) address (founds.Network network) = ⊥
 FindsBy (answers.Values routes) address (founds.Value value) = (network : IpNetwork)
@@ -40,30 +40,30 @@ FindsBy (answers.Networks routes) address (founds.Value value) = ⊥
 FindsBy (answers.Networks routes) address founds.Nothing = NoRouteHolds routes address
 FindsBy (answers.Blocks lengths) address found = found ≡ founds.Network (block_in lengths address)
 
--- and for that of a line, if there is one
+-- what is found for the address of a line, or for a line without one
 abbrev pub Finds : Join → Option IpAddr → Found → Type 0
 Finds join None found = found ≡ founds.Nothing
 Finds join (Some address) found = FindsBy join.answers address found
 
--- what is printed of that: the network's canonical text, or the value, or a minus sign for nothing
+-- the text for what was found: the network's canonical text, or the value, or a minus sign for nothing
 abbrev pub mark_of : Found → List ℕ
 mark_of (founds.Network network) = ip_network_text network
 mark_of (founds.Value value) = value.bytes.now
 mark_of founds.Nothing = codes "-"
 
--- a line with that and a tab before it, or with a tab and that behind it. The line is given without its end too, which
--- follows all of it
+-- a line with the mark and a tab before it or, if `last`, with a tab and the mark between the line and its end; `line`
+-- is the line without its end, `text` with it
 abbrev pub shown_of : Bool → List ℕ → List ℕ → List ℕ → List ℕ
 shown_of last mark line text = if last then line ++ 9 ∷ (mark ++ drop (length line) text) else mark ++ 9 ∷ text
 
 abbrev pub output_of : Join → Found → LogLine → List ℕ
 output_of join found line = shown_of join.last (mark_of found) (content line) (printed line)
 
--- the address of a line of a log: one of more than 1,048,576 bytes, not counting its end, has none
+-- the address of a line of a log; a line of more than 1,048,576 bytes, not counting its end, has none
 abbrev pub asked_in : Join → LogLine → Option IpAddr
 asked_in join line = if is_long line then None else address_in join (content line)
 
--- a line without an address ends the run, or is left out, if the option says so
+-- a line without an address ends the run, with `--bad stop`, or is left out, with `--bad drop`
 abbrev pub is_refused : WithoutAddress → Option IpAddr → Bool
 is_refused bad None = is_stopped bad
 is_refused bad (Some address) = false
@@ -72,12 +72,12 @@ abbrev pub is_left_out : WithoutAddress → Option IpAddr → Bool
 is_left_out bad None = is_dropped bad
 is_left_out bad (Some address) = false
 
--- what is written for a line of which this was found: nothing, if it is left out or too long
+-- what is written for a line with this found for it: nothing if it is left out or too long
 abbrev pub shown_in : Join → Found → LogLine → List ℕ
 shown_in join found line = if is_long line || is_left_out join.bad (asked_in join line) then []
     else output_of join found line
 
--- this is written for these lines, none of which ends the run
+-- these lines have this output, and none of them ends the run
 abbrev pub Joins : Join → List LogLine → List ℕ → Type 0
 Joins join [] output = output ≡ []
 Joins join (line ∷ lines) output = (found : Found) × (others : List ℕ)

@@ -1,4 +1,4 @@
-//! What is printed of an address.
+//! What is printed for an address.
 ghost use Rattle.cidr_join.specs.Joins.{FindsBy};
 
 use crate::found::Found;
@@ -6,14 +6,14 @@ use crate::lengths::Lengths;
 use crate::routes::Routes;
 use ipnetwork::IpAddr;
 
-/// What is printed of an address.
+/// What decides what is printed for an address.
 #[derive(Drop)]
 pub enum Answers<'a> {
-    /// The value of the longest network of a list that has it.
+    /// The value of the longest network of a list that contains it.
     Values(Routes<'a>),
     /// That network.
     Networks(Routes<'a>),
-    /// The block of one length that has it.
+    /// The block that contains it, of one length for each family.
     Blocks(Lengths),
 }
 

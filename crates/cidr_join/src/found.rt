@@ -3,13 +3,13 @@
 use crate::value::Value;
 use ipnetwork::IpNetwork;
 
-/// What is printed of the address of a line.
+/// What is found, and printed, for the address of a line.
 #[derive(Clone, Copy, Debug)]
 pub enum Found<'a> {
-    /// The network or the block that has it.
+    /// The network or block that contains it.
     Network(IpNetwork),
-    /// The value of the network that has it.
+    /// The value of the network that contains it.
     Value(Value<'a>),
-    /// A minus sign: no network has it, or the line has no address.
+    /// Nothing, printed as a minus sign: no network contains it, or the line has no address.
     Nothing,
 }

@@ -1,4 +1,4 @@
-//! What a line is to the list.
+//! What is printed for a line.
 ghost use Rattle.std.specs.Prelude.{◌≡◌, None, Some};
 ghost use Rattle.cidr_join.specs.Joins.{Finds, address_in, is_left_out, is_refused};
 
@@ -9,23 +9,24 @@ use line_addresses::Area;
 use log_programs::finding::found_in;
 use log_programs::without_address::WithoutAddress;
 
-/// What decides what is printed of a line.
+/// What decides what is printed for a line.
 #[derive(Drop)]
 pub struct Join<'a> {
-    /// What is printed of its address.
+    /// What is printed for its address.
     pub(crate) answers: Answers<'a>,
     pub(crate) area: Area<'a>,
-    /// Whether an IPv4-mapped address of a line counts as its IPv4 one.
+    /// Whether an IPv4-mapped address of a line counts as its IPv4 address.
     pub(crate) mapped: bool,
-    /// Whether that stands behind the line, and not before it.
+    /// Whether that is printed after the line instead of before it.
     pub(crate) last: bool,
     pub(crate) bad: WithoutAddress,
-    /// Whether a tally has what the list gives addresses of which no line has one.
+    /// Whether a tally includes the networks or values of the list that no line has.
     pub(crate) zeros: bool,
 }
 
 impl<'a> Join<'a> {
-    /// What is printed of the address of a line. Does not allocate.
+    /// Returns what is printed for the address of a line, or for a line without one. Does not
+    /// allocate.
     pub(crate) fn find(&self, address: Option<IpAddr>) -> Found<'a>
         ensures { Finds self.now address result }
     {
@@ -35,7 +36,7 @@ impl<'a> Join<'a> {
         }
     }
 
-    /// Whether a line with this address, or without one, ends the run.
+    /// Returns whether a line with this address, or without one, ends the run.
     #[inline(always)]
     pub(crate) fn refuses(&self, address: Option<IpAddr>) -> bool
         ensures { result ≡ is_refused self.now.bad address }
@@ -46,7 +47,7 @@ impl<'a> Join<'a> {
         }
     }
 
-    /// Whether a line with this address, or without one, is left out.
+    /// Returns whether a line with this address, or without one, is left out.
     #[inline(always)]
     pub(crate) fn leaves_out(&self, address: Option<IpAddr>) -> bool
         ensures { result ≡ is_left_out self.now.bad address }
@@ -57,7 +58,7 @@ impl<'a> Join<'a> {
         }
     }
 
-    /// The address of a line of which this is printed. The line is given without its end.
+    /// Returns the address of a line that is looked up. The line is given without its end.
     pub(crate) fn address_in(&self, line: &[u8]) -> Option<IpAddr>
         ensures { result ≡ address_in self.now line.now }
     {
