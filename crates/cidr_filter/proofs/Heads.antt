@@ -1,4 +1,4 @@
--- What stands before what is printed of a line.
+-- What is printed before a line.
 use Rattle.std.proofs.Common.{◌≡◌, ℕ, ◌-◌, ◌^◌, ◌<◌, Bool, List, [], ◌∷◌, ◌++◌, ◌==◌, ◌∙◌, true, false, refl, sym, ap, length, min, decimal, arith, true≢false}
 use Rattle.std.specs.Prelude.{if◌then◌else◌}
 use Rattle.std.proofs.lemmas.Bool.{ne_eqb}
@@ -21,6 +21,6 @@ some_number numbered number e fits =
     let same : number ≡ min number (2 ^ 64 - 1) = omega (arith, fits) in
     ap (λ (n : ℕ). decimal n ++ 58 ∷ []) same ∙ sym (ap (λ (b : Bool). number_head b number) e)
 
--- numbers that 64 bits count as one
+-- line numbers that are the same in 64 bits
 pub heads_same : (filter : Filter) (a b : ℕ) → min a (2 ^ 64 - 1) ≡ min b (2 ^ 64 - 1) → head_of filter a ≡ head_of filter b
 heads_same filter a b e = ap (λ (n : ℕ). name_head filter.name ++ (if filter.numbered then decimal n ++ 58 ∷ [] else [])) e
