@@ -1,4 +1,4 @@
--- What lines and logs are counted.
+-- How lines and logs are counted.
 use Rattle.std.proofs.Common.{◌≡◌, ◌∙◌, ◌&&◌, not, ℕ, ◌<◌, ◌≤◌, Bool, true, false, true≢false, List, [], ◌∷◌, ◌++◌, length, refl, sym, ap, subst, arith, append_assoc, append-nil}
 use Rattle.std.specs.Prelude.{Option, None, Some, Result, Ok, Err, OnOk, if◌then◌else◌}
 use Rattle.ipnetwork_addr.specs.declared.ip.IpAddr.{IpAddr}
@@ -36,7 +36,7 @@ marks_both join [] more a b p q = subst (λ (t : List (List ℕ)). Marks join mo
 marks_both join (line ∷ lines) more a b p q =
     (p.0, p.1 ++ b, p.2, p.3, marks_both join lines more p.1 b p.4 q, ap (λ t. t ++ b) p.5 ∙ append_assoc (counted_for join (asked_in join line) p.0) p.1 b)
 
--- whether an address is left out, as it was asked
+-- the test of the code is the one of the definitions
 pub left_by : (bad : WithoutAddress) (address : Option IpAddr) (some left is : Bool) → some ≡ is_some address → left ≡ (not some && is_dropped bad) → left ≡ is → is_left_out bad address ≡ is
 left_by bad None some left is e f g = sym (ap (λ (b : Bool). not b && is_dropped bad) e) ∙ sym f ∙ g
 left_by bad (Some address) some left is e f g = sym (ap (λ (b : Bool). not b && is_dropped bad) e) ∙ sym f ∙ g
@@ -49,7 +49,7 @@ module _ (founds : List Found) where
   counts_both old mid new first second p q texts counted =
       subst (λ (t : List (List ℕ)). IsCounted founds t new) (append_assoc texts first second) (q (texts ++ first) (p texts counted))
 
-  -- what is found for an address was counted, or lines without one are left out
+  -- what is found for an address was counted; or lines without an address are left out
   pub address_counted : (join : Join) (old new : Counts) (address : Option IpAddr) (found : Found) → is_left_out join.bad address ≡ false → Finds join address found
       → CountsAll founds (mark_of found ∷ []) old new → CountsAddress founds join address old new
   address_counted join old new address found stays finds counts =
@@ -89,7 +89,7 @@ module _ (founds : List Found) where
       next_more join old mid new among is first next (ap (is_refused join.bad) asks ∙ f.1) (subst (λ (a : Option IpAddr). CountsAddress founds join a mid new) (sym asks) f.0)
       (line_adds join next short first among is d.3 (subst (λ (l : List ℕ). is ≡ with_line among (is_addressed join l)) (sym same) f.2)) d
 
-  -- and one that is too long
+  -- one more line that is too long
   pub long_more : (join : Join) (old mid new : Counts) (among is : LogStats) (first : List LogLine) (next : LogLine) → 1048576 < length (content next) → is_stopped join.bad ≡ false
       → CountsAddress founds join None mid new → is ≡ with_long among → CountsLines founds join old mid among first → CountsLines founds join old new is (first ++ next ∷ [])
   long_more join old mid new among is first next long goes c adds d =
