@@ -22,7 +22,7 @@ use Rattle.cidr_filter.specs.declared.reading.Question.TheVariants as questions
 use Rattle.cidr_filter.specs.declared.reading.Source.{Source}
 use Rattle.cidr_filter.specs.declared.reading.Source.TheVariants as sources
 
--- what an option names to be read: `-f` the list with that name, `-e` the value itself, any other option nothing
+-- what an option tells the program to read: `-f` the list with that name, `-e` its value, any other option nothing
 abbrev pub source_by : ℕ → List ℕ → Source
 source_by row value = if row == rows.list then sources.List value else if row == own.text then sources.Text value
     else sources.Nothing

@@ -128,7 +128,7 @@ impl Filter<'_> {
         }
     }
 
-    // Returns the address that is looked for, if it is a whole part of the line and counts.
+    // Returns the address that is looked for, if it is the whole part searched and it counts.
     #[inline(always)]
     fn only_address(&self, line: &[u8]) -> Option<IpAddr>
         ensures { IfSome result (λ address. HasOnly self.now.area line.now address

@@ -114,8 +114,8 @@ fn either(first: bool, second: bool) -> bool
     first || second
 }
 
-// Opens the log with this name. If lines or their addresses are printed, the file that they are
-// written to is refused.
+// Opens the log with this name. If lines or their addresses are printed, it refuses the file that
+// they are written to.
 fn open_log<L: OpenLists>(
     shows: OutputMode,
     lists: &L,

@@ -11,7 +11,7 @@ use ipnetwork_blocks::laws::ip_one_block;
 use ipnetwork_sets::IpAddressSet;
 
 /// Returns whether the text names a network whose addresses are all in the set. If `mapped`, a
-/// network of only IPv4-mapped addresses counts as the network of their IPv4 addresses.
+/// network whose addresses are all IPv4-mapped counts as the network of their IPv4 addresses.
 pub(crate) fn covers(set: &IpAddressSet, mapped: bool, text: &[u8]) -> bool
     ensures covered { IsTrue result ↔ CoversNamed set.now mapped text.now }
     ensures test { result ≡ covers_named set.now mapped text.now }
@@ -48,7 +48,7 @@ fn asked_network(mapped: bool, network: IpNetwork) -> IpNetwork
     }
 }
 
-// Returns the IPv4 network of a network of only IPv4-mapped addresses; any other is unchanged.
+// Returns the IPv4 network of a network whose addresses are all IPv4-mapped, or any other as is.
 fn unmapped_network(network: IpNetwork) -> IpNetwork
     ensures { result ≡ unmapped_network network }
 {

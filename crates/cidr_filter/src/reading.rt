@@ -15,7 +15,7 @@ use options::given::is_given;
 use options::items::{Item, Text};
 use std::alloc::{AllocError, Global};
 
-/// What an option names to be read.
+/// What an option tells the program to read.
 #[derive(Debug, Drop)]
 pub enum Source<'a> {
     /// The list with this name.
@@ -138,7 +138,7 @@ fn read_item<L: OpenLists>(
     }
 }
 
-/// Returns what an option names to be read.
+/// Returns what an option tells the program to read.
 pub(crate) fn source_of<'a>(item: &Item<'a>) -> Source<'a>
     ensures { result ≡ source_of item.now }
 {
@@ -148,7 +148,7 @@ pub(crate) fn source_of<'a>(item: &Item<'a>) -> Source<'a>
     }
 }
 
-// Returns what the option of this row, with this value, names to be read.
+// Returns what the option of this row, with this value, tells the program to read.
 fn source_by(row: usize, value: &str) -> Source<'_>
     ensures { result ≡ source_by row value.now }
 {

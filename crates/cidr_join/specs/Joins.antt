@@ -72,7 +72,7 @@ abbrev pub is_left_out : WithoutAddress → Option IpAddr → Bool
 is_left_out bad None = is_dropped bad
 is_left_out bad (Some address) = false
 
--- what is written for a line with this found for it: nothing if it is left out or too long
+-- what is written for a line, given what was found for it: nothing if it is left out or too long
 abbrev pub shown_in : Join → Found → LogLine → List ℕ
 shown_in join found line = if is_long line || is_left_out join.bad (asked_in join line) then []
     else output_of join found line

@@ -18,7 +18,7 @@ pub enum Answers<'a> {
 }
 
 impl<'a> Answers<'a> {
-    /// What is printed of an address. Does not allocate.
+    /// Returns what is printed for an address. Does not allocate.
     pub(crate) fn find(&self, address: IpAddr) -> Found<'a>
         ensures { FindsBy self.now address result }
     {

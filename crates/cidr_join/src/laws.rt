@@ -17,8 +17,8 @@ pub fn outputs_of_parts_follow()
     ensures { OutputsOfPartsFollow }
 {}
 
-/// If a log is cut directly after a line feed, its count of each text is the sum of the counts of
-/// its parts, at most 2^64 - 1.
+/// If a log is cut directly after a line feed, its tally counts each text as often as the tallies
+/// of its parts together, at most 2^64 - 1 times.
 pub fn tallies_of_parts_add_up()
     ensures { TalliesOfPartsAddUp }
 {

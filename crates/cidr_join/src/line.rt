@@ -9,7 +9,7 @@ use lists::{ByteKind, Entry, EntryFault, LINE_MAX, front_len, read_entry, trim};
 /// Why a line of a list is refused.
 #[derive(Clone, Copy, Debug, PartialEq, Eq)]
 pub enum Cause {
-    /// It begins with no network and no range.
+    /// It does not begin with a network or range.
     Entry(EntryFault),
     /// No value follows its network or range.
     Value,
@@ -20,7 +20,7 @@ pub enum Cause {
 }
 
 impl Cause {
-    /// The cause in a few words.
+    /// Returns the cause in a few words.
     pub(crate) fn text(self) -> &'static str
         ensures { result.now ≡ cause_text self }
     {

@@ -11,7 +11,7 @@ use Rattle.log_programs.specs.WithoutAddress.{is_stopped}
 use Rattle.program.specs.declared.log_fault.LogFault.{LogFault}
 use Rattle.program.specs.declared.log_fault.LogFault.TheVariants as faults
 
--- what is written for a line with this found for it; `line` is the line without its end, `text` with it
+-- what is written for a line, given what was found for it; `line` is the line without its end, `text` with it
 abbrev pub shown : Join → Found → List ℕ → List ℕ → List ℕ
 shown join found line text = if is_left_out join.bad (address_in join line) then []
     else shown_of join.last (mark_of found) line text
