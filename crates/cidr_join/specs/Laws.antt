@@ -20,7 +20,7 @@ OutputsOfPartsFollow = (join : Join) (first second a b : List ℕ) → Joins joi
 abbrev pub Tallies : Join → List LogLine → List Row → Type 0
 Tallies join lines rows = (marks : List (List ℕ)) × Marks join lines marks × IsTally (named_in join) marks rows
 
--- if a log is cut after a line feed, its tally counts each text as often as those of its parts together, at most 2^64 - 1
+-- if a log is cut after a line feed, its tally counts each text as often as those of its parts together, up to 2^64 - 1
 abbrev pub TalliesOfPartsAddUp : Type 0
 TalliesOfPartsAddUp = (join : Join) (first second : List ℕ) (a b whole : List Row)
     → Tallies join (log_lines (first ++ 10 ∷ [])) a → Tallies join (log_lines second) b
