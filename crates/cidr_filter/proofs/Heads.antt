@@ -21,6 +21,6 @@ some_number numbered number e fits =
     let same : number ≡ min number (2 ^ 64 - 1) = omega (arith, fits) in
     ap (λ (n : ℕ). decimal n ++ 58 ∷ []) same ∙ sym (ap (λ (b : Bool). number_head b number) e)
 
--- line numbers that are the same in 64 bits
+-- numbers that 64 bits count as one
 pub heads_same : (filter : Filter) (a b : ℕ) → min a (2 ^ 64 - 1) ≡ min b (2 ^ 64 - 1) → head_of filter a ≡ head_of filter b
 heads_same filter a b e = ap (λ (n : ℕ). name_head filter.name ++ (if filter.numbered then decimal n ++ 58 ∷ [] else [])) e

@@ -34,7 +34,7 @@ pub the_number_of_lines : total_text true 12 ≡ codes "12\n"
 unfolding digits
 the_number_of_lines = refl
 
--- the greatest number is 2^64 - 1
+-- up to what 64 bits count
 pub no_greater_number : total_text true 18446744073709551616 ≡ codes "18446744073709551615\n"
 unfolding digits
 no_greater_number = refl
@@ -57,7 +57,7 @@ not_silent known items read end none (inr ends) = ends.1
 pub refused_or_skipped : map (λ items. is_stopped_by items (record { kept = record { list = 0; line = 7; fault = Entry Prefix } ∷ []; more = 0 })) ([] ∷ (says.Flag 22 ∷ []) ∷ []) ≡ true ∷ false ∷ []
 refused_or_skipped = refl
 
--- nothing was written for the first log, and the logs after it add nothing
+-- nothing was written of the first log, and nothing more comes of those behind it
 pub nothing_written : {W E : Type 0} (filter : Filter) (known : KnownLists) (name : List ℕ) (names : List (List ℕ)) (text : List ℕ) (selected : ℕ) (end : Ending W E)
     → ReadsLog filter known name [] selected text false ⊎ LeavesLog filter known name [] selected text false → GoesOn (is_enough filter.shows selected) (FiltersLogs filter known names [] 0 [] false) [] 0 [] false
     → HasWritten end (total_text (is_count filter.shows) selected) → HasTold end text → end.status ≡ status_by (is_enough filter.shows selected) false selected → EndsLogs filter known (name ∷ names) end
@@ -115,7 +115,7 @@ module _ (known : KnownLists) (inside : IsVerdict (by false without.Stop) (codes
     refl,
   )
 
-  -- the selected lines of both logs are counted together
+  -- they are counted together
   pub two_logs_counted : IsAllOf known (codes "a") (codes "10.0.0.1\n") → IsAllOf known (codes "b") (codes "10.0.0.1\n") → {W E : Type 0} (end : Ending W E) → HasWritten end (codes "2\n") → HasTold end [] → end.status ≡ 0
       → EndsLogs (counting without.Stop) known (codes "a" ∷ codes "b" ∷ []) end
   unfolding address_of digits v6_of gap_below

@@ -124,7 +124,7 @@ module _ {W E : Type 0} (filter : Filter) (known : KnownLists) (name : List ℕ)
 
 -- ---- logs in turn
 
--- a log that stops the run after others that were filtered
+-- a log that stops behind others that were filtered
 pub stops_behind_names : {W E : Type 0} (filter : Filter) (known : KnownLists) (done more rest names : List (List ℕ)) (missed : Bool) (end : Ending W E) (mid : Written W) (between : Written E) (old now : Tally)
     → names ≡ done ++ (more ++ rest)
     → old.selected ≡ 0 → is_enough filter.shows now.selected ≡ false → FiltersNames filter known done missed (stand end.output old) (stand mid now) end.errors between
@@ -182,7 +182,7 @@ module _ {Z : Type 0} (filter : Filter) (known : KnownLists) (files : List (Stri
   all_named i missed old new errors told past h =
       subst (λ (n : List (List ℕ)). FiltersNames filter known n missed old new errors told) (ap (map string_bytes) (take_all i files past)) h
 
-  -- the log at an index stopped the run
+  -- the one at a place stopped
   pub one_stops : {W E : Type 0} (i : ℕ) (name : List ℕ) (missed : Bool) (output mid after : Written W) (errors between told : Written E) (old now : Tally)
       → map string_bytes (take (i + 1) files) ≡ map string_bytes (take i files) ++ name ∷ []
       → old.selected ≡ 0 → is_enough filter.shows now.selected ≡ false
@@ -269,7 +269,7 @@ none_then_err result held holds waited text e h =
     subst (λ (t : List ℕ). OnErr result (AppendsBeginning held holds (waited ++ t))) (sym e)
     (subst (λ (t : List ℕ). OnErr result (AppendsBeginning held holds t)) (sym (append-nil waited)) h)
 
--- the line with the number, which fits 64 bits
+-- the line of the number, which fits 64 bits
 pub number_told : (counts : Bool) (number : ℕ) → counts ≡ true → number < 2 ^ 64 → decimal number ++ 10 ∷ [] ≡ total_text counts number
 number_told counts number e fits =
     let same : number ≡ min number (2 ^ 64 - 1) = omega (arith, fits) in

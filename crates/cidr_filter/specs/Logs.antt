@@ -1,4 +1,4 @@
--- How logs are filtered one after another.
+-- Logs that are filtered in turn.
 use Rattle.std.specs.Prelude.{◌≡◌, ℕ, ◌+◌, ◌||◌, ◌&&◌, ◌⊎◌, Bool, true, false, Option, List, [], ◌∷◌, ◌++◌}
 use Rattle.std.specs.Prelude.{if◌then◌else◌, nat_lt, codes, bytes_eq}
 use Rattle.lists.specs.KnownLists.{KnownLists}
@@ -14,8 +14,8 @@ use Rattle.program.specs.declared.log_fault.LogFault.{LogFault}
 use Rattle.program.specs.declared.log_fault.LogFault.TheVariants as faults
 use Rattle.lists.specs.declared.opening.OpenFault.{OpenFault}
 
--- the name that is printed for a log, before its lines or in place of them: `(standard input)` for standard input, else
--- its own name; empty without `-H` and `-l`
+-- a log as it is called before its lines, or in place of them: standard input `(standard input)`, and others by their
+-- name; not at all without `-H` and `-l`
 abbrev pub label_of : Bool → List ℕ → List ℕ
 label_of named name = if named then if bytes_eq name (codes "-") then codes "(standard input)" else name else []
 
@@ -23,8 +23,8 @@ label_of named name = if named then if bytes_eq name (codes "-") then codes "(st
 abbrev pub filter_for : Filter → List ℕ → Filter
 filter_for filter name = record filter { name = label_of filter.named name }
 
--- the log with this name was read to its end: the output of its lines, how many of them were selected, the reports
--- about it, and whether one of them is missed
+-- the log of this name was read to its end: this is the output of its lines, this many of them were selected, what was
+-- seen of them is reported, and whether one is missed
 abbrev pub ReadsLog : Filter → KnownLists → List ℕ → List ℕ → ℕ → List ℕ → Bool → Type 0
 ReadsLog filter known name output selected told missed = (read : List ℕ) × IsAllOf known name read
     × Filters (filter_for filter name) 0 (log_lines read) output selected

@@ -64,7 +64,7 @@ pub record StopsAtLog {W E : Type 0} (filter : Filter) (known : KnownLists) (nam
       ++ log_fault_text name (length lines) fault))
   pub status : end.status ≡ 2
 
--- with `-c`, one line with the number of selected lines of all logs, at most 2^64 - 1
+-- if lines are counted, one line says how many lines of all logs were selected, up to the greatest number of 64 bits
 abbrev pub total_text : Bool → ℕ → List ℕ
 total_text counts selected = if counts then decimal (min selected (2 ^ 64 - 1)) ++ codes "\n" else []
 
@@ -73,8 +73,8 @@ total_text counts selected = if counts then decimal (min selected (2 ^ 64 - 1)) 
 abbrev pub status_by : Bool → Bool → ℕ → ℕ
 status_by enough missed selected = if enough then 0 else if missed then 2 else if nat_lt 0 selected then 0 else 1
 
--- the output was written, with the number of selected lines if they are counted, and the reports; or the writer failed,
--- which was reported after these
+-- the output was written, with their number where lines are counted, and what there is to report was reported; or the
+-- writer failed, and that was reported after it
 abbrev pub EndsWith : {W E : Type 0} → Filter → List ℕ → ℕ → List ℕ → Bool → Ending W E → Type 0
 EndsWith filter output selected texts missed end =
     (HasWritten end (output ++ total_text (is_count filter.shows) selected) × HasTold end texts
@@ -120,7 +120,7 @@ shows_of items =
     else if is_given items own.only then shows.Addresses
     else shows.Lines
 
--- the name of the log is printed
+-- the name of its log is printed of a line
 abbrev pub is_named : List Item → Bool
 is_named items = is_given items own.named || is_given items own.names
 

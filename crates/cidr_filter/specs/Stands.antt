@@ -6,7 +6,7 @@ use Rattle.log_programs.specs.LogStats.{nothing}
 use Rattle.log_programs.specs.declared.log_stats.LogStats.{LogStats}
 use Rattle.cidr_filter.specs.declared.log.Tally.{Tally}
 
--- what the writer holds, what waits, how many lines of all logs were selected, and the counts of the lines of this log
+-- what the writer holds, what waits, how many lines of all logs were selected, and what was seen of those of this log
 pub record Stand : Type 0 where
   pub holds : Option (List ℕ)
   pub waits : List ℕ
@@ -21,7 +21,7 @@ stand output tally = record {
   seen = tally.seen;
 }
 
--- the state before the first line of a log
+-- where it stands before the first line of a log
 abbrev pub begun : Stand → Stand
 begun old = record old { seen = nothing }
 

@@ -64,9 +64,9 @@ pub(crate) fn filter_logs<'a, L: OpenLists, W: Write, E: Write>(
     }
 }
 
-// Filters the logs with these names up to the first that ends the run, and returns whether one of
-// them could not be opened or a line of one is missed, which is reported. If a fault ends the
-// filtering of a log that was opened, it is reported and `None` is returned.
+// Filters the logs of these names up to the first that is enough, and returns whether one of them could not be opened, or
+// a line of one is missed, which is reported. If a fault ends the filtering of one that was opened, it is reported, and
+// there is no answer.
 fn filter_each<'a, L: OpenLists, W: Write, E: Write>(
     filter: &mut Filter<'a>,
     tally: &mut Tally,
@@ -114,8 +114,7 @@ fn either(first: bool, second: bool) -> bool
     first || second
 }
 
-// Opens the log with this name. If lines or their addresses are printed, it refuses the file that
-// they are written to.
+// Opens the log of this name. If lines or their addresses are printed, it is not the file that they are written to.
 fn open_log<L: OpenLists>(
     shows: OutputMode,
     lists: &L,
@@ -134,8 +133,8 @@ fn open_log<L: OpenLists>(
     }
 }
 
-// Opens the log with this name and filters it, and returns whether it could not be opened or a
-// line of it is missed, as `filter_each` does.
+// Opens the log of this name and filters it, and returns whether it could not be opened, or a line of it is missed, as
+// `filter_each` does.
 fn filter_one<'a, L: OpenLists, W: Write, E: Write>(
     filter: &mut Filter<'a>,
     tally: &mut Tally,
@@ -206,7 +205,8 @@ fn write_number<W: Write>(number: u64, output: &mut Output<'_, W>) -> Result<(),
     put_both(number_text(number).as_str().as_bytes(), b"\n", output)
 }
 
-// Returns the exit status; `missed` tells whether a log or a line was missed.
+// The exit status by whether the selected lines end the run, whether a log or a line was missed, and how many lines were
+// selected.
 fn status(is_enough: bool, missed: bool, selected: u64) -> u8
     ensures { result ≡ status_by is_enough missed selected }
 {

@@ -1,4 +1,4 @@
-//! What is printed before a line: the name of its log, and its number.
+//! What stands before what is printed of a line: the name of its log, and its number.
 ghost use Rattle.std.specs.Prelude.{◌≡◌, ◌++◌, ◌∷◌, [], decimal};
 ghost use Rattle.cidr_filter.specs.Filters.{head_of, name_head, number_head};
 ghost use Rattle.cidr_filter.specs.Logs.{label_of};
@@ -11,7 +11,7 @@ use program::messages::number_text;
 use program::putting::put_both;
 use std::io::Write;
 
-/// Returns the name that is printed for the log with this name; empty if none is printed.
+/// What the log of this name is called before its lines; nothing, if it is not named there.
 pub(crate) fn label_of(named: bool, name: &str) -> &[u8]
     ensures { result.now ≡ label_of named name.now }
 {
@@ -37,7 +37,7 @@ pub(crate) fn put_head<W: Write>(
     put_number(filter.numbered, number, output)
 }
 
-// Writes the name of the log and a colon, or nothing if it is not printed.
+// Writes what the log is called, and a colon, or nothing if it is not named.
 #[inline(always)]
 fn put_name<W: Write>(filter: &Filter, output: &mut Output<'_, W>) -> Result<(), RunFault>
     ensures { PutsOrFails result output.old output.new (name_head filter.now.name) }

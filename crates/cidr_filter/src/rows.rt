@@ -74,7 +74,7 @@ const ROWS: [Row; 26] = log_rows![
     letter!(b'6', Flag, ""),
 ];
 
-// The options that may not be given together.
+// Which do not go together.
 const PAIRS: [Pair; 17] = log_pairs![
     [
         pair!(LONGEST, INVERTS, "--longest goes with neither -v nor -c"),

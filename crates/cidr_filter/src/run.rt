@@ -205,7 +205,7 @@ fn shows_of(items: &[Item<'_>]) -> OutputMode
     }
 }
 
-// Returns whether the name of the log is printed.
+// Whether the name of its log is printed of a line.
 fn is_named(items: &[Item<'_>]) -> bool
     ensures { result ≡ is_named items.now }
 {

@@ -159,7 +159,7 @@ routes_numbered network routes numbered t4 t6 first second is4 is6 one h4 h6 =
 clear_at : {V : Type 0} (w : ℕ) (t : FinMap network_cmp V) (n : Network) (v : V) → HasOnlyBlocks w t → get t n ≡ Some v → HostBitsAreZero w n
 clear_at w t n v blocks has = (blocks n (ap is_some has)).block
 
--- what the number that is found for an address stands for
+-- what stands at the number that is found for an address
 stands : (w : ℕ) (by : Network → Value → Found) (table : Values) (numbers : FinMap network_cmp ℕ) (founds : List Found) (IsSo : Found → Type 0) (a : ℕ) (found : Option (Network × ℕ))
     → AreNumbered by table numbers founds → slice_get founds 0 ≡ Some prints.Nothing → Answers w numbers a found → HasOnlyBlocks w numbers
     → (NoneHolds w table a → IsSo prints.Nothing) → ((n : Network) (v : Value) → IsLongest w table a n v → HostBitsAreZero w n → IsSo (by n v))
@@ -200,7 +200,7 @@ stands_for_some (answers.Values routes) numbered address number some stands h = 
 stands_for_some (answers.Networks routes) numbered address number some stands h = stands true routes h
 stands_for_some (answers.Blocks lengths) numbered address number some stands h = absurd (some h)
 
--- what the number for a line stands for
+-- of a line
 pub line_found : (join : Join) (address : Option IpAddr) (items : List Found) (number : ℕ) → StandsFor join.answers address items number
     → (found : Found) × (slice_get items number ≡ Some found) × Finds join address found
 line_found join None items number stands = (prints.Nothing, stands, refl)

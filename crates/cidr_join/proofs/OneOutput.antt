@@ -28,7 +28,7 @@ some_is x = refl
 is_stored : (t : Values) (n : Network) (v : Value) → get t n ≡ Some v → IsSome (get t n)
 is_stored t n v e = subst IsSome (sym e) (some_is v)
 
--- one address has one longest block, and that block has one value
+-- one address has one longest block, and that has one value
 module _ (meet : BlocksOfAnyWidthThatMeet) (w : ℕ) (t : Values) (x : ℕ) (m n : Network) (v u : Value) where
   one_block : IsLongest w t x m v → HostBitsAreZero w m → IsLongest w t x n u → HostBitsAreZero w n → m ≡ n
   one_block p clear q empty =
@@ -53,7 +53,7 @@ one_route meet routes (addresses.V6 a) (networks.V6 m) (networks.V6 n) v u p q =
     let e = one_block meet 128 routes.v6 a m n v u p.0 p.1 q.0 q.1 in
     ap (λ (k : Network). Some (networks.V6 k, v)) e ∙ ap (λ (x : Value). Some (networks.V6 n, x)) (one_value meet 128 routes.v6 a m n v u p.0 q.0 e)
 
--- an address does not have both a longest block and none
+-- nor does an address have one and none
 apart : (routes : Routes) (address : IpAddr) (n : IpNetwork) (v : Value) → IsLongestRoute routes address n v → NoRouteHolds routes address → ⊥
 apart routes (addresses.V4 a) (networks.V4 n) v p none = not_both 32 routes.v4 a n v p.0 none
 apart routes (addresses.V4 a) (networks.V6 n) v p none = p
@@ -68,7 +68,7 @@ value_of : Option (IpNetwork × Value) → Found
 value_of None = founds.Nothing
 value_of (Some found) = founds.Value found.1
 
--- one thing is found for one address
+-- one address has one answer
 one_answer : BlocksOfAnyWidthThatMeet → (by : Answers) (address : IpAddr) (a b : Found) → FindsBy by address a → FindsBy by address b → a ≡ b
 unfolding network_of value_of
 one_answer meet (answers.Values routes) address (founds.Network m) b p q = absurd p

@@ -7,8 +7,8 @@ use Rattle.ipnetwork.specs.declared.ip_network.IpNetwork.TheVariants as families
 use Rattle.ipnetwork_family.specs.Network.{block_at}
 use Rattle.cidr_join.specs.declared.lengths.Lengths.{Lengths}
 
--- the block that contains an address and has the prefix length given for its family; a length greater than the width
--- counts as the width
+-- the block of one of these lengths that has an address, without host bits; a length greater than the width counts as
+-- the width
 abbrev pub block_in : Lengths → IpAddr → IpNetwork
 block_in lengths (addresses.V4 address) = families.V4 (block_at 32 address (min lengths.v4 32))
 block_in lengths (addresses.V6 address) = families.V6 (block_at 128 address (min lengths.v6 128))

@@ -19,16 +19,16 @@ use Rattle.cidr_join.specs.declared.found.Found.TheVariants as founds
 use Rattle.cidr_join.specs.declared.join.Join.{Join}
 use Rattle.cidr_join.specs.declared.value.Value.{Value}
 
--- the address that is looked up: with `--mapped`, the IPv4 address of an IPv4-mapped one
+-- the address that counts: for an IPv4-mapped one its IPv4 one, if the option says so
 abbrev pub asked_of : Bool → Option IpAddr → Option IpAddr
 asked_of mapped found = if mapped then option_map unmapped found else found
 
--- the address of a line that is looked up
+-- that of a line
 abbrev pub address_in : Join → List ℕ → Option IpAddr
 address_in join line = asked_of join.mapped (found_in join.area line)
 
--- what is found for an address: the value of the longest network of the list that contains it, or that network, or
--- nothing if none does; or, with `--group`, the block that contains it
+-- what is found for an address: the value of the longest network of the list that has it, or that network, or nothing;
+-- or the block of one length that has it
 abbrev pub FindsBy : Answers → IpAddr → Found → Type 0
 FindsBy (answers.Values routes) address (founds.Network network) = ⊥
 FindsBy (answers.Values routes) address (founds.Value value) = (network : IpNetwork)
@@ -40,7 +40,7 @@ FindsBy (answers.Networks routes) address (founds.Value value) = ⊥
 FindsBy (answers.Networks routes) address founds.Nothing = NoRouteHolds routes address
 FindsBy (answers.Blocks lengths) address found = found ≡ founds.Network (block_in lengths address)
 
--- what is found for the address of a line, or for a line without one
+-- and for that of a line, if there is one
 abbrev pub Finds : Join → Option IpAddr → Found → Type 0
 Finds join None found = found ≡ founds.Nothing
 Finds join (Some address) found = FindsBy join.answers address found
@@ -59,11 +59,11 @@ shown_of last mark line text = if last then line ++ 9 ∷ (mark ++ drop (length 
 abbrev pub output_of : Join → Found → LogLine → List ℕ
 output_of join found line = shown_of join.last (mark_of found) (content line) (printed line)
 
--- the address of a line of a log; a line of more than 1,048,576 bytes, not counting its end, has none
+-- the address of a line of a log: one of more than 1,048,576 bytes, not counting its end, has none
 abbrev pub asked_in : Join → LogLine → Option IpAddr
 asked_in join line = if is_long line then None else address_in join (content line)
 
--- a line without an address ends the run, with `--bad stop`, or is left out, with `--bad drop`
+-- a line without an address ends the run, or is left out, if the option says so
 abbrev pub is_refused : WithoutAddress → Option IpAddr → Bool
 is_refused bad None = is_stopped bad
 is_refused bad (Some address) = false

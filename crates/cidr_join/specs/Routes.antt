@@ -1,4 +1,4 @@
--- The networks of a list with their values, and which of them contains an address.
+-- The networks of a list with their values, and which of them an address has.
 use Rattle.std.specs.Prelude.{◌≡◌, ℕ, ◌&&◌, Bool, true, false, not, List, [], ◌∷◌, None, IsSome}
 use Rattle.std.specs.List.{list_any}
 use Rattle.std.specs.Option.{is_some}
@@ -103,8 +103,8 @@ abbrev pub Keeps : {A : Type 0} → A → A → RouteFault → Type 0
 Keeps before after faults.OutOfMemory = Unit {0}
 Keeps before after (faults.Refused cause) = after ≡ before
 
--- the network is in the list, without host bits, and contains the address; this is its value, and no network of the
--- list that contains the address is longer
+-- the network is one of the list's, without host bits, it has the address and this value, and no network of the list
+-- that has the address has a greater prefix length
 abbrev pub IsLongestRoute : Routes → IpAddr → IpNetwork → Value → Type 0
 IsLongestRoute routes (addresses.V4 address) (families.V4 n) value = IsLongest 32 routes.v4 address n value
     × HostBitsAreZero 32 n
@@ -113,7 +113,7 @@ IsLongestRoute routes (addresses.V6 address) (families.V4 n) value = ⊥
 IsLongestRoute routes (addresses.V6 address) (families.V6 n) value = IsLongest 128 routes.v6 address n value
     × HostBitsAreZero 128 n
 
--- no network of the list contains the address
+-- no network of the list has the address
 abbrev pub NoRouteHolds : Routes → IpAddr → Type 0
 NoRouteHolds routes (addresses.V4 address) = NoneHolds 32 routes.v4 address
 NoRouteHolds routes (addresses.V6 address) = NoneHolds 128 routes.v6 address

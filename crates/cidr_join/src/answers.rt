@@ -1,4 +1,4 @@
-//! What is printed for an address.
+//! What is printed of an address.
 ghost use Rattle.cidr_join.specs.Joins.{FindsBy};
 
 use crate::found::Found;
@@ -6,19 +6,19 @@ use crate::lengths::Lengths;
 use crate::routes::Routes;
 use ipnetwork::IpAddr;
 
-/// What decides what is printed for an address.
+/// What is printed of an address.
 #[derive(Drop)]
 pub enum Answers<'a> {
-    /// The value of the longest network of a list that contains it.
+    /// The value of the longest network of a list that has it.
     Values(Routes<'a>),
     /// That network.
     Networks(Routes<'a>),
-    /// The block that contains it, of one length for each family.
+    /// The block of one length that has it.
     Blocks(Lengths),
 }
 
 impl<'a> Answers<'a> {
-    /// Returns what is printed for an address. Does not allocate.
+    /// What is printed of an address. Does not allocate.
     pub(crate) fn find(&self, address: IpAddr) -> Found<'a>
         ensures { FindsBy self.now address result }
     {

@@ -3,10 +3,10 @@
 use crate::value::Value;
 use ipnetwork::IpNetwork;
 
-/// What is found, and printed, for the address of a line.
+/// What is printed of the address of a line.
 #[derive(Clone, Copy, Debug)]
 pub enum Found<'a> {
-    /// The network or block that contains it.
+    /// The network or the block that has it.
     Network(IpNetwork),
     /// The value of the network that contains it.
     Value(Value<'a>),

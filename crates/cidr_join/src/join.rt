@@ -12,10 +12,10 @@ use log_programs::without_address::WithoutAddress;
 /// What decides what is printed for a line.
 #[derive(Drop)]
 pub struct Join<'a> {
-    /// What is printed for its address.
+    /// What is printed of its address.
     pub(crate) answers: Answers<'a>,
     pub(crate) area: Area<'a>,
-    /// Whether an IPv4-mapped address of a line counts as its IPv4 address.
+    /// Whether an IPv4-mapped address of a line counts as its IPv4 one.
     pub(crate) mapped: bool,
     /// Whether that is printed after the line instead of before it.
     pub(crate) last: bool,
@@ -25,8 +25,7 @@ pub struct Join<'a> {
 }
 
 impl<'a> Join<'a> {
-    /// Returns what is printed for the address of a line, or for a line without one. Does not
-    /// allocate.
+    /// What is printed of the address of a line. Does not allocate.
     pub(crate) fn find(&self, address: Option<IpAddr>) -> Found<'a>
         ensures { Finds self.now address result }
     {
@@ -36,7 +35,7 @@ impl<'a> Join<'a> {
         }
     }
 
-    /// Returns whether a line with this address, or without one, ends the run.
+    /// Whether a line with this address, or without one, ends the run.
     #[inline(always)]
     pub(crate) fn refuses(&self, address: Option<IpAddr>) -> bool
         ensures { result ≡ is_refused self.now.bad address }
@@ -47,7 +46,7 @@ impl<'a> Join<'a> {
         }
     }
 
-    /// Returns whether a line with this address, or without one, is left out.
+    /// Whether a line with this address, or without one, is left out.
     #[inline(always)]
     pub(crate) fn leaves_out(&self, address: Option<IpAddr>) -> bool
         ensures { result ≡ is_left_out self.now.bad address }
@@ -58,7 +57,7 @@ impl<'a> Join<'a> {
         }
     }
 
-    /// Returns the address of a line that is looked up. The line is given without its end.
+    /// The address of a line of which this is printed. The line is given without its end.
     pub(crate) fn address_in(&self, line: &[u8]) -> Option<IpAddr>
         ensures { result ≡ address_in self.now line.now }
     {

@@ -14,7 +14,7 @@ pub struct Lengths {
 }
 
 impl Lengths {
-    /// Returns the block that contains an address, of the length for its family. Does not allocate.
+    /// The block of one of these lengths that has an address. Does not allocate.
     pub(crate) fn block(self, address: IpAddr) -> IpNetwork
         ensures { result ≡ block_in self address }
     {

@@ -1,4 +1,4 @@
-//! The networks of a list with their values, and which of them contains an address.
+//! The networks of a list with their values, and which of them an address has.
 ghost use Rattle.std.specs.Prelude.{◌≡◌, ◌<◌, ◌≤◌, ◌^◌, IfOk, IfErr, MatchOption, OnOk};
 ghost use Rattle.ipnetwork_blocks.specs.LeastList.{IsLeastList};
 ghost use Rattle.ipnetwork_blocks.specs.Ranges.{FromTo};
@@ -61,8 +61,7 @@ impl<'a> Routes<'a> {
         })
     }
 
-    /// Returns the longest network that contains the address, with its value, or `None` if none
-    /// does.
+    /// The longest network that has the address, and its value.
     pub(crate) fn longest(&self, address: IpAddr) -> Option<(IpNetwork, Value<'a>)>
         ensures { MatchOption result (NoRouteHolds self.now address)
             (λ found. IsLongestRoute self.now address found.0 found.1) }

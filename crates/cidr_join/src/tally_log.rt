@@ -28,7 +28,7 @@ pub enum TallyFault {
     OutOfMemory,
 }
 
-/// Counts the lines of a log, and what is found for their addresses.
+/// Counts for each line of a log what the list gives its address, and the line.
 ///
 /// A line that is too long counts as one without an address. If such lines end the run, one does so
 /// even before its end was read. The counts in `seen` start anew.
@@ -100,7 +100,7 @@ fn tally_fault(fault: LogFault) -> TallyFault
     }
 }
 
-// Counts a line within the limit, and what is found for its address.
+// Counts what is printed of the address of a line within the limit, and the line.
 fn count_line(
     alloc: Global,
     join: &Join<'_>,
@@ -127,7 +127,7 @@ fn count_line(
     }
 }
 
-// Counts what is found for an address, or for a line without one, unless such lines are left out.
+// Counts what is printed of an address, or where there is none, unless lines without one are left out.
 fn count_address(
     alloc: Global,
     join: &Join<'_>,

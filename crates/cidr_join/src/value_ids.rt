@@ -15,8 +15,8 @@ use ipnetwork_index::{IndexedNetwork, RouteIndex};
 use ipnetwork_table::PrefixTable;
 use std::alloc::{AllocError, Global};
 
-/// The numbers of the networks of a list, and what each number stands for. The number 0 is for
-/// addresses in no network. If addresses are printed as blocks, there are no numbers.
+/// What is printed of addresses by the networks of a list: each network has a number, and 0 is that
+/// of addresses that no network has. If addresses are printed as blocks, there are no numbers.
 #[derive(Drop)]
 pub struct ValueIds<'a> {
     pub(crate) v4: RouteIndex<Ipv4Network, usize>,
@@ -75,8 +75,8 @@ impl<'a> ValueIds<'a> {
         self.founds.as_slice()
     }
 
-    /// Returns the number that stands for what is printed for the address of a line, or for a line
-    /// without one; `None` if there are no numbers. Does not allocate.
+    /// The number that stands for what is printed of the address of a line; `None` if there are no
+    /// numbers. Does not allocate.
     pub(crate) fn number_of(&self, address: Option<IpAddr>) -> Option<usize>
         ensures { IfSome result (λ number. (by : AnswersOf) → IsNumbering by self.now
             → StandsFor by address self.now.founds.items number) }
@@ -90,7 +90,7 @@ impl<'a> ValueIds<'a> {
         }
     }
 
-    // Returns the number that stands for what is printed for an address.
+    // The number that stands for what is printed of an address.
     fn number_at(&self, address: IpAddr) -> usize
         ensures { StandsForRoute self.now address result }
     {
@@ -101,7 +101,7 @@ impl<'a> ValueIds<'a> {
     }
 }
 
-// Returns the number of the longest network that contains the address, or 0.
+// The number of the longest network that has the address, or 0.
 fn number_in<N: IndexedNetwork>(index: &RouteIndex<N, usize>, addr: N::Addr) -> usize
     ensures { (found : Option (Pair × ℕ)) × AnswersTo N.WIDTH index.now (N.number addr) found
         × HasOnlyBlocks N.WIDTH index.now × (result ≡ number_or_none found) }

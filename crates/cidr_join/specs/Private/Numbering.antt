@@ -52,7 +52,7 @@ IsNumbering (answers.Values routes) numbered = NumbersRoutes false routes number
 IsNumbering (answers.Networks routes) numbered = NumbersRoutes true routes numbered
 IsNumbering (answers.Blocks lengths) numbered = numbered.founds.items ≡ []
 
--- the number that a lookup found, or 0
+-- the number of what a look-up found, or 0
 abbrev pub number_or_none : Option (Network × ℕ) → ℕ
 number_or_none None = 0
 number_or_none (Some found) = found.1
@@ -63,7 +63,7 @@ StandsForRoute numbered address number = (network : Bool) (routes : Routes) → 
     → (found : Found) × (slice_get numbered.founds.items number ≡ Some found)
     × FindsBy (answers_by network routes) address found
 
--- the number stands for what is found for the address of a line, or for a line without one
+-- and for that of a line, if there is one
 abbrev pub StandsFor : Answers → Option IpAddr → List Found → ℕ → Type 0
 StandsFor by None founds number = slice_get founds number ≡ Some prints.Nothing
 StandsFor by (Some address) founds number = (found : Found) × (slice_get founds number ≡ Some found)

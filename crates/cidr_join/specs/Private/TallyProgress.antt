@@ -41,7 +41,7 @@ module _ (founds : List Found) where
   abbrev pub CountsAll : List (List ℕ) → Counts → Counts → Type 0
   CountsAll marks old new = (texts : List (List ℕ)) → IsCounted founds texts old → IsCounted founds (texts ++ marks) new
 
-  -- what is found for the address, or for a line without one, was counted
+  -- what the list gives an address was counted, or what it gives a line without one
   abbrev pub CountsAddress : Join → Option IpAddr → Counts → Counts → Type 0
   CountsAddress join address old new = (found : Found) × Finds join address found
       × CountsAll (counted_for join address found) old new

@@ -6,7 +6,7 @@ use Rattle.ipnetwork_table.proofs.OneAnswer.{answers_by_pair}
 use Rattle.cidr_join.specs.Private.Numbering.{number_or_none}
 use Rattle.cidr_join.proofs.value_ids.number_in.Goals as goal
 
--- the number that a lookup found, with its network as the pair that contracts see
+-- the number of what a look-up found, its network told by what it means
 number_is : {N : Type 0} (pair : N → Network) (w : ℕ) (index : FinMap network_cmp ℕ) (a : ℕ) (found : Option (N × ℕ)) (number : ℕ) → Finds pair w index a found → HasOnlyBlocks w index
     → number_or_none (found_by_pair pair found) ≡ number → (told : Option (Network × ℕ)) × Answers w index a told × HasOnlyBlocks w index × (number ≡ number_or_none told)
 number_is pair w index a found number finds blocks is = (found_by_pair pair found, answers_by_pair pair w index a found finds, blocks, sym is)
