@@ -59,7 +59,7 @@ GoesOn true goes output selected told missed = NoLogs output selected told misse
 GoesOn false goes output selected told missed = goes
 
 -- the logs with these names were each read to the end, or left, or could not be opened, one after
--- another, up to the first that ends the run: the output of their lines, how many were selected,
+-- another, up to the first that ends the run: their output, how many of their lines were selected,
 -- the reports, and whether a log could not be opened or a line is missed
 abbrev pub FiltersLogs : Filter → KnownLists → List (List ℕ) → List ℕ → ℕ → List ℕ → Bool → Type 0
 FiltersLogs filter known [] output selected told missed = NoLogs output selected told missed
