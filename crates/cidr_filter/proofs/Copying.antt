@@ -38,7 +38,7 @@ only_found area line is found e =
     subst (λ (p : Pick). IfSome found (IsOnly (each_in false p part))) (sym is)
     (whole_found part found (e ∙ ap (λ (p : Pick). option_map (λ (s : Spelled). s.address) (picked_in false p part)) is))
 
--- one that counts
+-- the only address, if it counts
 pub only_counted : (area : Area) (line : List ℕ) → area.pick ≡ picks.Whole → (found : Option IpAddr) → found ≡ found_in area line → (Counts : IpAddr → Type 0) (result : Option IpAddr)
     → IfSome result (λ one. (found ≡ Some one) × Counts one) → IfSome result (λ one. HasOnly area line one × Counts one)
 only_counted area line is found e Counts None h = tt

@@ -1,4 +1,4 @@
--- Behind which logs a run ends.
+-- After which logs a run ends.
 use Rattle.std.proofs.Common.{◌≡◌, ℕ, ◌+◌, ◌-◌, ◌^◌, ◌<◌, ◌&&◌, ◌∙◌, Bool, true, false, List, [], min, refl, sym, ap, arith, true≢false}
 use Rattle.std.specs.Prelude.{nat_lt}
 use Rattle.std.proofs.lemmas.Bool.Decides.{nat_tests}
@@ -53,11 +53,11 @@ enough_behind false m n e f = e
 pub enough_same : (silent : Bool) (told count : ℕ) → told ≡ min count (2 ^ 64 - 1) → (silent && nat_lt 0 told) ≡ (silent && nat_lt 0 count)
 enough_same silent told count e = ap (λ (b : Bool). silent && b) (same_test told count e)
 
--- whether they are, as it was asked
+-- the test of the code is the one of the definitions
 pub enough_as : (shown : OutputMode) (silent result was : Bool) (count : ℕ) → silent ≡ is_silent shown → result ≡ (silent && nat_lt 0 count) → result ≡ was → is_enough shown count ≡ was
 enough_as shown silent result was count e f g = ap (λ (b : Bool). b && nat_lt 0 count) (sym e) ∙ sym f ∙ g
 
--- ---- what is true behind a log
+-- ---- what holds after a log
 
 pub goes_nowhere : (enough : Bool) → GoesOn enough (NoLogs [] 0 [] false) [] 0 [] false
 goes_nowhere true = (refl, refl, refl, refl)

@@ -1,4 +1,4 @@
--- Runs whose answer is known at the first selected line, of one log or of all.
+-- Runs whose result is known at the first selected line, of one log or of all.
 use Rattle.std.proofs.Common.{◌≡◌, ℕ, List, [], ◌∷◌, true, false, inl, inr, refl, true≢false}
 use Rattle.std.specs.Prelude.{codes, map, Some, None}
 use Rattle.lists.specs.KnownLists.{KnownLists}
@@ -17,21 +17,21 @@ use Rattle.cidr_filter.proofs.Examples.{ended, by}
 use Rattle.cidr_filter.proofs.Enough.{is_none}
 use Rattle.cidr_filter.proofs.RunExamples.{nothing_written}
 
--- ---- what is asked
+-- ---- the options
 
--- `-c`, `-o` and `-l`, and with `-q` too
+-- `-c`, `-o` and `-l`, and these with `-q`
 abbrev asks_names : List Item
 asks_names = says.Flag 15 ∷ says.Flag 16 ∷ says.Flag 20 ∷ []
 
 abbrev asks_nothing : List Item
 asks_nothing = says.Flag 21 ∷ asks_names
 
--- of `-q`, `-l`, `-c` and `-o` the first counts
+-- the first of `-q`, `-l`, `-c` and `-o` that is given decides
 pub what_is_printed : map shows_of (asks_nothing ∷ asks_names ∷ (says.Flag 16 ∷ says.Flag 15 ∷ []) ∷ (says.Flag 16 ∷ []) ∷ [] ∷ [])
     ≡ shows.Nothing ∷ shows.Names ∷ shows.Count ∷ shows.Addresses ∷ shows.Lines ∷ []
 what_is_printed = refl
 
--- one line is selected at the most, or none
+-- at most one line is selected, or none
 pub how_many : map most_of (asks_names ∷ (says.Value 11 (codes "5") ∷ asks_nothing) ∷ (says.Value 11 (codes "0") ∷ asks_names) ∷ (says.Value 11 (codes "5") ∷ []) ∷ [])
     ≡ Some 1 ∷ Some 1 ∷ Some 0 ∷ Some 5 ∷ []
 how_many = refl
@@ -88,10 +88,10 @@ module _ (known : KnownLists) (inside : IsVerdict silent (codes "10.0.0.1") (ver
         refl,
       )) (refl, refl, refl, refl) written told status
 
--- behind a log that is enough nothing is told, and no log is missed
+-- after a log that ends the run, nothing is reported, and no log is missed
 pub nothing_told_behind : (goes : Type 0) (output told : List ℕ) (selected : ℕ) → GoesOn (is_enough shows.Nothing 1) goes output selected told true → ⊥
 nothing_told_behind goes output told selected h = true≢false h.3
 
--- nor does a log behind it stop the run
+-- nor does a log after it stop the run
 pub no_stop_behind : {W E : Type 0} (known : KnownLists) (names : List (List ℕ)) (end : Ending W E) → (s : StopsAtLog silent known names end) → s.selected ≡ 0
 no_stop_behind known names end s = is_none s.selected s.few

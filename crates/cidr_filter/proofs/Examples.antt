@@ -87,24 +87,24 @@ printed_as_it_was = refl
 pub printed_with_an_end : printed (unended (codes "a")) ≡ codes "a\n"
 printed_with_an_end = refl
 
--- ---- what a line is to a list
+-- ---- the verdict on a line
 
 abbrev pub by : Bool → WithoutAddress → Filter
 by inverts bad = record { listed = Addresses (record { v4 = []; v6 = [] }); area = whole (parts.Field 1 32); mapped = false; family = families.Either; inverts = inverts; bad = bad; most = None; shows = shows.Lines; named = false; numbered = false; name = [] }
 
--- one that only counts
+-- a filter that only counts
 abbrev pub counting : WithoutAddress → Filter
 counting bad = record (by false bad) { shows = shows.Count }
 
--- one that looks at this place
+-- a filter that searches this area
 abbrev pub looking : Area → Bool → Filter
 looking area mapped = record (by false without.Drop) { area = area; mapped = mapped }
 
--- 10.0.0.1, as it is spelled
+-- the address 10.0.0.1 with its text
 abbrev pub ten : Spelled
 ten = record { text = codes "10.0.0.1"; address = addresses.V4 0x0a000001 }
 
--- the addresses for which the lists are asked
+-- the addresses that are looked up in the lists
 abbrev pub asked_in : Filter → List ℕ → List IpAddr
 asked_in filter line = map (λ found. asked filter.mapped found.address) (addresses_in filter line)
 
@@ -120,7 +120,7 @@ pub address_in_another_field : IsVerdict (by false without.Drop) (codes "x 10.0.
 unfolding address_of digits v6_of gap_below
 address_in_another_field = (omega arith, refl)
 
--- the second word, behind two blanks
+-- the second word, after two blanks
 pub address_in_a_word : asked_in (looking (whole (parts.Word 2)) false) (codes "a  10.0.0.1 b") ≡ addresses.V4 0x0a000001 ∷ []
 unfolding address_of digits v6_of gap_below
 address_in_a_word = refl
@@ -129,7 +129,7 @@ pub addresses_anywhere : asked_in (looking anywhere false) (codes "a=10.0.0.1:80
 unfolding address_in before_port address_of digits v6_of gap_below
 addresses_anywhere = refl
 
--- only the first that follows the first position of a text
+-- only the first address after the first occurrence of a text
 pub address_after : asked_in (looking (after (codes "SRC=")) false) (codes "DST=10.0.0.9 SRC=10.0.0.1 SRC=10.0.0.2") ≡ addresses.V4 0x0a000001 ∷ []
 unfolding address_in before_port address_of digits v6_of gap_below
 address_after = refl
@@ -137,7 +137,7 @@ address_after = refl
 pub no_text : asked_in (looking (after (codes "SRC=")) false) (codes "DST=10.0.0.9") ≡ []
 no_text = refl
 
--- an IPv4-mapped address counts as its IPv4 one only if the option says so
+-- an IPv4-mapped address counts as its IPv4 address only with `--mapped`
 pub mapped_address : asked_in (looking (whole (parts.Field 1 32)) true) (codes "::ffff:10.0.0.1 x") ≡ addresses.V4 0x0a000001 ∷ []
 unfolding address_of digits v6_of gap_below
 mapped_address = refl
@@ -146,12 +146,12 @@ pub address_as_it_is : asked_in (looking (whole (parts.Field 1 32)) false) (code
 unfolding address_of digits v6_of gap_below
 address_as_it_is = refl
 
--- with `-4` or `-6` those of one family
+-- with `-4` or `-6`, the addresses of one family
 pub one_family : (asked_in (record (looking anywhere false) { family = families.V4 }) (codes "::1 10.0.0.1") ≡ addresses.V4 0x0a000001 ∷ []) × (asked_in (record (looking anywhere false) { family = families.V6 }) (codes "::1 10.0.0.1") ≡ addresses.V6 1 ∷ [])
 unfolding address_in before_port address_of digits v6_of gap_below
 one_family = (refl, refl)
 
--- with `--networks` a network is found by its text, and without it only its address
+-- with `--networks`, a network is found with its text; without it, only its address
 pub network_found : addresses_in (record (looking anywhere false) { listed = Networks [] }) (codes "to 10.0.0.1/24.") ≡ record { text = codes "10.0.0.1/24"; address = addresses.V4 0x0a000001 } ∷ []
 unfolding network_in named_network address_in before_port address_of digits v6_of gap_below
 network_found = refl
@@ -160,14 +160,15 @@ pub address_of_a_network : addresses_in (looking anywhere false) (codes "to 10.0
 unfolding address_in before_port address_of digits v6_of gap_below
 address_of_a_network = refl
 
--- a network within the block of a list is in it, host bits or not; one around it, beside it, and a text of none are not
+-- a network within the block of a list is in the list, with or without host bits; a larger network, one beside the
+-- block, and a text that is not a network are not
 pub networks_covered : map (covers_named (V4 (record { address = 0x0a000000; prefix = 9 }) ∷ []) false) (codes "10.1.2.3/9" ∷ codes "10.0.0.0/8" ∷ codes "10.128.0.0/9" ∷ codes "10.0.0.7" ∷ codes "x" ∷ [])
     ≡ true ∷ false ∷ false ∷ true ∷ false ∷ []
 unfolding digits v6_of gap_below
 networks_covered = refl
 
--- a network of IPv4-mapped addresses is asked as that of their IPv4 ones; one that has others too is not, nor a mapped
--- address with fewer bits
+-- a network of IPv4-mapped addresses is looked up as the network of their IPv4 addresses; a network that has other
+-- addresses too is not, nor one whose address is not mapped
 pub mapped_networks : map unmapped_network
     (V6 (record { address = 0xffff0a010000; prefix = 112 }) ∷ V6 (record { address = 0xffff0a010000; prefix = 96 }) ∷ V6 (record { address = 0xffff0a010000; prefix = 95 })
     ∷ V6 (record { address = 0x0a010000; prefix = 112 }) ∷ V4 (record { address = 0x0a010000; prefix = 16 }) ∷ [])
@@ -175,13 +176,13 @@ pub mapped_networks : map unmapped_network
     ∷ V6 (record { address = 0x0a010000; prefix = 112 }) ∷ V4 (record { address = 0x0a010000; prefix = 16 }) ∷ []
 mapped_networks = refl
 
--- of two addresses the second is in the lists
+-- the second of two addresses is in the lists
 pub second_address_inside : ¬ (IsListed (looking anywhere false) ten) → IsListed (looking anywhere false) (record { text = codes "10.0.0.2"; address = addresses.V4 0x0a000002 })
     → IsVerdict (looking anywhere false) (codes "10.0.0.1 10.0.0.2") (verdicts.Inside None)
 unfolding address_in before_port address_of digits v6_of gap_below
 second_address_inside not listed = (omega arith, inr (not, inl (listed, refl)))
 
--- 1,048,576 bytes are judged, and a byte more is too long
+-- a line of 1,048,576 bytes is not too long, and one of a byte more is
 pub longest_line : (line : List ℕ) → length line ≡ 1048576 → IsVerdict (by false without.Drop) line verdicts.TooLong → ⊥
 longest_line line e long = omega (arith, e, long)
 
@@ -191,7 +192,7 @@ line_too_long line e = omega (arith, e)
 pub too_long_whatever_is_in_it : (line : List ℕ) → length line ≡ 1048577 → IsVerdict (by false without.Drop) line verdicts.NoAddress → ⊥
 too_long_whatever_is_in_it line e bad = omega (arith, e, bad.0)
 
--- if the block of 8 bits is told, that of 16 does not hold the address
+-- if the block of length 8 is told, the one of length 16 does not contain the address
 pub no_longer_block : (tables : Tables) (address : IpAddr) → let wide = V4 (record { address = 167772160; prefix = 8 }) in let narrow = V4 (record { address = 167772160; prefix = 16 }) in
     IsLongestBlock tables address wide → IsStored tables narrow → IpMember narrow address → ⊥
 no_longer_block tables address longest stored member = omega (arith, longest.longest (V4 (record { address = 167772160; prefix = 16 })) stored member)
@@ -205,7 +206,7 @@ outside_is_not bad = refl
 pub outside_of_none : (bad : WithoutAddress) → is_selected (by true bad) verdicts.Outside ≡ true
 outside_of_none bad = refl
 
--- lines without an address, and ones that are too long: they are dropped, inverted or not, or kept, or they end the run
+-- lines without an address, or that are too long, are dropped, with or without `-v`, or kept, or end the run
 pub selected_without_an_address : (is_selected (by true without.Drop) verdicts.NoAddress ≡ false) × (is_selected (by false without.Keep) verdicts.NoAddress ≡ true) × (is_selected (by false without.Keep) verdicts.TooLong ≡ false)
 selected_without_an_address = (refl, refl, refl)
 
@@ -228,7 +229,7 @@ block_of_ipv6 tables = refl
 pub no_mark : (sets : Sets) (verdict : Verdict) → mark_of (Addresses sets) verdict ≡ []
 no_mark sets verdict = refl
 
--- the line as it was stands behind what stands first and its mark, and a name or nothing in place of them
+-- the line follows the head and its mark as it was read; a name or nothing is printed in place of them
 pub what_is_shown : (tables : Tables) → let filter = record (by false without.Keep) { listed = Blocks tables; name = codes "log" } in
     map (λ (shown : OutputMode). shown_of (record filter { shows = shown }) (codes "log:7:") verdicts.NoAddress (codes "a") (codes "a\r\n")) (shows.Lines ∷ shows.Count ∷ shows.Names ∷ shows.Nothing ∷ [])
     ≡ codes "log:7:-\ta\r\n" ∷ [] ∷ codes "log\n" ∷ [] ∷ []
@@ -240,7 +241,7 @@ line_selected = refl
 pub line_counted : output_of (counting without.Drop) 1 (verdicts.Inside None) (ended (codes "a")) ≡ []
 line_counted = refl
 
--- with `-H` the name of the log stands first, whatever it is; and nothing without it
+-- with `-H`, the name of the log comes first, whatever it is; without it, nothing does
 pub line_named : (byte : ℕ) (name : List ℕ) → output_of (record (by false without.Drop) { name = byte ∷ name }) 1 (verdicts.Inside None) (ended (codes "a")) ≡ (byte ∷ name ++ codes ":") ++ codes "a\n"
 line_named byte name = ap (λ (h : List ℕ). h ++ codes "a\n") (append-nil (byte ∷ name ++ codes ":"))
 
@@ -256,7 +257,7 @@ any_log_named name other = rw other
 pub no_log_named : (name : List ℕ) → label_of false name ≡ []
 no_log_named name = refl
 
--- with `-o` only the addresses that are in the lists, whatever they are beside: 10.0.0.0/8 has the first and the third
+-- with `-o`, only the addresses that are in the lists, whatever is beside them: 10.0.0.0/8 contains the first and third
 abbrev pub addresses_of_ten : Filter
 addresses_of_ten = record (looking anywhere false) {
   listed = Addresses (record { v4 = record { address = 0x0a000000; prefix = 8 } ∷ []; v6 = [] });
@@ -274,12 +275,12 @@ addresses_named = refl
 pub no_addresses_counted : output_of (record addresses_of_ten { shows = shows.Count }) 1 (verdicts.Inside None) (ended (codes "10.0.0.1")) ≡ []
 no_addresses_counted = refl
 
--- ---- what is told
+-- ---- what is reported
 
 pub a_refused_line : in_option (says.Value 6 (codes "list") ∷ says.Value 10 (codes "text") ∷ []) (record { list = 0; line = 7; fault = Entry Prefix }) ≡ (0, 7)
 a_refused_line = refl
 
--- a list whose name is that of the option is none
+-- a list named `-e` does not count as an `-e`
 pub the_second_text : in_option (says.Value 10 (codes "x") ∷ says.Value 6 (codes "-e") ∷ says.Value 10 (codes "y") ∷ []) (record { list = 2; line = 1; fault = Entry Prefix }) ≡ (2, 2)
 the_second_text = refl
 

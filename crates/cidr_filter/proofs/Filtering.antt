@@ -25,7 +25,7 @@ use Rattle.cidr_filter.proofs.Heads.{heads_same}
 use Rattle.cidr_filter.proofs.LogParts.{both}
 use Rattle.cidr_filter.proofs.Spent.{none_below, none_less, less_more, still_below}
 
--- ---- stands
+-- ---- states
 
 pub goes_nowhere : (old new : Stand) → new.selected ≡ old.selected → Puts old.holds old.waits new.holds new.waits [] → Goes old new [] 0
 goes_nowhere old new same put = (put, counts_none old.selected new.selected same)
@@ -36,7 +36,7 @@ goes_on old mid new first second one two p q = (
   counts_more old.selected mid.selected new.selected one two p.1 q.1,
 )
 
--- behind what was put nothing was
+-- nothing was put after what was put
 pub goes_still : (old mid new : Stand) (added : List ℕ) (count : ℕ) → Goes old mid added count → Goes mid new [] 0 → Goes old new added count
 goes_still old mid new added count p q =
     let more = goes_on old mid new added [] count 0 p q in (
@@ -44,7 +44,7 @@ goes_still old mid new added count p q =
       subst (Counts old.selected new.selected) (omega arith) more.1,
     )
 
--- ---- what was read, so far
+-- ---- what was read so far
 
 module _ (filter : Filter) where
   pub begins : (reader : LogReader) (remained : Option (List ℕ)) (old new : Stand) → Goes old new [] 0 → new.seen ≡ nothing
@@ -70,7 +70,7 @@ module _ (filter : Filter) where
   module _ (was now : LogReader) (remained before after : Option (List ℕ)) (old mid between : Stand)
       (s : FiltersSoFar filter was remained before old mid) (idle : Goes mid between [] 0)
       (still : between.seen ≡ mid.seen) where
-    -- a line more, whose output was put
+    -- one more line, whose output was put
     pub more_filters : (line : LogLine) (verdict : Verdict) → IsVerdict filter (content line) verdict → is_refused filter verdict ≡ false
         → Filters filter 0 (s.first ++ line ∷ []) (s.is_done.added ++ output_of filter (0 + length s.first + 1) verdict line) (s.is_done.count + one_if (is_selected filter verdict))
     more_filters line verdict judges passes =
@@ -153,7 +153,7 @@ module _ (filter : Filter) where
             same ∙ ap (λ (b : Bool). less filter.most (s.is_done.count + one_if b)) f.5,
           )
 
-    -- one that is too long was dropped
+    -- a line that is too long was dropped
     pub after_long : (new : Stand) → GivesNext now remained after s.first TooLong → hurries_of now ≡ false
         → is_refused filter verdicts.TooLong ≡ false
         → Goes between new [] 0 → new.seen ≡ with_long between.seen → FiltersSoFar filter now remained after old new

@@ -1,4 +1,4 @@
--- What stands before what is printed of a line.
+-- What is printed before a line.
 use Rattle.std.proofs.Common.{◌≡◌, ℕ, ◌-◌, ◌^◌, ◌<◌, Bool, List, [], ◌∷◌, ◌++◌, ◌==◌, ◌∙◌, true, false, refl, sym, ap, length, min, decimal, arith, true≢false}
 use Rattle.std.specs.Prelude.{if◌then◌else◌}
 use Rattle.std.proofs.lemmas.Bool.{ne_eqb}

@@ -1,4 +1,4 @@
--- What the laws let one conclude, where a weaker law would not.
+-- Conclusions that the laws allow and weaker laws would not.
 use Rattle.std.proofs.Common.{◌≡◌, ℕ, ◌<◌, length, true, false, List, [], ◌∷◌, ◌++◌, inl, inr, map, refl, sym, ap, ◌∙◌, arith}
 use Rattle.std.specs.Prelude.{codes, Some, None}
 use Rattle.std.specs.List.{AllByRecursion, list_all, list_any}
@@ -25,7 +25,7 @@ kind verdicts.Outside = 1
 kind verdicts.NoAddress = 2
 kind verdicts.TooLong = 3
 
--- the prefix length of the IPv4 block that is told
+-- the prefix length of the IPv4 block in a verdict
 abbrev told_prefix : Verdict → ℕ
 told_prefix (verdicts.Inside None) = 0
 told_prefix (verdicts.Inside (Some (V4 block))) = block.prefix
@@ -34,14 +34,14 @@ told_prefix verdicts.Outside = 0
 told_prefix verdicts.NoAddress = 0
 told_prefix verdicts.TooLong = 0
 
--- a line inside is not outside, by any filter
+-- a line that is inside is not outside, for any filter
 pub not_inside_and_outside : LinesHaveOneVerdict → (filter : Filter) (line : List ℕ) → IsVerdict filter line (verdicts.Inside None) → IsVerdict filter line verdicts.Outside → ⊥
 not_inside_and_outside law filter line p q = omega (arith, ap kind (law filter line (verdicts.Inside None) verdicts.Outside p q))
 
 pub not_outside_and_bad : LinesHaveOneVerdict → (filter : Filter) (line : List ℕ) → IsVerdict filter line verdicts.Outside → IsVerdict filter line verdicts.NoAddress → ⊥
 not_outside_and_bad law filter line p q = omega (arith, ap kind (law filter line verdicts.Outside verdicts.NoAddress p q))
 
--- nor are two blocks told of it, 10.0.0.0/8 and 10.0.0.0/16
+-- nor are two blocks told for it, 10.0.0.0/8 and 10.0.0.0/16
 pub not_two_blocks : LinesHaveOneVerdict → (filter : Filter) (line : List ℕ) → IsVerdict filter line (verdicts.Inside (Some (V4 (record { address = 167772160; prefix = 8 }))))
     → IsVerdict filter line (verdicts.Inside (Some (V4 (record { address = 167772160; prefix = 16 })))) → ⊥
 not_two_blocks law filter line p q =
@@ -51,7 +51,7 @@ not_two_blocks law filter line p q =
 
 -- ---- one output
 
--- not one line is selected and two, whatever is written
+-- the number of selected lines is not both one and two, whatever is written
 pub not_two_counts : LogsHaveOneOutput → (filter : Filter) (before : ℕ) (log a b : List ℕ) → Filters filter before (log_lines log) a 1 → Filters filter before (log_lines log) b 2 → ⊥
 not_two_counts law filter before log a b p q = omega (arith, (law filter before log a b 1 2 p q).1)
 
@@ -62,18 +62,18 @@ not_two_outputs law filter before log m n p q = omega (arith, ap length (law fil
 
 -- ---- parts
 
--- parts that both have lines, output and lines that are selected: the lines of the second have the numbers from 2 on
+-- both parts have lines, output and selected lines: the lines of the second are numbered from 2 on
 pub parts_with_lines : OutputsOfPartsFollow → (filter : Filter) → Filters filter 0 (log_lines (codes "x\n")) (codes "x\n") 1 → Filters filter 1 (log_lines (codes "y\nz")) (codes "y\nz\n") 2
     → Filters filter 0 (log_lines (codes "x\ny\nz")) (codes "x\ny\nz\n") 3
 parts_with_lines law filter p q = law filter 0 (codes "x") (codes "y\nz") (codes "x\n") (codes "y\nz\n") 1 2 p q
 
--- or any numbers, if none is shown
+-- if no number is printed, they may have any numbers
 pub parts_without_numbers : OutputsOfPartsFollow → NumbersAreNotShown → (filter : Filter) → filter.numbered ≡ false → Filters filter 0 (log_lines (codes "x\n")) (codes "x\n") 1
     → Filters filter 0 (log_lines (codes "y\nz")) (codes "y\nz\n") 2 → Filters filter 0 (log_lines (codes "x\ny\nz")) (codes "x\ny\nz\n") 3
 parts_without_numbers law same filter none p q =
     law filter 0 (codes "x") (codes "y\nz") (codes "x\n") (codes "y\nz\n") 1 2 p (same filter 0 1 (log_lines (codes "y\nz")) (codes "y\nz\n") 2 none q)
 
--- so the whole does not have the output of its second part alone, nor the lines of one part counted alone
+-- so the output of the whole is not that of its second part only, nor is the count that of one part only
 pub parts_are_not_left_out : OutputsOfPartsFollow → LogsHaveOneOutput → (filter : Filter) → Filters filter 0 (log_lines (codes "x\n")) (codes "x\n") 1
     → Filters filter 1 (log_lines (codes "y")) (codes "y\n") 1 → Filters filter 0 (log_lines (codes "x\ny")) (codes "y\n") 1 → ⊥
 parts_are_not_left_out law one filter p q whole =
@@ -85,37 +85,38 @@ counts_of_parts_are_summed law one filter p q whole = omega (arith, (one filter 
 
 -- ---- lines that end runs
 
--- a line behind another, with its line feed, whatever follows
+-- a line after another, with its line feed, whatever follows
 pub ended_line_is_whole : LinesThatEndRunsAreWhole → (filter : Filter) (rest : List ℕ) → IsVerdict filter (codes "y") verdicts.NoAddress
     → (whole : LogLine) × (behind : List LogLine) × (log_lines (codes "x\ny\n" ++ rest) ≡ ended (codes "x") ∷ whole ∷ behind) × IsVerdict filter (content whole) verdicts.NoAddress
 ended_line_is_whole law filter rest judges = law filter (codes "x\ny\n") rest (ended (codes "x") ∷ []) [] (ended (codes "y")) verdicts.NoAddress refl (inl refl) judges
 
--- a line that is too long without its end is too long with any
+-- a line that is too long without its end is too long with any end
 pub long_line_is_long : LinesThatEndRunsAreWhole → (filter : Filter) (read rest : List ℕ) (line : LogLine) → log_lines read ≡ line ∷ [] → 1048577 < length line.bytes → 1048576 < length (content line)
     → (whole : LogLine) × (behind : List LogLine) × (log_lines (read ++ rest) ≡ whole ∷ behind) × (1048576 < length (content whole))
 long_line_is_long law filter read rest line e long judges = law filter read rest [] [] line verdicts.TooLong e (inr (inr long)) judges
 
--- so a log that begins with one has lines
+-- so a log that begins with such a line has lines
 pub long_line_is_not_lost : LinesThatEndRunsAreWhole → (filter : Filter) (read rest : List ℕ) (line : LogLine) → log_lines read ≡ line ∷ [] → 1048577 < length line.bytes
     → 1048576 < length (content line) → log_lines (read ++ rest) ≡ [] → ⊥
 long_line_is_not_lost law filter read rest line e long judges none =
     let whole = law filter read rest [] [] line verdicts.TooLong e (inr (inr long)) judges in
     omega (arith, ap length (sym none ∙ whole.2))
 
--- ---- words that are no options
+-- ---- words that are not options
 
--- the letters of options without a value and with one, the long names, and those that a value may follow in their word
+-- the letters of options without and with a value, the long names, and those that a value may follow after `=`
 pub letters_and_names : (flags_of entries ≡ codes "awvcoHhnlq46") × (values_of entries ≡ codes "kdfem")
     × (names_of entries ≡ codes "--after" ∷ codes "--mapped" ∷ codes "--help" ∷ codes "--version" ∷ codes "--nth" ∷ codes "--longest" ∷ codes "--bad" ∷ codes "--skip-bad" ∷ codes "--networks" ∷ [])
     × (joined_of entries ≡ codes "--nth" ∷ codes "--bad" ∷ [])
 letters_and_names = (refl, refl, refl, refl)
 
--- a letter beside an option, a letter of none, also behind others, one less, and a value that does not follow its name
+-- a long name with a wrong letter, an unknown letter, also after another, a name cut short, and a value after a name
+-- that does not allow it
 pub none_of_these : (rows : List options.Row) → map entry_of rows ≡ entries → ((word : List ℕ) → OthersAreNoOptions rows (is_option_word (map entry_of rows)) word)
     → AllByRecursion (λ word. list_any is_unknown (free_items rows word) ≡ true) (codes "--longesu" ∷ codes "-x" ∷ codes "-vx" ∷ codes "--ba" ∷ codes "--after=x" ∷ [])
 none_of_these rows has law = no_options entries rows has law (codes "--longesu" ∷ codes "-x" ∷ codes "-vx" ∷ codes "--ba" ∷ codes "--after=x" ∷ []) refl
 
--- the law leaves out the words of options, and no others
+-- the law excludes the words of options, and no others
 pub words_of_options : list_all (is_option_word entries)
     (codes "-f" ∷ codes "-flist" ∷ codes "-e" ∷ codes "-k3" ∷ codes "-vk" ∷ codes "-cd," ∷ codes "--bad" ∷ codes "--bad=drop" ∷ codes "--longest" ∷ codes "--mapped" ∷ codes "--after" ∷ codes "-vcawoHhnlqm5" ∷ []) ≡ true
 words_of_options = refl

@@ -1,4 +1,4 @@
--- A log that is not read any more, since as many of its lines are selected as may be.
+-- A log that is left after the last of its lines that may be selected.
 use Rattle.std.proofs.Common.{◌≡◌, ℕ, ◌+◌, ◌||◌, Bool, true, false, List, [], ◌∷◌, ◌++◌, length, refl, sym, ap, ◌∙◌, subst, inl, inr, append-nil, true≢false}
 use Rattle.std.specs.Prelude.{Option, Some, Result, Ok, Err, IfOk, IfErr, OnOk, OnErr, IsOkUnless, IsTrue}
 use Rattle.lines.specs.Outputs.{Written, AppendsBeginning, Prints, FailsIn}
@@ -55,7 +55,7 @@ by_no_read : {T : Type 0} (result : Result T LogFault) → IsOkUnless result fau
 by_no_read (Ok done) e = refl
 by_no_read {T} (Err fault) e = ap (λ (f : LogFault). ended_by_read {T = T} (Err f)) e
 
--- where a log ended
+-- a log that ended at one place, as one that ended at the same
 pub ended_at : (filter : Filter) (log : LogReader) (remained remains : Option (List ℕ)) (old new : Stand) (result : Result Reached LogFault) (one other : Reached) → result ≡ Ok one → one ≡ other
     → IfOk result (λ r. EndsBy r filter log remained remains old new) → EndsBy other filter log remained remains old new
 ended_at filter log remained remains old new result one other is same h =

@@ -24,7 +24,7 @@ all_are_not_below = refl
 pub any_are_below : (count : ℕ) → is_below None count ≡ true
 any_are_below count = refl
 
--- at a failed write all may be selected, and before another fault not
+-- at a failed write, as many lines may be selected as the limit; at any other fault, fewer
 pub all_at_a_failed_write : is_short faults.Write (Some 2) 2 ≡ true
 all_at_a_failed_write = refl
 
@@ -40,7 +40,7 @@ abbrev pub up_to_two : Filter
 up_to_two = record (by false without.Drop) { most = Some 2 }
 
 module _ (known : KnownLists) (inside : IsVerdict up_to_two (codes "10.0.0.1") (verdicts.Inside None)) (outside : IsVerdict up_to_two (codes "11.0.0.1") verdicts.Outside) where
-  -- at its second selected line, whatever follows it
+  -- the log is left at its second selected line, whatever follows it
   pub left_at_the_second : known.may_open (codes "a") true → IsFirstOf known (codes "a") (codes "10.0.0.1\n11.0.0.1\n10.0.0.1\n10.0.0.1\nx")
       → LeavesLog up_to_two known (codes "a") (codes "10.0.0.1\n10.0.0.1\n") 2 [] false
   left_at_the_second opened first = (
@@ -68,10 +68,10 @@ module _ (known : KnownLists) (inside : IsVerdict up_to_two (codes "10.0.0.1") (
     refl,
   )
 
--- and not at its first
+-- the log is not left at its first selected line
 pub not_at_the_first : (ends : Type 0) (lines : List LogLine) → AreAll up_to_two ends lines 1 → ⊥
 not_at_the_first ends lines all = let same = ap (λ (o : Option ℕ). unwrap_or o 0) all.most in omega (arith, same)
 
--- without the option no log is left
+-- without `-m`, no log is left
 pub never_left : (ends : Type 0) (lines : List LogLine) (count : ℕ) → AreAll (by false without.Drop) ends lines count → ⊥
 never_left ends lines count all = none-some count all.most

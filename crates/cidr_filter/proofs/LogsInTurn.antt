@@ -174,7 +174,7 @@ module _ (filter : Filter) (known : KnownLists) where
         ap (λ (l : Bool). l || y) f.13 ∙ or_assoc f.6 f.7 y,
       )
 
-  -- logs that are enough, whatever logs follow them
+  -- logs that end the run, whatever logs follow them
   pub logs_enough : (first second : List (List ℕ)) (a : List ℕ) (m : ℕ) (s : List ℕ) (x : Bool) → is_enough filter.shows m ≡ true
       → FiltersLogs filter known first a m s x → FiltersLogs filter known (first ++ second) a m s x
   logs_enough [] second a m s x enough f = absurd (not_enough (is_silent filter.shows) (subst (λ (k : ℕ). is_enough filter.shows k ≡ true) f.1 enough))
@@ -197,7 +197,7 @@ module _ (filter : Filter) (known : KnownLists) where
         f.13,
       )
 
-  -- whether logs are enough, by how many of their lines were counted
+  -- whether logs end the run, by how many of their lines were counted
   pub enough_by : {E : Type 0} (names : List (List ℕ)) (x is : Bool) (old new : Stand) (errors told : Written E) → (f : FiltersNames filter known names x old new errors told)
       → old.selected ≡ 0 → is_enough filter.shows new.selected ≡ is → is_enough filter.shows f.count ≡ is
   enough_by names x is old new errors told f none e =

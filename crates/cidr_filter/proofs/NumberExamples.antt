@@ -20,12 +20,12 @@ pub line_numbered : output_of numbering 7 (verdicts.Inside None) (ended (codes "
 unfolding digits
 line_numbered = refl
 
--- behind the name of its log, and before the longest network
+-- the number follows the name of the log and precedes the longest network
 pub number_behind_the_name : (tables : Tables) → output_of (record numbering { listed = Blocks tables; bad = without.Keep; name = codes "log" }) 12 verdicts.NoAddress (ended (codes "a")) ≡ codes "log:12:-\ta\n"
 unfolding digits
 number_behind_the_name tables = refl
 
--- before each address of its line
+-- the number precedes each address of its line
 pub addresses_numbered : output_of (record addresses_of_ten { numbered = true }) 2 (verdicts.Inside None) (ended (codes "10.0.0.1 10.0.0.2")) ≡ codes "2:10.0.0.1\n2:10.0.0.2\n"
 unfolding address_in before_port address_of digits v6_of gap_below
 addresses_numbered = refl
@@ -36,7 +36,7 @@ no_number_of_a_count = refl
 pub no_number_of_a_name : output_of (record numbering { shows = shows.Names; name = codes "log" }) 7 (verdicts.Inside None) (ended (codes "a")) ≡ codes "log\n"
 no_number_of_a_name = refl
 
--- up to what 64 bits count
+-- the greatest number is 2^64 - 1
 pub no_greater_number : number_head true 18446744073709551616 ≡ codes "18446744073709551615:"
 unfolding digits
 no_greater_number = refl
@@ -44,7 +44,7 @@ no_greater_number = refl
 pub no_number_unasked : (number : ℕ) → number_head false number ≡ []
 no_number_unasked number = refl
 
--- all lines are counted, also those that are not selected, and those before a part
+-- every line has a number, selected or not, including those before a part
 pub second_line : IsVerdict numbering (codes "11.0.0.1") verdicts.Outside → IsVerdict numbering (codes "10.0.0.1") (verdicts.Inside None)
     → Filters numbering 0 (ended (codes "11.0.0.1") ∷ ended (codes "10.0.0.1") ∷ []) (codes "2:10.0.0.1\n") 1
 unfolding digits

@@ -27,13 +27,13 @@ same_block meet tables (addresses.V6 a) (networks.V6 m) (networks.V4 n) p q = ab
 same_block meet tables (addresses.V6 a) (networks.V6 m) (networks.V6 n) p q =
     ap networks.V6 (meet 128 m n a p.is_block q.is_block (omega (arith, p.longest (networks.V6 n) q.stored q.holds, q.longest (networks.V6 m) p.stored p.holds)) p.holds q.holds)
 
--- and of one address one thing is told
+-- one thing is told about one address
 same_told : BlocksOfAnyWidthThatMeet → (listed : Matcher) (address : IpAddr) (a b : Option IpNetwork) → TellsBlock listed address a → TellsBlock listed address b → a ≡ b
 same_told meet (Addresses sets) address a b p q = p ∙ sym q
 same_told meet (Networks set) address a b p q = p ∙ sym q
 same_told meet (Blocks tables) address a b p q = p.1 ∙ ap Some (same_block meet tables address p.0 q.0 p.2 q.2) ∙ sym q.1
 
--- so one thing is told of the first that is in the lists
+-- so one thing is told about the first address in the lists
 one_first : BlocksOfAnyWidthThatMeet → (filter : Filter) (all : List Spelled) (a b : Option IpNetwork) → FirstListed filter all a → FirstListed filter all b → a ≡ b
 one_first meet filter [] a b p q = absurd p
 one_first meet filter (address ∷ all) a b (inl p) (inl q) = same_told meet filter.listed (asked filter.mapped address.address) a b p.1 q.1
@@ -41,7 +41,7 @@ one_first meet filter (address ∷ all) a b (inl p) (inr q) = absurd (q.0 p.0)
 one_first meet filter (address ∷ all) a b (inr p) (inl q) = absurd (p.0 q.0)
 one_first meet filter (address ∷ all) a b (inr p) (inr q) = one_first meet filter all a b p.1 q.1
 
--- one of some addresses is in the lists, or none is
+-- it does not hold both that one of the addresses is in the lists and that none is
 apart : (filter : Filter) (all : List Spelled) (told : Option IpNetwork) → FirstListed filter all told → NoneListed filter all → ⊥
 apart filter [] told p q = p
 apart filter (address ∷ all) told (inl p) q = q.0 p.0

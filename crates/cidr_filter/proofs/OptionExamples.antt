@@ -31,8 +31,8 @@ pub long_names : map (free_items rows) (codes "--longest" ∷ codes "--mapped" �
     ≡ (says.Flag 12 ∷ []) ∷ (says.Flag 5 ∷ []) ∷ (says.Joined 13 (codes "keep") (codes "--bad=keep") ∷ []) ∷ (says.Joined 13 [] (codes "--bad=") ∷ []) ∷ [] ∷ (says.Flag 7 ∷ []) ∷ []
 long_names = refl
 
--- a letter of none, also behind others, a name with more, one of which a value does not follow in its word, and a letter that
--- is none of ASCII
+-- unknown letters, long names with more after them, a name that does not allow a value after `=`, and a letter outside
+-- ASCII
 pub no_options : map (free_items rows) (codes "-x" ∷ codes "--longest=" ∷ codes "--bad-drop" ∷ codes "--after=x" ∷ codes "---" ∷ (45 ∷ 195 ∷ 169 ∷ []) ∷ codes "--vk1" ∷ [])
     ≡ (says.Unknown (codes "-x") ∷ []) ∷ (says.Unknown (codes "--longest=") ∷ []) ∷ (says.Unknown (codes "--bad-drop") ∷ []) ∷ (says.Unknown (codes "--after=x") ∷ [])
     ∷ (says.Unknown (codes "---") ∷ []) ∷ (says.Unknown (45 ∷ 195 ∷ 169 ∷ []) ∷ []) ∷ (says.Unknown (codes "--vk1") ∷ []) ∷ []
@@ -41,14 +41,14 @@ no_options = refl
 pub letter_of_none_behind_others : free_items rows (codes "-vxk1") ≡ says.Flag 14 ∷ says.Unknown (codes "-vxk1") ∷ []
 letter_of_none_behind_others = refl
 
--- whatever the value is
+-- a value follows its letter in the word, whatever the value is
 pub text_joined : (byte : ℕ) (text : List ℕ) → free_items rows (45 ∷ 101 ∷ byte ∷ text) ≡ says.Joined 10 (byte ∷ text) (45 ∷ 101 ∷ byte ∷ text) ∷ []
 text_joined byte text = refl
 
 pub list_joined : (byte : ℕ) (text : List ℕ) → free_items rows (45 ∷ 118 ∷ 102 ∷ byte ∷ text) ≡ says.Flag 14 ∷ says.Value 6 (byte ∷ text) ∷ []
 list_joined byte text = refl
 
--- the value in the next word: a `--` ends nothing there, and an option is none
+-- which words have their value in the next word, where `--` does not end the options and no word is an option
 pub next_words : map (free_mode rows) (codes "-vk" ∷ codes "-vk1" ∷ codes "-f" ∷ codes "--bad" ∷ codes "--longest" ∷ codes "--" ∷ codes "-" ∷ [])
     ≡ modes.Value 2 ∷ modes.Free ∷ modes.Value 6 ∷ modes.Value 13 ∷ modes.Free ∷ modes.Files ∷ modes.Free ∷ []
 next_words = refl
@@ -64,7 +64,7 @@ plain_words = refl
 
 -- ---- what is given
 
--- of an option that is given twice the last value counts, and the value of another option is none
+-- if an option is given twice, its last value counts; the values of other options do not
 pub the_last_text : value_of (says.Value 4 (codes "A") ∷ says.Flag 14 ∷ says.Value 4 (codes "B") ∷ says.Value 10 (codes "C") ∷ []) 4 ≡ codes "B"
 the_last_text = refl
 
@@ -74,7 +74,7 @@ files_in_their_order = refl
 pub no_file_is_standard_input : inputs_of (says.Flag 14 ∷ []) ≡ codes "-" ∷ []
 no_file_is_standard_input = refl
 
--- a list and no FILE, a list and a FILE, one list, and a text that is a dash
+-- standard input is the list and, without FILE, the log; the list and a FILE; only the list; and a text is a dash
 pub standard_input : map (is_read_once rows)
     ((says.Value 6 (codes "-") ∷ []) ∷ (says.Value 6 (codes "-") ∷ says.File (codes "-") ∷ []) ∷ (says.Joined 6 (codes "-") (codes "-f-") ∷ says.File (codes "a") ∷ [])
     ∷ (says.Value 10 (codes "-") ∷ []) ∷ []) ≡ false ∷ false ∷ true ∷ true ∷ []
@@ -85,12 +85,12 @@ bad_words = refl
 
 -- ---- where addresses are looked for
 
--- without options in the first field, at single spaces
+-- without options, the first field, separated by single spaces
 pub areas_of : map area_of ([] ∷ (says.Flag 1 ∷ says.Value 2 (codes "3") ∷ []) ∷ (says.Flag 0 ∷ []) ∷ (says.Value 4 (codes "SRC=") ∷ []) ∷ (says.Value 2 (codes "3") ∷ says.Value 3 (codes ",") ∷ []) ∷ [])
     ≡ whole (parts.Field 1 32) ∷ whole (parts.Word 3) ∷ anywhere ∷ after (codes "SRC=") ∷ whole (parts.Field 3 44) ∷ []
 areas_of = refl
 
--- inside one field or word, and which of the addresses there
+-- one field or word, and which of the addresses in it
 pub picks_of : map area_of ((says.Flag 0 ∷ says.Value 2 (codes "8") ∷ says.Value 3 (codes ",") ∷ []) ∷ (says.Flag 0 ∷ says.Flag 1 ∷ []) ∷ (says.Value 9 (codes "last") ∷ []) ∷ (says.Value 9 (codes "first") ∷ says.Value 2 (codes "2") ∷ []) ∷ (says.Value 4 (codes "=") ∷ says.Joined 9 (codes "3") (codes "--nth=3") ∷ []) ∷ [])
     ≡ record { part = parts.Field 8 44; pick = picks.Each } ∷ record { part = parts.Word 1; pick = picks.Each } ∷ record { part = parts.Line; pick = picks.Last }
     ∷ record { part = parts.Field 2 32; pick = picks.Number 1 } ∷ record { part = parts.After (codes "="); pick = picks.Number 3 } ∷ []

@@ -46,14 +46,14 @@ no_greater_line = refl
 pub no_number : total_text false 12 ≡ []
 no_number = refl
 
--- without a refused line that ends it a run is not silent: there is no memory, or the logs are filtered
+-- a run that no refused line ends is not silent: memory runs out, or the logs are filtered
 pub not_silent : {W E : Type 0} (known : KnownLists) (items : List Item) (read : ReadLists) (end : Ending W E) → is_stopped_by items read.refused ≡ false → EndsFiltering known items read end
     → Refuses (codes "out of memory\n") end
     ⊎ ((listed : Matcher) × HoldsRead (question_of items) read listed × EndsLogs (filter_of items listed) known (inputs_of items) end)
 not_silent known items read end none (inl ends) = absurd (true≢false (sym ends.0 ∙ none))
 not_silent known items read end none (inr ends) = ends.1
 
--- one that is skipped does not end it
+-- a refused line ends the run, unless it is skipped
 pub refused_or_skipped : map (λ items. is_stopped_by items (record { kept = record { list = 0; line = 7; fault = Entry Prefix } ∷ []; more = 0 })) ([] ∷ (says.Flag 22 ∷ []) ∷ []) ≡ true ∷ false ∷ []
 refused_or_skipped = refl
 
@@ -79,7 +79,7 @@ lists_in_their_order known before mid after opened first second = (mid, (opened,
 
 module _ (known : KnownLists) (inside : IsVerdict (by false without.Stop) (codes "10.0.0.1") (verdicts.Inside None)) (outside : IsVerdict (by false without.Stop) (codes "11.0.0.1") verdicts.Outside)
     (bad : IsVerdict (by false without.Stop) (codes "bad") verdicts.NoAddress) where
-  -- two logs, of which the second has no last line feed
+  -- two logs, the second without a final line feed
   pub two_logs : IsAllOf known (codes "a") (codes "11.0.0.1\n10.0.0.1\n") → IsAllOf known (codes "b") (codes "10.0.0.1")
       → FiltersLogs (by false without.Stop) known (codes "a" ∷ codes "b" ∷ []) (codes "10.0.0.1\n10.0.0.1\n") 2 [] false
   unfolding address_of digits v6_of gap_below
@@ -171,7 +171,7 @@ module _ (known : KnownLists) (inside : IsVerdict (by false without.Stop) (codes
     ends = inl (written, told, status);
   })
 
-  -- a log that stops behind its first line, of which another is left
+  -- a log that stops the run after its first line; another log is left
   stopped_behind_a_line : (fault : LogFault) → is_short fault None 1 ≡ true → HaltsBy (EndsRunBy (by false without.Stop)) known (codes "a") (ended (codes "10.0.0.1") ∷ []) fault → {W E : Type 0} (end : Ending W E)
       → Wrote fault end (codes "10.0.0.1\n") → HasTold end (log_fault_text (codes "a") 1 fault) → end.status ≡ 2 → EndsLogs (by false without.Stop) known (codes "a" ∷ codes "b" ∷ []) end
   stopped_behind_a_line fault short halts end wrote told status = inr (record {
@@ -197,7 +197,7 @@ module _ (known : KnownLists) (inside : IsVerdict (by false without.Stop) (codes
     status = status;
   })
 
-  -- a line that ends the run: what comes before it is written
+  -- a line ends the run: what comes before it is written
   pub stopped_at_the_second_line : known.may_open (codes "a") true → IsFirstOf known (codes "a") (codes "10.0.0.1\nbad\n10.0.0.1\n") → {W E : Type 0} (end : Ending W E) → HasWritten end (codes "10.0.0.1\n") → HasTold end (codes "a:2: refused address\n")
       → end.status ≡ 2 → EndsLogs (by false without.Stop) known (codes "a" ∷ codes "b" ∷ []) end
   unfolding digits
@@ -215,7 +215,7 @@ module _ (known : KnownLists) (inside : IsVerdict (by false without.Stop) (codes
         opened,
       ) end written told status
 
-  -- a read that fails: the lines before it whose line feed was read were filtered, and what follows them is no line
+  -- a read fails: the lines whose line feed was read were filtered, and what follows them is not a line
   pub stopped_by_a_failed_read : known.may_open (codes "a") true → known.may_fail (codes "a") → IsFirstOf known (codes "a") (codes "10.0.0.1\n10.0.0.1") → {W E : Type 0} (end : Ending W E) → HasWritten end (codes "10.0.0.1\n")
       → HasTold end (codes "a: cannot read\n") → end.status ≡ 2 → EndsLogs (by false without.Stop) known (codes "a" ∷ codes "b" ∷ []) end
   stopped_by_a_failed_read opened fails a end written told status =

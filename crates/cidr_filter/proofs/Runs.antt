@@ -47,7 +47,7 @@ use Rattle.cidr_filter.proofs.Spent.{below_within}
 
 -- ---- a log that stops
 
--- what ends a run does not depend on how a log is called
+-- what ends a run does not depend on the name that is printed for a log
 halts_same : (filter : Filter) (known : KnownLists) (name : List ℕ) (lines : List LogLine) (fault : LogFault) → HaltsBy (EndsRunBy (filter_for filter name)) known name lines fault
     → HaltsBy (EndsRunBy filter) known name lines fault
 halts_same filter known name lines (faults.Open cause) h = absurd h.0
@@ -158,7 +158,7 @@ stops_behind_names filter known done more rest names missed end mid between old 
 -- ---- one file more
 
 module _ {Z : Type 0} (filter : Filter) (known : KnownLists) (files : List (String Z)) where
-  -- the one at a place was filtered too
+  -- the log at an index was filtered too
   pub one_more : {E : Type 0} (i : ℕ) (name : List ℕ) (x y : Bool) (old mid new : Stand) (errors between told : Written E) → map string_bytes (take (i + 1) files) ≡ map string_bytes (take i files) ++ name ∷ []
       → old.selected ≡ 0 → is_enough filter.shows mid.selected ≡ false
       → FiltersNames filter known (map string_bytes (take i files)) x old mid errors between → FiltersNames filter known (name ∷ []) y mid new between told
@@ -167,7 +167,7 @@ module _ {Z : Type 0} (filter : Filter) (known : KnownLists) (files : List (Stri
       subst (λ (n : List (List ℕ)). FiltersNames filter known n (x || y) old new errors told) (sym e)
       (names_both filter known (map string_bytes (take i files)) (name ∷ []) x y old mid new errors between told none few f g)
 
-  -- those up to a place are enough
+  -- the logs up to an index end the run
   pub enough_named : {E : Type 0} (i : ℕ) (missed : Bool) (old new : Stand) (errors told : Written E) → old.selected ≡ 0
       → is_enough filter.shows new.selected ≡ true → FiltersNames filter known (map string_bytes (take i files)) missed old new errors told
       → FiltersNames filter known (map string_bytes files) missed old new errors told
@@ -176,7 +176,7 @@ module _ {Z : Type 0} (filter : Filter) (known : KnownLists) (files : List (Stri
       (sym (map-append string_bytes (take i files) (drop i files)) ∙ ap (map string_bytes) (take-append-drop i files))
       (names_enough filter known (map string_bytes (take i files)) (map string_bytes (drop i files)) missed old new errors told none enough h)
 
-  -- all were
+  -- all logs were filtered
   pub all_named : {E : Type 0} (i : ℕ) (missed : Bool) (old new : Stand) (errors told : Written E) → length files ≤ i
       → FiltersNames filter known (map string_bytes (take i files)) missed old new errors told → FiltersNames filter known (map string_bytes files) missed old new errors told
   all_named i missed old new errors told past h =
@@ -301,7 +301,7 @@ module _ {Z W E : Type 0} (known : KnownLists) (items : List Item) (names : List
       line_refused some h = (refused, told, tells, inr (was_read.read, was_read.is_read, was_read.refused_lines, inl (by_lines true some, h)))
 
     module _ (stops : Bool) (e : stops ≡ is_stopped_by items refused) (none : stops ≡ false) where
-      -- none does, and the filtering ended so
+      -- no refused line ends the run, and the filtering ended
       goes_on : Refuses (codes "out of memory\n") (record end { errors = told }) ⊎ ((held : Matcher) × HoldsRead (question_of items) was_read.read held
           × EndsLogs (filter_of items held) known (inputs_of items) (record end { errors = told })) → EndsReading known items names end
       goes_on h = (refused, told, tells, inr (was_read.read, was_read.is_read, was_read.refused_lines, inr (by_lines stops e false none, h)))

@@ -67,7 +67,7 @@ last_selected (Some most) now count false e f g =
     let some = is_less count most f in
     absurd (omega (arith, none, some))
 
--- ---- where a write fails
+-- ---- if a write fails
 
 pub below_within : (most : Option ℕ) (count : ℕ) → is_below most count ≡ true → is_within most count ≡ true
 below_within None count e = refl

@@ -29,7 +29,7 @@ use Rattle.log_programs.specs.LogStats.{with_line}
 use Rattle.cidr_filter.proofs.Heads.{heads_same}
 use Rattle.cidr_filter.proofs.Spent.{below_within, within_more}
 
--- no read failed at a line
+-- what stops the filtering at a line is not a failed read
 pub no_read_at_line : (T : Type 0) (filter : Filter) (line text : List ℕ) (write_failed : Bool) (old new : Stand) (fault : LogFault) → LineStops filter line text write_failed old new fault
     → ended_by_read {T = T} (Err fault) ≡ false
 no_read_at_line T filter line text write_failed old new (faults.Open cause) h = absurd h
@@ -56,7 +56,7 @@ module _ (filter : Filter) (was now : LogReader) (remained before after : Option
 
   -- ---- at a line
 
-  -- it ends the run
+  -- the line ends the run
   ends_at : (fault : LogFault) (line : LogLine) → ComesNext remained after s.first line → EndsRunBy filter fault (content line)
       → ReadsToLine (FiltersLines filter old between) (EndsRunBy filter fault) remained after
   ends_at fault line next ends = readings.line_ends _ (FiltersLines filter old between) was now remained before after s (EndsRunBy filter fault) line next ends still
@@ -79,7 +79,7 @@ module _ (filter : Filter) (was now : LogReader) (remained before after : Option
         subst (λ (n : Stand). ReadsToLine (FiltersLines filter old n) (EndsRunBy filter fault) remained after) (sym stands)
         (ends_at fault (log_line (line_of now) end) given.next (subst (λ (l : List ℕ). EndsRunBy filter fault l) same ends))
 
-    -- or the writer failed at it
+    -- the writer failed at the line
     writes_at : (verdict : Verdict) → IsVerdict filter (content (log_line (line_of now) end)) verdict → is_refused filter verdict ≡ false → new.seen ≡ with_line between.seen (is_addressed_by verdict)
         → AppendsBeginning between.holds new.holds (between.waits ++ output_of filter (0 + length s.first + 1) verdict (log_line (line_of now) end))
         → WritesBeginning filter old new (s.first ++ log_line (line_of now) end ∷ [])
@@ -116,7 +116,7 @@ module _ (filter : Filter) (was now : LogReader) (remained before after : Option
     line_stops read_failed write_failed faults.Length h = refused_at faults.Length (h.0, h.1) h.2
     line_stops read_failed write_failed faults.Endless h = absurd h
 
-  -- a line that is longer
+  -- a line that is too long
   pub long_line_stops : (given : GivesNext now remained after s.first TooLong) → is_refused filter verdicts.TooLong ≡ true
       → ReadsToLine (FiltersLines filter old between) (EndsRunBy filter faults.Length) remained after
   long_line_stops given refused = ends_at faults.Length given.line given.next (given.long, refused)

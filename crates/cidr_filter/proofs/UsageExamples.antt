@@ -29,7 +29,7 @@ words_by_themselves = refl
 pub not_the_only_word : first_fault rows false (free_items rows (codes "--help")) ≡ Some (about (subjects.Option 7) (codes "not the only argument"))
 not_the_only_word = refl
 
--- ---- an option and its value, which is the next word, or follows several letters
+-- ---- an option and its value, which is the next word or follows several letters
 
 abbrev value_told : ℕ → List ℕ → List ℕ → Option Fault
 value_told row value problem = Some (about (subjects.Value row value) problem)
@@ -43,10 +43,10 @@ values_of_options = refl
 pub value_behind_letters : first_fault rows false (free_items rows (codes "-vk0")) ≡ value_told 2 (codes "0") (codes "not a field number")
 value_behind_letters = refl
 
--- ---- which is told
+-- ---- which problem is reported
 
--- of two wrong words the first, of a wrong word and an empty FILE before it the word, and of these and options that do not
--- go together the FILE
+-- the first of two wrong words; a wrong word rather than an empty FILE before it; an empty FILE rather than options
+-- that may not be given together
 pub first_of_two_wrong_words : fault (says.Joined 2 (codes "0") (codes "-k0") ∷ says.Unknown (codes "--longer") ∷ []) ≡ word_told (codes "-k0") (codes "not a field number")
 first_of_two_wrong_words = refl
 
@@ -56,7 +56,7 @@ word_behind_an_empty_file = refl
 pub empty_file_beside_a_pair : fault (says.Flag 14 ∷ says.Flag 12 ∷ says.File [] ∷ []) ≡ word_told [] (codes "not a file name")
 empty_file_beside_a_pair = refl
 
--- right words that are wrong together; of two pairs the first is told, and before a missing list
+-- right words that may not be given together; the first of two such pairs is reported, before a missing list
 pub pairs_told : map fault
     ((says.Flag 12 ∷ says.Flag 14 ∷ []) ∷ (says.Flag 1 ∷ says.Value 3 (codes ",") ∷ []) ∷ (says.Flag 16 ∷ says.Flag 14 ∷ [])
     ∷ (says.Value 4 (codes "x") ∷ says.Flag 0 ∷ []) ∷ (says.Flag 17 ∷ says.Flag 18 ∷ []) ∷ (says.Flag 16 ∷ says.Flag 14 ∷ says.Flag 12 ∷ []) ∷ [])
@@ -65,7 +65,7 @@ pub pairs_told : map fault
     ∷ codes "--longest goes with neither -v nor -c" ∷ [])
 pairs_told = refl
 
--- nothing is asked for; the list and the log are standard input; and nothing is wrong
+-- no words; the list and the log are both standard input; and two lists of words with nothing wrong
 pub no_words : map fault ([] ∷ (says.Value 6 (codes "-") ∷ []) ∷ (says.Value 6 (codes "-") ∷ says.File (codes "a") ∷ []) ∷ (says.Value 10 (codes "::/0") ∷ []) ∷ [])
     ≡ together (codes "neither -f nor -e is given") ∷ together (codes "-: standard input can be read only once") ∷ None ∷ None ∷ []
 no_words = refl

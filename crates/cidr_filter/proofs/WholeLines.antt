@@ -1,4 +1,4 @@
--- A line that ends the run, and what comes after what was read of the log.
+-- A line that ends the run, whatever follows what was read of the log.
 use Rattle.std.proofs.Common.{◌≡◌, ℕ, ◌<◌, ◌⊎◌, true, List, [], ◌∷◌, ◌++◌, length, inl, inr, sym, ap, ◌∙◌, subst, arith, append_assoc, append-nil, length-append, true≢false}
 use Rattle.std.proofs.lemmas.Bool.{ne_eqb}
 use Rattle.lines.proofs.BytesLemmas.{HasNo, HasNo-push}
@@ -12,25 +12,25 @@ use Rattle.cidr_filter.specs.declared.filter.Verdict.{Verdict}
 use Rattle.cidr_filter.specs.declared.filter.Verdict.TheVariants as verdicts
 use Rattle.program.proofs.LogLines.{lines_line, lines_last, some_bytes}
 
--- two lists that are the same
+-- equal lists have equal first lines
 first_of : (x y : LogLine) (xs ys : List LogLine) → x ∷ xs ≡ y ∷ ys → x ≡ y
 first_of x y xs ys e = cc
 
 others_of : (x y : LogLine) (xs ys : List LogLine) → x ∷ xs ≡ y ∷ ys → xs ≡ ys
 others_of x y xs ys e = cc
 
--- no lines, and one line, have no line behind others
+-- an empty list has no line, and a list of one line has no other
 no_line : (lines others : List LogLine) (line : LogLine) → [] ≡ lines ++ line ∷ others → ⊥
 no_line lines others line e = omega (arith, ap length e, length-append lines (line ∷ others))
 
 one_line : (x l line : LogLine) (lines others : List LogLine) → x ∷ [] ≡ (l ∷ lines) ++ line ∷ others → ⊥
 one_line x l line lines others e = no_line lines others line (others_of x l [] (lines ++ line ∷ others) e)
 
--- these lines begin with the first ones, and then comes one of this verdict
+-- `all` begins with `lines`, followed by a line with this verdict
 abbrev pub Goes : Filter → Verdict → List LogLine → List LogLine → Type 0
 Goes filter verdict all lines = (whole : LogLine) × (behind : List LogLine) × (all ≡ lines ++ whole ∷ behind) × IsVerdict filter (content whole) verdict
 
--- a line that is too long has one verdict
+-- two lines that are too long have the same verdict
 long_told : (filter : Filter) (verdict : Verdict) (line other : List ℕ) → 1048576 < length line → 1048576 < length other → IsVerdict filter line verdict → IsVerdict filter other verdict
 long_told filter (verdicts.Inside told) line other long longer judges = absurd (omega (arith, long, judges.0))
 long_told filter verdicts.Outside line other long longer judges = absurd (omega (arith, long, judges.0))
@@ -54,7 +54,7 @@ module _ (filter : Filter) (verdict : Verdict) (rest : List ℕ) where
         (more.0, more.1, ap log_lines (sym (append_assoc p (c ∷ []) after)) ∙ more.2, more.3)
   ]
 
-  -- the line that no line feed ends, behind none
+  -- the line without a line feed, after no other line
   last_goes : (p : List ℕ) (line : LogLine) → HasNo 10 p → unended p ≡ line → (line.is_ended ≡ true) ⊎ (1048577 < length line.bytes) → IsVerdict filter (content line) verdict
       → Goes filter verdict (log_lines (p ++ rest)) []
   last_goes p line none same (inl ends) judges = absurd (true≢false (sym ends ∙ ap (λ (l : LogLine). l.is_ended) (sym same)))
@@ -64,7 +64,7 @@ module _ (filter : Filter) (verdict : Verdict) (rest : List ℕ) where
   only_line : (x : ℕ) (p : List ℕ) (all : List LogLine) → HasNo 10 (x ∷ p) → log_lines ((x ∷ p) ++ []) ≡ all → unended (x ∷ p) ∷ [] ≡ all
   only_line x p all none e = sym (ap log_lines (append-nil (x ∷ p)) ∙ lines_last (x ∷ p) none (ne_eqb (length (x ∷ p)) 0 (λ e. omega (arith, e)))) ∙ e
 
-  -- the lines of a text, of which `p` was read before
+  -- the lines of `p`, which was read before, followed by a text
   goes : (p text : List ℕ) (lines others : List LogLine) (line : LogLine) → HasNo 10 p → log_lines (p ++ text) ≡ lines ++ line ∷ others
       → (line.is_ended ≡ true) ⊎ (1048577 < length line.bytes) → IsVerdict filter (content line) verdict → Goes filter verdict (log_lines (p ++ (text ++ rest))) lines
   goes [] [] lines others line none e is judges = absurd (no_line lines others line e)

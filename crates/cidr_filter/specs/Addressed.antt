@@ -1,4 +1,4 @@
--- What is seen of the lines of logs, and what is reported of these and of logs that cannot be opened.
+-- What is counted about the lines of logs, and the reports about them and about logs that cannot be opened.
 use Rattle.std.specs.Prelude.{ℕ, Bool, true, false, List, ◌++◌, length, nat_lt, codes}
 use Rattle.cidr_filter.specs.Filters.{addresses_in}
 use Rattle.program.specs.LogLines.{LogLine}
@@ -13,32 +13,32 @@ use Rattle.cidr_filter.specs.declared.filter.Verdict.{Verdict}
 use Rattle.cidr_filter.specs.declared.filter.Verdict.TheVariants as verdicts
 use Rattle.lists.specs.declared.opening.OpenFault.{OpenFault}
 
--- whether a line, given without its end, has an address where it is looked for
+-- whether a line, given without its end, has an address where one is looked for
 abbrev pub is_addressed : Filter → List ℕ → Bool
 is_addressed filter line = nat_lt 0 (length (addresses_in filter line))
 
--- what is seen of these lines
+-- the counts of these lines
 abbrev pub seen_of : Filter → List LogLine → LogStats
 seen_of filter lines = stats_of (is_addressed filter) lines
 
--- whether a line of this verdict has one
+-- whether a line with this verdict has an address
 abbrev pub is_addressed_by : Verdict → Bool
 is_addressed_by (verdicts.Inside told) = true
 is_addressed_by verdicts.Outside = true
 is_addressed_by verdicts.NoAddress = false
 is_addressed_by verdicts.TooLong = false
 
--- what is reported of a log of this name with lines, as many as this, if none has one
+-- the report about a log with this name and number of lines, if it has lines and none has an address
 abbrev pub lacking_by : Area → List ℕ → ℕ → Bool → List ℕ
 lacking_by area name lines addressed = lacking_told (codes "cidr_filter") area name lines addressed
 
--- what is reported of one of which this was seen, and, if its end was reached, that behind it
+-- the reports about a log whose lines have these counts; if its end was reached, the report above follows them
 abbrev pub seen_by : Filter → List ℕ → LogStats → List ℕ
 seen_by filter name seen = seen_text (codes "cidr_filter") name filter.bad seen
 
 abbrev pub ended_by : Filter → List ℕ → LogStats → List ℕ
 ended_by filter name seen = seen_by filter name seen ++ lacking_by filter.area name seen.lines seen.is_addressed
 
--- what is reported of a log of this name that cannot be opened
+-- the report that the log with this name cannot be opened
 abbrev pub closed_text : List ℕ → OpenFault → List ℕ
 closed_text name fault = closed.closed_text (codes "cidr_filter") name fault

@@ -10,29 +10,29 @@ abbrev pub LinesHaveOneVerdict : Type 0
 LinesHaveOneVerdict = (filter : Filter) (line : List ℕ) (a b : Verdict) → IsVerdict filter line a
     → IsVerdict filter line b → a ≡ b
 
--- for the lines of a log, or of a part of it behind so many lines, at most one output is written,
--- and as many are selected
+-- the lines of a log, or of a part of it after `before` other lines, have at most one output and
+-- one number of selected lines
 abbrev pub LogsHaveOneOutput : Type 0
 LogsHaveOneOutput = (filter : Filter) (before : ℕ) (log : List ℕ) (a b : List ℕ) (m n : ℕ)
     → Filters filter before (log_lines log) a m
     → Filters filter before (log_lines log) b n → (a ≡ b) × (m ≡ n)
 
--- a log that is cut after a line feed gives what its two parts give, one after the other, if the
--- numbers of the second go on from those of the first
+-- if a log is cut after a line feed, its output is that of the first part and then that of the
+-- second, whose line numbers continue those of the first; the numbers of selected lines add up
 abbrev pub OutputsOfPartsFollow : Type 0
 OutputsOfPartsFollow = (filter : Filter) (before : ℕ) (first second a b : List ℕ) (m n : ℕ)
     → Filters filter before (log_lines (first ++ 10 ∷ [])) a m
     → Filters filter (before + length (log_lines (first ++ 10 ∷ []))) (log_lines second) b n
     → Filters filter before (log_lines (first ++ 10 ∷ second)) (a ++ b) (m + n)
 
--- where no line is numbered, it does not matter how many come before those of a part
+-- if lines are not numbered, it does not matter how many lines come before those of a part
 abbrev pub NumbersAreNotShown : Type 0
 NumbersAreNotShown = (filter : Filter) (before other : ℕ) (lines : List LogLine) (output : List ℕ) (count : ℕ)
     → filter.numbered ≡ false
     → Filters filter before lines output count → Filters filter other lines output count
 
--- a line that ends the run is a line of the log in its place, with the same verdict, whatever comes after what was
--- read: one whose end was not read too, if the log ends with it or it is too long with any end
+-- a line that ends the run is a line of the log in its place, with the same verdict, whatever follows what was read:
+-- even a line whose end was not read, if the log ends with it or it is too long whatever its end is
 abbrev pub LinesThatEndRunsAreWhole : Type 0
 LinesThatEndRunsAreWhole = (filter : Filter) (read rest : List ℕ) (lines others : List LogLine) (line : LogLine)
     (verdict : Verdict) → log_lines read ≡ lines ++ line ∷ others

@@ -19,7 +19,7 @@ use Rattle.lists.specs.declared.opening.OpenFault.{OpenFault}
 abbrev pub label_of : Bool → List ℕ → List ℕ
 label_of named name = if named then if bytes_eq name (codes "-") then codes "(standard input)" else name else []
 
--- the filter of the log of this name
+-- the filter for the log with this name
 abbrev pub filter_for : Filter → List ℕ → Filter
 filter_for filter name = record filter { name = label_of filter.named name }
 
@@ -31,8 +31,8 @@ ReadsLog filter known name output selected told missed = (read : List ℕ) × Is
     × (told ≡ ended_by filter name (seen_of filter (log_lines read))) × (is_below filter.most selected ≡ true)
     × (missed ≡ is_missed filter.bad (seen_of filter (log_lines read)))
 
--- or it was read up to the last line that may be selected, and of the lines up to there the same is so, but that none
--- has to have an address
+-- the log was read up to the last line that may be selected; the same for the lines up to there, but without the report
+-- that none of them has an address
 abbrev pub LeavesLog : Filter → KnownLists → List ℕ → List ℕ → ℕ → List ℕ → Bool → Type 0
 LeavesLog filter known name output selected told missed = (read : List ℕ) × (lines : List LogLine)
     × (others : List LogLine) × known.may_open name true × IsFirstOf known name read
@@ -40,27 +40,27 @@ LeavesLog filter known name output selected told missed = (read : List ℕ) × (
     × AreAll (filter_for filter name) (IsAllOf known name read) lines selected
     × (told ≡ seen_by filter name (seen_of filter lines)) × (missed ≡ is_missed filter.bad (seen_of filter lines))
 
--- or it cannot be opened, which is reported with the cause
+-- the log cannot be opened, which is reported with the cause
 abbrev pub MissesLog : KnownLists → List ℕ → List ℕ → ℕ → List ℕ → Bool → Type 0
 MissesLog known name output selected told missed = (fault : OpenFault) × known.may_open name false
     × known.may_miss name fault × (output ≡ []) × (selected ≡ 0) × (told ≡ closed_text name fault) × (missed ≡ true)
 
--- whether the run ends behind logs of which so many lines are selected: with `-q`, if there is one
+-- whether the run ends after logs with this number of selected lines: with `-q`, if there is one
 abbrev pub is_enough : OutputMode → ℕ → Bool
 is_enough shown selected = is_silent shown && nat_lt 0 selected
 
--- nothing came of no log
+-- the results for no logs
 abbrev pub NoLogs : List ℕ → ℕ → List ℕ → Bool → Type 0
 NoLogs output selected told missed = (output ≡ []) × (selected ≡ 0) × (told ≡ []) × (missed ≡ false)
 
--- behind a log that is enough no other is opened. Behind another this is true
+-- after a log that ends the run (`true`), no other is opened; after any other log, `goes` holds
 abbrev pub GoesOn : Bool → Type 0 → List ℕ → ℕ → List ℕ → Bool → Type 0
 GoesOn true goes output selected told missed = NoLogs output selected told missed
 GoesOn false goes output selected told missed = goes
 
--- the logs of these names were read to their ends, or left, or could not be opened, one after the
--- other, up to the first that is enough: this is the output of their lines, this many of them were
--- selected, this is reported, and whether one could not be opened or a line of one is missed
+-- the logs with these names were each read to the end, or left, or could not be opened, one after
+-- another, up to the first that ends the run: their output, how many of their lines were selected,
+-- the reports, and whether a log could not be opened or a line is missed
 abbrev pub FiltersLogs : Filter → KnownLists → List (List ℕ) → List ℕ → ℕ → List ℕ → Bool → Type 0
 FiltersLogs filter known [] output selected told missed = NoLogs output selected told missed
 FiltersLogs filter known (name ∷ names) output selected told missed = (added : List ℕ) × (others : List ℕ) × (one : ℕ)
@@ -73,8 +73,8 @@ FiltersLogs filter known (name ∷ names) output selected told missed = (added :
     × (output ≡ added ++ others) × (selected ≡ one + more) × (told ≡ text ++ texts)
     × (missed ≡ (is_missed || are_missed))
 
--- so many lines of a log are selected where it ends a run, by the fault: fewer than may be, and at a failed write as
--- many at the most
+-- when a log ends the run by this fault, this number of its lines may be selected: fewer than `most`, or, if a write
+-- failed, at most that many
 abbrev pub is_short : LogFault → Option ℕ → ℕ → Bool
 is_short (faults.Open cause) most count = is_below most count
 is_short faults.Read most count = is_below most count
@@ -83,8 +83,8 @@ is_short faults.Address most count = is_below most count
 is_short faults.Length most count = is_below most count
 is_short faults.Endless most count = is_below most count
 
--- what ends a run, by the fault: a line, given without its end, without an address, or one that is too long, if the
--- option says so
+-- this line, given without its end, ends the run by this fault: it has no address, or is too long, and `--bad stop` is
+-- given
 abbrev pub EndsRunBy : Filter → LogFault → List ℕ → Type 0
 EndsRunBy filter (faults.Open cause) line = ⊥
 EndsRunBy filter faults.Read line = ⊥

@@ -5,7 +5,7 @@ use Rattle.options.specs.Table.{Entry, IsTable, flag, long_flag, valued, long}
 use Rattle.options.specs.declared.table.Kind.TheVariants as kinds
 use Rattle.options.specs.declared.table.Table.{Table}
 
--- the rows of the options that this program alone has: `-e`, `-m`, `--longest`, `--bad`, `-v`, `-c`, `-o`, `-H`, `-h`,
+-- the rows of the options that only this program has: `-e`, `-m`, `--longest`, `--bad`, `-v`, `-c`, `-o`, `-H`, `-h`,
 -- `-n`, `-l`, `-q`, `--skip-bad`, `--networks`, `-4` and `-6`
 abbrev pub text : ℕ
 text = 10
@@ -82,6 +82,6 @@ pairs =
     ∷ (only_v6, rows.nth, codes "-6 goes with none of -4, --nth and --after")
     ∷ (only_v6, rows.after, codes "-6 goes with none of -4, --nth and --after") ∷ []
 
--- the table has these, and of `-f` and `-e` one at least is given
+-- the table has these options and pairs, and requires `-f` or `-e`
 abbrev pub IsOptions : Table → Type 0
 IsOptions table = IsTable table entries pairs (rows.list ∷ text ∷ []) (codes "neither -f nor -e is given")

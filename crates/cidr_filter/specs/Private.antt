@@ -1,4 +1,4 @@
--- What the private functions promise each other.
+-- The definitions used in the contracts of private functions.
 pub mod Copying
 pub mod Judging
 pub mod Leaving

@@ -1,4 +1,4 @@
--- What is read of lists.
+-- How the lists are read.
 use Rattle.std.specs.Prelude.{◌≡◌, ℕ, ◌+◌, ◌==◌, false, List, [], ◌∷◌, ◌⊎◌, if◌then◌else◌}
 use Rattle.std.specs.Str.Lines.{lines}
 use Rattle.ipnetwork_blocks.specs.Aggregate.{IsAggregate}
@@ -22,7 +22,7 @@ use Rattle.cidr_filter.specs.declared.reading.Question.TheVariants as questions
 use Rattle.cidr_filter.specs.declared.reading.Source.{Source}
 use Rattle.cidr_filter.specs.declared.reading.Source.TheVariants as sources
 
--- what an option reads: `-f` the list of that name, `-e` the value itself, and the others nothing
+-- what an option tells the program to read: `-f` the list with that name, `-e` its value, any other option nothing
 abbrev pub source_by : ℕ → List ℕ → Source
 source_by row value = if row == rows.list then sources.List value else if row == own.text then sources.Text value
     else sources.Nothing
@@ -43,14 +43,14 @@ Reads known number sources.Nothing before after = after ≡ before
 abbrev pub ReadsItem : KnownLists → ℕ → Item → ReadLists → ReadLists → Type 0
 ReadsItem known number item before after = Reads known number (source_of item) before after
 
--- these, the first of which has this number, are read in turn
+-- these items are read in turn; the first has this number
 abbrev pub ReadsItems : KnownLists → ℕ → List Item → ReadLists → ReadLists → Type 0
 ReadsItems known number [] before after = after ≡ before
 ReadsItems known number (item ∷ items) before after =
     (between : ReadLists) × ReadsItem known number item before between
     × ReadsItems known (number + 1) items between after
 
--- the reading stops at what an option reads, and these are the refused lines then
+-- the reading stops at this source with this fault, and with these refused lines
 abbrev pub StopsReadingOf : KnownLists → ℕ → Source → ReadLists → ReadFault → Refused → Type 0
 StopsReadingOf known number (sources.List name) before fault refused = StopsAt known number name before fault refused
 StopsReadingOf known number (sources.Text text) before fault refused = StopsAtText number text before fault refused
@@ -59,7 +59,8 @@ StopsReadingOf known number sources.Nothing before fault refused = ⊥
 abbrev pub StopsAtItem : KnownLists → ℕ → Item → ReadLists → ReadFault → Refused → Type 0
 StopsAtItem known number item before fault refused = StopsReadingOf known number (source_of item) before fault refused
 
--- it stops at the first of these, or that is read, with memory left, and it stops at one behind it
+-- the reading stops at the first of these items; or that one is read without running out of memory, and the reading
+-- stops at a later one
 abbrev pub StopsAtItems : KnownLists → ℕ → List Item → ReadLists → ReadFault → Refused → Type 0
 StopsAtItems known number [] before fault refused = ⊥
 StopsAtItems known number (item ∷ items) before fault refused =
@@ -67,17 +68,18 @@ StopsAtItems known number (item ∷ items) before fault refused =
     ⊎ ((between : ReadLists) × ReadsItem known number item before between × (between.is_out_of_memory ≡ false)
     × StopsAtItems known (number + 1) items between fault refused)
 
--- this was read of the lists of a command line, and there was memory for all that they name
+-- the lists of a command line were read, and memory did not run out
 pub record IsReadOf (known : KnownLists) (items : List Item) (read : ReadLists) : Type 0 where
   pub lists : ReadsItems known 0 items (nothing_read no_refusals) read
   pub memory : read.is_out_of_memory ≡ false
 
--- what the lists are asked, by the options: for the longest block of an address, for networks, or for addresses
+-- what the options ask of the lists: the longest block that contains an address, whether they cover a network, or
+-- whether they contain an address
 abbrev pub question_of : List Item → Question
 question_of items = if is_given items own.longest then questions.Block
     else if is_given items own.networks then questions.Network else questions.Address
 
--- these are the addresses of the networks that were read or, with `--longest`, their blocks
+-- the matcher holds the addresses of the networks that were read, or, with `--longest`, their blocks
 abbrev pub HoldsRead : Question → ReadLists → Matcher → Type 0
 HoldsRead question read (Addresses sets) = (question ≡ questions.Address) × IsAggregate 32 read.v4 sets.v4
     × IsAggregate 128 read.v6 sets.v6

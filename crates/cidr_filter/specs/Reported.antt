@@ -1,4 +1,4 @@
--- Where refused lines stand that are reported on standard error.
+-- The places by which refused lines are reported on standard error.
 use Rattle.std.specs.Prelude.{ℕ, ◌+◌, Bool, true, false, List, [], Option, None, Some, if◌then◌else◌, slice_get, codes}
 use Rattle.std.specs.Prelude.{take}
 use Rattle.std.specs.List.{count_by}
@@ -9,7 +9,7 @@ use Rattle.cidr_filter.specs.Reading.{source_of}
 use Rattle.cidr_filter.specs.declared.reading.Source.{Source}
 use Rattle.cidr_filter.specs.declared.reading.Source.TheVariants as sources
 
--- an item is an `-e`, and the item at a place is
+-- whether a source, an item, or the item at an index is the text of an `-e`
 abbrev pub is_own : Source → Bool
 is_own (sources.List name) = false
 is_own (sources.Text text) = true
@@ -25,16 +25,16 @@ is_some_text (Some item) = is_text item
 abbrev pub is_text_at : List Item → ℕ → Bool
 is_text_at items place = is_some_text (slice_get items place)
 
--- how many of the items are
+-- how many of the items are an `-e`
 abbrev pub texts_in : List Item → ℕ
 texts_in items = count_by is_text items
 
--- where a refused line stands: the list and the number of the line, or the `-e`, and which one that is
+-- the place of a refused line: the index of its list and its line number, or the index of its `-e` and which `-e` it is
 abbrev pub in_option : List Item → Refusal → ℕ × ℕ
 in_option items refusal = if is_text_at items refusal.list then (refusal.list, texts_in (take (refusal.list + 1) items))
     else in_list refusal
 
--- the name by which refused lines of a list are told: its own, or `-e`
+-- the name by which refused lines of a list are reported: its own, or `-e`
 abbrev pub told_as : Source → List ℕ
 told_as (sources.List name) = name
 told_as (sources.Text text) = codes "-e"

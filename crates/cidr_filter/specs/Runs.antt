@@ -37,9 +37,9 @@ use Rattle.cidr_filter.specs.declared.filter.OutputMode.TheVariants as shows
 use Rattle.cidr_filter.specs.declared.matcher.Matcher.{Matcher}
 use Rattle.program.specs.declared.log_fault.LogFault.{LogFault}
 
--- a log that was opened was not filtered to its end, and ended the run: those before it were filtered, and its first
--- lines; their outputs were written, the cause was reported after what there is to report of them, and of what was seen
--- of these lines, and the status is 2
+-- a log that was opened was not filtered to its end, and ended the run. The logs before it and its first lines were
+-- filtered, and their outputs were written. The reports about those logs and lines were written, and then the cause.
+-- The status is 2
 pub record StopsAtLog {W E : Type 0} (filter : Filter) (known : KnownLists) (names : List (List ℕ))
     (end : Ending W E) : Type 0 where
   pub before : List (List ℕ)
@@ -68,7 +68,7 @@ pub record StopsAtLog {W E : Type 0} (filter : Filter) (known : KnownLists) (nam
 abbrev pub total_text : Bool → ℕ → List ℕ
 total_text counts selected = if counts then decimal (min selected (2 ^ 64 - 1)) ++ codes "\n" else []
 
--- the status is 0 if a line was selected with `-q`. Else it is 2 if a log could not be opened or a line is missed, and
+-- the exit status: 0 if `-q` ended the run at a selected line; else 2 if a log could not be opened or a line is missed;
 -- else 0 if a line was selected, and 1 if none was
 abbrev pub status_by : Bool → Bool → ℕ → ℕ
 status_by enough missed selected = if enough then 0 else if missed then 2 else if nat_lt 0 selected then 0 else 1
@@ -82,7 +82,7 @@ EndsWith filter output selected texts missed end =
     ⊎ (FailsWriting end (output ++ total_text (is_count filter.shows) selected)
     × HasTold end (texts ++ codes "write error\n") × (end.status ≡ 2))
 
--- all logs were filtered to their ends, or left, but those that could not be opened
+-- each log was filtered to its end, or left, or could not be opened
 pub record FiltersAll {W E : Type 0} (filter : Filter) (known : KnownLists) (names : List (List ℕ))
     (end : Ending W E) : Type 0 where
   pub output : List ℕ
@@ -96,12 +96,12 @@ pub record FiltersAll {W E : Type 0} (filter : Filter) (known : KnownLists) (nam
 abbrev pub EndsLogs : {W E : Type 0} → Filter → KnownLists → List (List ℕ) → Ending W E → Type 0
 EndsLogs filter known names end = FiltersAll filter known names end ⊎ StopsAtLog filter known names end
 
--- of which family addresses count: of one, with `-4` or `-6`
+-- the family whose addresses count: one with `-4` or `-6`, else either
 abbrev pub family_of : List Item → Family
 family_of items = if is_given items own.only_v4 then families.V4
     else if is_given items own.only_v6 then families.V6 else families.Either
 
--- how many lines of a log are selected at the most: with `-q` and with `-l` one is enough
+-- how many lines of a log may be selected: with `-q` or `-l`, at most one
 abbrev pub up_to_one : Option ℕ → Option ℕ
 up_to_one None = Some 1
 up_to_one (Some most) = Some (min most 1)
@@ -111,7 +111,7 @@ most_of items =
     if is_given items own.quiet || is_given items own.names then up_to_one (number_in (value_of items own.most))
     else number_in (value_of items own.most)
 
--- what is printed: of `-q`, `-l`, `-c` and `-o` the first that is given says it
+-- what is printed: decided by the first of `-q`, `-l`, `-c` and `-o` that is given
 abbrev pub shows_of : List Item → OutputMode
 shows_of items =
     if is_given items own.quiet then shows.Nothing
@@ -140,12 +140,12 @@ filter_of items listed = record {
   name = [];
 }
 
--- refused lines of lists end the run: one does, unless such lines are skipped
+-- refused lines of lists end the run: if there is one, unless `--skip-bad` is given
 abbrev pub is_stopped_by : List Item → Refused → Bool
 is_stopped_by items refused = was_refused refused && not (is_given items own.skips_bad)
 
--- this was read of the lists: if refused lines of them end the run, or there is no memory, nothing is written. Else the
--- logs are filtered by it
+-- how the run ends after the lists were read: if refused lines end it, or memory runs out, nothing is written; else the
+-- logs are filtered
 abbrev pub EndsFiltering : {W E : Type 0} → KnownLists → List Item → ReadLists → Ending W E → Type 0
 EndsFiltering known items read end =
     ((is_stopped_by items read.refused ≡ true) × Refuses [] end)
@@ -153,14 +153,15 @@ EndsFiltering known items read end =
     ⊎ ((listed : Matcher) × HoldsRead (question_of items) read listed
     × EndsLogs (filter_of items listed) known (inputs_of items) end)))
 
--- the lists were not read to their ends, and these lines were refused before: nothing was written, and the cause was
--- reported, by these names of the lists
+-- the lists were not read to their ends, and these lines were refused before. Nothing was written, and the cause was
+-- reported by these names of the lists
 abbrev pub StopsReading : {Z W E : Type 0} → KnownLists → List Item → List (String Z) → Refused → Ending W E → Type 0
 StopsReading known items names refused end =
     (fault : ReadFault) × StopsAtItems known 0 items (nothing_read no_refusals) fault refused
     × Refuses (fault_text names fault) end
 
--- the refused lines of the lists were reported, and then either why the reading stopped, or the logs were filtered
+-- the refused lines of the lists were reported; then the reading stopped and the cause was reported, or the logs were
+-- filtered
 abbrev pub EndsReading : {Z W E : Type 0} → KnownLists → List Item → List (String Z) → Ending W E → Type 0
 EndsReading {Z} {W} {E} known items names end = (refused : Refused) × (told : Written E)
     × Reports end.errors told (refusals_text names (in_option items) refused)
@@ -168,7 +169,7 @@ EndsReading {Z} {W} {E} known items names end = (refused : Refused) × (told : W
     ⊎ ((read : ReadLists) × IsReadOf known items read × (read.refused ≡ refused)
     × EndsFiltering known items read (record end { errors = told })))
 
--- what is asked for is done, by the names of the lists, unless there is no memory for these and for those of the logs
+-- the run does what the items ask for, unless there is no memory for the names of the lists and logs
 abbrev pub EndsRequest : {W E : Type 0} → KnownLists → List Item → Ending W E → Type 0
 EndsRequest known items end =
     Refuses (codes "out of memory\n") end
@@ -178,7 +179,7 @@ EndsRequest known items end =
 abbrev pub DoesRequest : {W E : Type 0} → KnownLists → Ending W E → List Item → Type 0
 DoesRequest known end items = EndsRequest known items end
 
--- how a run ends of a program of this name, help, version and usage, by the table of its options
+-- how a run of a program with this name, help, version and usage ends; its options are those of `IsOptions`
 abbrev pub EndsAs : {Z W E : Type 0} → List ℕ → List ℕ → List ℕ → List ℕ → KnownLists → List (String Z) → Ending W E
     → Type 0
 EndsAs program help version usage known words end =

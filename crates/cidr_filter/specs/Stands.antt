@@ -1,4 +1,4 @@
--- Where a run stands.
+-- The state of a run between two lines.
 use Rattle.std.specs.Prelude.{ℕ, List, Option}
 use Rattle.lines.specs.Outputs.{Written, Puts}
 use Rattle.program.specs.Counts.{Counts}
@@ -25,7 +25,7 @@ stand output tally = record {
 abbrev pub begun : Stand → Stand
 begun old = record old { seen = nothing }
 
--- from one stand to the next these bytes were added to the output, and this many lines were selected
+-- between the two states, these bytes were added to the output, and this many lines were selected
 abbrev pub Goes : Stand → Stand → List ℕ → ℕ → Type 0
 Goes old new added selected = Puts old.holds old.waits new.holds new.waits added
     × Counts old.selected new.selected selected

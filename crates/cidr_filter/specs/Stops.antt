@@ -15,7 +15,7 @@ use Rattle.cidr_filter.specs.declared.log.Reached.{Reached}
 use Rattle.cidr_filter.specs.declared.log.Reached.TheVariants.{End, Last}
 use Rattle.program.specs.declared.log_fault.LogFault.{LogFault}
 
--- these lines of a log were filtered from the first on, and more may be selected
+-- these first lines of a log were filtered, and more may be selected
 pub record FiltersLines (filter : Filter) (old new : Stand) (lines : List LogLine) : Type 0 where
   pub added : List ℕ
   pub count : ℕ
@@ -24,7 +24,7 @@ pub record FiltersLines (filter : Filter) (old new : Stand) (lines : List LogLin
   pub goes : Goes old new added count
   pub seen : new.seen ≡ seen_of filter lines
 
--- they were, and the writer, which failed, took a beginning of their output
+-- these first lines of a log were filtered, and the writer, which failed, took a beginning of their output
 pub record WritesBeginning (filter : Filter) (old new : Stand) (lines : List LogLine) : Type 0 where
   pub added : List ℕ
   pub count : ℕ
@@ -33,12 +33,12 @@ pub record WritesBeginning (filter : Filter) (old new : Stand) (lines : List Log
   pub seen : new.seen ≡ seen_of filter lines
   pub beginning : AppendsBeginning old.holds new.holds (old.waits ++ added)
 
--- what was read was filtered to its end
+-- the log was read to its end, and all its lines were filtered
 abbrev pub Ends : Filter → Option (List ℕ) → Option (List ℕ) → Stand → Stand → Type 0
 Ends filter remained remains old new = ReadsAll (FiltersLines filter old new) remained remains
 
--- of what was read the first lines were filtered, up to the last that may be selected, and the reader of the log handed
--- out no other
+-- the first lines of what was read were filtered, up to the last that may be selected, and the log's reader handed out
+-- no others
 pub record Leaves (filter : Filter) (log : LogReader) (remained remains : Option (List ℕ))
     (old new : Stand) : Type 0 where
   pub first : List LogLine
@@ -50,12 +50,12 @@ pub record Leaves (filter : Filter) (log : LogReader) (remained remains : Option
   pub goes : Goes old new added count
   pub seen : new.seen ≡ seen_of filter first
 
--- where it ends, if nothing stops it
+-- what holds if the filtering of a log ended here without a fault
 abbrev pub EndsBy : Reached → Filter → LogReader → Option (List ℕ) → Option (List ℕ) → Stand → Stand → Type 0
 EndsBy End filter log remained remains old new = Ends filter remained remains old new
 EndsBy Last filter log remained remains old new = Leaves filter log remained remains old new
 
--- what is true if a log is not filtered to its end, by the fault
+-- what holds if this fault stops the filtering of a log
 abbrev pub Stops : Filter → Option (List ℕ) → Option (List ℕ) → Bool → Bool → Stand → Stand → LogFault → Type 0
 Stops filter remained remains read_failed write_failed old new fault =
     StopsReading (EndsRunBy filter) (FiltersLines filter old new)

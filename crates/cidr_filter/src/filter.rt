@@ -1,4 +1,4 @@
-//! What a line is to the lists, and whether it is selected.
+//! The verdict on a line, and whether the line is selected.
 ghost use Rattle.std.specs.Prelude.{◌≡◌, ◌≤◌, ◌∷◌, [], IfSome, Some, true, MatchOption, length};
 ghost use Rattle.std.specs.Option.{option_to_list};
 ghost use Rattle.line_addresses.specs.Areas.{each_of, picked, spelled_in};
@@ -17,13 +17,13 @@ use log_programs::finding::found_in;
 use log_programs::without_address::WithoutAddress;
 use program::log_reader::LINE_MAX;
 
-/// What a line is to a list.
+/// The verdict on a line: whether its addresses are in the lists.
 #[derive(Clone, Copy, Debug, PartialEq, Eq)]
 pub enum Verdict {
-    /// An address of it is one of the lists. With `--longest`, this is the longest block that holds
-    /// the first of these.
+    /// An address of the line is in the lists. With `--longest`, this is the longest block that
+    /// contains the first such address.
     Inside(Option<IpNetwork>),
-    /// It has addresses, and none is one of the lists.
+    /// It has addresses, and none is in the lists.
     Outside,
     /// It has no address.
     NoAddress,
@@ -32,7 +32,8 @@ pub enum Verdict {
 }
 
 impl Verdict {
-    /// Whether a line of this verdict has an address where it is looked for. A line that is too long has none.
+    /// Returns whether a line with this verdict has an address where one is looked for. A line that
+    /// is too long has none.
     #[inline(always)]
     pub(crate) fn is_addressed(&self) -> bool
         ensures { result ≡ is_addressed_by self.now }
@@ -46,14 +47,14 @@ impl Verdict {
     }
 }
 
-/// Of which family the addresses of a line count. Another is as none.
+/// The family whose addresses count. Others are ignored.
 #[derive(Clone, Copy, Debug, PartialEq, Eq)]
 pub enum Family {
-    /// Of either.
+    /// Either family.
     Either,
-    /// Of IPv4.
+    /// IPv4.
     V4,
-    /// Of IPv6.
+    /// IPv6.
     V6,
 }
 
@@ -62,7 +63,7 @@ pub enum Family {
 pub enum OutputMode {
     /// The selected lines.
     Lines,
-    /// Their addresses that are in the list, in place of them.
+    /// The addresses of the selected lines that are in the list, in place of the lines.
     Addresses,
     /// How many lines are selected.
     Count,
@@ -72,32 +73,32 @@ pub enum OutputMode {
     Nothing,
 }
 
-/// What decides which lines are selected, and what is printed of them.
+/// What decides which lines are selected, and what is printed for them.
 #[derive(Drop)]
 pub struct Filter<'a> {
     pub(crate) listed: Matcher,
     pub(crate) area: Area<'a>,
     /// Whether an IPv4-mapped address of a line counts as its IPv4 one.
     pub(crate) mapped: bool,
-    /// Of which family its addresses count.
+    /// The family whose addresses count.
     pub(crate) family: Family,
     pub(crate) inverts: bool,
     pub(crate) bad: WithoutAddress,
-    /// How many lines of a log are selected at the most, if that is said: the log ends at the last
+    /// How many lines of a log may be selected, if that is limited: the log ends at the last
     /// of them.
     pub(crate) most: Option<u64>,
     /// What is printed.
     pub(crate) shows: OutputMode,
-    /// Whether the name of its log is printed of a line.
+    /// Whether the name of its log is printed for a line.
     pub(crate) named: bool,
-    /// Whether the number of a line stands before what is printed of it.
+    /// Whether the number of a line is printed before it.
     pub(crate) numbered: bool,
-    /// The name of its log, if it is printed. It is empty if it is not.
+    /// The name of the log if it is printed, else empty.
     pub(crate) name: Text<'a>,
 }
 
 impl Filter<'_> {
-    /// What a line is to the list. It is given without its end. Does not allocate.
+    /// Returns the verdict on a line, given without its end. Does not allocate.
     #[inline(always)]
     pub(crate) fn judge(&self, line: &[u8]) -> Verdict
         ensures { IsVerdict self.now line.now result }
@@ -108,9 +109,9 @@ impl Filter<'_> {
         self.judge_within(line)
     }
 
-    /// Whether a line is selected, if it is not too long and has the one address that is looked for.
-    /// No branch is taken on that, so that the processor guesses nothing wrong. Of another line, and
-    /// with `--longest`, nothing is told.
+    /// Returns whether a line is selected, if it is not too long and has the one address that is
+    /// looked for. The code does not branch on the result, so the processor cannot mispredict it.
+    /// Returns `None` for any other line, and with `--networks` or `--longest`.
     #[inline(always)]
     pub(crate) fn selects_by_address(&self, line: &[u8]) -> Option<bool>
         ensures { IfSome result (IsSelectedByAddress self.now line.now) }
@@ -127,7 +128,7 @@ impl Filter<'_> {
         }
     }
 
-    // The address that the part of a line is in which it is looked for, if it counts.
+    // Returns the address that is looked for, if it is the whole part searched and it counts.
     #[inline(always)]
     fn only_address(&self, line: &[u8]) -> Option<IpAddr>
         ensures { IfSome result (λ address. HasOnly self.now.area line.now address
@@ -155,7 +156,7 @@ impl Filter<'_> {
         }
     }
 
-    // What a line that is not too long is to the list.
+    // Returns the verdict on a line that is not too long.
     #[inline(always)]
     fn judge_within(&self, line: &[u8]) -> Verdict
         ensures { IsVerdictOfAddresses self.now
@@ -167,7 +168,7 @@ impl Filter<'_> {
         }
     }
 
-    // What a line is to the list of which this part is looked at.
+    // Returns the verdict on a line, given the part that is searched.
     #[inline(always)]
     fn judge_part(&self, part: &[u8]) -> Verdict
         ensures { IsVerdictOfAddresses self.now
@@ -180,7 +181,8 @@ impl Filter<'_> {
         }
     }
 
-    // What a line is to the list of which this address of a part is looked at.
+    // Returns the verdict on a line, given the part that is searched; only the address that `pick`
+    // selects is looked at.
     #[inline(always)]
     fn judge_picked(&self, part: &[u8], pick: Pick) -> Verdict
         ensures { IsVerdictOfAddresses self.now
@@ -193,7 +195,7 @@ impl Filter<'_> {
         }
     }
 
-    // What a line is to the list of which only this is looked at.
+    // Returns the verdict on a line in which only `found` is looked at.
     #[inline(always)]
     fn judge_found(&self, part: &[u8], found: &Found) -> Verdict
         requires ordered { found.now.start ≤ found.now.end }
@@ -222,7 +224,7 @@ impl Filter<'_> {
         }
     }
 
-    // What a line is to the list of which all addresses of this part are looked at.
+    // Returns the verdict on a line, given the part that is searched for all its addresses.
     fn judge_each(&self, line: &[u8]) -> Verdict
         ensures { IsVerdictOfAddresses self.now
             (of_family self.now.family self.now.mapped (found_of (reads_networks self.now.listed) line.now)) result }
@@ -248,7 +250,7 @@ impl Filter<'_> {
         }
     }
 
-    // If an address or network of a line is one of the list, what is told of it.
+    // Returns what is told about an address or network of a line, if it is in the list.
     #[inline(always)]
     fn told_of(&self, line: &[u8], found: &Found) -> Option<Option<IpNetwork>>
         requires ordered { found.now.start ≤ found.now.end }
@@ -279,8 +281,8 @@ impl Filter<'_> {
         }
     }
 
-    /// Whether an address or network of a line is printed in place of it: whether it counts and is in
-    /// the list. Of blocks none is, since `-o` is not given together with `--longest`.
+    /// Returns whether `-o` prints an address or network of a line: whether it counts and is in the
+    /// list. With blocks it prints none, since `-o` is not given together with `--longest`.
     pub(crate) fn prints(&self, line: &[u8], found: &Found) -> bool
         requires ordered { found.now.start ≤ found.now.end }
         requires within { found.now.end ≤ length line.now }
@@ -289,7 +291,7 @@ impl Filter<'_> {
         self.is_of_family(&found.address) && self.is_listed(line, found)
     }
 
-    // Whether it is in the list.
+    // Returns whether an address or network of a line is in the list.
     fn is_listed(&self, line: &[u8], found: &Found) -> bool
         requires ordered { found.now.start ≤ found.now.end }
         requires within { found.now.end ≤ length line.now }
@@ -302,7 +304,7 @@ impl Filter<'_> {
         }
     }
 
-    // The address for which the list is asked.
+    // Returns the address that is looked up in the list.
     #[inline(always)]
     fn asked(&self, address: IpAddr) -> IpAddr
         ensures { result ≡ asked self.now.mapped address }
@@ -361,7 +363,7 @@ impl Filter<'_> {
     }
 }
 
-// Whether an address is one of IPv4.
+// Returns whether an address is an IPv4 address.
 #[inline(always)]
 fn is_v4(address: IpAddr) -> bool
     ensures { result ≡ is_v4 address }

@@ -1,4 +1,4 @@
-//! The end of a log that is not read any more: as many of its lines are selected as may be.
+//! Leaving a log after the last of its lines that may be selected.
 ghost use Rattle.std.specs.Prelude.{◌≡◌, ◌||◌, [], OnOk, OnErr, IfOk, IsTrue, IsOkUnless};
 ghost use Rattle.lines.specs.Outputs.{Prints, FailsIn};
 ghost use Rattle.program.specs.LogFaults.{ended_by_write};
@@ -10,7 +10,7 @@ use lines::output::Output;
 use program::log_fault::LogFault;
 use std::io::Write;
 
-/// How many more lines may be selected behind a line, if so many might at it.
+/// Returns how many lines may still be selected after a line, given how many might before it.
 #[inline(always)]
 pub(crate) fn fewer(left: Option<u64>, is_selected: bool) -> Option<u64>
     ensures { result ≡ less left (one_if is_selected) }
@@ -21,7 +21,7 @@ pub(crate) fn fewer(left: Option<u64>, is_selected: bool) -> Option<u64>
     }
 }
 
-/// Whether no more lines may be selected.
+/// Returns whether no more lines may be selected.
 #[inline(always)]
 pub(crate) fn is_spent(left: Option<u64>) -> bool
     ensures { result ≡ is_spent left }
@@ -32,7 +32,7 @@ pub(crate) fn is_spent(left: Option<u64>) -> bool
     }
 }
 
-/// Writes what waits, and says that the last line was reached.
+/// Writes what waits, and returns `Reached::Last`.
 pub(crate) fn leave<W: Write>(output: &mut Output<'_, W>) -> Result<Reached, LogFault>
     ensures last { IfOk result (λ reached. reached ≡ Reached.Last) }
     ensures ok { OnOk result (Prints output.old output.new []) }

@@ -1,4 +1,4 @@
-//! The lines of logs whose address is in a list of networks.
+//! Prints the lines of logs whose address is in a list of networks.
 #![tactic(auto)]
 
 mod filter;

@@ -1,4 +1,4 @@
-//! What the lists say about a network.
+//! Whether the lists cover a network.
 ghost use Rattle.std.specs.Prelude.{◌≡◌, ◌↔◌, IsTrue};
 ghost use Rattle.ipnetwork_blocks.specs.AggregateIpLaws.{LiesInIpUnion};
 ghost use Rattle.cidr_filter.specs.Matcher.{CoversNamed, asked_network, covers_named, is_within, unmapped_network};
@@ -10,8 +10,8 @@ use ipnetwork::{IpAddr, IpNetwork};
 use ipnetwork_blocks::laws::ip_one_block;
 use ipnetwork_sets::IpAddressSet;
 
-/// Whether a text names a network of which each address is in the set. If `mapped`, it is asked of an IPv4-mapped
-/// network as its IPv4 one.
+/// Returns whether the text names a network whose addresses are all in the set. If `mapped`, a
+/// network whose addresses are all IPv4-mapped counts as the network of their IPv4 addresses.
 pub(crate) fn covers(set: &IpAddressSet, mapped: bool, text: &[u8]) -> bool
     ensures covered { IsTrue result ↔ CoversNamed set.now mapped text.now }
     ensures test { result ≡ covers_named set.now mapped text.now }
@@ -24,20 +24,20 @@ pub(crate) fn covers(set: &IpAddressSet, mapped: bool, text: &[u8]) -> bool
     }
 }
 
-// Whether each address of a network is in the set.
+// Returns whether every address of the network is in the set.
 fn covers_network(set: &IpAddressSet, network: IpNetwork) -> bool
     ensures covered { IsTrue result ↔ LiesInIpUnion network set.now }
     ensures test { result ≡ is_within set.now network }
 {
     ip_one_block();
     ip_subnet_is_computed();
-    // The clauses of these calls say that it is a set, and a network.
+    // The contracts of these calls state the invariants of the set and of the network.
     let _ = set.iter();
     let _ = network.ip();
     set.covers(network)
 }
 
-// The network for which the set is asked.
+// Returns the network that is looked up in the set.
 fn asked_network(mapped: bool, network: IpNetwork) -> IpNetwork
     ensures { result ≡ asked_network mapped network }
 {
@@ -48,7 +48,7 @@ fn asked_network(mapped: bool, network: IpNetwork) -> IpNetwork
     }
 }
 
-// The IPv4 network of an IPv4-mapped one, or another as it is.
+// Returns the IPv4 network of a network whose addresses are all IPv4-mapped, or any other as is.
 fn unmapped_network(network: IpNetwork) -> IpNetwork
     ensures { result ≡ unmapped_network network }
 {

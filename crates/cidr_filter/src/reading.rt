@@ -15,10 +15,10 @@ use options::given::is_given;
 use options::items::{Item, Text};
 use std::alloc::{AllocError, Global};
 
-/// What an option reads.
+/// What an option tells the program to read.
 #[derive(Debug, Drop)]
 pub enum Source<'a> {
-    /// The list of this name.
+    /// The list with this name.
     List(Text<'a>),
     /// This text.
     Text(Text<'a>),
@@ -26,18 +26,18 @@ pub enum Source<'a> {
     Nothing,
 }
 
-/// What the lists are asked.
+/// What the options ask of the lists.
 #[derive(Clone, Copy, Debug, PartialEq, Eq)]
 pub enum Question {
-    /// Whether an address is in them.
+    /// Whether they contain an address.
     Address,
-    /// Whether each address of a network is.
+    /// Whether they contain every address of a network.
     Network,
-    /// Which is the longest block that holds an address.
+    /// Which is the longest of their blocks that contains an address.
     Block,
 }
 
-/// What the options say that the lists are asked.
+/// Returns what the options ask of the lists.
 pub(crate) fn question_of(items: &[Item<'_>]) -> Question
     ensures { result ≡ question_of items.now }
 {
@@ -50,8 +50,8 @@ pub(crate) fn question_of(items: &[Item<'_>]) -> Question
     }
 }
 
-/// Reads the lists that the options name, in their order. Returns the networks, as they are asked, the refused lines,
-/// and whether all lists were read to the end.
+/// Reads the lists that the options name, in their order. Returns their networks, or `AllocError`
+/// if memory runs out; the refused lines; and why a list was not read to the end, if one was not.
 pub(crate) fn read_listed<L: OpenLists>(
     alloc: Global,
     lists: &L,
@@ -70,7 +70,7 @@ pub(crate) fn read_listed<L: OpenLists>(
     (listed, refusals, end)
 }
 
-// The networks that were read, as they are asked, and the refused lines.
+// Returns the networks that were read, stored for the question, and the refused lines.
 fn listed_by(
     alloc: Global,
     question: Question,
@@ -138,7 +138,7 @@ fn read_item<L: OpenLists>(
     }
 }
 
-/// What an option reads.
+/// Returns what an option tells the program to read.
 pub(crate) fn source_of<'a>(item: &Item<'a>) -> Source<'a>
     ensures { result ≡ source_of item.now }
 {
@@ -148,7 +148,7 @@ pub(crate) fn source_of<'a>(item: &Item<'a>) -> Source<'a>
     }
 }
 
-// What the option of a row and value reads.
+// Returns what the option of this row, with this value, tells the program to read.
 fn source_by(row: usize, value: &str) -> Source<'_>
     ensures { result ≡ source_by row value.now }
 {
@@ -161,7 +161,7 @@ fn source_by(row: usize, value: &str) -> Source<'_>
     }
 }
 
-// The addresses of sets.
+// Returns a matcher with the addresses of these sets.
 fn addresses_of(
     alloc: Global,
     v4: &AddressSet<Ipv4Network>,
@@ -172,7 +172,7 @@ fn addresses_of(
     Ok(Matcher::Addresses(Sets::of(alloc, v4, v6)?))
 }
 
-// The blocks of networks.
+// Returns a matcher with the blocks of these networks.
 fn blocks_of(
     alloc: Global,
     v4: Vec<Ipv4Network>,

@@ -84,8 +84,8 @@ fn filter<L: OpenLists, W: Write, E: Write>(
     )
 }
 
-// Reads the lists, reports the refused lines, by these names of lists, and then filters these logs by what was read,
-// unless memory ran out.
+// Reads the lists, reports the refused lines by these names of the lists, and then filters these
+// logs, unless refused lines end the run or memory runs out.
 fn filter_files<L: OpenLists, W: Write, E: Write>(
     alloc: Global,
     items: &[Item<'_>],
@@ -127,7 +127,7 @@ fn filter_files<L: OpenLists, W: Write, E: Write>(
     )
 }
 
-// Whether refused lines of lists end the run: unless they are skipped, one does.
+// Returns whether refused lines of lists end the run: if there is one, unless they are skipped.
 fn is_stopped_by(items: &[Item<'_>], refusals: &Refusals) -> bool
     ensures { result ≡ is_stopped_by items.now refusals.now }
 {
@@ -153,7 +153,7 @@ fn filter_of<'a>(items: &[Item<'a>], listed: Matcher) -> Filter<'a>
     }
 }
 
-// Of which family addresses count.
+// Returns the family whose addresses count.
 fn family_of(items: &[Item<'_>]) -> Family
     ensures { result ≡ family_of items.now }
 {
@@ -166,7 +166,7 @@ fn family_of(items: &[Item<'_>]) -> Family
     }
 }
 
-// How many lines of a log are selected at the most.
+// Returns how many lines of a log may be selected at most.
 fn most_of(items: &[Item<'_>]) -> Option<u64>
     ensures { result ≡ most_of items.now }
 {
@@ -178,7 +178,7 @@ fn most_of(items: &[Item<'_>]) -> Option<u64>
     }
 }
 
-// One line, or none if no line may be selected.
+// Returns at most one: none if no line may be selected.
 fn up_to_one(most: Option<u64>) -> Option<u64>
     ensures { result ≡ up_to_one most }
 {

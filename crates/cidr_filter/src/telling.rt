@@ -1,4 +1,4 @@
-//! By which names and numbers refused lines are told.
+//! The names and numbers by which refused lines are reported.
 ghost use Rattle.std.specs.Prelude.{◌≡◌, ◌+◌, map, take, IfOk};
 ghost use Rattle.std.specs.String.{string_bytes};
 ghost use Rattle.cidr_filter.specs.Reported.{is_text, is_text_at, texts_in, told_name};
@@ -9,7 +9,7 @@ use options::items::Item;
 use program::telling::Places;
 use std::alloc::{AllocError, Global};
 
-/// Where refused lines stand, by the items of a command line: in a list, or in the text of an `-e`.
+/// The places of refused lines: in a list or in the text of an `-e`, by the items that name them.
 #[derive(Clone, Copy)]
 pub(crate) struct InOptions<'a, 'b> {
     pub(crate) items: &'a [Item<'b>],
@@ -29,7 +29,7 @@ impl Places for InOptions<'_, '_> {
     }
 }
 
-// Whether the item at a place is an `-e`.
+// Returns whether the item at this index is an `-e`.
 fn is_text_at(items: &[Item<'_>], place: usize) -> bool
     ensures { result ≡ is_text_at items.now place }
 {
@@ -39,28 +39,29 @@ fn is_text_at(items: &[Item<'_>], place: usize) -> bool
     }
 }
 
-// Whether an item is an `-e`.
+// Returns whether an item is an `-e`.
 fn is_text(item: &Item<'_>) -> bool
     ensures { result ≡ is_text item.now }
 {
     matches!(source_of(item), Source::Text(_))
 }
 
-// How many of the items up to a place are an `-e`.
+// Returns how many of the items up to this index are an `-e`.
 fn texts_up_to(items: &[Item<'_>], place: usize) -> u64
     ensures { result ≡ texts_in (take (place + 1) items.now) }
 {
     texts_in(&items[..items.len().min(place.saturating_add(1))]) as u64
 }
 
-// How many of the items are an `-e`.
+// Returns how many of the items are an `-e`.
 fn texts_in(items: &[Item<'_>]) -> usize
     ensures { result ≡ texts_in items.now }
 {
     items.iter().filter(|item| is_text(item)).count()
 }
 
-/// The names by which refused lines are told, of the list that each item names: its own, or `-e`.
+/// Returns for each item the name by which refused lines of its list are reported: the list's own,
+/// or `-e`; empty for an item that names no list. Returns `AllocError` if memory runs out.
 pub(crate) fn names_of(alloc: Global, items: &[Item<'_>]) -> Result<Vec<String>, AllocError>
     ensures { IfOk result (λ names. map string_bytes names.items ≡ map told_name items.now) }
 {
@@ -73,7 +74,7 @@ pub(crate) fn names_of(alloc: Global, items: &[Item<'_>]) -> Result<Vec<String>,
     Ok(names)
 }
 
-// The name by which refused lines are told of the list that an item names.
+// Returns the name by which refused lines of the list that an item names are reported.
 fn told_name(alloc: Global, item: &Item<'_>) -> Result<String, AllocError>
     ensures { IfOk result (λ name. string_bytes name ≡ told_name item.now) }
 {

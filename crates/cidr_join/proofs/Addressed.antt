@@ -1,4 +1,4 @@
--- The address of a line, and what is seen of lines.
+-- The address of a line, and the counts of lines.
 use Rattle.std.proofs.Common.{◌≡◌, ◌<◌, ◌≤◌, ◌||◌, Bool, true, false, List, [], ◌∷◌, ◌++◌, length, refl, sym, ap, ◌∙◌, true≢false}
 use Rattle.std.specs.Prelude.{Option, None, Some, if◌then◌else◌}
 use Rattle.ipnetwork_addr.specs.declared.ip.IpAddr.{IpAddr}
@@ -22,7 +22,7 @@ module _ (join : Join) (line : LogLine) where
       → shown_in join found line ≡ (if long || is_left_out join.bad (if long then None else address_in join (content line)) then [] else output_of join found line)
   shown_if found long e = ap (λ (l : Bool). if l || is_left_out join.bad (if l then None else address_in join (content line)) then [] else output_of join found line) e
 
-  -- one within the limit
+  -- a line within the limit
   module _ (within : length (content line) ≤ 1048576) where
     pub asked_within : asked_in join line ≡ address_in join (content line)
     asked_within = asked_if false (within_limit line within)
@@ -34,7 +34,7 @@ module _ (join : Join) (line : LogLine) where
     line_adds first mid new was adds =
         adds ∙ ap (λ (s : LogStats). with_line s (is_addressed join (content line))) was ∙ line_seen (is_addressed join) first line (is_addressed join (content line)) (within_limit line within) refl
 
-  -- one that is too long
+  -- a line that is too long
   module _ (long : 1048576 < length (content line)) where
     pub asked_long : asked_in join line ≡ None
     asked_long = asked_if true (past_limit line long)

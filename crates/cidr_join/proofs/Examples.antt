@@ -1,4 +1,4 @@
--- Definitions at values at which a misreading of them would show.
+-- Values at which a misreading of the definitions would show.
 use Rattle.std.proofs.Common.{◌≡◌, ℕ, ◌^◌, ◌+◌, ◌∷◌, [], map, Bool, true, false, refl}
 use Rattle.std.specs.Prelude.{◌++◌, decimal, codes, not, filter, length, nat_lt, List, None, Some}
 use Rattle.std.specs.Fmt.{digits}
@@ -44,13 +44,13 @@ pub none_anywhere_or_after_a_text : map (λ area. lacking_by area (codes "log") 
     ≡ codes "cidr_join: log: no line has an address anywhere in it\n" ∷ codes "cidr_join: log: no line has an address after SRC=\n" ∷ []
 none_anywhere_or_after_a_text = refl
 
--- a log without lines, and one of whose lines one has an address, are not told
+-- a log without lines, and one with a line that has an address, are not reported
 pub no_lines_or_one_address : map (λ (log : ℕ × Bool). lacking_by anywhere (codes "log") log.0 log.1) ((0, false) ∷ (2, true) ∷ []) ≡ [] ∷ [] ∷ []
 no_lines_or_one_address = refl
 
--- ---- what is seen of lines
+-- ---- the counts of lines
 
--- the first line that is too long is told, but where such lines are dropped, and the numbers where they are asked for
+-- the first line that is too long is reported unless such lines are dropped, and the counts if they are asked for
 pub what_is_told : map (λ (bad : WithoutAddress). seen_text (codes "cidr_join") (codes "log") bad (record { lines = 9; is_addressed = true; bare = 2; long = 1; first_long = 7 }))
     (without.Unsaid ∷ without.Drop ∷ without.Stop ∷ without.Report ∷ [])
     ≡ codes "cidr_join: log:7: line too long\n" ∷ [] ∷ codes "cidr_join: log:7: line too long\n"
@@ -61,11 +61,11 @@ what_is_told = refl
 pub nothing_told_of_no_lines : seen_text (codes "cidr_join") (codes "log") without.Report (stats_of (λ line. true) []) ≡ []
 nothing_told_of_no_lines = refl
 
--- of two lines one has something that counts as an address
+-- one of two lines has something that counts as an address
 pub two_lines_seen : stats_of (λ line. nat_lt 1 (length line)) (ended (codes "ab") ∷ ended (codes "c\r") ∷ []) ≡ record { lines = 2; is_addressed = true; bare = 1; long = 0; first_long = 0 }
 two_lines_seen = refl
 
--- the first of three lines, the last, and none
+-- the first of three lines is too long, or the last, or none
 pub first_that_is_long : map (λ (before : ℕ). place_of before 3) (0 ∷ 2 ∷ 3 ∷ []) ≡ 1 ∷ 3 ∷ 0 ∷ []
 first_that_is_long = refl
 
@@ -87,7 +87,8 @@ letters_and_values = refl
 pub next_words : map (free_mode rows) (codes "-wf" ∷ codes "-wf1" ∷ codes "--group" ∷ codes "--last" ∷ []) ≡ modes.Value 6 ∷ modes.Free ∷ modes.Value 14 ∷ modes.Free ∷ []
 next_words = refl
 
--- of two wrong words the first is told, and a wrong value before a wrong word; and of right ones those that do not go together
+-- the first of two wrong words is reported, a wrong value before a wrong word, and right words that may not be given
+-- together
 pub wrong_words : map (fault_by rows (pairs_of pairs) (6 ∷ 14 ∷ []) (codes "neither -f nor --group is given"))
     ((says.Joined 2 (codes "0") (codes "-k0") ∷ says.Unknown (codes "--lastwins") ∷ []) ∷ (says.Value 14 (codes "33,0") ∷ says.Unknown (codes "--lastwins") ∷ [])
     ∷ (says.Value 6 (codes "a") ∷ says.Value 6 (codes "a") ∷ []) ∷ (says.Value 14 (codes "0,0") ∷ says.Flag 11 ∷ []) ∷ (says.Flag 10 ∷ says.Flag 13 ∷ []) ∷ [] ∷ (says.Value 6 (codes "a") ∷ says.Flag 10 ∷ []) ∷ [])
@@ -96,7 +97,7 @@ pub wrong_words : map (fault_by rows (pairs_of pairs) (6 ∷ 14 ∷ []) (codes "
     ∷ together (codes "neither -f nor --group is given") ∷ None ∷ []
 wrong_words = refl
 
--- `--zero` alone, with `--tally`, and that alone
+-- `--zero` without `--tally`, both, and `--tally` without `--zero`
 pub zeros_of_a_tally : map lacks_tally ((says.Flag 16 ∷ []) ∷ (says.Flag 16 ∷ says.Flag 13 ∷ []) ∷ (says.Flag 13 ∷ []) ∷ []) ≡ true ∷ false ∷ false ∷ []
 zeros_of_a_tally = refl
 
@@ -115,7 +116,7 @@ block_of_v6 = refl
 
 -- ---- lines of lists
 
--- of the 256 bytes all but a tab, a space and a comma belong to the word that names a network
+-- of the 256 bytes, all but a tab, a space and a comma belong to the word that names a network
 pub no_words : filter (λ byte. not (is_word byte)) (range_with_len 0 256) ≡ 9 ∷ 32 ∷ 44 ∷ []
 no_words = refl
 
@@ -127,7 +128,7 @@ pub causes_in_words : map cause_text (causes.Entry faults.Format ∷ causes.Entr
     ≡ codes "format" ∷ codes "address" ∷ codes "prefix" ∷ codes "range" ∷ codes "value: there is none" ∷ codes "repetition" ∷ codes "length" ∷ []
 causes_in_words = refl
 
--- two lines that are left out
+-- the reports about two lines that are left out
 pub refused_lines_are_told : refused_text (codes "list") ((0, causes.Value) ∷ (8, causes.Twice) ∷ []) ≡ codes "list:1: refused value: there is none\nlist:9: refused repetition\n"
 unfolding digits
 refused_lines_are_told = refl
@@ -139,7 +140,7 @@ pub marks : (value : Value) → map mark_of (founds.Network (families.V4 (record
 unfolding digits
 marks value = refl
 
--- before a line or, with `--last`, behind it, before its end
+-- the value is printed before the line or, with `--last`, after it and before its end
 pub before_and_behind : map (λ last. shown_of last (codes "inner") (codes "10.0.0.1 a") (codes "10.0.0.1 a\r\n")) (false ∷ true ∷ []) ≡ codes "inner\t10.0.0.1 a\r\n" ∷ codes "10.0.0.1 a\tinner\r\n" ∷ []
 before_and_behind = refl
 

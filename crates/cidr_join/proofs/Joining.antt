@@ -46,7 +46,7 @@ module _ (join : Join) (old : Stand) where
     seen = d.seen;
   }
 
-  -- or the writer failed at it
+  -- the writer failed at what waited
   lines_unwritten : {W : Type 0} (mid new : Written W) (seen : LogStats) (lines : List LogLine) → FailsIn mid new []
       → JoinsLines join old (stand mid seen) lines → WritesBeginning join old (stand new seen) lines
   lines_unwritten mid new seen lines took d = record {
@@ -66,7 +66,7 @@ module _ (join : Join) (old : Stand) where
     puts_on : (added : List ℕ) → Puts mid.holds mid.waits new.holds new.waits added → Puts old.holds old.waits new.holds new.waits (d.added ++ added)
     puts_on added puts = puts_more old.holds mid.holds new.holds old.waits mid.waits new.waits d.added added d.puts puts
 
-    -- one more that is too long
+    -- one more line that is too long
     long_more : 1048576 < length (content next) → is_stopped join.bad ≡ false → Puts mid.holds mid.waits new.holds new.waits [] → new.seen ≡ with_long mid.seen
         → JoinsLines join old new (first ++ next ∷ [])
     long_more long goes puts adds = record {
@@ -86,7 +86,7 @@ module _ (join : Join) (old : Stand) where
           joins_more found (shown join found (content next) (printed next)) (ap (is_refused join.bad) asks ∙ passes) (subst (λ (a : Option IpAddr). Finds join a found) (sym asks) finds)
           (shown_within join next short found)
 
-      -- one more
+      -- one more line within the limit
       line_more : Puts mid.holds mid.waits new.holds new.waits (shown join found (content next) (printed next)) → JoinsLines join old new (first ++ next ∷ [])
       line_more puts = record {
         added = d.added ++ shown join found (content next) (printed next);
@@ -95,7 +95,7 @@ module _ (join : Join) (old : Stand) where
         seen = line_adds join next short first mid.seen new.seen d.seen adds;
       }
 
-      -- the writer failed at one more
+      -- the writer failed at one more line
       line_unwritten : AppendsBeginning mid.holds new.holds (mid.waits ++ shown join found (content next) (printed next)) → WritesBeginning join old new (first ++ next ∷ [])
       line_unwritten took = record {
         added = d.added ++ shown join found (content next) (printed next);
@@ -104,7 +104,7 @@ module _ (join : Join) (old : Stand) where
         seen = line_adds join next short first mid.seen new.seen d.seen adds;
       }
 
--- no read failed at a line
+-- what stops the joining at a line is not a failed read
 pub no_read_at_line : (T : Type 0) (join : Join) (line text : List ℕ) (write_failed : Bool) (old new : Stand) (fault : LogFault) → LineStops join line text write_failed old new fault
     → ended_by_read {T = T} (Err fault) ≡ false
 no_read_at_line T join line text write_failed old new (faults.Open cause) h = absurd h
@@ -116,7 +116,7 @@ no_read_at_line T join line text write_failed old new faults.Endless h = absurd 
 
 -- ---- the next line of a log
 
--- a line is no longer than with its end
+-- a line without its end is at most as long as with it
 line_within : (line whole : List ℕ) (end : LineEnd) → printed (log_line line end) ≡ whole ++ feed_behind end → length line ≤ length whole
 line_within line whole LineFeed e = omega (arith, ap length e, length-append line (10 ∷ []), length-append whole [])
 line_within line whole ReturnAndLineFeed e =
@@ -129,7 +129,7 @@ module _ {W : Type 0} (join : Join) (was now : LogReader) (remained before after
     still : JoinsLines join old (stand between seen) s.first
     still = lines_still join old mid between seen s.first put s.is_done
 
-    -- one within the limit
+    -- a line within the limit
     module _ (end : LineEnd) (line whole : List ℕ) (given : GivesNext now remained after s.first (Line end))
         (is : line ≡ line_of now) (all : whole ≡ whole_of now) where
       pub handed_within : length line ≤ length whole
@@ -175,7 +175,7 @@ module _ {W : Type 0} (join : Join) (was now : LogReader) (remained before after
       line_stops new read_failed write_failed faults.Length h = absurd h
       line_stops new read_failed write_failed faults.Endless h = absurd h
 
-    -- one that is too long
+    -- a line that is too long
     module _ (given : GivesNext now remained after s.first TooLong) where
       pub long_line_stops : is_stopped join.bad ≡ true → (read_failed write_failed : Bool) → Stops join remained after read_failed write_failed old (stand between seen) faults.Length
       long_line_stops stops read_failed write_failed =
@@ -188,7 +188,7 @@ module _ {W : Type 0} (join : Join) (was now : LogReader) (remained before after
         is_done = long_more join old (stand between seen) (stand between among) s.first given.line still given.long goes (puts_nothing between.holds between.waits) adds;
       }
 
-    -- none
+    -- no line: the log has ended
     pub log_ends : GivesNext now remained after s.first End → Ends join remained after old (stand between seen)
     log_ends given = readings.log_ends _ (JoinsLines join old (stand between seen)) was now remained before after s given still
 

@@ -1,4 +1,4 @@
--- What was taken of the lines of a list, one after the other.
+-- How the lines of a list are taken one after another.
 use Rattle.std.proofs.Common.{◌≡◌, ℕ, ◌+◌, ◌-◌, ◌<◌, ◌≤◌, ◌==◌, List, [], ◌∷◌, ◌++◌, length, take, drop, refl, inl, inr, sym, ap, subst, ◌∙◌, arith, append_assoc, append-nil, length-append}
 use Rattle.std.specs.Prelude.{Some, Result, Ok, Err, OnOk, IfErr}
 use Rattle.std.specs.List.{slice_split, flat_map}
@@ -28,7 +28,7 @@ use Rattle.cidr_join.specs.declared.routes.RouteFault.TheVariants as routes
 
 -- ---- refused lines
 
--- one of the first, and one behind them
+-- one more of the first hundred refused lines, and one after them
 first_more : (name : List ℕ) (refused : List Refused) (line : Refused) → length refused < 100
     → first_refused_text name (refused ++ line ∷ []) ≡ first_refused_text name refused ++ line_text name line.0 (cause_text line.1)
 first_more name refused line few =
@@ -40,7 +40,7 @@ first_same : (name : List ℕ) (refused : List Refused) (line : Refused) → 100
 first_same name refused line many = ap (flat_map (λ (l : Refused). line_text name l.0 (cause_text l.1))) (take-append-le 100 refused (line ∷ []) many)
 
 module _ {E : Type 0} (name : List ℕ) (begun errors told : Written E) (refused : List Refused) (lines : ℕ) (cause : Cause) (skipped now : ℕ) where
-  -- one more was left out
+  -- one more line was left out
   pub tells_next : TellsFirst name begun errors skipped refused → now ≡ skipped + 1 → (skipped < 100 → Reports errors told (line_text name lines (cause_text cause)))
       → (100 ≤ skipped → told ≡ errors) → TellsFirst name begun told now (refused ++ (lines, cause) ∷ [])
   tells_next h more first others = record {
@@ -55,7 +55,7 @@ module _ {E : Type 0} (name : List ℕ) (begun errors told : Written E) (refused
     ];
   }
 
--- how many more there were
+-- the report of how many more there were
 pub tells_all : {E : Type 0} (name : List ℕ) (begun errors told : Written E) (refused : List Refused) (skipped : ℕ) → TellsFirst name begun errors skipped refused
     → Reports errors told (more_text (skipped - 100)) → Reports begun told (refused_text name refused)
 tells_all name begun errors told refused skipped h more =
@@ -96,7 +96,7 @@ module _ {E : Type 0} (name : List ℕ) (rules : ListRules) (line : List ℕ) (e
 
 -- ---- the lines of a list, in turn
 
--- one line more
+-- one more line
 takes_more : (rules : ListRules) (before between after : Listed) (first : List (List ℕ)) (line : List ℕ) → TakesLines rules before first between
     → TakesNext rules between line after → TakesLines rules before (first ++ line ∷ []) after
 takes_more rules before between after [] line p q =
@@ -106,14 +106,14 @@ takes_more rules before between after (one ∷ first) line p q = (p.0, p.1, take
 abbrev pub parts : List ℕ → List (List ℕ)
 parts text = slice_split (λ b. b == 10) text
 
--- the lines up to a place were taken
+-- the lines up to a position were taken
 abbrev pub Taken : {E : Type 0} → List ℕ → ListRules → List ℕ → ℕ → Written E → Written E → Listing → Type 0
 Taken name rules text at begun now listing = (first : List (List ℕ)) × (parts text ≡ first ++ parts (drop at text)) × (listed : Listed)
     × TakesLines rules nothing_listed first listed × IsListed name begun now listing listed
 
 module _ {E : Type 0} (name : List ℕ) (rules : ListRules) (text : List ℕ) (at : ℕ) (begun errors told : Written E) (listing now : Listing)
     (taken : Taken name rules text at begun errors listing) where
-  -- one that has a fault
+  -- a line that has a fault
   stops : (line : List ℕ) (others : List (List ℕ)) → parts text ≡ taken.0 ++ line ∷ others → (fault : TakeFault) → FailsNext rules line errors told listing now fault
       → EndsLines name rules (parts text) begun told now (Err fault)
   stops line others cut fault h =
@@ -138,7 +138,7 @@ module _ {E : Type 0} (name : List ℕ) (rules : ListRules) (text : List ℕ) (a
         },
       )
 
-  -- one that ends before a place
+  -- a line that ends at a line feed
   module _ (end : ℕ) (next : IsNext 10 text at end) where
     here : List ℕ
     here = take (end - at) (drop at text)
@@ -157,7 +157,7 @@ module _ {E : Type 0} (name : List ℕ) (rules : ListRules) (text : List ℕ) (a
     unfolding here
     line_stops fault h = stops here (parts (drop (end + 1) text)) cut fault h
 
-  -- the last one
+  -- the last line
   module _ (absent : IsAbsent 10 text at (length text)) where
     last_cut : parts text ≡ taken.0 ++ drop at text ∷ []
     last_cut = taken.1 ∙ ap (λ l. taken.0 ++ l) (part_from 10 text at absent)

@@ -1,4 +1,4 @@
--- Logs that are read in turn.
+-- How logs are read one after another.
 use Rattle.std.proofs.Common.{◌≡◌, ◌+◌, ◌++◌, ◌∷◌, ◌∙◌, ◌||◌, ◌⊎◌, inl, inr, [], ℕ, List, Bool, true, false, refl, sym, ap, subst, map, take, append_assoc, append-nil, codes}
 use Rattle.std.specs.Prelude.{Option, Some, String}
 use Rattle.std.specs.String.{string_bytes}
@@ -40,7 +40,7 @@ module _ {A : Type 0} (Gives : List LogLine → List A → Type 0) (join : Join)
     ap (λ (m : Bool). m || y) f.10 ∙ or_assoc f.4 f.5 y,
   )
 
--- what is given by lines, and from one state to the next was done with it
+-- `Gives` is what lines give, and `Done` what is done with it from one state to the next
 module _ {A S : Type 0} (Gives : List LogLine → List A → Type 0) (Done : S → S → List A → Type 0) (join : Join) (known : KnownLists) where
   -- ---- one log
 
@@ -77,7 +77,7 @@ module _ {A S : Type 0} (Gives : List LogLine → List A → Type 0) (Done : S �
   names_none old errors done = record { all = []; text = []; reads = (refl, refl, refl); is_done = done; tells = tells_nothing errors }
 
   module _ (more_done : (old mid new : S) (a b : List A) → Done old mid a → Done mid new b → Done old new (a ++ b)) {Z E : Type 0} (files : List (String Z)) where
-    -- those up to a place, and the one there
+    -- the logs before an index, and the one at it
     pub one_more : (i : ℕ) (name : List ℕ) (x y missed : Bool) (old mid new : S) (errors between told : Written E) → map string_bytes (take (i + 1) files) ≡ map string_bytes (take i files) ++ name ∷ [] → missed ≡ (x || y)
         → ReadsNames Gives (Done old mid) join known (map string_bytes (take i files)) x errors between → ReadsNames Gives (Done mid new) join known (name ∷ []) y between told
         → ReadsNames Gives (Done old new) join known (map string_bytes (take (i + 1) files)) missed errors told

@@ -1,4 +1,4 @@
--- What is printed of a line, put together.
+-- What is printed for a line, put together.
 use Rattle.std.proofs.Common.{◌≡◌, ℕ, ◌≤◌, Bool, true, false, List, [], ◌∷◌, ◌++◌, length, drop, refl, sym, ap, ◌∙◌, arith, append_assoc, true≢false, zero, suc, take, ◌-◌}
 use Rattle.std.proofs.lemmas.List.{take_rest}
 use Rattle.cidr_join.specs.Joins.{shown_of}

@@ -47,7 +47,7 @@ with_value (Some x) some = (x, refl)
 own_block : (w : ℕ) (n : Network) → HostBitsAreZero w n → block_of w n ≡ n
 own_block w n clear = ap (λ (a : ℕ). record { address = a; prefix = n.prefix }) (sym clear)
 
--- ---- the networks of a table, one after the other
+-- ---- the networks of a table, one after another
 
 tied : (n : Network) → eq_by_cmp network_cmp n n ≡ true
 tied n = (eq_by_cmp_equiv total).refl n
@@ -68,7 +68,7 @@ module _ {V : Type 0} (m : FinMap network_cmp V) (k : Network) (v : V) where
     | false ↦ λ apart is. inr (sym is ∙ has)
   ] refl (get-insert total m k v n)
 
--- those that are left have no number yet
+-- the networks are numbered, except those that are left
 pub record NumbersSoFar (by : Network → Value → Found) (table : Values) (left : List (Network × Value)) (numbers : FinMap network_cmp ℕ) (founds : List Found) : Type 0 where
   pub stored : (n : Network) (number : ℕ) → get numbers n ≡ Some number → (value : Value) × (get table n ≡ Some value) × (slice_get founds number ≡ Some (by n value))
   pub all : (n : Network) (value : Value) → get table n ≡ Some value → ((i : ℕ) × (slice_get left i ≡ Some (n, value))) ⊎ IsSome (get numbers n)
@@ -118,7 +118,7 @@ module _ (by : Network → Value → Found) (table : Values) where
     ];
   }
 
-  -- more stands behind
+  -- the networks are still numbered if more findings follow
   pub still_numbered : (numbers : FinMap network_cmp ℕ) (founds added : List Found) → AreNumbered by table numbers founds → AreNumbered by table numbers (founds ++ added)
   still_numbered numbers founds added h = record {
     stored = λ n number has. let s = h.stored n number has in (s.0, s.1, get_front founds added number (by n s.0) s.2);
@@ -169,7 +169,7 @@ stands w by table numbers founds IsSo a (Some found) h nothing is blocks nowhere
     let s = found_at by table w numbers founds a found.0 found.1 h is in
     (by found.0 s.0, s.2, longest found.0 s.0 s.1 (clear_at w numbers found.0 found.1 blocks is.stored))
 
--- what stands for no network
+-- 0 stands for no network
 at_zero : (founds rest : List Found) → founds ≡ prints.Nothing ∷ rest → slice_get founds 0 ≡ Some prints.Nothing
 at_zero founds rest is = ap (λ (f : List Found). slice_get f 0) is
 
@@ -229,7 +229,7 @@ both_named founds f h g k first second is fg hk =
     ap (flat_map (named_by true)) is ∙ flat_map-append (named_by true) (map f first) (map h second)
     ∙ ap (λ (l : List (List ℕ)). l ++ flat_map (named_by true) (map h second)) (each_named f g fg first) ∙ ap (λ (l : List (List ℕ)). map g first ++ l) (each_named h k hk second)
 
--- what the list gives addresses, if that is asked for
+-- the texts that the list can give addresses, if they are asked for
 pub named_listed : (by : Answering) (numbered : ValueIds) (zeros : Bool) → IsNumbering by numbered → flat_map (named_by zeros) numbered.founds.items ≡ (if zeros then named by else [])
 named_listed by numbered false h = none_named numbered.founds.items
 named_listed (answers.Values routes) numbered true h = both_named _ _ _ _ _ _ _ h.founds (λ e. refl) (λ e. refl)

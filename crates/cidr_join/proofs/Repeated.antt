@@ -1,4 +1,4 @@
--- What numbers stand for, each as often as it was counted.
+-- The texts that numbers stand for, each as often as it was counted.
 use Rattle.std.proofs.Common.{◌≡◌, ℕ, zero, suc, ◌+◌, ◌-◌, ◌*◌, ◌^◌, ◌<◌, ◌≤◌, Bool, true, false, cond, List, [], ◌∷◌, ◌++◌, length, take, drop, replicate, set, get_or, min, Some, sym, refl, ap, subst, ◌∙◌, arith, slice_get, append_assoc, append-nil, length-take}
 use Rattle.std.specs.Prelude.{Vec, Result, Ok, Err, OnOk, IfOk, map}
 use Rattle.std.specs.HashMap.{HashMap}
@@ -38,7 +38,7 @@ module _ {Z S : Type 0} where
       subst (λ (l : List (List ℕ)). Counted l (texts ++ (first ++ second)) new) (append_assoc names named more)
       (subst (λ (t : List (List ℕ)). Counted ((names ++ named) ++ more) t new) (append_assoc texts first second) (q (names ++ named) (texts ++ first) (p names texts counted)))
 
-  -- texts that stand as often among others
+  -- texts that are as often among other texts
   pub counted_as : (counts : HashMap (Vec ℕ Z) ℕ S) (named texts others : List (List ℕ)) → ((text : List ℕ) → count_of text texts ≡ count_of text others) → Counted named texts counts
       → Counted named others counts
   counted_as counts named texts others same counted text =
@@ -47,9 +47,9 @@ module _ {Z S : Type 0} where
       counted text ∙ ap (some_count (count_by (bytes_eq text) (named ++ texts))) (same text)
       ∙ some_same (count_by (bytes_eq text) (named ++ texts)) (count_by (bytes_eq text) (named ++ others)) (count_of text others) (λ none. omega (arith, none, was, is, same text)) (λ none. omega (arith, none, was, is, same text))
 
--- ---- what the numbers stand for, one after the other
+-- ---- what the numbers stand for, one after another
 
--- what is made of those up to a place, and of what stands there
+-- the result for the items before an index, and for the item at it
 pub flat_more : {X Y : Type 0} (f : X → List Y) (xs : List X) (i : ℕ) (x : X) → i < length xs → x ≡ get_or xs i x → flat_map f (take (i + 1) xs) ≡ flat_map f (take i xs) ++ f x
 flat_more f xs i x within is = ap (flat_map f) (take_more xs i x within ∙ ap (λ y. take i xs ++ y ∷ []) (sym is)) ∙ sym (flat_map_more f [] (take i xs) x)
 
@@ -62,7 +62,7 @@ repeated_push (f ∷ founds) (n ∷ numbers) found number same =
     ap (λ (t : List (List ℕ)). replicate n (mark_of f) ++ t) (repeated_push founds numbers found number (omega (arith, same)))
     ∙ sym (append_assoc (replicate n (mark_of f)) (repeated founds numbers) (replicate number (mark_of found)))
 
--- those up to a place, and what stands there
+-- the texts for the numbers before an index, and for the number at it
 pub repeated_more : (founds : List Found) (numbers : List ℕ) (i : ℕ) (found : Found) → i < length founds → i < length numbers → found ≡ get_or founds i found
     → repeated (take (i + 1) founds) (take (i + 1) numbers) ≡ repeated (take i founds) (take i numbers) ++ replicate (get_or numbers i 0) (mark_of found)
 repeated_more founds numbers i found within among is =
@@ -93,7 +93,7 @@ module _ (text : List ℕ) where
       ∙ ap (λ k. k + count_by (bytes_eq text) (repeated founds numbers))
       (sum_by-replicate (λ mark. cond (bytes_eq text mark) 1 0) number (mark_of found) ∙ times number (bytes_eq text (mark_of found)))
 
-  -- one number has another count
+  -- a number gets another count
   abbrev Recounted : List Found → List ℕ → ℕ → ℕ → Found → Type 0
   Recounted founds numbers i count found =
       (count_by (bytes_eq text) (repeated founds (set numbers i count)) + part found (get_or numbers i 0) ≡ count_by (bytes_eq text) (repeated founds numbers) + part found count)
@@ -117,12 +117,12 @@ sums : (b : Bool) (kept was is all count : ℕ) → is + cond b count 0 ≡ was 
 sums true kept was is all count moved part same = omega (arith, moved, part, same)
 sums false kept was is all count moved part same = omega (arith, moved, same)
 
--- a slice that was written, as the vector that it is of
+-- a slice of a vector that was written, as the vector
 pub stands_whole : (numbers before : List ℕ) (size : ℕ) → length numbers ≡ length before → size ≡ length before → take size (numbers ++ drop (length numbers) before) ≡ numbers
 stands_whole numbers before size same is =
     ap (λ (l : List ℕ). take size (numbers ++ l)) (drop_all (length numbers) before (omega (arith, same))) ∙ ap (take size) (append-nil numbers) ∙ take_all size numbers (omega (arith, same, is))
 
--- texts more, among others
+-- more texts among others
 moved_behind : (text : List ℕ) (kept marks rest texts : List (List ℕ)) → count_of text (kept ++ rest) ≡ count_of text texts → count_of text ((kept ++ marks) ++ rest) ≡ count_of text (texts ++ marks)
 moved_behind text kept marks rest texts same =
     let f = λ (mark : List ℕ). cond (bytes_eq text mark) 1 0 in
@@ -146,7 +146,7 @@ module _ (founds : List Found) where
     all = λ text. ap (λ (n : List ℕ). count_of text (repeated founds n)) zeros ∙ ap (count_of text) (nothing_repeated founds count);
   }
 
-  -- a number was counted once more, or it is none
+  -- a number was counted once more, or there is no such number
   pub number_counted : (found : Found) (number : ℕ) (old new : Counts) → slice_get founds number ≡ Some found → new.tally ≡ old.tally
       → (number < length old.numbers.items → new.numbers.items ≡ set old.numbers.items number (min (get_or old.numbers.items number 0 + 1) (2 ^ 64 - 1)))
       → CountsAll founds (mark_of found ∷ []) old new
@@ -178,13 +178,13 @@ module _ (founds : List Found) where
     all = λ text. ap (λ (n : List ℕ). count_of text ((counted.kept ++ marks) ++ repeated founds n)) same ∙ moved_behind text counted.kept marks (repeated founds old.numbers.items) texts (counted.all text);
   }
 
--- a text was counted by its bytes, in any numbers
+-- a text was counted by its bytes, whatever the numbers stand for
 pub text_counted : {T E : Type 0} (result : Result T E) (old new : Counts) (mark : List ℕ) → new.numbers.items ≡ old.numbers.items → OnOk result (CountsTexts [] (replicate 1 mark) old.tally.counts new.tally.counts)
     → OnOk result ((founds : List Found) → CountsAll founds (mark ∷ []) old new)
 text_counted (Ok done) old new mark same h = λ founds. texts_counted founds (mark ∷ []) old new same h
 text_counted (Err fault) old new mark same h = tt
 
--- when what the numbers stand for was counted by its bytes too
+-- the rows, once what the numbers stand for was counted by its bytes too
 pub rows_counted : {Z E : Type 0} (founds : List Found) (named : List (List ℕ)) (counts : Counts) (tally : Tally) (rows : Result (Vec (Reverse ℕ × Vec ℕ Z) Z) E)
     → (length counts.numbers.items ≡ length founds → CountsTexts named (repeated founds counts.numbers.items) counts.tally.counts tally.counts)
     → IfOk rows (λ all. (names texts : List (List ℕ)) → Counted names texts tally.counts → IsTally names texts (map row_of all.items))

@@ -96,7 +96,7 @@ module _ {W E : Type 0} (join : Join) (known : KnownLists) (name : List ℕ) (en
 -- ---- logs in turn
 
 module _ {Z W E : Type 0} (join : Join) (known : KnownLists) (files : List (String Z)) where
-  -- the one at a place stopped, behind others that were joined
+  -- the log at an index stopped the run, after others that were joined
   pub one_stops : (i : ℕ) (name : List ℕ) (missed : Bool) (output mid after : Written W) (errors between told : Written E)
       → map string_bytes (take (i + 1) files) ≡ map string_bytes (take i files) ++ name ∷ []
       → JoinsNames join known (map string_bytes (take i files)) missed output mid errors between
@@ -127,7 +127,7 @@ module _ {Z W E : Type 0} (join : Join) (known : KnownLists) (files : List (Stri
         status = s.status;
       }
 
--- all were joined
+-- all logs were joined
 pub all_by : {W E T F : Type 0} (join : Join) (known : KnownLists) (names : List (List ℕ)) (missed : Bool)
     (end : Ending W E) (mid : Written W) (between : Written E) (written : Result T F)
     → JoinsNames join known names missed end.output mid end.errors between
@@ -152,7 +152,7 @@ module _ {W E : Type 0} (known : KnownLists) (items : List Item) (end : Ending W
   joined_to text all h =
       inr (text, subst (λ (n : List ℕ). IsAllOf known n text) same all, subst (λ (n : List ℕ). EndsJoining known items n text end) same h)
 
-  -- it was not
+  -- the list was not read
   pub not_read : (fault : BytesFault) → BytesStop known name 1073741824 fault → Refuses (bytes_fault_text name fault) end → EndsGrouping None known items end
   not_read fault stops h =
       inl (fault, subst (λ (n : List ℕ). BytesStop known n 1073741824 fault) same stops, subst (λ (n : List ℕ). Refuses (bytes_fault_text n fault) end) same h)
@@ -163,7 +163,7 @@ same_routes routes networks a b =
       with_both : Values → Values → Routes
       with_both v4 v6 = record { v4 = v4; v6 = v6 }
 
--- what is printed of addresses was found, and the logs were joined by it
+-- the networks that decide what is printed were read, and the logs were joined to them
 module _ {W E : Type 0} (known : KnownLists) (items : List Item) (name text : List ℕ) (end : Ending W E) (told : Written E) (networks : Networks)
     (read : EndsList name (rules_of items) (slice_split (λ b. b == 10) text) end.errors told (Ok networks)) where
   pub taken : (by : Answers) → by ≡ answers_of items networks → EndsFinding known items by (record end { errors = told }) → EndsJoining known items name text end
@@ -180,7 +180,7 @@ module _ {W E : Type 0} (known : KnownLists) (items : List Item) (name text : Li
     )),
   )
 
-  -- there was no memory to find them
+  -- there was no memory to index them
   pub not_indexed : Refuses (codes "out of memory\n") (record end { errors = told }) → EndsJoining known items name text end
   not_indexed h = (read.0.refused, told, read.3, inr (inl h))
 
@@ -195,7 +195,7 @@ pub by_group : {W E : Type 0} (known : KnownLists) (items : List Item) (end : En
     → EndsFiles known items end
 by_group known items end group is h = subst (λ (o : Option Lengths). EndsGrouping o known items end) (sym is) h
 
--- ---- what is asked of the logs
+-- ---- what is done with the logs
 
 module _ {W E : Type 0} (join : Join) (known : KnownLists) (names : List (List ℕ)) (end : Ending W E) where
   pub asked_tally : (tally : Bool) → tally ≡ true → EndsTally join known names end → EndsAsked tally join known names end

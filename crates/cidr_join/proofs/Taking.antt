@@ -1,4 +1,4 @@
--- What the lines of a list are taken for, one after the other.
+-- How the lines of a list are taken, one after another.
 use Rattle.std.proofs.Common.{◌≡◌, ℕ, ◌≤◌, Bool, false, List, [], ◌∷◌, ◌++◌, length, take, refl, inr, sym, ap, subst, ◌∙◌, append_assoc, append-nil}
 use Rattle.std.specs.Prelude.{Some, Result, Ok, Err, OnOk, IfErr}
 use Rattle.std.specs.FinMap.{insert}
@@ -17,13 +17,13 @@ use Rattle.cidr_join.specs.declared.routes.RouteFault.{RouteFault}
 use Rattle.cidr_join.specs.declared.routes.RouteFault.TheVariants as routes
 use Rattle.cidr_join.specs.declared.value.Value.{Value}
 
--- one network more got the value
+-- one more network got the value
 pub sets_more : (w : ℕ) (before between after : Values) (done : List Network) (n : Network) (value : Value) → SetsAll w before done value between
     → after ≡ insert between (block_of w n) value → SetsAll w before (done ++ n ∷ []) value after
 sets_more w before between after [] n value p q = q ∙ ap (λ (t : Values). insert t (block_of w n) value) p
 sets_more w before between after (first ∷ done) n value p q = sets_more w (insert before (block_of w first) value) between after done n value p q
 
--- of the blocks of a range these got the value, and those are left
+-- some of the blocks of a range got the value, and `left` are left
 abbrev pub Set : ℕ → Values → Value → List Network → List Network → Values → Type 0
 Set w before value all left now = (done : List Network) × (all ≡ done ++ left) × SetsAll w before done value now
 
@@ -42,7 +42,7 @@ pub all_set : (w : ℕ) (before after : Values) (value : Value) (all was : List 
 all_set w before after value all was s e =
     subst (λ (l : List Network). SetsAll w before l value after) (sym (s.1 ∙ ap (λ l. s.0 ++ l) e ∙ append-nil s.0)) s.2
 
--- a family that keeps its networks keeps all
+-- if one family of networks is unchanged, so are both
 both : Values → Values → Networks
 both v4 v6 = record { v4 = v4; v6 = v6 }
 
@@ -58,7 +58,7 @@ kept_v6 (Ok done) old v6 h = tt
 kept_v6 (Err routes.OutOfMemory) old v6 h = tt
 kept_v6 (Err (routes.Refused cause)) old v6 h = ap (λ (t : Values). both old.v4 t) h
 
--- a fault that cannot be a repetition is a lack of memory
+-- a fault that cannot be a repetition is that memory ran out
 pub only_memory : (P : Type 0) (fault : RouteFault) → ¬ P → IsRefusal P fault → fault ≡ routes.OutOfMemory
 only_memory P routes.OutOfMemory none h = refl
 only_memory P (routes.Refused (causes.Entry fault)) none h = absurd h
@@ -72,7 +72,7 @@ pub good_entry : (text : List ℕ) (entry : Entry) → ReadsEntry text (Ok (Some
 good_entry text (entries.Network n) h = tt
 good_entry text (entries.Range first last) h = h.1.2
 
--- a line that begins with no network and no range
+-- a line that does not begin with a network or range
 pub entry_fails : (bare : Bool) (line text : List ℕ) (end : ℕ) (fault : EntryFault) → length line ≤ 1024 → text ≡ trimmed line → is_skipped text ≡ false → end ≡ entry_len text
     → EntryFails (take end text) fault → LineFaults bare line (causes.Entry fault)
 entry_fails bare line text end fault short is some at h =

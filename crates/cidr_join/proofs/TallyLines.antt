@@ -1,4 +1,4 @@
--- What lines and logs are counted.
+-- How lines and logs are counted.
 use Rattle.std.proofs.Common.{◌≡◌, ◌∙◌, ◌&&◌, not, ℕ, ◌<◌, ◌≤◌, Bool, true, false, true≢false, List, [], ◌∷◌, ◌++◌, length, refl, sym, ap, subst, arith, append_assoc, append-nil}
 use Rattle.std.specs.Prelude.{Option, None, Some, Result, Ok, Err, OnOk, if◌then◌else◌}
 use Rattle.ipnetwork_addr.specs.declared.ip.IpAddr.{IpAddr}
@@ -89,7 +89,7 @@ module _ (founds : List Found) where
       next_more join old mid new among is first next (ap (is_refused join.bad) asks ∙ f.1) (subst (λ (a : Option IpAddr). CountsAddress founds join a mid new) (sym asks) f.0)
       (line_adds join next short first among is d.3 (subst (λ (l : List ℕ). is ≡ with_line among (is_addressed join l)) (sym same) f.2)) d
 
-  -- and one that is too long
+  -- one more line that is too long
   pub long_more : (join : Join) (old mid new : Counts) (among is : LogStats) (first : List LogLine) (next : LogLine) → 1048576 < length (content next) → is_stopped join.bad ≡ false
       → CountsAddress founds join None mid new → is ≡ with_long among → CountsLines founds join old mid among first → CountsLines founds join old new is (first ++ next ∷ [])
   long_more join old mid new among is first next long goes c adds d =

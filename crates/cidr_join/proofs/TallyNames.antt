@@ -1,4 +1,4 @@
--- Logs whose lines are counted in turn.
+-- How the lines of logs are counted, one log after another.
 use Rattle.std.proofs.Common.{◌≡◌, ◌+◌, ◌++◌, ◌∷◌, ◌∙◌, ◌||◌, [], ℕ, List, Bool, true, false, inl, inr, refl, sym, ap, length, map, take, drop, append_assoc, append-nil, codes}
 use Rattle.std.specs.Prelude.{Option, Some, Err, IsTrue, String}
 use Rattle.std.specs.String.{string_bytes}
@@ -28,14 +28,14 @@ use Rattle.cidr_join.specs.Addressed.{seen_of, seen_by}
 use Rattle.cidr_join.proofs.LogsInTurn.{logs_both}
 
 module _ (join : Join) (known : KnownLists) where
-  -- memory ran out behind some logs
+  -- memory ran out after some logs
   pub ran_out : (before behind : List (List ℕ)) (marks : List (List ℕ)) (texts : List ℕ) (missed : Bool) → MarksLogs join known before marks texts missed
       → RunsOut join known (before ++ behind) (texts ++ codes "out of memory\n")
   ran_out before behind marks texts missed are = record { before = before; behind = behind; earlier = marks; texts = texts; missed = missed; logs = refl; are = are; is = refl }
 
   -- ---- one log
 
-  -- that was not read to its end: these of its lines were counted
+  -- a log that was not read to its end: these lines of it were counted
   at_log : (name : List ℕ) (lines : List LogLine) (marks : List (List ℕ)) (fault : LogFault) (seen : LogStats) → Marks join lines marks → HaltsBy (EndsRunBy join) known name lines fault
       → ended_by_write {T = Unit {0}} (Err fault) ≡ false → seen ≡ seen_of join lines → StopsTally join known (name ∷ []) (seen_by join name seen ++ log_fault_text name seen.lines fault)
   at_log name lines marks fault seen first halts reading counted = inl (record {
@@ -77,7 +77,7 @@ module _ (join : Join) (known : KnownLists) where
 
   -- ---- logs in turn
 
-  -- a log that stops behind others that were counted
+  -- a log that stops the run after others that were counted
   stops_behind : (done rest names : List (List ℕ)) (name : List ℕ) (marks : List (List ℕ)) (told text : List ℕ) (missed : Bool) → names ≡ done ++ ((name ∷ []) ++ rest) → MarksLogs join known done marks told missed
       → StopsTally join known (name ∷ []) text → StopsTally join known names (told ++ text)
   stops_behind done rest names name marks told text missed e f (inl s) = inl (record {
@@ -118,7 +118,7 @@ module _ (join : Join) (known : KnownLists) where
       tells_more errors between told f.text s.0 f.tells s.2,
     )
 
-    -- memory ran out when all were
+    -- memory ran out after all logs were counted
     pub rows_lack : {E : Type 0} (founds : List Found) (missed : Bool) (old new : Counts) (errors between told : Written E) → CountsNames founds join known (map string_bytes files) missed old new errors between
         → Reports between told (codes "out of memory\n") → TellsStop join known (map string_bytes files) errors told
     rows_lack founds missed old new errors between told f tells = (

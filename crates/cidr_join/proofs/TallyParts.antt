@@ -14,7 +14,7 @@ use Rattle.program.proofs.LogLines.{lines_two}
 use Rattle.cidr_join.proofs.OneOutput.{one_found}
 use Rattle.cidr_join.proofs.TallyLines.{marks_both}
 
--- for lines the same is counted
+-- one list of texts is counted for the lines
 one_marks : BlocksOfAnyWidthThatMeet → (join : Join) (lines : List LogLine) (a b : List (List ℕ)) → Marks join lines a → Marks join lines b → a ≡ b
 one_marks meet join [] a b p q = p ∙ sym q
 one_marks meet join (line ∷ lines) a b p q =

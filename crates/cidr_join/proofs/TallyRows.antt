@@ -17,11 +17,11 @@ rows_both : (first second : List Row) → rows_text (first ++ second) ≡ rows_t
 rows_both [] second = refl
 rows_both (row ∷ first) second = ap (λ t. row_text row ++ t) (rows_both first second) ∙ sym (append_assoc (row_text row) (rows_text first) (rows_text second))
 
--- the text of a row more
+-- the text of one more row
 pub rows_push : (rows : List Row) (row : Row) → rows_text (rows ++ row ∷ []) ≡ rows_text rows ++ row_text row
 rows_push rows row = rows_both rows (row ∷ []) ∙ ap (λ t. rows_text rows ++ t) (append-nil (row_text row))
 
--- the rows up to a place and the one there
+-- the rows before an index, and the one at it
 pub rows_more : {X : Type 0} (f : X → Row) (xs : List X) (i : ℕ) (x : X) → i < length xs → x ≡ get_or xs i x → rows_text (map f (take (i + 1) xs)) ≡ rows_text (map f (take i xs)) ++ row_text (f x)
 rows_more f xs i x within is =
     ap (λ ys. rows_text (map f ys)) (take_more xs i x within ∙ ap (λ y. take i xs ++ y ∷ []) (sym is)) ∙ ap rows_text (map_push f (take i xs) x) ∙ rows_push (map f (take i xs)) (f x)
@@ -29,7 +29,7 @@ rows_more f xs i x within is =
 pub rows_all : {X : Type 0} (f : X → Row) (xs : List X) (i : ℕ) → length xs ≤ i → rows_text (map f (take i xs)) ≡ rows_text (map f xs)
 rows_all f xs i past = ap (λ ys. rows_text (map f ys)) (take_all i xs past)
 
--- a writer that fails at a text that more would follow
+-- a writer that fails at a text before others
 pub fails_before : {W : Type 0} (old mid new : Written W) (before text after all : List ℕ) → Prints old mid before → all ≡ (before ++ text) ++ after
     → AppendsBeginning mid.holds new.holds (mid.waits ++ text) → FailsIn old new all
 fails_before old mid new before text after all p e h =
@@ -41,7 +41,7 @@ map_both : {X : Type 0} (f : X → Row) (xs ys : List X) → map f (xs ++ ys) �
 map_both f [] ys = refl
 map_both f (x ∷ xs) ys = ap (λ l. f x ∷ l) (map_both f xs ys)
 
--- the rows from a place on
+-- the rows before an index, and those from it on
 rows_apart : {X : Type 0} (f : X → Row) (xs : List X) (i : ℕ) → rows_text (map f xs) ≡ rows_text (map f (take i xs)) ++ rows_text (map f (drop i xs))
 rows_apart f xs i = ap (λ ys. rows_text (map f ys)) (sym (take-append-drop i xs)) ∙ ap rows_text (map_both f (take i xs) (drop i xs)) ∙ rows_both (map f (take i xs)) (map f (drop i xs))
 
@@ -62,7 +62,7 @@ failed_all (Ok done) old mid new text p h = tt
 failed_all (Err fault) old mid new text p h =
     subst (λ (t : List ℕ). FailsIn old new t) (append-nil text) (begins_after_puts _ _ _ _ _ text [] p (subst (AppendsBeginning mid.holds new.holds) (sym (append-nil mid.waits)) h))
 
--- how a run ends that writes a text
+-- how a run that writes a text ends
 pub ends_with : {W E T F : Type 0} (written : Result T F) (end : Ending W E) (text : List ℕ) (was : Bool) (between : Written E) (told : List ℕ) (missed : Bool) → OnOk written (Writes end.output end.output_after text)
     → OnErr written (FailsIn end.output end.output_after text) → end.output_after.failed ≡ (was || is_err written) → end.status ≡ status_of written (status_by missed)
     → Reports end.errors between told → Reports between end.errors_after (end_text written) → EndsWith text told missed end

@@ -1,4 +1,4 @@
--- How a tally counts a text so often.
+-- How a tally counts a text several times.
 use Rattle.std.proofs.Common.{◌≡◌, ℕ, zero, suc, ◌+◌, ◌-◌, ◌*◌, ◌^◌, ◌<◌, ◌≤◌, Bool, true, false, true≢false, cond, List, [], ◌∷◌, ◌++◌, inl, inr, refl, sym, ap, subst, ◌∙◌, arith, min, replicate}
 use Rattle.std.specs.Prelude.{None, Some, Vec, nat_eq, map, length}
 use Rattle.std.specs.Cmp.Lexicographic.{pointwise, bytes_decides, nat_list_eq_equiv}
@@ -77,7 +77,7 @@ same_else other text texts n differ =
     let none = count_more other text texts n ∙ ap (λ b. count_by (bytes_eq other) texts + n * cond b 1 0) (nat_list_eq_equiv.symm other text ∙ differ) in
     omega (arith, none)
 
--- a text that is named is one more
+-- a named text counts as one more
 named_is : (named : Bool) (text : List ℕ) → named_if named text ≡ replicate (cond named 1 0) text
 named_is true text = refl
 named_is false text = refl

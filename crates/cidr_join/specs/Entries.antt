@@ -1,4 +1,4 @@
--- What a line of a list says: a network or a range, and a value behind it.
+-- What a line of a list says: a network or a range, followed by a value.
 use Rattle.std.specs.Prelude.{◌≡◌, ◌≢◌, ◌≤◌, ◌<◌, ◌==◌, ◌||◌, ◌&&◌, ◌+◌, ◌⊎◌, ℕ, Bool, true, false, not, List, [], ◌∷◌}
 use Rattle.std.specs.Prelude.{length, take, drop, Option, None, Some, Result, Ok, Err, if◌then◌else◌, codes}
 use Rattle.std.specs.List.{prefix_len}
@@ -48,20 +48,20 @@ with_spaces spaces dash = if dash == 0 then 0 else spaces + dash
 abbrev pub tail_len : List ℕ → ℕ
 tail_len text = with_spaces (space_len text) (dash_len (drop (space_len text) text))
 
--- the length of the network or range that a text begins with: its first word, and, if a `-` follows that, with or
--- without spaces, what goes up to the end of the word behind the `-`
+-- the length of the network or range that a text begins with: up to the end of its first word, or, if a `-` follows
+-- that word, with or without spaces, up to the end of the word after the `-`
 abbrev pub entry_len : List ℕ → ℕ
 entry_len text = word_len text + tail_len (drop (word_len text) text)
 
 abbrev pub entry_part : List ℕ → List ℕ
 entry_part text = take (entry_len text) text
 
--- the text behind a comma that it begins with, or the whole text
+-- the text after the comma that it begins with, or the whole text if it begins with none
 abbrev pub behind_comma : List ℕ → List ℕ
 behind_comma [] = []
 behind_comma (byte ∷ rest) = if byte == 44 then rest else byte ∷ rest
 
--- what stands behind blanks and one comma, without the blanks around it
+-- what follows blanks and at most one comma, without the blanks around it
 abbrev pub value_part : List ℕ → List ℕ
 value_part text = trimmed (behind_comma (trimmed text))
 
@@ -69,7 +69,7 @@ value_part text = trimmed (behind_comma (trimmed text))
 abbrev pub value_of : List ℕ → List ℕ
 value_of text = value_part (drop (entry_len text) text)
 
--- a text, without the blanks around it, that is empty or a comment: it begins with `#` or `;`
+-- a text without blanks around it is empty or a comment: it begins with `#` or `;`
 abbrev pub is_skipped : List ℕ → Bool
 is_skipped [] = true
 is_skipped (byte ∷ rest) = byte == 35 || byte == 59
@@ -78,7 +78,7 @@ is_skipped (byte ∷ rest) = byte == 35 || byte == 59
 abbrev pub SaysNothing : List ℕ → Type 0
 SaysNothing line = (length line ≤ 1024) × (is_skipped (trimmed line) ≡ true)
 
--- and one that is not
+-- a line of at most 1,024 bytes that is neither blank nor a comment
 abbrev pub SaysSomething : List ℕ → Type 0
 SaysSomething line = (length line ≤ 1024) × (is_skipped (trimmed line) ≡ false)
 
@@ -88,11 +88,11 @@ abbrev pub Says : Bool → List ℕ → Entry → Value → Type 0
 Says bare line entry value = SaysSomething line × ReadsEntry (entry_part (trimmed line)) (Ok (Some entry))
     × (value.bytes.now ≡ value_of (trimmed line)) × (bare ≡ false → value.bytes.now ≢ [])
 
--- why a text is no network and no range; a text with nothing in it is no address
+-- why a text is not a network or range; an empty text has the fault of an address
 abbrev pub EntryFails : List ℕ → EntryFault → Type 0
 EntryFails text fault = ReadsEntry text (Err fault) ⊎ (ReadsEntry text (Ok None) × (fault ≡ faults.Address))
 
--- why a line says nothing that can be taken, where a value may be missing or not
+-- why a line cannot be read; a value may be missing if `bare`
 abbrev pub LineFaults : Bool → List ℕ → Cause → Type 0
 LineFaults bare line causes.Length = 1024 < length line
 LineFaults bare line (causes.Entry fault) = SaysSomething line × EntryFails (entry_part (trimmed line)) fault

@@ -1,4 +1,4 @@
--- What is printed of the lines of a log.
+-- What is printed for the lines of a log.
 use Rattle.std.specs.Prelude.{◌≡◌, ℕ, ◌||◌, Bool, false, List, [], ◌∷◌, ◌++◌, Option, None, Some, length, drop, codes}
 use Rattle.std.specs.Prelude.{option_map, if◌then◌else◌}
 use Rattle.ipnetwork_addr.specs.declared.ip.IpAddr.{IpAddr}
@@ -45,14 +45,14 @@ abbrev pub Finds : Join → Option IpAddr → Found → Type 0
 Finds join None found = found ≡ founds.Nothing
 Finds join (Some address) found = FindsBy join.answers address found
 
--- what is printed of that: the network's canonical text, or the value, or a minus sign for nothing
+-- the text for what was found: the network's canonical text, or the value, or a minus sign for nothing
 abbrev pub mark_of : Found → List ℕ
 mark_of (founds.Network network) = ip_network_text network
 mark_of (founds.Value value) = value.bytes.now
 mark_of founds.Nothing = codes "-"
 
--- a line with that and a tab before it, or with a tab and that behind it. The line is given without its end too, which
--- follows all of it
+-- a line with the mark and a tab before it or, if `last`, with a tab and the mark between the line and its end; `line`
+-- is the line without its end, `text` with it
 abbrev pub shown_of : Bool → List ℕ → List ℕ → List ℕ → List ℕ
 shown_of last mark line text = if last then line ++ 9 ∷ (mark ++ drop (length line) text) else mark ++ 9 ∷ text
 
@@ -72,12 +72,12 @@ abbrev pub is_left_out : WithoutAddress → Option IpAddr → Bool
 is_left_out bad None = is_dropped bad
 is_left_out bad (Some address) = false
 
--- what is written for a line of which this was found: nothing, if it is left out or too long
+-- what is written for a line, given what was found for it: nothing if it is left out or too long
 abbrev pub shown_in : Join → Found → LogLine → List ℕ
 shown_in join found line = if is_long line || is_left_out join.bad (asked_in join line) then []
     else output_of join found line
 
--- this is written for these lines, none of which ends the run
+-- these lines have this output, and none of them ends the run
 abbrev pub Joins : Join → List LogLine → List ℕ → Type 0
 Joins join [] output = output ≡ []
 Joins join (line ∷ lines) output = (found : Found) × (others : List ℕ)

@@ -1,4 +1,4 @@
--- What the contracts of this crate cite.
+-- The definitions used in the contracts of this crate.
 pub mod Addressed
 pub mod Entries
 pub mod Groups

@@ -40,8 +40,9 @@ entries = rows.shared
     ∷ long (codes "--bad") kinds.Rule true (codes "not drop, keep, stop or report")
     ∷ long_flag (codes "--zero") ∷ long_flag (codes "--skip-bad") ∷ []
 
--- which of them do not go together: those that say where addresses are looked for, `--tally` with `--last`, a second
--- `-f`, and `--group` with `-f` or what says something of its list. Of several such pairs the first is told
+-- the pairs of options that may not be given together: some options for where addresses are looked for, `--tally` with
+-- `--last`, two `-f`, and `--group` with `-f` or an option about its list. If several pairs are given, the first is
+-- reported
 abbrev pub pairs : List (ℕ × ℕ × List ℕ)
 pairs = rows.together
     ++ (tally, last, codes "--last does not go with --tally")
@@ -52,6 +53,6 @@ pairs = rows.together
     ∷ (group, zeros, codes "--group goes with none of -f, --network, --last-wins, --skip-bad and --zero")
     ∷ (group, skips_bad, codes "--group goes with none of -f, --network, --last-wins, --skip-bad and --zero") ∷ []
 
--- the table has these, and of `-f` and `--group` one at least is given
+-- the table has these options and pairs, and requires `-f` or `--group`
 abbrev pub IsOptions : Table → Type 0
 IsOptions table = IsTable table entries pairs (rows.list ∷ group ∷ []) (codes "neither -f nor --group is given")

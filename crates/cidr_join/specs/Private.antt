@@ -1,4 +1,4 @@
--- What the private functions promise each other.
+-- The definitions used in the contracts of private functions.
 pub mod Counting
 pub mod Listing
 pub mod Numbering

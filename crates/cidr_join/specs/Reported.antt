@@ -16,20 +16,20 @@ use Rattle.cidr_join.specs.declared.routes.Networks.{Networks}
 use Rattle.cidr_join.specs.declared.routes.RouteFault.{RouteFault}
 use Rattle.cidr_join.specs.declared.routes.RouteFault.TheVariants as routes
 
--- what is reported if a list was not read
+-- the report that the list with this name was not read
 abbrev pub bytes_fault_text : List ℕ → BytesFault → List ℕ
 bytes_fault_text name (bytes.Open cause) = name ++ open_fault_text cause
 bytes_fault_text name bytes.Read = name ++ codes ": cannot read\n"
 bytes_fault_text name bytes.Length = name ++ codes ": too long\n"
 bytes_fault_text name bytes.OutOfMemory = codes "out of memory\n"
 
--- what is reported if a line of it cannot be taken
+-- the report that a line of the list, after `before` others, cannot be taken
 abbrev pub route_fault_text : List ℕ → ℕ → RouteFault → List ℕ
 route_fault_text name before routes.OutOfMemory = codes "out of memory\n"
 route_fault_text name before (routes.Refused cause) = line_text name before (cause_text cause)
 
--- what is reported of the refused lines of the list of this name that are left out: of the first hundred where they
--- stand and why they are refused, and how many more there are
+-- the reports about the refused lines that are left out: the number of each of the first hundred and why it is refused,
+-- and how many more there are
 abbrev pub first_refused_text : List ℕ → List Refused → List ℕ
 first_refused_text name refused =
     flat_map (λ (line : Refused). line_text name line.0 (cause_text line.1)) (take 100 refused)
@@ -37,7 +37,7 @@ first_refused_text name refused =
 abbrev pub refused_text : List ℕ → List Refused → List ℕ
 refused_text name refused = first_refused_text name refused ++ more_text (length refused - 100)
 
--- these lines of the list of this name were read: those that are left out were reported, and the others give these
+-- the lines of the list with this name were read, and those that are left out were reported; the others give these
 -- networks, or one has the fault
 abbrev pub EndsList : {E : Type 0} → List ℕ → ListRules → List (List ℕ) → Written E → Written E
     → Result Networks TakeFault → Type 0

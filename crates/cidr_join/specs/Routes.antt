@@ -29,25 +29,25 @@ Values = FinMap network_cmp Value
 abbrev pub no_networks : Networks
 no_networks = record { v4 = empty; v6 = empty }
 
--- the block of a network got this value; unless later values win, it had none
+-- the block of a network gets this value; unless later values win, it had none
 abbrev pub SetsOne : ℕ → Bool → Values → Network → Value → Values → Type 0
 SetsOne w last_wins before n value after = (after ≡ insert before (block_of w n) value)
     × (last_wins ≡ false → get before (block_of w n) ≡ None)
 
--- later values do not win, and the block has one
+-- later values do not win, and the block of the network has a value
 abbrev pub HasOne : ℕ → Bool → Values → Network → Type 0
 HasOne w last_wins before n = (last_wins ≡ false) × IsSome (get before (block_of w n))
 
--- the blocks of these networks got this value
+-- the blocks of these networks get this value
 abbrev pub SetsAll : ℕ → Values → List Network → Value → Values → Type 0
 SetsAll w before [] value after = after ≡ before
 SetsAll w before (n ∷ networks) value after = SetsAll w (insert before (block_of w n) value) networks value after
 
--- one of them has a value
+-- the block of one of these networks has a value
 abbrev pub one_has : ℕ → Values → List Network → Bool
 one_has w values networks = list_any (λ n. is_some (get values (block_of w n))) networks
 
--- a range is refused if one of its fewest blocks has a value, unless later values win
+-- whether the range is refused: one block of its shortest list has a value, and later values do not win
 abbrev pub RefusesRange : ℕ → Bool → Values → ℕ → ℕ → Bool → Type 0
 RefusesRange w last_wins before first last refused = (blocks : List Network)
     × IsLeastList w (FromTo first last) blocks × (refused ≡ (not last_wins && one_has w before blocks))
@@ -55,18 +55,18 @@ RefusesRange w last_wins before first last refused = (blocks : List Network)
 abbrev pub RangeHasOne : ℕ → Bool → Values → ℕ → ℕ → Type 0
 RangeHasOne w last_wins before first last = RefusesRange w last_wins before first last true
 
--- or else these blocks got this value
+-- the range is not refused, and the blocks of its shortest list get this value
 abbrev pub SetsRange : ℕ → Bool → Values → ℕ → ℕ → Value → Values → Type 0
 SetsRange w last_wins before first last value after =
     (blocks : List Network) × IsLeastList w (FromTo first last) blocks
     × ((not last_wins && one_has w before blocks) ≡ false) × SetsAll w before blocks value after
 
--- an entry whose range, if it is one, has its ends in order
+-- the entry is a network, or a range whose addresses are of one family and in order
 abbrev pub IsGoodEntry : Entry → Type 0
 IsGoodEntry (entries.Network n) = Unit {0}
 IsGoodEntry (entries.Range first last) = IsRange first last
 
--- the network of an entry got this value, or the blocks of its range did
+-- the network of an entry, or each block of its range, gets this value
 abbrev pub SetsEntry : Bool → Networks → Entry → Value → Networks → Type 0
 SetsEntry last_wins before (entries.Network (families.V4 n)) value after =
     SetsOne 32 last_wins before.v4 n value after.v4 × (after.v6 ≡ before.v6)
@@ -79,7 +79,7 @@ SetsEntry last_wins before (entries.Range (addresses.V6 first) (addresses.V4 las
 SetsEntry last_wins before (entries.Range (addresses.V6 first) (addresses.V6 last)) value after =
     SetsRange 128 last_wins before.v6 first last value after.v6 × (after.v4 ≡ before.v4)
 
--- one of these has a value, and later values do not win
+-- the network of an entry, or a block of its range, has a value, and later values do not win
 abbrev pub EntryHasOne : Bool → Networks → Entry → Type 0
 EntryHasOne last_wins before (entries.Network (families.V4 n)) = HasOne 32 last_wins before.v4 n
 EntryHasOne last_wins before (entries.Network (families.V6 n)) = HasOne 128 last_wins before.v6 n
@@ -90,7 +90,7 @@ EntryHasOne last_wins before (entries.Range (addresses.V6 first) (addresses.V4 l
 EntryHasOne last_wins before (entries.Range (addresses.V6 first) (addresses.V6 last)) =
     RangeHasOne 128 last_wins before.v6 first last
 
--- the fault is that memory ran out, or a repetition, of which this is true
+-- the fault is that memory ran out, or a repetition, and then `repeated` holds
 abbrev pub IsRefusal : Type 0 → RouteFault → Type 0
 IsRefusal repeated faults.OutOfMemory = Unit {0}
 IsRefusal repeated (faults.Refused (causes.Entry fault)) = ⊥
@@ -98,7 +98,7 @@ IsRefusal repeated (faults.Refused causes.Value) = ⊥
 IsRefusal repeated (faults.Refused causes.Twice) = repeated
 IsRefusal repeated (faults.Refused causes.Length) = ⊥
 
--- a line that is refused leaves all as it was
+-- a line that is refused changes nothing
 abbrev pub Keeps : {A : Type 0} → A → A → RouteFault → Type 0
 Keeps before after faults.OutOfMemory = Unit {0}
 Keeps before after (faults.Refused cause) = after ≡ before

@@ -40,9 +40,9 @@ use Rattle.program.specs.declared.log_fault.LogFault.{LogFault}
 use Rattle.cidr_join.specs.declared.routes.Networks.{Networks}
 use Rattle.cidr_join.specs.declared.routes.Routes.{Routes}
 
--- a log that was opened was not joined to its end, and ended the run: those before it were joined, and its first lines;
--- their outputs were written, the cause was reported after what there is to report of those before it and of what was
--- seen of these lines, and the status is 2
+-- a log that was opened was not joined to its end, and ended the run. The logs before it and its first lines were
+-- joined, and their outputs were written. The reports about those logs and lines were written, and then the cause. The
+-- status is 2
 pub record StopsAtLog {W E : Type 0} (join : Join) (known : KnownLists) (names : List (List ℕ))
     (end : Ending W E) : Type 0 where
   pub before : List (List ℕ)
@@ -62,34 +62,34 @@ pub record StopsAtLog {W E : Type 0} (join : Join) (known : KnownLists) (names :
   pub told : HasTold end (texts ++ (seen_by join name (seen_of join lines) ++ log_fault_text name (length lines) fault))
   pub status : end.status ≡ 2
 
--- all logs were joined to their ends, but those that could not be opened
+-- each log was joined to its end, or could not be opened
 pub record JoinsAll {W E : Type 0} (join : Join) (known : KnownLists) (names : List (List ℕ))
     (end : Ending W E) : Type 0 where
   pub output : List ℕ
   pub texts : List ℕ
   pub missed : Bool
   pub joins : JoinsLogs join known names output texts missed
-  -- their output was written, what there is to report of them was reported, and the status is 0, or 2 if a log could
-  -- not be opened or a line is missed; or the writer failed, and that was reported after it
+  -- the output and the reports were written, and the status is 0, or 2 if a log could not be opened or a line is
+  -- missed; or the writer failed, which was reported after these
   pub ends : EndsWith output texts missed end
 
 -- the logs were joined, in turn
 abbrev pub EndsLogs : {W E : Type 0} → Join → KnownLists → List (List ℕ) → Ending W E → Type 0
 EndsLogs join known names end = JoinsAll join known names end ⊎ StopsAtLog join known names end
 
--- the name of its list
+-- the name of the list
 abbrev pub list_name : List Item → List ℕ
 list_name items = value_of items rows.list
 
--- what is printed of addresses by the routes of a list: networks or values
+-- what is printed for addresses by the routes of a list: networks or values
 abbrev pub answers_by : Bool → Routes → Answers
 answers_by network routes = if network then answers.Networks routes else answers.Values routes
 
--- what is asked for of these networks
+-- what is printed for addresses by these networks
 abbrev pub answers_of : List Item → Networks → Answers
 answers_of items networks = answers_by (is_given items own.network) (record { v4 = networks.v4; v6 = networks.v6 })
 
--- and of lines, if this is printed of addresses
+-- what is asked for, if this is printed for addresses
 abbrev pub join_of : List Item → Answers → Join
 join_of items by = record {
   answers = by;
@@ -100,12 +100,13 @@ join_of items by = record {
   zeros = is_given items own.zeros;
 }
 
--- what it asks for of the logs: that what the list gives their lines is counted, or that they are joined to the list
+-- the end of a run that, with `--tally`, counts the lines of the logs, or else joins the logs
 abbrev pub EndsAsked : {W E : Type 0} → Bool → Join → KnownLists → List (List ℕ) → Ending W E → Type 0
 EndsAsked true join known names end = EndsTally join known names end
 EndsAsked false join known names end = EndsLogs join known names end
 
--- how its lines are taken: with `--network` a value may be missing, and with `--skip-bad` a refused one is left out
+-- how the lines of the list are taken: with `--network` a value may be missing, with `--skip-bad` refused lines are
+-- left out
 abbrev pub rules_of : List Item → ListRules
 rules_of items = record {
   last_wins = is_given items own.last_wins;
@@ -113,8 +114,8 @@ rules_of items = record {
   skips = is_given items own.skips_bad;
 }
 
--- of the lines of the list these were refused and left out. One ends the run, or memory runs out, and nothing is
--- written. Else the logs are joined to its networks, or counted by them
+-- how the run ends after these lines of the list were refused and left out: another line ends the run, or memory runs
+-- out, and nothing is written; else the logs are joined to its networks, or counted by them
 abbrev pub EndsListed : {W E : Type 0} → KnownLists → List Item → List ℕ → List (List ℕ) → List Refused → Ending W E
     → Type 0
 EndsListed known items name lines refused end =
@@ -125,19 +126,19 @@ EndsListed known items name lines refused end =
     × EndsAsked (is_given items own.tally) (join_of items (answers_of items listed.networks)) known (inputs_of items)
     end))
 
--- the list of this name has these bytes: what is left out of it is reported, and then the run ends so
+-- how the run ends if the list with this name has these bytes: the lines that are left out are reported first
 abbrev pub EndsJoining : {W E : Type 0} → KnownLists → List Item → List ℕ → List ℕ → Ending W E → Type 0
 EndsJoining {W} {E} known items name text end = (refused : List Refused) × (told : Written E)
     × Reports end.errors told (refused_text name refused)
     × EndsListed known items name (slice_split (λ b. b == 10) text) refused (record end { errors = told })
 
--- this is printed of addresses: memory runs out, or the logs are joined or counted by it
+-- how the run ends if this is printed for addresses: memory runs out, or the logs are joined or counted
 abbrev pub EndsFinding : {W E : Type 0} → KnownLists → List Item → Answers → Ending W E → Type 0
 EndsFinding known items by end =
     Refuses (codes "out of memory\n") end
     ⊎ EndsAsked (is_given items own.tally) (join_of items by) known (inputs_of items) end
 
--- the lengths of the blocks in which lines are grouped, if they are
+-- the lengths of the blocks in which lines are grouped, if `--group` is given
 abbrev pub both : Option (ℕ × ℕ) → Option Lengths
 both None = None
 both (Some lengths) = Some (record { v4 = lengths.0; v6 = lengths.1 })
@@ -145,8 +146,8 @@ both (Some lengths) = Some (record { v4 = lengths.0; v6 = lengths.1 })
 abbrev pub lengths_of : List Item → Option Lengths
 lengths_of items = both (lengths_in (value_of items own.group))
 
--- lines are grouped in blocks of these lengths. Or else the list was not read, nothing was written, and the cause was
--- reported; or it was, and the logs were joined to it
+-- how the run ends: lines are grouped in blocks of these lengths; or, without `--group`, the list was not read, nothing
+-- was written, and the cause was reported; or the list was read, and the logs were joined to it
 abbrev pub EndsGrouping : {W E : Type 0} → Option Lengths → KnownLists → List Item → Ending W E → Type 0
 EndsGrouping (Some lengths) known items end = EndsFinding known items (answers.Blocks lengths) end
 EndsGrouping None known items end =
@@ -157,7 +158,7 @@ EndsGrouping None known items end =
 abbrev pub EndsFiles : {W E : Type 0} → KnownLists → List Item → Ending W E → Type 0
 EndsFiles known items end = EndsGrouping (lengths_of items) known items end
 
--- `--zero` is given without `--tally`, and what is told of that
+-- `--zero` is given without `--tally`, and the report about that
 abbrev pub lacks_tally : List Item → Bool
 lacks_tally items = is_given items own.zeros && not (is_given items own.tally)
 
@@ -165,7 +166,7 @@ abbrev pub lack_text : List ℕ → List ℕ → List ℕ
 lack_text program usage =
     refusal_text program usage [] (about subjects.CommandLine (codes "--zero goes only with --tally"))
 
--- what is asked for is done, unless there is no memory for the names of the logs
+-- the run does what the items ask for, unless `--zero` lacks `--tally` or there is no memory for the names of the logs
 abbrev pub EndsRequest : {W E : Type 0} → List ℕ → List ℕ → KnownLists → List Item → Ending W E → Type 0
 EndsRequest program usage known items end = ((lacks_tally items ≡ true) × Refuses (lack_text program usage) end)
     ⊎ ((lacks_tally items ≡ false) × (Refuses (codes "out of memory\n") end ⊎ EndsFiles known items end))
@@ -173,7 +174,7 @@ EndsRequest program usage known items end = ((lacks_tally items ≡ true) × Ref
 abbrev pub DoesRequest : {W E : Type 0} → List ℕ → List ℕ → KnownLists → Ending W E → List Item → Type 0
 DoesRequest program usage known end items = EndsRequest program usage known items end
 
--- how a run ends of a program of this name, help, version and usage, by the table of its options
+-- how a run of a program with this name, help, version and usage ends; its options are those of `IsOptions`
 abbrev pub EndsAs : {Z W E : Type 0} → List ℕ → List ℕ → List ℕ → List ℕ → KnownLists → List (String Z) → Ending W E
     → Type 0
 EndsAs program help version usage known words end =

@@ -10,25 +10,25 @@ use Rattle.cidr_join.specs.Stands.{Stand}
 use Rattle.cidr_join.specs.declared.join.Join.{Join}
 use Rattle.program.specs.declared.log_fault.LogFault.{LogFault}
 
--- these lines of a log were joined, from the first on
+-- these first lines of a log were joined
 pub record JoinsLines (join : Join) (old new : Stand) (lines : List LogLine) : Type 0 where
   pub added : List ℕ
   pub joins : Joins join lines added
   pub puts : Puts old.holds old.waits new.holds new.waits added
   pub seen : new.seen ≡ seen_of join lines
 
--- they were, and the writer, which failed, took a beginning of their output
+-- these first lines of a log were joined, and the writer, which failed, took a beginning of their output
 pub record WritesBeginning (join : Join) (old new : Stand) (lines : List LogLine) : Type 0 where
   pub added : List ℕ
   pub joins : Joins join lines added
   pub beginning : AppendsBeginning old.holds new.holds (old.waits ++ added)
   pub seen : new.seen ≡ seen_of join lines
 
--- what was read was joined to its end
+-- the log was read to its end, and all its lines were joined
 abbrev pub Ends : Join → Option (List ℕ) → Option (List ℕ) → Stand → Stand → Type 0
 Ends join remained remains old new = ReadsAll (JoinsLines join old new) remained remains
 
--- what is true if a log is not joined to its end, by the fault
+-- what holds if this fault stops the joining of a log
 abbrev pub Stops : Join → Option (List ℕ) → Option (List ℕ) → Bool → Bool → Stand → Stand → LogFault → Type 0
 Stops join remained remains read_failed write_failed old new fault =
     StopsReading (EndsRunBy join) (JoinsLines join old new)

@@ -1,4 +1,4 @@
--- What the lines of a list are taken for.
+-- How the lines of a list are taken.
 use Rattle.std.specs.Prelude.{◌≡◌, ◌⊎◌, ℕ, ◌+◌, List, [], ◌∷◌, ◌++◌, Option, None, Some, if◌then◌else◌}
 use Rattle.lists.specs.declared.entry.Entry.{Entry}
 use Rattle.cidr_join.specs.Entries.{SaysNothing, Says, LineFaults}
@@ -12,12 +12,12 @@ use Rattle.cidr_join.specs.declared.routes.RouteFault.{RouteFault}
 use Rattle.cidr_join.specs.declared.routes.RouteFault.TheVariants as faults
 use Rattle.cidr_join.specs.declared.value.Value.{Value}
 
--- by these rules a line is taken: it says nothing, or its network, or the blocks of its range, get its value
+-- by these rules, the line is taken: it says nothing, or its network or the blocks of its range get its value
 abbrev pub TakesLine : ListRules → Networks → List ℕ → Networks → Type 0
 TakesLine rules before line after = (SaysNothing line × (after ≡ before))
     ⊎ ((entry : Entry) × (value : Value) × Says rules.bare line entry value × SetsEntry rules.last_wins before entry value after)
 
--- why a line cannot be taken
+-- why the line cannot be taken
 abbrev pub LineFails : ListRules → Networks → List ℕ → RouteFault → Type 0
 LineFails rules before line faults.OutOfMemory = Unit {0}
 LineFails rules before line (faults.Refused (causes.Entry fault)) = LineFaults rules.bare line (causes.Entry fault)
@@ -26,11 +26,11 @@ LineFails rules before line (faults.Refused causes.Twice) = (entry : Entry) × (
     × Says rules.bare line entry value × EntryHasOne rules.last_wins before entry
 LineFails rules before line (faults.Refused causes.Length) = LineFaults rules.bare line causes.Length
 
--- a refused line, by how many lines come before it, and why it is
+-- a refused line: how many lines come before it, and why it is refused
 abbrev pub Refused : Type 0
 Refused = ℕ × Cause
 
--- what was taken of lines: how many there were, their networks, and those that were refused and left out
+-- the result of taking lines: how many there were, their networks, and the lines that were refused and left out
 pub record Listed : Type 0 where
   pub lines : ℕ
   pub networks : Networks
@@ -39,12 +39,12 @@ pub record Listed : Type 0 where
 abbrev pub nothing_listed : Listed
 nothing_listed = record { lines = 0; networks = no_networks; refused = [] }
 
--- why a line of this fault is left out, if it is: it is refused, and the rules say so
+-- why a line with this fault is left out; `None` if it is not, since it is not refused or the rules skip none
 abbrev pub left_out : ListRules → RouteFault → Option Cause
 left_out rules faults.OutOfMemory = None
 left_out rules (faults.Refused cause) = if rules.skips then Some cause else None
 
--- a line more was taken, or it is left out
+-- one more line was taken or left out
 pub record TakesNext (rules : ListRules) (before : Listed) (line : List ℕ) (after : Listed) : Type 0 where
   pub lines : after.lines ≡ before.lines + 1
   pub takes : (TakesLine rules before.networks line after.networks × (after.refused ≡ before.refused))
@@ -52,13 +52,14 @@ pub record TakesNext (rules : ListRules) (before : Listed) (line : List ℕ) (af
       × (left_out rules fault ≡ Some cause) × (after.networks ≡ before.networks)
       × (after.refused ≡ before.refused ++ (before.lines, cause) ∷ []))
 
--- these lines were, in turn
+-- these lines were taken or left out, in turn
 abbrev pub TakesLines : ListRules → Listed → List (List ℕ) → Listed → Type 0
 TakesLines rules before [] after = after ≡ before
 TakesLines rules before (line ∷ lines) after = (between : Listed) × TakesNext rules before line between
     × TakesLines rules between lines after
 
--- the first lines are taken, of which these are refused and left out, and the next one has the fault, and is not
+-- the first lines were taken, except these refused ones, which were left out; the next line has the fault, and is not
+-- left out
 abbrev pub StopsTaking : ListRules → Listed → List (List ℕ) → TakeFault → List Refused → Type 0
 StopsTaking rules before lines fault refused = (first : List (List ℕ)) × (line : List ℕ) × (others : List (List ℕ))
     × (between : Listed) × (lines ≡ first ++ line ∷ others) × TakesLines rules before first between

@@ -1,4 +1,4 @@
--- How often texts were counted.
+-- The counts of texts.
 use Rattle.std.specs.Prelude.{◌≡◌, ℕ, ◌-◌, ◌^◌, min, List, [], ◌∷◌, ◌++◌, if◌then◌else◌, decimal}
 use Rattle.std.specs.Cmp.Lexicographic.{slice_cmp}
 use Rattle.std.specs.List.{count_by, sum_by}
@@ -7,34 +7,34 @@ use Rattle.std.specs.Ordering.{nat_cmp, ordering_then}
 use Rattle.std.specs.declared.cmp.Ordering.{Ordering}
 use Rattle.std.specs.Str.{bytes_eq}
 
--- how often a text is among these, up to the greatest number of 64 bits
+-- how often a text is among these, at most 2^64 - 1
 abbrev pub count_of : List ℕ → List (List ℕ) → ℕ
 count_of text marks = min (count_by (bytes_eq text) marks) (2 ^ 64 - 1)
 
--- a count and the text that it is of
+-- a text with its count
 pub record Row : Type 0 where
   pub count : ℕ
   pub text : List ℕ
 
--- what rows count for a text, and how many of them are of it
+-- the count of a text in the rows, and how many rows have that text
 abbrev pub counted_by : List Row → List ℕ → ℕ
 counted_by rows text = sum_by (λ row. if bytes_eq text row.text then row.count else 0) rows
 
 abbrev pub rows_of : List Row → List ℕ → ℕ
 rows_of rows text = count_by (λ row. bytes_eq text row.text) rows
 
--- the row with the greater count is the first; of two with the same count, the one whose text is
+-- the row with the greater count comes first; rows with the same count are in the order of the bytes of their texts
 abbrev pub row_cmp : Row → Row → Ordering
 row_cmp first second = ordering_then (nat_cmp second.count first.count) (slice_cmp nat_cmp first.text second.text)
 
--- the rows count how often each text is among the marks, one row for each that is among these or is named, in that
--- order
+-- the rows count how often each text is among the marks, with one row for each text among the marks or the named texts,
+-- in that order
 pub record IsTally (named marks : List (List ℕ)) (rows : List Row) : Type 0 where
   pub counts : (text : List ℕ) → counted_by rows text ≡ count_of text marks
   pub once : (text : List ℕ) → rows_of rows text ≡ min (count_by (bytes_eq text) (named ++ marks)) 1
   pub ordered : IsSorted row_cmp rows
 
--- a row as it is printed: the count in decimal, a tab, the text
+-- a row as it is printed: the count in decimal, a tab, the text and a line feed
 abbrev pub row_text : Row → List ℕ
 row_text row = decimal row.count ++ 9 ∷ (row.text ++ 10 ∷ [])
 

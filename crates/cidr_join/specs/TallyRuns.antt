@@ -25,14 +25,15 @@ use Rattle.program.specs.declared.log_fault.LogFault.{LogFault}
 abbrev pub counted_for : Join → Option IpAddr → Found → List (List ℕ)
 counted_for join address found = if is_left_out join.bad address then [] else mark_of found ∷ []
 
--- what is counted for these lines, none of which ends the run: one that is too long counts as one without an address
+-- what is counted for these lines, none of which ends the run; a line that is too long counts as one without an address
 abbrev pub Marks : Join → List LogLine → List (List ℕ) → Type 0
 Marks join [] marks = marks ≡ []
 Marks join (line ∷ lines) marks = (found : Found) × (others : List (List ℕ))
     × (is_refused join.bad (asked_in join line) ≡ false) × Finds join (asked_in join line) found
     × Marks join lines others × (marks ≡ counted_for join (asked_in join line) found ++ others)
 
--- what the list gives addresses, and lines maybe not: the value of each of its networks, or the network
+-- the texts that the list can give addresses, whether or not a line has one: the value of each of its networks, or the
+-- network
 abbrev pub named : Answers → List (List ℕ)
 named (answers.Values routes) = map (λ e. e.1.bytes.now) (entries routes.v4)
     ++ map (λ e. e.1.bytes.now) (entries routes.v6)
@@ -40,21 +41,21 @@ named (answers.Networks routes) = map (λ e. ip_network_text (families.V4 e.0)) 
     ++ map (λ e. ip_network_text (families.V6 e.0)) (entries routes.v6)
 named (answers.Blocks lengths) = []
 
--- what a tally has that was counted never, if the option says so
+-- the texts that a tally has even if they were never counted: with `--zero`, those
 abbrev pub named_in : Join → List (List ℕ)
 named_in join = if join.zeros then named join.answers else []
 
--- what is counted for the lines of the logs of these names, which were read to their ends, or could not be opened, what
--- is reported, and whether one could not be opened or a line is missed
+-- the logs with these names were each read to the end, or could not be opened: what is counted for their lines, the
+-- reports, and whether a log could not be opened or a line is missed
 abbrev pub MarksLogs : Join → KnownLists → List (List ℕ) → List (List ℕ) → List ℕ → Bool → Type 0
 MarksLogs join known names marks told missed = ReadsLogs (Marks join) join known names marks told missed
 
--- nothing is written before all logs are read, so that no write ends the reading
+-- the fault is not a failed write: nothing is written before all logs are read
 abbrev pub IsOfReading : LogFault → Type 0
 IsOfReading fault = ended_by_write {T = Unit {0}} (Err fault) ≡ false
 
--- a log that was opened was not read to its end: those before it were, and its first lines; this is what is reported,
--- after what there is to report of those before it and of what was seen of these lines
+-- a log that was opened was not read to its end; the logs before it and its first lines were counted. The text is the
+-- reports about those logs and lines, and then the cause
 pub record StopsAtName (join : Join) (known : KnownLists) (names : List (List ℕ)) (text : List ℕ) : Type 0 where
   pub before : List (List ℕ)
   pub name : List ℕ
@@ -72,7 +73,7 @@ pub record StopsAtName (join : Join) (known : KnownLists) (names : List (List �
   pub of_reading : IsOfReading fault
   pub is : text ≡ texts ++ (seen_by join name (seen_of join lines) ++ log_fault_text name (length lines) fault)
 
--- memory ran out behind some of the logs; this is what is reported, after what there is to report of these
+-- memory ran out after some of the logs. The text is the reports about these, and then that memory ran out
 pub record RunsOut (join : Join) (known : KnownLists) (names : List (List ℕ)) (text : List ℕ) : Type 0 where
   pub before : List (List ℕ)
   pub behind : List (List ℕ)
@@ -87,18 +88,18 @@ pub record RunsOut (join : Join) (known : KnownLists) (names : List (List ℕ)) 
 abbrev pub StopsTally : Join → KnownLists → List (List ℕ) → List ℕ → Type 0
 StopsTally join known names text = StopsAtName join known names text ⊎ RunsOut join known names text
 
--- the status is 2 if a log could not be opened or a line is missed, and else 0
+-- the exit status: 2 if a log could not be opened or a line is missed, else 0
 abbrev pub status_by : Bool → ℕ
 status_by missed = if missed then 2 else 0
 
--- the text was written and the other one reported, and the status is that; or the writer failed, which took a beginning
--- of what waited and the text, and that was reported after the other one
+-- `text` was written and `told` was reported, with that status; or the writer failed and took a beginning of what
+-- waited and of `text`, and the failure was reported after `told`
 abbrev pub EndsWith : {W E : Type 0} → List ℕ → List ℕ → Bool → Ending W E → Type 0
 EndsWith text told missed end = (HasWritten end text × HasTold end told × (end.status ≡ status_by missed))
     ⊎ (FailsWriting end text × HasTold end (told ++ codes "write error\n") × (end.status ≡ 2))
 
--- nothing was written, and the cause reported; or the tally of what is counted for the lines of the logs was written,
--- and what there is to report of them was reported
+-- nothing was written, and the cause was reported; or the tally of what is counted for the lines of the logs was
+-- written, and the reports about them
 abbrev pub EndsTally : {W E : Type 0} → Join → KnownLists → List (List ℕ) → Ending W E → Type 0
 EndsTally join known names end = ((text : List ℕ) × StopsTally join known names text × Refuses text end)
     ⊎ ((marks : List (List ℕ)) × (told : List ℕ) × (missed : Bool) × (rows : List Row)

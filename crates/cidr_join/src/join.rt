@@ -1,4 +1,4 @@
-//! What a line is to the list.
+//! What is printed for a line.
 ghost use Rattle.std.specs.Prelude.{◌≡◌, None, Some};
 ghost use Rattle.cidr_join.specs.Joins.{Finds, address_in, is_left_out, is_refused};
 
@@ -9,7 +9,7 @@ use line_addresses::Area;
 use log_programs::finding::found_in;
 use log_programs::without_address::WithoutAddress;
 
-/// What decides what is printed of a line.
+/// What decides what is printed for a line.
 #[derive(Drop)]
 pub struct Join<'a> {
     /// What is printed of its address.
@@ -17,10 +17,10 @@ pub struct Join<'a> {
     pub(crate) area: Area<'a>,
     /// Whether an IPv4-mapped address of a line counts as its IPv4 one.
     pub(crate) mapped: bool,
-    /// Whether that stands behind the line, and not before it.
+    /// Whether that is printed after the line instead of before it.
     pub(crate) last: bool,
     pub(crate) bad: WithoutAddress,
-    /// Whether a tally has what the list gives addresses of which no line has one.
+    /// Whether a tally includes the networks or values of the list that no line has.
     pub(crate) zeros: bool,
 }
 

@@ -1,4 +1,4 @@
-//! The lines of logs, each with the value that a list gives its address.
+//! Prints the lines of logs, each with the value that a list gives its address.
 #![tactic(auto)]
 
 mod answers;

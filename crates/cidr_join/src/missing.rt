@@ -1,17 +1,17 @@
-//! Whether a log or a line is missed.
+//! Whether a log or a line was missed.
 ghost use Rattle.std.specs.Prelude.{◌≡◌, ◌||◌};
 ghost use Rattle.cidr_join.specs.TallyRuns.{status_by};
 
 use program::ending::FAILED;
 
-/// Whether one of two is so.
+/// Returns whether one of the two is true.
 pub(crate) fn either(first: bool, second: bool) -> bool
     ensures { result ≡ (first || second) }
 {
     first || second
 }
 
-/// The exit status by whether a log or a line was missed.
+/// Returns the exit status; `missed` tells whether a log or a line was missed.
 pub(crate) fn status(missed: bool) -> u8
     ensures { result ≡ status_by missed }
 {

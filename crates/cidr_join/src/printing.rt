@@ -14,8 +14,9 @@ use program::log_reader::put_feed;
 use program::putting::put_both;
 use std::io::Write;
 
-/// Writes a line, and before it or behind it what was found for its address: the value, or the network, or a minus sign
-/// for none. `line` is the line without its end, and `whole` as it was read; if no line feed ends it, one is written.
+/// Writes a line and, before or after it, what was found for its address: the value, the network,
+/// or a minus sign for nothing. `line` is the line without its end, `whole` with it; a missing line
+/// feed is added.
 pub(crate) fn print_line<W: Write>(
     join: &Join<'_>,
     found: &Found<'_>,
@@ -39,7 +40,7 @@ pub(crate) fn print_line<W: Write>(
     }
 }
 
-// Writes a line, and this before it, or behind it if `last`.
+// Writes a line with the mark before it or, if `last`, after it.
 fn print_with<W: Write>(
     line: &[u8],
     whole: &[u8],

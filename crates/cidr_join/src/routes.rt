@@ -13,21 +13,22 @@ use ipnetwork_index::RouteIndex;
 use ipnetwork_table::PrefixTable;
 use std::alloc::{AllocError, Global};
 
-/// The networks of a list that were read so far, by family. A network stands for its block: its host bits are cleared.
+/// The networks of a list that were read so far, by family, with their values. Each is stored as
+/// its block, with its host bits set to zero.
 #[derive(Drop)]
 pub struct Networks<'a> {
     pub(crate) v4: PrefixTable<Ipv4Network, Value<'a>>,
     pub(crate) v6: PrefixTable<Ipv6Network, Value<'a>>,
 }
 
-/// The networks of a list, to be asked.
+/// The networks of a list, indexed for lookups.
 #[derive(Drop)]
 pub struct Routes<'a> {
     pub(crate) v4: RouteIndex<Ipv4Network, Value<'a>>,
     pub(crate) v6: RouteIndex<Ipv6Network, Value<'a>>,
 }
 
-/// Why a network has no value now.
+/// Why a line does not give its network a value.
 #[derive(Clone, Copy, Debug, PartialEq, Eq)]
 pub enum RouteFault {
     /// Out of memory.
@@ -37,7 +38,7 @@ pub enum RouteFault {
 }
 
 impl<'a> Networks<'a> {
-    /// No networks.
+    /// Creates an empty set of networks.
     pub(crate) fn new(alloc: Global) -> Networks<'a>
         ensures { result ≡ no_networks }
     {
@@ -49,7 +50,7 @@ impl<'a> Networks<'a> {
 }
 
 impl<'a> Routes<'a> {
-    /// These networks, to be asked.
+    /// Indexes these networks for lookups. Returns `AllocError` if memory runs out.
     pub(crate) fn of(alloc: Global, networks: Networks<'a>) -> Result<Routes<'a>, AllocError>
         ensures v4 { IfOk result (λ routes. routes.v4 ≡ networks.entry.v4) }
         ensures v6 { IfOk result (λ routes. routes.v6 ≡ networks.entry.v6) }
@@ -78,8 +79,8 @@ impl<'a> Routes<'a> {
     }
 }
 
-/// Gives a network a value. One that has a value gets this one if `last_wins`, and if not, it keeps
-/// its own, and this one is refused.
+/// Gives a network a value. If it already has one, it gets the new one if `last_wins`; if not, it
+/// keeps its own and `Cause::Twice` is returned. Returns `OutOfMemory` if memory runs out.
 pub(crate) fn set_one<'a, N: AddressSpace>(
     table: &mut PrefixTable<N, Value<'a>>,
     network: N,
@@ -100,8 +101,9 @@ pub(crate) fn set_one<'a, N: AddressSpace>(
     }
 }
 
-/// Gives a value to each of the fewest blocks that have the addresses from `first` to `last`, or to
-/// none of them.
+/// Gives a value to each block of the shortest list that makes up the range from `first` to `last`.
+/// Returns `Cause::Twice` and changes nothing if a block has one, unless `last_wins`. If memory
+/// runs out, returns `OutOfMemory`, and only some of the blocks may have the value.
 pub(crate) fn set_range<'a, N: AddressSpace>(
     table: &mut PrefixTable<N, Value<'a>>,
     first: N::Addr,
@@ -127,8 +129,8 @@ pub(crate) fn set_range<'a, N: AddressSpace>(
     Ok(())
 }
 
-// Whether a range is refused: one of the fewest blocks that have its addresses has a value, unless
-// `last_wins`.
+// Returns whether a range is refused: a block of the shortest list that makes it up has a value,
+// and not `last_wins`.
 fn refuses_range<N: AddressSpace>(
     table: &PrefixTable<N, Value<'_>>,
     first: N::Addr,
@@ -150,13 +152,13 @@ fn refuses_range<N: AddressSpace>(
     false
 }
 
-// The fewest blocks that have the addresses from `first` to `last`.
+// Returns the shortest list of blocks that makes up the range from `first` to `last`.
 fn blocks_of<N: AddressSpace>(first: N::Addr, last: N::Addr) -> RangeBlocks<N>
     requires { N.number first ≤ N.number last }
     ensures blocks { IsLeastList N.WIDTH (FromTo (N.number first) (N.number last)) result }
     ensures address { N.number last < 2 ^ N.WIDTH }
 {
-    // The clause `address` of this call says that `last` is an address of the family.
+    // The clause `address` of this call states that `last` is an address of the family.
     let _ = N::block(last, N::WIDTH);
     let Some(blocks) = range_to_blocks::<N>(first, last) else {
         unreachable!()

@@ -1,4 +1,4 @@
-//! How often texts were counted.
+//! The counts of texts.
 ghost use Rattle.std.specs.Prelude.{List, ℕ, [], map, replicate, IfOk, OnOk};
 ghost use Rattle.cidr_join.specs.Tallies.{IsTally};
 ghost use Rattle.cidr_join.specs.Private.Counting.{row_of, named_if, Counted, CountsTexts};
@@ -7,7 +7,7 @@ use std::alloc::{AllocError, Global};
 use std::cmp::Reverse;
 use std::collections::HashMap;
 
-/// A count, which is greater the earlier it stands, and the text that it is of.
+/// A count and its text. The count is reversed, so that greater ones are sorted first.
 pub(crate) type Row = (Reverse<u64>, Vec<u8>);
 
 /// How often each text was counted. It keeps a copy of each text that was counted.
@@ -17,7 +17,7 @@ pub struct Tally {
 }
 
 impl Tally {
-    /// Nothing was counted.
+    /// Creates a tally of nothing.
     pub(crate) fn new(alloc: Global) -> Tally
         ensures { Counted [] [] result.counts }
     {
@@ -26,8 +26,8 @@ impl Tally {
         }
     }
 
-    /// Counts a text so often, of which it keeps that it was counted never, if `named`. Allocates
-    /// only if it does not have the text.
+    /// Counts a text `count` times. If `named`, the text is kept even if that is 0. Allocates only
+    /// if it does not have the text, and returns `AllocError` if memory runs out.
     pub(crate) fn count(
         &mut self,
         alloc: Global,
@@ -50,7 +50,8 @@ impl Tally {
         Ok(())
     }
 
-    /// The counts and their texts, most first, and those of one count by the bytes of the texts.
+    /// Returns the counts and their texts, the greatest count first, equal counts in the order of
+    /// the bytes of the texts. Returns `AllocError` if memory runs out.
     pub(crate) fn into_rows(self, alloc: Global) -> Result<Vec<Row>, AllocError>
         ensures { IfOk result (λ rows. (named texts : List (List ℕ))
             → Counted named texts self.counts → IsTally named texts (map row_of rows.items)) }

@@ -1,4 +1,4 @@
-//! Counts what a list gives the lines of a log.
+//! Counts what is found for the lines of a log.
 ghost use Rattle.std.specs.Prelude.{◌≡◌, ◌||◌, ◌&&◌, ◌≤◌, not, length, OnOk, IfErr};
 ghost use Rattle.log_programs.specs.WithoutAddress.{is_dropped};
 ghost use Rattle.lines.specs.Watched.{device_of, has_failed};
@@ -30,8 +30,8 @@ pub enum TallyFault {
 
 /// Counts for each line of a log what the list gives its address, and the line.
 ///
-/// A line that is too long is counted as one without an address. If it ends the run, it does so even if its end was not
-/// read. What is seen of the lines is counted from the first on.
+/// A line that is too long counts as one without an address. If such lines end the run, one does so
+/// even before its end was read. The counts in `seen` start anew.
 pub(crate) fn tally_log<R: Read>(
     alloc: Global,
     join: &Join<'_>,
@@ -56,7 +56,7 @@ pub(crate) fn tally_log<R: Read>(
     ensures reader_failed { has_failed reader.new
         ≡ (has_failed reader.old || ended_by_read result) }
 {
-    // Nothing is put into it, so that nothing is written before a read.
+    // Nothing is put into it, so nothing is written before a read.
     let mut slice = [0; 1];
     let mut nothing = Output::new(Vec::new(alloc), &mut slice);
     *seen = LogStats::new();
@@ -85,7 +85,8 @@ pub(crate) fn tally_log<R: Read>(
     }
 }
 
-// The fault of a log of whose lines nothing is written but to memory.
+// Returns the fault of a log as a fault of counting: a write to memory fails only if memory runs
+// out.
 fn tally_fault(fault: LogFault) -> TallyFault
     ensures { result ≡ tally_fault fault }
 {
@@ -154,7 +155,7 @@ fn count_address(
     }
 }
 
-// Whether a line is left out, which has an address or has none.
+// Returns whether a line is left out, by whether it has an address.
 #[inline(always)]
 fn is_left_out(join: &Join<'_>, is_addressed: bool) -> bool
     ensures { result ≡ (not is_addressed && is_dropped join.now.bad) }

@@ -1,4 +1,4 @@
-//! Counts what a list gives the lines of the logs of a run, and prints the counts.
+//! Counts what is found for the lines of the logs of a run, and prints the counts.
 ghost use Rattle.std.specs.Prelude.{◌≡◌, ◌≤◌, ◌++◌, ◌∷◌, ◌||◌, [], length, map, MatchOption, OnOk, OnErr, is_err};
 ghost use Rattle.lines.specs.Outputs.{FailsIn, Writes};
 ghost use Rattle.program.specs.Endings.{ending};
@@ -33,7 +33,8 @@ use program::putting::put_both;
 use std::alloc::Global;
 use std::io::Write;
 
-/// Counts what the list gives the lines of the logs of these names, prints the counts, and returns the exit status.
+/// Counts what is found for the lines of the logs with these names, prints the counts, and returns
+/// the exit status.
 pub(crate) fn tally_logs<L: OpenLists, W: Write, E: Write>(
     alloc: Global,
     join: &Join<'_>,
@@ -73,9 +74,9 @@ pub(crate) fn tally_logs<L: OpenLists, W: Write, E: Write>(
     end(written, status(missed), errors)
 }
 
-// Counts the lines of the logs of these names, and returns whether one could not be opened or a line is missed. If a log
-// that was opened does not come to its end, the cause is reported, and there is no answer. What was seen of the lines is
-// reported of each.
+// Counts the lines of the logs with these names, and returns whether one could not be opened or a
+// line is missed. If one that was opened is not read to its end, the cause is reported and `None`
+// is returned. The reports about the lines of each log are written after it.
 fn tally_each<L: OpenLists, E: Write>(
     alloc: Global,
     join: &Join<'_>,
@@ -105,8 +106,8 @@ fn tally_each<L: OpenLists, E: Write>(
     Some(missed)
 }
 
-// Opens the log of this name and counts its lines, and returns whether it could not be opened or one is missed, as
-// `tally_each` does.
+// Opens the log with this name and counts its lines, and returns whether it could not be opened or
+// a line is missed, as `tally_each` does.
 fn tally_one<L: OpenLists, E: Write>(
     alloc: Global,
     join: &Join<'_>,
@@ -147,7 +148,7 @@ fn tally_one<L: OpenLists, E: Write>(
     }
 }
 
-// Reports why the lines of a log were not counted to its end, after what there is to report of those that were.
+// Reports why a log was not counted to its end, after the reports about the lines that were.
 fn tell_stop<E: Write>(
     bad: WithoutAddress,
     name: &str,

@@ -1,4 +1,4 @@
-//! Messages on the error writer. If a write of one fails, nothing else changes.
+//! Messages on the error writer. If writing one fails, nothing else changes.
 ghost use Rattle.program.specs.Messages.{Reports};
 ghost use Rattle.cidr_join.specs.Addressed.{lacking_by};
 ghost use Rattle.cidr_join.specs.Reported.{bytes_fault_text, take_fault_text};
@@ -15,7 +15,7 @@ use program::log_fault::{tell_line, tell_of};
 use program::messages::tell;
 use std::io::Write;
 
-/// Reports why the list of this name was not read.
+/// Reports why the list with this name was not read.
 pub(crate) fn tell_bytes_fault<E: Write>(name: &str, fault: BytesFault, errors: &mut Output<'_, E>)
     ensures { Reports errors.old errors.new (bytes_fault_text name.now fault) }
 {
@@ -27,7 +27,8 @@ pub(crate) fn tell_bytes_fault<E: Write>(name: &str, fault: BytesFault, errors: 
     }
 }
 
-/// Reports that the log of this name has lines, and none of them an address where it is looked for, if that is so.
+/// Reports that no line of the log with this name has an address where one is looked for, if it has
+/// lines and that is so.
 pub(crate) fn tell_unaddressed<E: Write>(
     join: &Join<'_>,
     name: &str,
@@ -41,7 +42,7 @@ pub(crate) fn tell_unaddressed<E: Write>(
     tell_lacking(PROGRAM, &join.area, name, lines, is_addressed, errors);
 }
 
-/// Reports why the lines of the list of this name were not taken to its end.
+/// Reports why the list with this name was not taken to its end.
 pub(crate) fn tell_take_fault<E: Write>(name: &str, fault: TakeFault, errors: &mut Output<'_, E>)
     ensures { Reports errors.old errors.new (take_fault_text name.now fault) }
 {

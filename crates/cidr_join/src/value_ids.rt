@@ -1,4 +1,4 @@
-//! What is printed of addresses by the networks of a list, by number.
+//! Numbers for what is printed for addresses by the networks of a list.
 ghost use Rattle.std.specs.Prelude.{◌≡◌, ℕ, [], ◌∷◌, ◌++◌, Option, IfOk, IfSome, OnOk};
 ghost use Rattle.ipnetwork.specs.declared.ip_network.IpNetwork.{IpNetwork as AnyNetwork};
 ghost use Rattle.ipnetwork_family.specs.Network.{Network as Pair};
@@ -25,12 +25,12 @@ pub struct ValueIds<'a> {
     pub(crate) founds: Vec<Found<'a>>,
 }
 
-// The networks of one family, as networks of either.
+// Networks of one family that convert to networks of either.
 trait OfEither: IndexedNetwork {
-    // A network, as contracts see it.
+    // The conversion of a network, as contracts see it.
     ghost either_of: { Pair → AnyNetwork };
 
-    // A network.
+    // Returns the network as one of either family.
     fn either(self) -> IpNetwork
         ensures { result ≡ either_of (Self.pair self) };
 }
@@ -56,7 +56,8 @@ impl OfEither for Ipv6Network {
 }
 
 impl<'a> ValueIds<'a> {
-    /// The networks by which this is printed of addresses, numbered.
+    /// Numbers the networks that decide what is printed for addresses. Returns `AllocError` if
+    /// memory runs out.
     pub(crate) fn of(alloc: Global, answers: &Answers<'a>) -> Result<ValueIds<'a>, AllocError>
         ensures { IfOk result (λ numbered. IsNumbering answers.now numbered) }
     {
@@ -67,7 +68,7 @@ impl<'a> ValueIds<'a> {
         }
     }
 
-    /// What each number stands for.
+    /// Returns what each number stands for.
     pub(crate) fn founds(&self) -> &[Found<'a>]
         ensures { result.now ≡ self.now.founds.items }
     {
@@ -111,7 +112,7 @@ fn number_in<N: IndexedNetwork>(index: &RouteIndex<N, usize>, addr: N::Addr) -> 
     }
 }
 
-// No numbers.
+// Returns no numbers.
 fn no_numbers<'a>(alloc: Global) -> Result<ValueIds<'a>, AllocError>
     ensures { IfOk result (λ numbered. numbered.founds.items ≡ []) }
 {
@@ -122,7 +123,7 @@ fn no_numbers<'a>(alloc: Global) -> Result<ValueIds<'a>, AllocError>
     })
 }
 
-// The networks of a list, numbered: they are printed, or their values.
+// Numbers the networks of a list; `network` tells whether they or their values are printed.
 fn number_routes<'a>(
     alloc: Global,
     routes: &Routes<'a>,
@@ -137,7 +138,8 @@ fn number_routes<'a>(
     Ok(ValueIds { v4, v6, founds })
 }
 
-// Numbers the networks of one family from the number of those that stand for something on.
+// Numbers the networks of one family, continuing the numbers in `founds`, and adds what these
+// stand for.
 fn number_each<'a, N: OfEither>(
     alloc: Global,
     table: &PrefixTable<N, Value<'a>>,
@@ -157,7 +159,7 @@ fn number_each<'a, N: OfEither>(
     RouteIndex::from_table(alloc, numbers)
 }
 
-// Puts an item behind others.
+// Adds an item after the others.
 fn put<T: Drop>(items: &mut Vec<T>, item: T) -> Result<(), AllocError>
     ensures { OnOk result (items.new.items ≡ items.old.items ++ item ∷ []) }
 {
@@ -165,7 +167,7 @@ fn put<T: Drop>(items: &mut Vec<T>, item: T) -> Result<(), AllocError>
     Ok(())
 }
 
-// What is printed where this is the longest network, with this value.
+// Returns what is printed if this is the longest network, with this value.
 fn found_of<N: OfEither>(at: N, value: Value<'_>, network: bool) -> Found<'_>
     ensures { result ≡ found_by network N.either_of (N.pair at) value.entry }
 {

@@ -8,22 +8,22 @@ use Rattle.cidr_filter.specs.Filters.{IsVerdict, is_refused, is_selected, head_o
 use Rattle.cidr_filter.specs.declared.filter.Filter.{Filter}
 use Rattle.cidr_filter.specs.declared.filter.Verdict.{Verdict}
 
--- of a selected line the line is printed, and nothing else
+-- a selected line is printed as it is written, and nothing else
 abbrev pub PrintsAsRead : Filter → Type 0
 PrintsAsRead filter = (number : ℕ) → (verdict : Verdict) → (line text : List ℕ)
     → shown_of filter (head_of filter number) verdict line text ≡ text
 
--- the part of a line in which an address is looked for is this one, and nothing else
+-- this address is the only one that is looked at in the line
 abbrev pub HasOnly : Area → List ℕ → IpAddr → Type 0
 HasOnly area line address = (text : List ℕ)
     × (spelled_in false area line ≡ record { text = text; address = address } ∷ [])
 
--- a line, given without its end, has an address, and is selected or not
+-- a line, given without its end, has an address and does not end the run; `selected` tells whether it is selected
 abbrev pub IsSelectedByAddress : Filter → List ℕ → Bool → Type 0
 IsSelectedByAddress filter line selected = (verdict : Verdict) × IsVerdict filter line verdict
     × (is_refused filter verdict ≡ false)
     × (is_addressed_by verdict ≡ true) × (selected ≡ is_selected filter verdict)
 
--- what is put of a line that is selected or not
+-- what is written for a line: its text if it is selected, else nothing
 abbrev pub copied : Bool → List ℕ → List ℕ
 copied selected text = if selected then text else []

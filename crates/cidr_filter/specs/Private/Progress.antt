@@ -18,12 +18,12 @@ use Rattle.cidr_filter.specs.declared.log.Tally.{Tally}
 use Rattle.program.specs.declared.log_fault.LogFault.{LogFault}
 use Rattle.program.specs.declared.log_fault.LogFault.TheVariants as faults
 
--- what is written for the line of this number and verdict, given without its end and as it is written
+-- what is written for the line with this number and verdict; `line` is it without its end, `text` as it is printed
 abbrev pub shown : Filter → ℕ → Verdict → List ℕ → List ℕ → List ℕ
 shown filter number verdict line text =
     if is_selected filter verdict then shown_of filter (head_of filter number) verdict line text else []
 
--- a line, given without its end and as it is written, was filtered, and is selected or not
+-- the line was filtered; `selected` tells whether it is selected
 abbrev pub FiltersLine : Filter → List ℕ → List ℕ → Bool → Stand → Stand → Type 0
 FiltersLine filter line text selected old new = (verdict : Verdict) × IsVerdict filter line verdict
     × (is_refused filter verdict ≡ false)
@@ -36,7 +36,8 @@ abbrev pub RefusesLine : Filter → List ℕ → Stand → Stand → Verdict →
 RefusesLine filter line old new verdict =
     IsVerdict filter line verdict × (is_refused filter verdict ≡ true) × (new ≡ old)
 
--- or the writer failed, which took a beginning of what waited and of the line's output
+-- the line stops the filtering by this fault: it ends the run, or the writer failed and took a beginning of what waited
+-- and of the line's output
 abbrev pub LineStops : Filter → List ℕ → List ℕ → Bool → Stand → Stand → LogFault → Type 0
 LineStops filter line text write_failed old new (faults.Open cause) = ⊥
 LineStops filter line text write_failed old new faults.Read = ⊥
@@ -50,7 +51,7 @@ LineStops filter line text write_failed old new faults.Length =
     RefusesLine filter line old new verdicts.TooLong
 LineStops filter line text write_failed old new faults.Endless = ⊥
 
--- the line was filtered, or one of these stopped that. The writer has failed exactly if it had before, or stopped it
+-- the line was filtered, or a fault stopped that. The writer has failed if and only if it had before or is that fault
 pub record FiltersOrStops {W : Type 0} (result : Result Bool LogFault) (filter : Filter) (line text : List ℕ)
     (old : Written W) (was : Tally) (new : Written W) (is : Tally) : Type 0 where
   pub ok : IfOk result (λ selected. FiltersLine filter line text selected (stand old was) (stand new is))
@@ -61,7 +62,7 @@ pub record FiltersOrStops {W : Type 0} (result : Result Bool LogFault) (filter :
 abbrev pub FiltersSoFar : Filter → LogReader → Option (List ℕ) → Option (List ℕ) → Stand → Stand → Type 0
 FiltersSoFar filter reader remained remains old new = ReadsSoFar (FiltersLines filter old new) reader remained remains
 
--- and so many more lines may be selected
+-- the same, and `left` more lines may be selected
 abbrev pub FiltersWith : Filter → LogReader → Option (List ℕ) → Option (List ℕ) → Stand → Stand → Option ℕ → Type 0
 FiltersWith filter reader remained remains old new left =
     (s : FiltersSoFar filter reader remained remains old new) × (left ≡ less filter.most s.is_done.count)

@@ -8,8 +8,8 @@ use Rattle.program.specs.Counts.{Counts}
 use Rattle.cidr_filter.specs.Stands.{Stand}
 use Rattle.cidr_filter.specs.declared.filter.Filter.{Filter}
 
--- the logs of these names were filtered to their ends, in turn, but those that could not be opened; whether there was
--- one of these
+-- the logs with these names were filtered in turn, except those that could not be opened; `missed` tells whether there
+-- was one of these or a line is missed
 pub record FiltersNames {E : Type 0} (filter : Filter) (known : KnownLists) (names : List (List ℕ)) (missed : Bool)
     (old new : Stand) (errors told : Written E) : Type 0 where
   pub output : List ℕ

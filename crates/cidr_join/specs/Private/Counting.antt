@@ -11,7 +11,7 @@ use Rattle.cidr_join.specs.Tallies.{Row, count_of}
 use Rattle.cidr_join.specs.declared.found.Found.{Found}
 use Rattle.cidr_join.specs.declared.found.Found.TheVariants as prints
 
--- a row of the code
+-- a row of the code as one of the definitions
 abbrev pub row_of : {Z : Type 0} → Reverse ℕ × Vec ℕ Z → Row
 row_of row = record { count = row.0.0; text = row.1.items }
 
@@ -19,23 +19,23 @@ row_of row = record { count = row.0.0; text = row.1.items }
 abbrev pub found_for : {Z S : Type 0} → HashMap (Vec ℕ Z) ℕ S → List ℕ → Option ℕ
 found_for counts text = get_by (λ key. pointwise nat_eq text key.items) counts
 
--- this count, if there is a text at all
+-- the count of a text that occurs `number` times; `None` if it does not occur
 abbrev pub some_count : ℕ → ℕ → Option ℕ
 some_count zero count = None
 some_count (suc number) count = Some count
 
--- each text that is named or among these has a count, of how often it is among these, and no other text has
+-- each text that is among the named ones or these has a count: how often it is among these. No other text has a count
 abbrev pub Counted : {Z S : Type 0} → List (List ℕ) → List (List ℕ) → HashMap (Vec ℕ Z) ℕ S → Type 0
 Counted named texts counts = (text : List ℕ)
     → found_for counts text ≡ some_count (count_by (bytes_eq text) (named ++ texts)) (count_of text texts)
 
--- these are named, and these texts counted, more
+-- in addition, these texts were named, and these counted
 abbrev pub CountsTexts : {Z S : Type 0} → List (List ℕ) → List (List ℕ) → HashMap (Vec ℕ Z) ℕ S
     → HashMap (Vec ℕ Z) ℕ S → Type 0
 CountsTexts named marks old new = (names texts : List (List ℕ)) → Counted names texts old
     → Counted (names ++ named) (texts ++ marks) new
 
--- a text is named, if that is asked for, and what is found, if it is of a network
+-- the texts to name: this text, or the text for what was found, unless it is nothing; only if that is asked for
 abbrev pub named_if : Bool → List ℕ → List (List ℕ)
 named_if named text = if named then text ∷ [] else []
 
@@ -43,7 +43,7 @@ abbrev pub named_by : Bool → Found → List (List ℕ)
 named_by zeros prints.Nothing = []
 named_by zeros found = named_if zeros (mark_of found)
 
--- what the numbers stand for, each as often as it was counted
+-- the texts for these findings, each as often as its number says
 abbrev pub repeated : List Found → List ℕ → List (List ℕ)
 repeated [] numbers = []
 repeated (found ∷ founds) [] = []

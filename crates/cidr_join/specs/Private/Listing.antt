@@ -1,4 +1,4 @@
--- How far the lines of a list are taken.
+-- How the lines of a list are taken, step by step.
 use Rattle.std.specs.Prelude.{◌≡◌, ℕ, List, length, None, Result, Ok, Err}
 use Rattle.lines.specs.Outputs.{Written}
 use Rattle.program.specs.Messages.{Reports}
@@ -10,30 +10,30 @@ use Rattle.cidr_join.specs.declared.list.Listing.{Listing}
 use Rattle.cidr_join.specs.declared.list.ListRules.{ListRules}
 use Rattle.cidr_join.specs.declared.list.TakeFault.{TakeFault}
 
--- no line was taken
+-- the state before the first line
 abbrev pub nothing_taken : Listing
 nothing_taken = record { networks = no_networks; lines = 0; skipped = 0 }
 
--- so many lines were left out, and of the first hundred it was reported
+-- this number of lines was left out, and the first hundred of them were reported
 pub record TellsFirst {E : Type 0} (name : List ℕ) (begun now : Written E) (skipped : ℕ)
     (refused : List Refused) : Type 0 where
   pub skips : skipped ≡ length refused
   pub tells : Reports begun now (first_refused_text name refused)
 
--- this was taken of lines
+-- the state of the code is this result, and the first hundred refused lines were reported
 pub record IsListed {E : Type 0} (name : List ℕ) (begun now : Written E) (listing : Listing)
     (listed : Listed) : Type 0 where
   pub networks : listing.networks ≡ listed.networks
   pub lines : listing.lines ≡ listed.lines
   pub first : TellsFirst name begun now listing.skipped listed.refused
 
--- and one more was
+-- one more line was taken or left out
 abbrev pub ListsNext : {E : Type 0} → List ℕ → ListRules → List ℕ → Written E → Written E → Listing → Listing → Type 0
 ListsNext {E} name rules line errors told listing now = (begun : Written E) (listed : Listed)
     → IsListed name begun errors listing listed
     → (next : Listed) × TakesNext rules listed line next × IsListed name begun told now next
 
--- it has the fault, and is not left out
+-- the next line has the fault, and is not left out
 pub record FailsNext {E : Type 0} (rules : ListRules) (line : List ℕ) (errors told : Written E) (listing now : Listing)
     (fault : TakeFault) : Type 0 where
   pub fails : LineFails rules listing.networks line fault.fault
@@ -42,7 +42,7 @@ pub record FailsNext {E : Type 0} (rules : ListRules) (line : List ℕ) (errors 
   pub skips : now.skipped ≡ listing.skipped
   pub silent : told ≡ errors
 
--- these lines were, or one has the fault
+-- these lines were taken or left out, or one has the fault
 abbrev pub EndsLines : {E : Type 0} → List ℕ → ListRules → List (List ℕ) → Written E → Written E → Listing
     → Result (Unit {0}) TakeFault → Type 0
 EndsLines name rules lines errors told listing (Ok done) = (listed : Listed)

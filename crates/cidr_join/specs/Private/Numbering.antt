@@ -1,4 +1,4 @@
--- The numbers of the networks of a list.
+-- Numbers for the networks of a list.
 use Rattle.std.specs.Prelude.{◌≡◌, ℕ, Bool, true, false, List, [], ◌∷◌, ◌++◌, map, Option, None, Some, IsSome}
 use Rattle.std.specs.Prelude.{slice_get}
 use Rattle.std.specs.FinMap.{FinMap, get, entries}
@@ -17,38 +17,36 @@ use Rattle.cidr_join.specs.declared.value_ids.ValueIds.{ValueIds}
 use Rattle.cidr_join.specs.declared.routes.Routes.{Routes}
 use Rattle.cidr_join.specs.declared.value.Value.{Value}
 
--- what is printed where this is the longest network, with this value: the network, as one of either family, or the
--- value
+-- what is printed if this is the longest network, with this value: the network, as one of either family, or the value
 abbrev pub found_by : Bool → (Network → IpNetwork) → Network → Value → Found
 found_by true either n value = prints.Network (either n)
 found_by false either n value = prints.Value value
 
--- each network of the table has a number, and no other network has. It stands for what is printed where the network is
--- the longest
+-- each network of the table, and no other, has a number, which stands for what is printed if the network is the longest
 pub record AreNumbered (by : Network → Value → Found) (table : Values) (numbers : FinMap network_cmp ℕ)
     (founds : List Found) : Type 0 where
   pub stored : (n : Network) (number : ℕ) → get numbers n ≡ Some number → (value : Value) × (get table n ≡ Some value)
       × (slice_get founds number ≡ Some (by n value))
   pub all : (n : Network) → IsSome (get table n) → IsSome (get numbers n)
 
--- what is printed where the networks of the table are the longest
+-- what is printed for each network of the table if it is the longest
 abbrev pub founds_of : (Network → Value → Found) → Values → List Found
 founds_of by table = map (λ e. by e.0 e.1) (entries table)
 
--- those of one more table are, behind what the numbers before stand for
+-- the networks of one more table are numbered, after what the earlier numbers stand for
 pub record AddsNumbers (by : Network → Value → Found) (table : Values) (numbers : FinMap network_cmp ℕ)
     (before founds : List Found) : Type 0 where
   pub behind : founds ≡ before ++ founds_of by table
   pub numbered : AreNumbered by table numbers founds
 
--- so are those of a list, and 0 stands for no network
+-- the networks of a list are numbered, and 0 stands for no network
 pub record NumbersRoutes (network : Bool) (routes : Routes) (numbered : ValueIds) : Type 0 where
   pub v4 : AreNumbered (found_by network (λ n. families.V4 n)) routes.v4 numbered.v4 numbered.founds.items
   pub v6 : AreNumbered (found_by network (λ n. families.V6 n)) routes.v6 numbered.v6 numbered.founds.items
   pub founds : numbered.founds.items ≡ prints.Nothing ∷ (founds_of (found_by network (λ n. families.V4 n)) routes.v4
       ++ founds_of (found_by network (λ n. families.V6 n)) routes.v6)
 
--- the networks by which this is printed of addresses are numbered, if it is not their blocks
+-- the networks that decide what is printed for addresses are numbered; with `--group`, there are no numbers
 abbrev pub IsNumbering : Answers → ValueIds → Type 0
 IsNumbering (answers.Values routes) numbered = NumbersRoutes false routes numbered
 IsNumbering (answers.Networks routes) numbered = NumbersRoutes true routes numbered

@@ -1,4 +1,4 @@
--- How far a log is joined.
+-- How a log is joined, step by step.
 use Rattle.std.specs.Prelude.{◌≡◌, ℕ, Bool, true, false, IsTrue, List, [], ◌++◌, None, if◌then◌else◌}
 use Rattle.lines.specs.Outputs.{Puts, AppendsBeginning}
 use Rattle.cidr_join.specs.Addressed.{is_addressed}
@@ -11,20 +11,20 @@ use Rattle.log_programs.specs.WithoutAddress.{is_stopped}
 use Rattle.program.specs.declared.log_fault.LogFault.{LogFault}
 use Rattle.program.specs.declared.log_fault.LogFault.TheVariants as faults
 
--- what is written for a line, given without its end and as it is written, of which this was found
+-- what is written for a line, given what was found for it; `line` is the line without its end, `text` with it
 abbrev pub shown : Join → Found → List ℕ → List ℕ → List ℕ
 shown join found line text = if is_left_out join.bad (address_in join line) then []
     else shown_of join.last (mark_of found) line text
 
--- a line was joined
+-- the line was joined
 abbrev pub JoinsLine : Join → List ℕ → List ℕ → Stand → Stand → Type 0
 JoinsLine join line text old new = (found : Found) × Finds join (address_in join line) found
     × (is_refused join.bad (address_in join line) ≡ false)
     × Puts old.holds old.waits new.holds new.waits (shown join found line text)
     × (new.seen ≡ with_line old.seen (is_addressed join line))
 
--- or the writer failed, which took a beginning of what waited and of the line's output; or the line has no address, and
--- ends the run
+-- the line stops the joining by this fault: the writer failed and took a beginning of what waited and of the line's
+-- output, or the line has no address and ends the run
 abbrev pub LineStops : Join → List ℕ → List ℕ → Bool → Stand → Stand → LogFault → Type 0
 LineStops join line text write_failed old new (faults.Open cause) = ⊥
 LineStops join line text write_failed old new faults.Read = ⊥

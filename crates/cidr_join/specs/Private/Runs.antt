@@ -18,7 +18,7 @@ pub record ReadsNames {A E : Type 0} (Gives : List LogLine → List A → Type 0
   pub is_done : Done all
   pub tells : Reports errors told text
 
--- they were joined
+-- the logs were joined
 abbrev pub JoinsNames : {W E : Type 0} → Join → KnownLists → List (List ℕ) → Bool → Written W → Written W → Written E
     → Written E → Type 0
 JoinsNames join known names missed old new errors told =

@@ -1,4 +1,4 @@
--- How far the lines of logs are counted.
+-- How the lines of logs are counted, step by step.
 use Rattle.std.specs.Prelude.{◌≡◌, ℕ, Bool, true, false, List, [], ◌++◌, length, codes, Option, None, Result, Ok, Err}
 use Rattle.ipnetwork_addr.specs.declared.ip.IpAddr.{IpAddr}
 use Rattle.lines.specs.Outputs.{Written}
@@ -28,8 +28,8 @@ use Rattle.log_programs.specs.declared.without_address.WithoutAddress.{WithoutAd
 use Rattle.cidr_join.specs.declared.tally_log.TallyFault.{TallyFault}
 use Rattle.cidr_join.specs.declared.tally_log.TallyFault.TheVariants as tallies
 
--- these texts were counted: each is as often among them as among those that were counted by their bytes and those that
--- the numbers stand for together
+-- these texts were counted, some by their bytes and some by number: each is among them as often as these two counts say
+-- together
 pub record IsCounted (founds : List Found) (texts : List (List ℕ)) (counts : Counts) : Type 0 where
   pub kept : List (List ℕ)
   pub is_kept : Counted [] kept counts.tally.counts
@@ -37,7 +37,7 @@ pub record IsCounted (founds : List Found) (texts : List (List ℕ)) (counts : C
   pub all : (text : List ℕ) → count_of text (kept ++ repeated founds counts.numbers.items) ≡ count_of text texts
 
 module _ (founds : List Found) where
-  -- these texts more
+  -- these texts were counted in addition
   abbrev pub CountsAll : List (List ℕ) → Counts → Counts → Type 0
   CountsAll marks old new = (texts : List (List ℕ)) → IsCounted founds texts old → IsCounted founds (texts ++ marks) new
 
@@ -46,23 +46,23 @@ module _ (founds : List Found) where
   CountsAddress join address old new = (found : Found) × Finds join address found
       × CountsAll (counted_for join address found) old new
 
-  -- what it gives a line was, and the line
+  -- what is found for the line was counted, and so was the line
   abbrev pub CountsLine : Join → List ℕ → Counts → Counts → LogStats → LogStats → Type 0
   CountsLine join line old new was is = CountsAddress join (address_in join line) old new
       × (is_refused join.bad (address_in join line) ≡ false) × (is ≡ with_line was (is_addressed join line))
 
-  -- what it gives these lines of a log was, from the first on, and the lines
+  -- what is found for these first lines of a log was counted, and so were the lines
   abbrev pub CountsLines : Join → Counts → Counts → LogStats → List LogLine → Type 0
   CountsLines join old new is lines = (marks : List (List ℕ)) × Marks join lines marks × CountsAll marks old new
       × (is ≡ seen_of join lines)
 
-  -- what it gives the lines of the logs of these names was, and what there is to report of these was reported
+  -- what is found for the lines of the logs with these names was counted, and the reports about them were written
   abbrev pub CountsNames : {E : Type 0} → Join → KnownLists → List (List ℕ) → Bool → Counts → Counts → Written E
       → Written E → Type 0
   CountsNames join known names missed old new errors told =
       ReadsNames (Marks join) (λ marks. CountsAll marks old new) join known names missed errors told
 
--- a line was not counted, by the fault: it has no address, and ends the run; memory may run out
+-- this fault stops the counting at the line: it has no address and ends the run, or memory ran out
 abbrev pub LineNotCounted : Join → List ℕ → Counts → Counts → LogStats → LogStats → TallyFault → Type 0
 LineNotCounted join line old new was is (tallies.Log (faults.Open cause)) = ⊥
 LineNotCounted join line old new was is (tallies.Log faults.Read) = ⊥
@@ -73,7 +73,7 @@ LineNotCounted join line old new was is (tallies.Log faults.Length) = ⊥
 LineNotCounted join line old new was is (tallies.Log faults.Endless) = ⊥
 LineNotCounted join line old new was is tallies.OutOfMemory = Unit {0}
 
--- the fault of a log as one of counting: nothing waits to be written but in memory, and that can only lack
+-- the fault of a log as a fault of counting: output waits only in memory, so a write fails only if memory runs out
 abbrev pub tally_fault : LogFault → TallyFault
 tally_fault (faults.Open cause) = tallies.Log (faults.Open cause)
 tally_fault faults.Read = tallies.Log faults.Read
@@ -82,25 +82,25 @@ tally_fault faults.Address = tallies.Log faults.Address
 tally_fault faults.Length = tallies.Log faults.Length
 tally_fault faults.Endless = tallies.Log faults.Endless
 
--- what is true if the lines of a log were not counted to its end, by the fault; memory may run out at each line
+-- what holds if this fault stops the counting of a log; memory may run out at any line
 abbrev pub StopsCounting : Join → (List LogLine → Type 0) → Option (List ℕ) → Option (List ℕ) → Bool → TallyFault
     → Type 0
 StopsCounting join Done remained remains failed (tallies.Log fault) =
     StopsReading (EndsRunBy join) Done (λ lines. ⊥) remained remains failed false fault
 StopsCounting join Done remained remains failed tallies.OutOfMemory = Unit {0}
 
--- whether a read ended the counting
+-- whether a failed read ended the counting
 abbrev pub ended_by_read : {T : Type 0} → Result T TallyFault → Bool
 ended_by_read (Ok done) = false
 ended_by_read {T} (Err (tallies.Log fault)) = logs.ended_by_read {T = T} (Err fault)
 ended_by_read (Err tallies.OutOfMemory) = false
 
--- what is reported if the lines of a log, of which this was seen, were not counted to its end
+-- what is reported if this fault stops the counting of a log whose lines so far have these counts
 abbrev pub tally_fault_text : WithoutAddress → List ℕ → LogStats → TallyFault → List ℕ
 tally_fault_text bad name seen (tallies.Log fault) = seen_text (codes "cidr_join") name bad seen
     ++ log_fault_text name seen.lines fault
 tally_fault_text bad name seen tallies.OutOfMemory = codes "out of memory\n"
 
--- it was reported why nothing is counted
+-- the reason why nothing is counted was reported
 abbrev pub TellsStop : {E : Type 0} → Join → KnownLists → List (List ℕ) → Written E → Written E → Type 0
 TellsStop join known names old new = (text : List ℕ) × StopsTally join known names text × Reports old new text

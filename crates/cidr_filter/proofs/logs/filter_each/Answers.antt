@@ -39,7 +39,7 @@ loop-file-preserved g c =
           c.is_enough.ensures c.if-is_enough.false;
     }
 
--- ---- the logs are enough
+-- ---- the logs end the run
 
 pub returns-then-is_enough-clause-logs : goal.returns-then-is_enough-clause-logs
 returns-then-is_enough-clause-logs g c =
@@ -60,7 +60,7 @@ returns-then-is_enough-clause-logs g c =
 pub returns-then-is_enough-clause-filter : goal.returns-then-is_enough-clause-filter
 returns-then-is_enough-clause-filter g c = c.filter_one.ensures.filter ∙ c.loop-file.invariant.filter
 
--- ---- one stops
+-- ---- a log stops the run
 
 pub returns-in_default-clause-logs : goal.returns-in_default-clause-logs
 returns-in_default-clause-logs g c =

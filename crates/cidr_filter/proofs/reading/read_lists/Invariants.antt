@@ -5,7 +5,7 @@ use Rattle.lists.specs.declared.named.ReadFault.{ReadFault}
 use Rattle.cidr_filter.specs.Reading.{ReadsItems, StopsAtItems}
 use Rattle.cidr_filter.proofs.reading.read_lists.Given as goal
 
--- what is read of the items that are left is read of all, and where the reading stops at one of them, it stops
+-- what is read of the remaining items is read of all items, and if the reading stops at one of them, it stops
 abbrev pub invariant-items : goal.invariant-items
 invariant-items g l =
     let known = g.L.OpenLists.known l.lists in

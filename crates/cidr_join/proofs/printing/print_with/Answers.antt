@@ -24,7 +24,7 @@ returns-then-not-last g c =
     (puts_two c.put_feed.result c.args.output.now c.put_both.new.output c.put_feed.new.output (c.args.mark.now ++ 9 ∷ []) (c.args.whole.now ++ feed_behind c.args.end) c.in_ok-put_both.ensures.ok c.in_ok-put_both.ensures.failed
     (puts_two c.put_feed.result c.put_both.new.output c.put.new.self c.put_feed.new.output c.args.whole.now (feed_behind c.args.end) c.in_ok-put.ensures.ok c.in_ok-put.ensures.failed c.put_feed.ensures))
 
--- ---- behind it
+-- ---- after the line
 
 pub returns-in_err-put_both-2 : goal.returns-in_err-put_both-2
 returns-in_err-put_both-2 g c =
