@@ -11,7 +11,7 @@
 #include "_layout.h"
 #include "_tables.h"
 
-/* ip_network(text), of the classes that `register` was given. */
+/* ip_network(text), with the classes given to `register`. */
 static PyObject *either_network(PyObject *module, PyObject *text) {
     State *state = PyModule_GetState(module);
     char *bytes;
@@ -73,7 +73,8 @@ static PyObject *of_rows(PyObject *module, PyObject *arguments) {
     return list;
 }
 
-/* subnet_at(network, prefixlen, number): the block of this number, as a network of its class; None if there is none. */
+/* subnet_at(network, prefixlen, number): the block with this number, as a network of its class; None if there
+ * is none. */
 static PyObject *subnet_at(PyObject *module, PyObject *arguments) {
     State *state = PyModule_GetState(module);
     PyObject *object, *number;
@@ -118,7 +119,7 @@ static PyObject *register_classes(PyObject *module, PyObject *arguments) {
     return again(Py_None);
 }
 
-/* The line by which Python tells a signature, and what comes after it. */
+/* The line from which Python takes a signature, and the text after it. */
 #define TEXT(signature, text) signature "\n--\n\n" text
 #define OF_MODULE(name, arguments, text) TEXT(name "($module, " arguments ", /)", text)
 #define OF_NETWORK(name, arguments, text) TEXT(name "($self, " arguments ", /)", text)
@@ -253,7 +254,7 @@ static PyType_Slot network_slots[] = {
     {Py_sq_contains, network_contains}, {Py_mp_subscript, network_nth},
     {Py_tp_doc, "What the networks of both families have."}, {0, NULL},
 };
-/* `state_of` tells the types of a module from classes of Python by their deallocator. */
+/* `state_of` distinguishes the types of a module from Python classes by their deallocator. */
 #define OF_TEXT \
     "The network that a text names, or that of a single address, given as its packed bytes.\n" \
     "FormatError, AddressError or PrefixError, the first that applies."
@@ -285,7 +286,7 @@ static PyTypeObject *derived(PyObject *module, PyType_Spec *spec, PyTypeObject *
     return (PyTypeObject *)made;
 }
 
-/* Takes what the calls need of Python; 0 with an exception if it cannot. */
+/* Imports what the calls need from Python; 0 with an exception on failure. */
 static int import_into(State *state) {
     return (state->v4_address = imported("ipaddress", "IPv4Address")) != NULL
            && (state->v6_address = imported("ipaddress", "IPv6Address")) != NULL
@@ -300,7 +301,7 @@ static int import_into(State *state) {
            && (state->one = PyLong_FromLong(1)) != NULL;
 }
 
-/* Fills a module that is empty. */
+/* Fills an empty module. */
 static int execute(PyObject *module) {
     State *state = PyModule_GetState(module);
     if (ipnetwork_abi_version() != IPNETWORK_ABI_VERSION) {
@@ -321,7 +322,7 @@ static int execute(PyObject *module) {
     return PyObject_SetAttrString(module, "V6", (PyObject *)state->v6_type);
 }
 
-/* What a module's state keeps, beside the masks. */
+/* The objects in a module's state, except the masks. */
 #define EACH_KEPT(DO)                                                                         \
     DO(network_type) DO(v4_type) DO(v6_type) DO(v4_class) DO(v6_class) DO(v4_address)         \
     DO(v6_address) DO(base_network) DO(make_error) DO(map_of) DO(range_of)                    \
@@ -351,7 +352,7 @@ static int clear(PyObject *module) {
 
 static void release(void *module) { clear(module); }
 
-/* Versions before 3.12 do not know of interpreters with a lock of their own, nor do their headers. */
+/* Versions before 3.12, and their headers, do not know interpreters with a lock of their own. */
 #ifndef Py_mod_multiple_interpreters
 #define Py_mod_multiple_interpreters 3
 #define Py_MOD_PER_INTERPRETER_GIL_SUPPORTED ((void *)2)
@@ -370,7 +371,7 @@ static PyModuleDef_Slot since_3_12[] = {
     {PyModuleDef_HEAD_INIT, "ipnetwork._native", NULL, sizeof(State), calls, slots, traverse, clear, release}
 static struct PyModuleDef of_3_11 = DEFINITION(before_3_12), of_3_12 = DEFINITION(since_3_12);
 
-/* The version that runs, which may be later than that of the headers. */
+/* The running version, which may be later than that of the headers. */
 static unsigned long running_version(void) {
 #if PY_VERSION_HEX >= 0x030B0000
     return Py_Version;
