@@ -45,7 +45,7 @@ let end = 0;
 
 const orderOf = (length) => Math.max(LEAST_ORDER, 32 - Math.clz32(length - 1));
 
-/** Frees the block at this place, and merges it with its neighbor as long as that is free too. */
+/** Frees the block at this place, and merges it with its neighbour as long as that is free too. */
 function putBack(place, order) {
   while (order < LARGEST_ORDER) {
     const size = 2 ** order;

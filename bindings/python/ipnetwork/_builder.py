@@ -49,7 +49,7 @@ def _of_run(adds: bool, rows: list[bytes]) -> _Change:
 
 
 def _in_one(steps: list[_Step]) -> _Change:
-    """The change made by steps, one after the other. Neighbors are combined first, so that each
+    """The change made by steps, one after the other. Neighbours are combined first, so that each
     step takes part in few operations."""
     runs = groupby(steps, key=attrgetter("adds"))
     changes = [_of_run(adds, [step.row for step in run]) for adds, run in runs]

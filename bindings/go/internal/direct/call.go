@@ -2,7 +2,7 @@
 
 // Package direct calls a C function on the stack of the calling goroutine, without the work that cgo does around a
 // call, which takes longer than a question about a network. The build tag ipnetwork_direct chooses it, because it
-// relies on behavior of Go that no document of Go promises:
+// relies on behaviour of Go that no document of Go promises:
 //
 //   - No goroutine is preempted within C: a signal that finds the program counter outside Go's code leaves the
 //     goroutine running. So its stack does not move, and no garbage is collected, until the C function has returned.
