@@ -16,11 +16,11 @@ _arguments \
     '*-6[only IPv6 addresses count]' \
     '*--networks[a network in a line counts too]' \
     '*-v[print the lines whose address is in no network]' \
-    '*-c[print only the number of selected lines]' \
+    '*-c[print only the number of selected lines of each FILE]' \
     '*-l[print only the name of each FILE that has a selected line]' \
     '*-q[print nothing]' \
     '*-m[stop reading a FILE after N selected lines]:number: ' \
-    '*-H[begin each line with the name of its FILE]' \
+    '*-H[begin each line]' \
     '*-n[begin each line with its number in its FILE and a colon]' \
     '*-h[print no names]' \
     '*--longest[begin each line with the longest network that has its address]' \

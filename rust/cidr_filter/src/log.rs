@@ -26,7 +26,7 @@ pub enum Reached {
 /// How many lines were selected, and what was seen of those of a log.
 #[derive(Clone, Copy, Debug, PartialEq, Eq)]
 pub struct Tally {
-    /// How many lines of all logs were selected.
+    /// How many lines were selected.
     pub selected: u64,
     /// What was seen of the lines of this log.
     pub seen: LogStats,
