@@ -75,12 +75,12 @@ fn filter_each<'a, L: OpenLists, W: Write, E: Write>(
     Some(missed)
 }
 
-// Whether the run ends behind logs of which so many lines are selected.
+// Returns whether the run ends after logs with this number of selected lines.
 fn is_enough(is_silent: bool, selected: u64) -> bool {
     is_silent && selected > 0
 }
 
-// Whether one of two is so.
+// Returns whether one of the two is true.
 fn either(first: bool, second: bool) -> bool {
     first || second
 }

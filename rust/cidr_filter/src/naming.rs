@@ -22,7 +22,7 @@ pub(crate) fn label_of(named: bool, name: &str) -> &[u8] {
     name.as_bytes()
 }
 
-/// Writes what stands first before a line of this number.
+/// Writes what is printed first for the line with this number.
 #[inline(always)]
 pub(crate) fn put_head<W: Write>(
     filter: &Filter,

@@ -98,7 +98,7 @@ const PAIRS: [Pair; 16] = log_pairs![
     ],
 ];
 
-/// The options, of which one that names a list has to be given.
+/// Returns the table of the options; it requires `-f` or `-e`.
 pub(crate) fn table() -> Table<'static> {
     Table {
         rows: &ROWS,

@@ -76,8 +76,8 @@ fn filter<L: OpenLists, W: Write, E: Write>(
     )
 }
 
-// Reads the lists, reports the refused lines, by these names of lists, and then filters these logs by what was read,
-// unless memory ran out.
+// Reads the lists, reports the refused lines by these names of the lists, and then filters these
+// logs, unless refused lines end the run or memory runs out.
 fn filter_files<L: OpenLists, W: Write, E: Write>(
     alloc: Global,
     items: &[Item<'_>],
@@ -114,7 +114,7 @@ fn filter_files<L: OpenLists, W: Write, E: Write>(
     )
 }
 
-// Whether refused lines of lists end the run: unless they are skipped, one does.
+// Returns whether refused lines of lists end the run: if there is one, unless they are skipped.
 fn is_stopped_by(items: &[Item<'_>], refusals: &Refusals) -> bool {
     !refusals.is_empty() && !is_given(items, SKIPS_BAD)
 }
@@ -136,7 +136,7 @@ fn filter_of<'a>(items: &[Item<'a>], files: &[String], listed: Matcher) -> Filte
     }
 }
 
-// Of which family addresses count.
+// Returns the family whose addresses count.
 fn family_of(items: &[Item<'_>]) -> Family {
     if is_given(items, ONLY_V4) {
         Family::V4
@@ -147,7 +147,7 @@ fn family_of(items: &[Item<'_>]) -> Family {
     }
 }
 
-// How many lines of a log are selected at the most.
+// Returns how many lines of a log may be selected at most.
 fn most_of(items: &[Item<'_>]) -> Option<u64> {
     let most = number_in(value_of(items, MOST));
     if is_given(items, QUIET) || is_given(items, NAMES) {
@@ -157,7 +157,7 @@ fn most_of(items: &[Item<'_>]) -> Option<u64> {
     }
 }
 
-// One line, or none if no line may be selected.
+// Returns at most one: none if no line may be selected.
 fn up_to_one(most: Option<u64>) -> Option<u64> {
     match most {
         Some(most) => Some(most.min(1)),
