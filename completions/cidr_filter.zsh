@@ -9,7 +9,7 @@ _arguments \
     '*-w[runs of spaces and tabs separate fields]' \
     '*-a[look for addresses anywhere in a line]' \
     '*--nth=[use only this one of the addresses found]:value:(first last)' \
-    '*--after[the address is the first one after the first TEXT in a line]:text: ' \
+    '*--after=[the address is the first one after the first TEXT in a line]:text: ' \
     '*-o[print the addresses that are in a network]' \
     '*--mapped[treat an address \:\:ffff\:A.B.C.D of a line as A.B.C.D]' \
     '*-4[only IPv4 addresses count]' \
