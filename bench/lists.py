@@ -58,7 +58,7 @@ def look_ups(run):
         run.without(each)
     if not measured.same:
         raise Differs("look-ups do not find the same")
-    text = ("Nanoseconds a look-up by index and, behind the semicolon, by the set or the table itself, of a million random "
+    text = ("Nanoseconds a look-up by index and, after the semicolon, by the set or the table itself, of a million random "
             "addresses. DIR-24-8 is plain Rust. The megabytes of the index are those beside its table.")
     return [*paragraph(text), "", *measured.lines]
 

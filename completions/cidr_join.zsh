@@ -9,7 +9,7 @@ _arguments \
     '*-w[runs of spaces and tabs separate fields]' \
     '*-a[the address is the first one anywhere in a line]' \
     '*--nth=[use only this one of the addresses found]:value:(first last)' \
-    '*--after[the address is the first one after the first TEXT in a line]:text: ' \
+    '*--after=[the address is the first one after the first TEXT in a line]:text: ' \
     '*--mapped[treat an address \:\:ffff\:A.B.C.D of a line as A.B.C.D]' \
     '*--last[print the value after the line and a tab]' \
     '*--network[print the network instead of its value]' \

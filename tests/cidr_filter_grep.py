@@ -12,7 +12,7 @@ SECONDS = int(os.environ.get("TEST_SECONDS", 60))
 PIPES = {"stdout": subprocess.PIPE, "stderr": subprocess.PIPE}
 LOGS = ("one", "two", "none_of_ten", "three", "nothing")
 # The options of a run, of each kind one or none.
-KINDS = (("", "-v"), ("", "-m 1", "-m 2", "-m 7", "-m 0", "-m 1000"), ("", "-H", "-c"))
+KINDS = (("", "-v"), ("", "-m 1", "-m 2", "-m 7", "-m 0", "-m 1000"), ("", "-H", "-c", "-c -H", "-c -h"))
 KINDS += (("", "-l", "-q", "-l -q"), ("", "-n"))
 
 
@@ -31,9 +31,11 @@ def write_logs(folder):
             f.write("".join(lines))
 
 
-def counted(output):
-    """The sum of the numbers that grep prints, one for each log, as the one number of all logs."""
-    return f"{sum(int(number) for number in output.split())}\n".encode()
+def counted(options, logs):
+    """What `-c` prints of logs of which no line may be selected, of which grep prints nothing."""
+    named = "-H" in options or len(logs) > 1 and "-h" not in options
+    names = ["(standard input)" if log == "-" else log for log in logs]
+    return "".join(f"{name}:0\n" if named else "0\n" for name in names).encode()
 
 
 def as_grep(program, folder):
@@ -47,11 +49,10 @@ def as_grep(program, folder):
         shows_numbers = "-c" in options and not {"-l", "-q"} & set(options)
         for logs in (["one"], ["-"], ["none_of_ten"], ["nothing"], ["one", "none_of_ten", "-", "three"], ["nothing", "two"]):
             given = b"11.0.0.1 x\n10.0.0.1 y\n10.0.0.2 z\n"
-            name = [] if "-H" in options else ["-h"]
+            name = [] if {"-H", "-c"} & set(options) else ["-h"]
             wanted, _, status = run(["grep", *name, *options, "-e", "^10\\.", *logs], folder, given)
-            if shows_numbers:
-                zero = "0" in options
-                wanted = b"0\n" if zero else counted(wanted)
+            if shows_numbers and "0" in options:
+                wanted = counted(options, logs)
             got = run([program, *options, "-e", "10.0.0.0/8", *logs], folder, given)
             yield f"{options} {logs}, as grep", (got[0], got[2]) == (wanted, status), got
 

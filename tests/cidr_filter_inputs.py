@@ -200,6 +200,7 @@ WHOLE = (
     "-vf made",
     "-cvk 1 -fmade",
     "-hc -fmade",
+    "-Hc -fmade",
     "-Hfmade",
 )
 REFUSED = ("--bad stop -f made", "--bad=stop -f made", "-f -", "-f-", "-vf -", "-f made made_log", "-f made -")

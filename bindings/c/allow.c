@@ -1,15 +1,15 @@
-/* Which addresses of standard input, one a line, a list of networks has, and the longest network that has each. The list
- * is a file with one network a line; empty lines and lines that begin with '#' say nothing.
+/* Tells for each address on standard input, one a line, whether it is in a list of networks, and the longest network
+ * that has it. The list is a file with one network a line; empty lines and lines that begin with '#' are ignored.
  *
  *   allow LIST < ADDRESSES
  *
- * An IPv4-mapped address, as a socket of both families tells an IPv4 peer, is also looked for as the IPv4 address that it
- * stands for: as it is, it is in no IPv4 network. A list of what is denied has to be asked in the same way.
+ * An IPv4-mapped address, as a socket for both families reports an IPv4 peer, is also looked up as the IPv4 address in
+ * it, because in its own form it is in no IPv4 network. A list of denied networks must be checked in the same way.
  *
- * It prints each address and whether it is allowed. The status is 0; or 2, with the reason on standard error, where the
- * list or standard input cannot be read to its end, an answer cannot be written, memory is out, or lines of the list are
- * no networks: then it says of each of them why not. Nothing is printed to standard output before the whole list has been
- * read. */
+ * The program prints each address and whether it is allowed. The status is 0; or 2, with the reason on standard error,
+ * if the list or standard input cannot be read to its end, an answer cannot be written, memory runs out, or lines of
+ * the list are not networks: then it says of each of them why not. Nothing is printed to standard output before the
+ * whole list has been read. */
 #define _POSIX_C_SOURCE 200809L
 #include "ipnetwork.h"
 
@@ -24,8 +24,8 @@ struct line {
     size_t room, length;
 };
 
-/* The networks of one family as they are read; their table, the blocks with the place of the network of each; and the
- * ranges of the table, beside each the place of its longest network, with their index. */
+/* The networks of one family as they are read; their table, that is, the blocks with the place of the network of each;
+ * and the ranges of the table with the place of the longest network of each, and their index. */
 struct fours {
     ipnetwork_v4 *networks, *blocks, *ranges;
     size_t count, room, *places, *beside, range_count, index_length;
@@ -41,7 +41,8 @@ struct list {
     struct sixes sixes;
 };
 
-/* Whether there is a next line. A line that a failed read cut short is none: its front may name another network. */
+/* Whether there is a next line. A line that a failed read cut short does not count: its front may name another
+ * network. */
 static int next_line(FILE *file, struct line *line) {
     ssize_t got = getline(&line->text, &line->room, file);
     if (got < 0 || ferror(file))
@@ -52,7 +53,7 @@ static int next_line(FILE *file, struct line *line) {
     return 1;
 }
 
-/* Whether the file was read to its end. Where neither ferror nor feof holds, getline was out of memory. */
+/* Whether the file was read to its end. If neither ferror nor feof is true, getline ran out of memory. */
 static int was_read(FILE *file, const char *name) {
     if (feof(file) && !ferror(file))
         return 1;
@@ -60,7 +61,7 @@ static int was_read(FILE *file, const char *name) {
     return 0;
 }
 
-/* An array with a place for one struct more; NULL if memory is out, and then the array is as it was. */
+/* An array with room for one struct more; NULL if memory runs out, and then the array is unchanged. */
 static void *grown(void *array, size_t count, size_t *room, size_t size) {
     if (count < *room)
         return array;
@@ -71,7 +72,7 @@ static void *grown(void *array, size_t count, size_t *room, size_t size) {
     return place;
 }
 
-/* Whether a network was kept. */
+/* Adds a network, and returns whether there was memory for it. */
 static int keep(const ipnetwork_ip *network, struct list *list) {
     struct fours *fours = &list->fours;
     struct sixes *sixes = &list->sixes;
@@ -91,7 +92,7 @@ static int keep(const ipnetwork_ip *network, struct list *list) {
     return 1;
 }
 
-/* Tells which line of a list is no network, and why. */
+/* Reports which line of a list is not a network, and why. */
 static void tell_refusal(const char *name, size_t number, const struct line *line, ipnetwork_fault fault) {
     char words[IPNETWORK_FAULT_TEXT];
     size_t length;
@@ -99,7 +100,7 @@ static void tell_refusal(const char *name, size_t number, const struct line *lin
         fprintf(stderr, "%s:%zu: %s: %.*s\n", name, number, words, (int)line->length, line->text);
 }
 
-/* Whether the list was read, and each line of it is a network. */
+/* Reads a list, and returns whether it was read to its end and each line of it is a network. */
 static int read_list(FILE *file, const char *name, struct list *list, struct line *line) {
     int refused = 0;
     for (size_t number = 1; next_line(file, line); number++) {
@@ -117,7 +118,7 @@ static int read_list(FILE *file, const char *name, struct list *list, struct lin
     return was_read(file, name) && !refused;
 }
 
-/* The same of the file of this name. */
+/* The same for the file with this name. */
 static int open_list(const char *name, struct list *list, struct line *line) {
     FILE *file = fopen(name, "r");
     if (file == NULL) {
@@ -129,10 +130,11 @@ static int open_list(const char *name, struct list *list, struct line *line) {
     return done;
 }
 
-/* Memory for so many elements, not NULL for none. */
+/* Memory for this many elements, not NULL even if there are none. */
 static void *memory(size_t count, size_t size) { return malloc(count == 0 ? 1 : count * size); }
 
-/* Whether the ranges of a list were made, by which it is asked: a list that is asked once needs none. */
+/* Makes the ranges by which a list is searched, and returns whether that succeeded. A list that is searched only once
+ * does not need them. */
 static int make_fours(struct fours *list) {
     size_t count = list->count, most = 2 * count;
     if (ipnetwork_index_size(most, &list->index_length) != IPNETWORK_OK)
@@ -176,7 +178,7 @@ static int make_ranges(struct list *list) {
     return 0;
 }
 
-/* Whether a network of the list has an address; then the text of the longest is put. */
+/* Whether a network of the list has an address; if so, writes the text of the longest one. */
 static int has(const struct list *list, const ipnetwork_address *address, char text[IPNETWORK_V6_TEXT]) {
     const struct fours *fours = &list->fours;
     const struct sixes *sixes = &list->sixes;
@@ -194,7 +196,7 @@ static int has(const struct list *list, const ipnetwork_address *address, char t
     return ipnetwork_v6_canonical(&sixes->networks[found.place], text, IPNETWORK_V6_TEXT, &length) == IPNETWORK_OK;
 }
 
-/* The same of an address as it is, and as the IPv4 address that it stands for. */
+/* The same for an address as it is, and as the IPv4 address in it. */
 static int is_allowed(const struct list *list, const ipnetwork_address *address, char text[IPNETWORK_V6_TEXT]) {
     ipnetwork_address unmapped;
     return has(list, address, text) ||
@@ -213,7 +215,7 @@ static void answer(const struct line *line, const struct list *list) {
         puts(" not allowed");
 }
 
-/* Whether standard input was read to its end, and the answer to each line of it was written. */
+/* Answers each line of standard input, and returns whether it was read to its end and each answer was written. */
 static int answer_all(const struct list *list, struct line *line) {
     while (next_line(stdin, line))
         answer(line, list);

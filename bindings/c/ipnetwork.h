@@ -1,25 +1,29 @@
-/* IP networks in CIDR notation, IPv4 and IPv6: read from texts, printed, and asked about their sets of addresses.
+/* IP networks in CIDR notation, IPv4 and IPv6: functions that read them from texts, print them, and answer questions
+ * about their addresses.
  *
- * Every function returns an ipnetwork_fault: IPNETWORK_OK, which is 0, or why there is no result; except the two that
- * return a version, and the two that return an ipnetwork_place. Results are written through the last pointers. After a
- * fault nothing has been written, except that after IPNETWORK_SHORT_BUFFER a call with a pointer for the length of texts,
- * or for the number of blocks, has written that.
- * A prefix length that the caller has filled is checked by each call that looks at it: one past the width is
- * IPNETWORK_PREFIX, and never trusted. The searches of sets, tables and ranges do not look at every one, or at none.
+ * Every function returns an ipnetwork_fault, which is IPNETWORK_OK, 0, or the reason why there is no result. The
+ * exceptions are the two functions that return a version and the two that return an ipnetwork_place. Results are
+ * written through the last pointers. A call that returns a fault has written nothing, with one exception: a call that
+ * returns IPNETWORK_SHORT_BUFFER, and has a pointer for the length of its texts or the number of blocks, has written
+ * that.
  *
- * No call allocates or keeps anything. Each may be made from any thread, and from several at once, as long as no
- * other thread writes what it reads or touches what it writes.
+ * A call checks the prefix length of each struct that it reads: one greater than the width, 32 or 128, is
+ * IPNETWORK_PREFIX. But a search in a set or a table does not read every struct, and a search in ranges and the making
+ * of an index check no prefix length.
  *
- * What the caller must ensure, since no call can check it:
- *   - no pointer is NULL, except beside a length of 0: that is an empty text, or a buffer of no bytes;
- *   - a pointer points to what its type says, or to as many bytes as the length beside it says, at most PTRDIFF_MAX;
- *   - what a call writes does not overlap anything else that the same call is given. No object is both input and
- *     output: the functions are compiled as if no other pointer reached what they write, which is what restrict says.
- *     Use a second object, and copy it.
+ * No call allocates memory, or keeps a pointer. Each call may be made from any thread, and from several threads at
+ * once, as long as no other thread writes what it reads, or reads or writes what it writes.
+ *
+ * What the caller must ensure, because no call can check it:
+ *   - No pointer is NULL, except with a length of 0, which means an empty text, list or buffer.
+ *   - A pointer points to what its type says, or to as many elements as its length says, of at most PTRDIFF_MAX bytes.
+ *   - What a call writes does not overlap anything else that the call is given. No object is passed twice, as input and
+ *     as output: the functions are compiled as if no other pointer reached what they write, as restrict says. Use a
+ *     second object, and copy it.
  *
  * A text is bytes with a length. It need not end with a zero byte, and a zero byte in it is a byte like any other.
- * An address is its octets in network order, as struct in_addr and struct in6_addr hold them: pass
- * (const uint8_t *)&in_addr, or in6_addr.s6_addr. No struct here has padding, so that they may be copied and hashed
+ * An address is its octets in network byte order, as in struct in_addr and struct in6_addr: pass
+ * (const uint8_t *)&in_addr, or in6_addr.s6_addr. The structs here have no padding, so they may be copied and hashed
  * as bytes.
  */
 #ifndef IPNETWORK_H
@@ -32,43 +36,44 @@
 extern "C" {
 #endif
 
-/* The version of the names, structs and numbers below: it changes with any of them. ipnetwork_abi_version() returns
- * that of the library. A call that is added raises the minor version, which ipnetwork_abi_minor_version() returns: a
- * program needs a library of the version that it was compiled with, and of the same minor version or a later one. */
+/* The version of the names, structs and numbers below, which changes if any of them changes. ipnetwork_abi_version()
+ * returns that of the library. Each added call raises the minor version, which ipnetwork_abi_minor_version() returns. A
+ * program needs a library of the version that it was compiled with, and of the same or a later minor version. */
 #define IPNETWORK_ABI_VERSION 3
 #define IPNETWORK_ABI_MINOR_VERSION 0
 
-/* Enough for every text of the family and the zero byte after it. */
+/* The size of a buffer that is enough for each text of a network of the family, and a zero byte. */
 #define IPNETWORK_V4_TEXT 19
 #define IPNETWORK_V6_TEXT 44
 
 /* The same for an address of either family. */
 #define IPNETWORK_ADDRESS_TEXT 40
 
-/* The same for what a fault says. */
+/* The same for the text of a fault. */
 #define IPNETWORK_FAULT_TEXT 40
 
 typedef uint32_t ipnetwork_fault;
 
 enum {
     IPNETWORK_OK = 0,
-    IPNETWORK_FORMAT = 1,       /* the text holds two or more '/' */
-    IPNETWORK_ADDRESS = 2,      /* what stands before the '/', or the whole text if there is none, is no address of
-                                   the family; of ipnetwork_read and ipnetwork_read_column: the text is no network of
-                                   either family */
-    IPNETWORK_PREFIX = 3,       /* no prefix length of the family, whether a text, an argument or a struct has it */
-    IPNETWORK_SHORT_BUFFER = 4, /* no room for the text and a zero byte, or for as many rows or blocks */
-    IPNETWORK_NO_MASK = 5,      /* the address is no mask */
-    IPNETWORK_NO_MEMBER = 6,    /* the network has no member, or no block, of that number; no block has the address */
+    IPNETWORK_FORMAT = 1,       /* the text has two or more '/' */
+    IPNETWORK_ADDRESS = 2,      /* the part before the '/', or the whole text if it has none, is not an address of
+                                   the family; from ipnetwork_read and ipnetwork_read_column: the text names no
+                                   network of either family */
+    IPNETWORK_PREFIX = 3,       /* not a prefix length of the family, in a text, an argument or a struct */
+    IPNETWORK_SHORT_BUFFER = 4, /* no room for the text and a zero byte, or for all rows or blocks */
+    IPNETWORK_NO_MASK = 5,      /* the address is not a mask */
+    IPNETWORK_NO_MEMBER = 6,    /* the network has no member, or no block, of that number; no block has the address;
+                                   or the address is not IPv4-mapped */
     IPNETWORK_NO_FAMILY = 7,    /* a family that is neither 4 nor 6, or an address of neither 4 nor 16 octets */
-    IPNETWORK_NO_OFFSETS = 8,   /* offsets of a column that fall, or pass the end of its texts */
+    IPNETWORK_NO_OFFSETS = 8,   /* offsets of a column that decrease, or go past the end of its texts */
     IPNETWORK_NO_RANGE = 9,     /* a range whose first address comes after its last */
-    IPNETWORK_NO_SET = 10       /* a list that is not the least one of a set, as aggregate leaves it */
+    IPNETWORK_NO_SET = 10       /* a list that is not the shortest list of a set, as aggregate leaves it */
 };
 
-/* IPNETWORK_CHECKED: the fault has to be looked at, and no pointer is NULL. IPNETWORK_CHECKED_AT: of the arguments of these
- * numbers none is NULL, and the others may be beside a length of 0. IPNETWORK_CHECKED_FAULT: each may be beside a length of 0.
- * IPNETWORK_ALONE: no other pointer reaches it. */
+/* IPNETWORK_CHECKED: the result must be used, and no pointer may be NULL. IPNETWORK_CHECKED_AT: the arguments with
+ * these numbers must not be NULL; other pointers may be if their length is 0. IPNETWORK_CHECKED_FAULT: each pointer may
+ * be NULL if its length is 0. IPNETWORK_ALONE: no other pointer reaches the memory. */
 #if defined(__GNUC__)
 #define IPNETWORK_CHECKED __attribute__((warn_unused_result, nonnull))
 #define IPNETWORK_CHECKED_AT(numbers) __attribute__((warn_unused_result, nonnull numbers))
@@ -96,22 +101,22 @@ typedef struct ipnetwork_v6 {
     uint8_t prefix;
 } ipnetwork_v6;
 
-/* A network of either family: the family, 4 or 6, and the struct of that family. The other is not looked at. */
+/* A network of either family: the family, 4 or 6, and the struct of that family. The other struct is ignored. */
 typedef struct ipnetwork_ip {
     uint8_t family;
     ipnetwork_v4 v4;
     ipnetwork_v6 v6;
 } ipnetwork_ip;
 
-/* An address of either family: its octets, the highest first, and how many they are, 4 or 16. The calls that write one
- * put zeros after those of an IPv4 address; the calls that read one do not look at them. */
+/* An address of either family: its octets, the highest first, and their number, 4 or 16. Calls that write an IPv4
+ * address set the other 12 octets to 0; calls that read one ignore them. */
 typedef struct ipnetwork_address {
     uint8_t octets[16];
     uint8_t length;
 } ipnetwork_address;
 
-/* What a search by ranges returns: what stands beside the range that was found, or IPNETWORK_NO_PLACE. As a struct it is
- * not taken for a truth value, or for a fault. */
+/* The result of a search by ranges: the place, or the number, of the range that was found, or IPNETWORK_NO_PLACE. It is
+ * a struct so that it is not mistaken for a Boolean or a fault. */
 typedef struct ipnetwork_place {
     size_t place;
 } ipnetwork_place;
@@ -119,45 +124,47 @@ typedef struct ipnetwork_place {
 uint32_t ipnetwork_abi_version(void);
 uint32_t ipnetwork_abi_minor_version(void);
 
-/* What a fault says in a few words, "unknown fault" for a number that is none, and a zero byte after it, in the front
- * of a buffer of buffer_length bytes, of which IPNETWORK_FAULT_TEXT are enough. *text_length and
- * IPNETWORK_SHORT_BUFFER are as in the canonical calls. */
+/* Writes a short text for a fault, "unknown fault" for a number that is not one, and a zero byte to the front of a
+ * buffer of buffer_length bytes, of which IPNETWORK_FAULT_TEXT are enough. *text_length and IPNETWORK_SHORT_BUFFER are
+ * as for ipnetwork_v4_canonical. */
 IPNETWORK_CHECKED_AT((4)) ipnetwork_fault ipnetwork_fault_text(ipnetwork_fault fault, char *IPNETWORK_ALONE buffer,
                                                               size_t buffer_length,
                                                               size_t *IPNETWORK_ALONE text_length);
 
-/* The network that a text names: an address, and after a '/' a prefix length (an optional '+' and decimal digits,
- * leading zeros too) or, only for IPv4, one of the 33 masks as an address. Without a '/' the prefix length is the
- * full width, 32 or 128. An IPv4 address is four decimals without leading zeros (RFC 3986, section 3.2.2), an IPv6
- * address has the forms of RFC 4291, section 2.2. Host bits are kept. For any other text the fault is
- * IPNETWORK_FORMAT, IPNETWORK_ADDRESS or IPNETWORK_PREFIX, the first that applies. */
+/* Reads the network that a text names: an address, which may be followed by a '/' and a prefix length (an optional '+'
+ * and decimal digits, with or without leading zeros) or, only for IPv4, by a '/' and one of the 33 masks, as an
+ * address. Without a '/', the prefix length is the full width, 32 or 128. An IPv4 address is four decimal numbers
+ * without leading zeros (RFC 3986, section 3.2.2); an IPv6 address has the forms of RFC 4291, section 2.2. Host bits
+ * are kept. For any other text the fault is IPNETWORK_FORMAT, IPNETWORK_ADDRESS or IPNETWORK_PREFIX, the first that
+ * applies. */
 IPNETWORK_CHECKED_AT((3)) ipnetwork_fault ipnetwork_v4_read(const char *text, size_t text_length,
                                                            ipnetwork_v4 *IPNETWORK_ALONE network);
 IPNETWORK_CHECKED_AT((3)) ipnetwork_fault ipnetwork_v6_read(const char *text, size_t text_length,
                                                            ipnetwork_v6 *IPNETWORK_ALONE network);
 
-/* The network of either family that a text names; the struct of the other family is all zeros. For any other text the
- * fault is IPNETWORK_ADDRESS, whatever is wrong with it. */
+/* Reads the network of either family that a text names; the struct of the other family is all zeros. For any other text
+ * the fault is IPNETWORK_ADDRESS, whatever is wrong with it. */
 IPNETWORK_CHECKED_AT((3)) ipnetwork_fault ipnetwork_read(const char *text, size_t text_length,
                                                         ipnetwork_ip *IPNETWORK_ALONE network);
 
-/* The same with the cause: for any other text the fault is IPNETWORK_FORMAT if it holds two or more '/'; else
- * IPNETWORK_ADDRESS if what stands before the '/', or the whole text if there is none, is an address of neither family;
- * else IPNETWORK_PREFIX. */
+/* The same, but the fault says what is wrong: IPNETWORK_FORMAT if the text has two or more '/'; else IPNETWORK_ADDRESS
+ * if the part before the '/', or the whole text if it has none, is not an address of either family; else
+ * IPNETWORK_PREFIX. */
 IPNETWORK_CHECKED_AT((3)) ipnetwork_fault ipnetwork_read_with_cause(const char *text, size_t text_length,
                                                                    ipnetwork_ip *IPNETWORK_ALONE network);
 
-/* The network of this address, host bits kept, and this prefix length. IPNETWORK_PREFIX past the width. */
+/* Makes the network of this address, host bits kept, and this prefix length. IPNETWORK_PREFIX if the prefix length is
+ * greater than the width. */
 IPNETWORK_CHECKED ipnetwork_fault ipnetwork_v4_new(const uint8_t address[4], uint8_t prefix,
                                                    ipnetwork_v4 *IPNETWORK_ALONE network);
 IPNETWORK_CHECKED ipnetwork_fault ipnetwork_v6_new(const uint8_t address[16], uint8_t prefix,
                                                    ipnetwork_v6 *IPNETWORK_ALONE network);
 
-/* The canonical text, host bits kept (an IPv6 address as RFC 5952, section 4, says, and of the addresses of section 5
- * the IPv4-mapped ones dotted), and a zero byte after it, in the front of a buffer of buffer_length bytes.
- * *text_length is the length of the text, without the zero byte. IPNETWORK_SHORT_BUFFER if buffer_length is not
- * greater than that: then *text_length is written all the same, and the buffer is not. A buffer of no bytes, at
- * any pointer or NULL, asks only for the length. */
+/* Writes the canonical text of the network, host bits kept, and a zero byte to the front of a buffer of buffer_length
+ * bytes. IPv6 addresses are printed as RFC 5952, section 4, says; of the addresses in its section 5, only IPv4-mapped
+ * ones end in dotted decimal. *text_length is the length of the text, without the zero byte. IPNETWORK_SHORT_BUFFER if
+ * buffer_length is not greater than that: then *text_length is written, but the buffer is not. To get only the length,
+ * pass 0 as buffer_length, with any pointer or NULL. */
 IPNETWORK_CHECKED_AT((1, 4)) ipnetwork_fault ipnetwork_v4_canonical(const ipnetwork_v4 *network,
                                                                    char *IPNETWORK_ALONE buffer, size_t buffer_length,
                                                                    size_t *IPNETWORK_ALONE text_length);
@@ -165,17 +172,17 @@ IPNETWORK_CHECKED_AT((1, 4)) ipnetwork_fault ipnetwork_v6_canonical(const ipnetw
                                                                    char *IPNETWORK_ALONE buffer, size_t buffer_length,
                                                                    size_t *IPNETWORK_ALONE text_length);
 
-/* Whether an address is a member of the network: whether its first bits, as many as the prefix length says, are those
- * of the network's address. *answer is 1 or 0. */
+/* Whether an address is a member of the network, that is, whether its first bits, as many as the prefix length says,
+ * are those of the network's address. *answer is 1 or 0. */
 IPNETWORK_CHECKED ipnetwork_fault ipnetwork_v4_contains(const ipnetwork_v4 *network, const uint8_t address[4],
                                                         uint8_t *IPNETWORK_ALONE answer);
 IPNETWORK_CHECKED ipnetwork_fault ipnetwork_v6_contains(const ipnetwork_v6 *network, const uint8_t address[16],
                                                         uint8_t *IPNETWORK_ALONE answer);
 
-/* The same of many addresses in one call: answers[i] is what ipnetwork_v4_contains or ipnetwork_v6_contains writes for
- * the address number i. There are address_count addresses, of 4 or 16 octets each, one after the other.
- * IPNETWORK_SHORT_BUFFER if answer_count, for how many answers there is room, is less than address_count. Answers
- * past address_count are not written. */
+/* The same for many addresses in one call: answers[i] is what ipnetwork_v4_contains or ipnetwork_v6_contains writes for
+ * address i. There are address_count addresses, of 4 or 16 octets each, one after the other. IPNETWORK_PREFIX if the
+ * prefix length is greater than the width, else IPNETWORK_SHORT_BUFFER if answer_count, the number of answers that
+ * there is room for, is less than address_count. Answers past address_count are not written. */
 IPNETWORK_CHECKED_AT((1)) ipnetwork_fault ipnetwork_v4_contains_column(const ipnetwork_v4 *network,
                                                                      const uint8_t *addresses,
                                                                      size_t address_count,
@@ -187,8 +194,8 @@ IPNETWORK_CHECKED_AT((1)) ipnetwork_fault ipnetwork_v6_contains_column(const ipn
                                                                      uint8_t *IPNETWORK_ALONE answers,
                                                                      size_t answer_count);
 
-/* Whether an address is a member of one of network_count networks, in any order, host bits or not: *answer is 1 or 0,
- * and 0 if there are none. IPNETWORK_PREFIX if the prefix length of one is past the width. */
+/* Whether an address is a member of at least one of network_count networks, in any order and with or without host bits:
+ * *answer is 1 or 0, and 0 if there are no networks. IPNETWORK_PREFIX if a prefix length is greater than the width. */
 IPNETWORK_CHECKED_AT((3, 4)) ipnetwork_fault ipnetwork_v4_list_contains(const ipnetwork_v4 *networks,
                                                                       size_t network_count, const uint8_t address[4],
                                                                       uint8_t *IPNETWORK_ALONE answer);
@@ -196,15 +203,18 @@ IPNETWORK_CHECKED_AT((3, 4)) ipnetwork_fault ipnetwork_v6_list_contains(const ip
                                                                       size_t network_count, const uint8_t address[16],
                                                                       uint8_t *IPNETWORK_ALONE answer);
 
-/* The same of either family, for an address of 4 or 16 octets. No address of the other family is a member: not even
- * an IPv4-mapped IPv6 address of an IPv4 network. IPNETWORK_NO_FAMILY comes before IPNETWORK_PREFIX. */
+/* Whether an address of 4 or 16 octets is a member of a network of either family. No address of the other family is a
+ * member, not even an IPv4-mapped IPv6 address of an IPv4 network. IPNETWORK_NO_FAMILY if the family of the struct is
+ * neither 4 nor 6, or address_length is neither 4 nor 16; else IPNETWORK_PREFIX if the prefix length is greater than
+ * the width of the family. */
 IPNETWORK_CHECKED_AT((1, 4)) ipnetwork_fault ipnetwork_contains(const ipnetwork_ip *network, const uint8_t *address,
                                                                size_t address_length, uint8_t *IPNETWORK_ALONE answer);
 
-/* The same questions of either family. Each is IPNETWORK_NO_FAMILY if a struct has a family that is neither 4 nor 6,
- * else IPNETWORK_PREFIX if its prefix length is past the width of that family; of two structs the first is judged
- * first. Networks of different families share no address, and none is a subnet of the other; each IPv4 network comes
- * before each IPv6 network. For ipnetwork_canonical IPNETWORK_V6_TEXT bytes are enough. */
+/* The calls with these names for IPv4 and IPv6, but for networks of either family. IPNETWORK_NO_FAMILY if the family of
+ * a struct is neither 4 nor 6, else IPNETWORK_PREFIX if its prefix length is greater than the width of that family; of
+ * two structs the first is checked first. Networks of different families share no address, and neither is a subnet of
+ * the other; each IPv4 network comes before each IPv6 network. For ipnetwork_canonical, IPNETWORK_V6_TEXT bytes are
+ * enough. */
 IPNETWORK_CHECKED_AT((1, 4)) ipnetwork_fault ipnetwork_canonical(const ipnetwork_ip *network,
                                                                 char *IPNETWORK_ALONE buffer, size_t buffer_length,
                                                                 size_t *IPNETWORK_ALONE text_length);
@@ -220,27 +230,29 @@ IPNETWORK_CHECKED ipnetwork_fault ipnetwork_overlaps(const ipnetwork_ip *one, co
 IPNETWORK_CHECKED ipnetwork_fault ipnetwork_compare(const ipnetwork_ip *one, const ipnetwork_ip *other,
                                                     int32_t *IPNETWORK_ALONE order);
 
-/* The address of either family that a text names, in the forms that ipnetwork_read takes before a '/'; for any other
- * text, with a '/' or a zone, IPNETWORK_ADDRESS. */
+/* Reads the address of either family that a text names, in the forms that ipnetwork_read takes before a '/'. For any
+ * other text, such as one with a '/' or a zone, the fault is IPNETWORK_ADDRESS. */
 IPNETWORK_CHECKED_AT((3)) ipnetwork_fault ipnetwork_address_read(const char *text, size_t text_length,
                                                                 ipnetwork_address *IPNETWORK_ALONE address);
 
-/* The address that an IPv4-mapped one, of ::ffff:0:0/96, stands for (RFC 4291, section 2.5.5.2), and any other as it is.
- * A socket of both families tells its IPv4 peers as mapped addresses: unmapped, they are found in lists of IPv4 networks.
- * IPNETWORK_NO_FAMILY if the struct's length is neither 4 nor 16. */
+/* Writes the IPv4 address in an IPv4-mapped address, one of ::ffff:0:0/96 (RFC 4291, section 2.5.5.2), and any other
+ * address as it is. A socket for both families reports its IPv4 peers as mapped addresses, which are found in lists of
+ * IPv4 networks only after this. IPNETWORK_NO_FAMILY if the length in the struct is neither 4 nor 16. */
 IPNETWORK_CHECKED ipnetwork_fault ipnetwork_address_unmapped(const ipnetwork_address *address,
                                                              ipnetwork_address *IPNETWORK_ALONE unmapped);
 
-/* The octets of that IPv4 address. IPNETWORK_NO_MEMBER if the address is no IPv4-mapped one. */
+/* Writes the octets of the IPv4 address in an IPv4-mapped address. IPNETWORK_NO_MEMBER if the address is not
+ * IPv4-mapped. */
 IPNETWORK_CHECKED ipnetwork_fault ipnetwork_v6_unmapped(const uint8_t address[16], uint8_t unmapped[IPNETWORK_ALONE 4]);
 
-/* The canonical text of an address, and a zero byte after it: as ipnetwork_canonical prints the address of a network,
- * into a buffer of which IPNETWORK_ADDRESS_TEXT bytes are enough. IPNETWORK_NO_FAMILY if the struct's length is neither
- * 4 nor 16. */
+/* Writes the canonical text of an address and a zero byte, as ipnetwork_canonical prints the address of a network, to a
+ * buffer of which IPNETWORK_ADDRESS_TEXT bytes are enough. IPNETWORK_NO_FAMILY if the length in the struct is neither 4
+ * nor 16. */
 IPNETWORK_CHECKED_AT((1, 4)) ipnetwork_fault ipnetwork_address_canonical(const ipnetwork_address *address,
     char *IPNETWORK_ALONE buffer, size_t buffer_length, size_t *IPNETWORK_ALONE text_length);
 
-/* The least member (the address with its host bits cleared), the greatest (with them set), and the mask. */
+/* The least member (the address with its host bits cleared), the greatest member (the address with its host bits set),
+ * and the mask. */
 IPNETWORK_CHECKED ipnetwork_fault ipnetwork_v4_network(const ipnetwork_v4 *network, uint8_t address[IPNETWORK_ALONE 4]);
 IPNETWORK_CHECKED ipnetwork_fault ipnetwork_v6_network(const ipnetwork_v6 *network,
                                                        uint8_t address[IPNETWORK_ALONE 16]);
@@ -251,46 +263,46 @@ IPNETWORK_CHECKED ipnetwork_fault ipnetwork_v6_broadcast(const ipnetwork_v6 *net
 IPNETWORK_CHECKED ipnetwork_fault ipnetwork_v4_mask(const ipnetwork_v4 *network, uint8_t mask[IPNETWORK_ALONE 4]);
 IPNETWORK_CHECKED ipnetwork_fault ipnetwork_v6_mask(const ipnetwork_v6 *network, uint8_t mask[IPNETWORK_ALONE 16]);
 
-/* The prefix length of a mask. IPNETWORK_NO_MASK if the address is none of the 33, or 129, masks. */
+/* The prefix length of a mask. IPNETWORK_NO_MASK if the address is not one of the 33 or 129 masks. */
 IPNETWORK_CHECKED ipnetwork_fault ipnetwork_v4_prefix_of_mask(const uint8_t mask[4], uint8_t *IPNETWORK_ALONE prefix);
 IPNETWORK_CHECKED ipnetwork_fault ipnetwork_v6_prefix_of_mask(const uint8_t mask[16], uint8_t *IPNETWORK_ALONE prefix);
 
-/* The number of members, two to the power of the host bits: at prefix length 0 it is 2^32 or 2^128. That of IPv6 is 17
- * octets, the highest first, of which the first is 1 at prefix length 0 and 0 at any other. */
+/* The number of members: two to the power of the number of host bits, thus 2^32 or 2^128 for prefix length 0. For IPv6
+ * it is 17 octets, the highest first: the first octet is 1 for prefix length 0, and 0 for any other. */
 IPNETWORK_CHECKED ipnetwork_fault ipnetwork_v4_size(const ipnetwork_v4 *network, uint64_t *IPNETWORK_ALONE size);
 IPNETWORK_CHECKED ipnetwork_fault ipnetwork_v6_size(const ipnetwork_v6 *network, uint8_t size[IPNETWORK_ALONE 17]);
 
-/* The member number n in order, counted from 0; for IPv6 n is 16 octets, the highest first. Every member has a number,
- * at prefix length 0 too: the last one is 2^32 - 1, or 2^128 - 1. So this is also a host by its number: number 0 is the
- * least member and the last number the greatest. IPNETWORK_NO_MEMBER if n is not below the size. */
+/* Member number n in ascending order, counted from 0; for IPv6, n is 16 octets, the highest first. Number 0 is the
+ * least member. Every member has a number, also for prefix length 0: the last one is 2^32 - 1 or 2^128 - 1.
+ * IPNETWORK_NO_MEMBER if n is not less than the number of members. */
 IPNETWORK_CHECKED ipnetwork_fault ipnetwork_v4_nth(const ipnetwork_v4 *network, uint32_t n,
                                                    uint8_t address[IPNETWORK_ALONE 4]);
 IPNETWORK_CHECKED ipnetwork_fault ipnetwork_v6_nth(const ipnetwork_v6 *network, const uint8_t n[16],
                                                    uint8_t address[IPNETWORK_ALONE 16]);
 
-/* Whether each member of inner is a member of outer: *answer is 1 or 0. Host bits change nothing. */
+/* Whether each member of inner is a member of outer: *answer is 1 or 0. Host bits make no difference. */
 IPNETWORK_CHECKED ipnetwork_fault ipnetwork_v4_is_subnet_of(const ipnetwork_v4 *inner, const ipnetwork_v4 *outer,
                                                             uint8_t *IPNETWORK_ALONE answer);
 IPNETWORK_CHECKED ipnetwork_fault ipnetwork_v6_is_subnet_of(const ipnetwork_v6 *inner, const ipnetwork_v6 *outer,
                                                             uint8_t *IPNETWORK_ALONE answer);
 
-/* Whether some address is a member of both: *answer is 1 or 0. */
+/* Whether some address is a member of both networks: *answer is 1 or 0. */
 IPNETWORK_CHECKED ipnetwork_fault ipnetwork_v4_overlaps(const ipnetwork_v4 *one, const ipnetwork_v4 *other,
                                                         uint8_t *IPNETWORK_ALONE answer);
 IPNETWORK_CHECKED ipnetwork_fault ipnetwork_v6_overlaps(const ipnetwork_v6 *one, const ipnetwork_v6 *other,
                                                         uint8_t *IPNETWORK_ALONE answer);
 
-/* Which comes first, by address, host bits included, and then by prefix length: *order is -1 for one, 1 for other, 0
- * if they are equal. */
+/* Which network comes first, by address, host bits included, and then by prefix length: *order is -1 if one does, 1 if
+ * other does, and 0 if they are equal. */
 IPNETWORK_CHECKED ipnetwork_fault ipnetwork_v4_compare(const ipnetwork_v4 *one, const ipnetwork_v4 *other,
                                                        int32_t *IPNETWORK_ALONE order);
 IPNETWORK_CHECKED ipnetwork_fault ipnetwork_v6_compare(const ipnetwork_v6 *one, const ipnetwork_v6 *other,
                                                        int32_t *IPNETWORK_ALONE order);
 
-/* The aggregate of network_count networks, in any order, host bits or not, put into the front of their own array: the
- * fewest blocks with the same addresses, in ascending order and without host bits. *block_count is how many they are;
- * which networks stand after them is not specified. The union of lists is the aggregate of one array that has them all.
- * IPNETWORK_PREFIX if the prefix length of one is past the width. */
+/* Replaces network_count networks, in any order and with or without host bits, by their aggregate: the fewest blocks
+ * with the same addresses, in ascending order and without host bits, in the front of the array. *block_count is their
+ * number; the networks after them are unspecified. For the union of lists, aggregate one array with all their networks.
+ * IPNETWORK_PREFIX if a prefix length is greater than the width. */
 IPNETWORK_CHECKED_AT((3)) ipnetwork_fault ipnetwork_v4_aggregate(ipnetwork_v4 *IPNETWORK_ALONE networks,
                                                                 size_t network_count,
                                                                 size_t *IPNETWORK_ALONE block_count);
@@ -298,45 +310,47 @@ IPNETWORK_CHECKED_AT((3)) ipnetwork_fault ipnetwork_v6_aggregate(ipnetwork_v6 *I
                                                                 size_t network_count,
                                                                 size_t *IPNETWORK_ALONE block_count);
 
-/* Whether an address lies in the set of block_count blocks, as a call of aggregate leaves them: *answer is 1 or 0. Of
- * another list 1 is right too, but 0 says nothing: ipnetwork_v4_list_contains and ipnetwork_v6_list_contains take any
- * list. Not every struct is looked at: IPNETWORK_PREFIX exactly if the prefix length of the last one whose own address
- * is this one or comes before it is past the width, as far as these addresses ascend. That of no set's is. */
+/* Whether an address is in the set of block_count blocks, as aggregate leaves them: *answer is 1 or 0. For any other
+ * list, 1 is right too, but 0 says nothing; use ipnetwork_v4_list_contains or ipnetwork_v6_list_contains for such a
+ * list. Not every struct is read: if the structs ascend, the search ends at the last one whose own address is at or
+ * before this address. IPNETWORK_PREFIX exactly if the prefix length of the struct at which the search ends is greater
+ * than the width, which never occurs in the list of a set. */
 IPNETWORK_CHECKED_AT((3, 4)) ipnetwork_fault ipnetwork_v4_set_contains(const ipnetwork_v4 *blocks, size_t block_count,
     const uint8_t address[4], uint8_t *IPNETWORK_ALONE answer);
 IPNETWORK_CHECKED_AT((3, 4)) ipnetwork_fault ipnetwork_v6_set_contains(const ipnetwork_v6 *blocks, size_t block_count,
     const uint8_t address[16], uint8_t *IPNETWORK_ALONE answer);
 
-/* A table of network_count networks, in any order, host bits or not, for the next calls: the block of each in the front
- * of blocks, in ascending order, and in the front of places, beside each block, the number of its network, counted from
- * 0. So networks[places[i]] is the network of blocks[i], and what belongs to a network is found by its place. Blocks
- * that are equal come in the order of their networks: of these the next calls find the last one. What comes after the
- * table is not written. IPNETWORK_PREFIX if the prefix length of a network is past the width; else
- * IPNETWORK_SHORT_BUFFER if block_count or place_count, for how many there is room, is less than network_count. */
+/* Makes a table of network_count networks, in any order and with or without host bits, for the next calls. Writes the
+ * block of each network to the front of blocks, in ascending order, and for each block the number of its network,
+ * counted from 0, to the front of places. So blocks[i] is the block of networks[places[i]], and the caller finds what
+ * belongs to a network by places[i]. Equal blocks are in the order of their networks; of these, the next calls find the
+ * last one. The rest of blocks and places is not written. IPNETWORK_PREFIX if a prefix length is greater than the
+ * width; else IPNETWORK_SHORT_BUFFER if block_count or place_count, the numbers of blocks and places that there is room
+ * for, is less than network_count. */
 IPNETWORK_CHECKED_FAULT ipnetwork_fault ipnetwork_v4_table_make(const ipnetwork_v4 *networks, size_t network_count,
     ipnetwork_v4 *IPNETWORK_ALONE blocks, size_t block_count, size_t *IPNETWORK_ALONE places, size_t place_count);
 IPNETWORK_CHECKED_FAULT ipnetwork_fault ipnetwork_v6_table_make(const ipnetwork_v6 *networks, size_t network_count,
     ipnetwork_v6 *IPNETWORK_ALONE blocks, size_t block_count, size_t *IPNETWORK_ALONE places, size_t place_count);
 
-/* The longest block that has an address, in a table: block_count blocks without host bits in ascending order, as
- * ipnetwork_v4_compare and ipnetwork_v6_compare order them, of which some may lie in others, as ipnetwork_v4_table_make
- * and ipnetwork_v6_table_make leave them. *index is its place, by which the caller finds what belongs to it; of equal
- * blocks it is that of the last one. The search begins at the last block up to the address, and goes on from one that
- * does not have it to the last before it at which a block with the address can begin. IPNETWORK_NO_MEMBER if no block
- * has the address.
- * That the list is a table is not checked: of another list the block at *index has the address too, but there may be a
- * longer one, and IPNETWORK_NO_MEMBER says nothing. Not every struct is looked at: IPNETWORK_PREFIX at the first one
- * that the search comes to whose prefix length is past the width. */
+/* Finds the longest block of a table that has an address. A table is block_count blocks without host bits in ascending
+ * order, as ipnetwork_v4_compare and ipnetwork_v6_compare order them, and as ipnetwork_v4_table_make and
+ * ipnetwork_v6_table_make leave them; some may contain others. *index is the index of the block in the table, and of
+ * equal blocks that of the last one. IPNETWORK_NO_MEMBER if no block has the address. It is not checked that the list
+ * is a table. For any other list the block at *index has the address too, but there may be a longer one, and
+ * IPNETWORK_NO_MEMBER says nothing. Not every struct is read: the search begins at the last block at or before the
+ * address, and goes on from a block that does not have it to the last block before that at which one with the address
+ * can begin. IPNETWORK_PREFIX at the first struct that the search reaches whose prefix length is greater than the
+ * width. */
 IPNETWORK_CHECKED_AT((3, 4)) ipnetwork_fault ipnetwork_v4_table_find(const ipnetwork_v4 *blocks, size_t block_count,
     const uint8_t address[4], size_t *IPNETWORK_ALONE index);
 IPNETWORK_CHECKED_AT((3, 4)) ipnetwork_fault ipnetwork_v6_table_find(const ipnetwork_v6 *blocks, size_t block_count,
     const uint8_t address[16], size_t *IPNETWORK_ALONE index);
 
-/* The same of many addresses in one call: indexes[i] and faults[i] are what ipnetwork_v4_table_find or
- * ipnetwork_v6_table_find leaves and returns of the address number i, so that an address without a block leaves its
- * index as it was, and stops nothing. There are address_count addresses, of 4 or 16 octets each, one after the other.
- * What comes after the last of the indexes and faults is not written. IPNETWORK_SHORT_BUFFER if index_count or
- * fault_count, for how many there is room, is less than address_count: then nothing is written. */
+/* The same for many addresses in one call: indexes[i] and faults[i] are what ipnetwork_v4_table_find or
+ * ipnetwork_v6_table_find leaves and returns for address i. An address without a block leaves its index unchanged, and
+ * does not stop the call. There are address_count addresses, of 4 or 16 octets each, one after the other. The rest of
+ * indexes and faults is not written. IPNETWORK_SHORT_BUFFER if index_count or fault_count, the numbers of indexes and
+ * faults that there is room for, is less than address_count: then nothing is written. */
 IPNETWORK_CHECKED_FAULT ipnetwork_fault ipnetwork_v4_table_find_column(const ipnetwork_v4 *blocks, size_t block_count,
     const uint8_t *addresses, size_t address_count, size_t *IPNETWORK_ALONE indexes, size_t index_count,
     uint8_t *IPNETWORK_ALONE faults, size_t fault_count);
@@ -344,23 +358,25 @@ IPNETWORK_CHECKED_FAULT ipnetwork_fault ipnetwork_v6_table_find_column(const ipn
     const uint8_t *addresses, size_t address_count, size_t *IPNETWORK_ALONE indexes, size_t index_count,
     uint8_t *IPNETWORK_ALONE faults, size_t fault_count);
 
-/* An index of a list of blocks, in the caller's memory, by which the next calls search the list in a few steps: index_length
- * numbers of 32 bits. The addresses from the first of the list to the last are cut into as many parts of one size, a
- * power of two, as small as it can be; index[0] is this power, and index[i] is how many of the blocks begin before the
- * part number i. The list is that of a set, as a call of aggregate leaves it, or a table, as
- * ipnetwork_v4_table_make and ipnetwork_v6_table_make leave it; of another list an index can be made too. No struct is
- * refused. ipnetwork_index_size tells how long the index of block_count blocks should be: four numbers for each block,
- * but no more than 2^20; a shorter one makes a search slower, a longer one hardly faster, and none (NULL, and 0) as slow
- * as without. If the list changes, make its index again. */
+/* Makes an index of a list of blocks: index_length numbers of 32 bits in the caller's memory, by which the next calls
+ * search the list in a few steps. The addresses from the first of the list to the last are divided into index_length
+ * parts of equal size, the least possible power of two. index[0] is the exponent of that power, and each other index[i]
+ * is the number of blocks that begin before part i, at most 2^32 - 1. The list is that of a set, as aggregate leaves
+ * it, a table, as ipnetwork_v4_table_make and ipnetwork_v6_table_make leave it, or ranges, as the calls below make
+ * them; an index can also be made of any other list. No struct is refused. ipnetwork_index_size writes how long the
+ * index of block_count blocks should be: four numbers for each block, but at most 2^20. A shorter index makes a search
+ * slower, a longer one hardly faster; with none (NULL and length 0), a search takes as long as without an index. If the
+ * list changes, make its index again. */
 IPNETWORK_CHECKED ipnetwork_fault ipnetwork_index_size(size_t block_count, size_t *IPNETWORK_ALONE index_length);
 IPNETWORK_CHECKED_FAULT ipnetwork_fault ipnetwork_v4_index_make(const ipnetwork_v4 *blocks, size_t block_count,
     uint32_t *IPNETWORK_ALONE index, size_t index_length);
 IPNETWORK_CHECKED_FAULT ipnetwork_fault ipnetwork_v6_index_make(const ipnetwork_v6 *blocks, size_t block_count,
     uint32_t *IPNETWORK_ALONE index, size_t index_length);
 
-/* What ipnetwork_v4_set_contains and ipnetwork_v6_set_contains answer, and what ipnetwork_v4_table_find and
- * ipnetwork_v6_table_find find, with the same faults, by an index of the blocks. The index only says where the search
- * begins. Whatever it holds, the answer is that of the list: an index of another list costs time and nothing else. */
+/* Do the same as ipnetwork_v4_set_contains, ipnetwork_v6_set_contains, ipnetwork_v4_table_find and
+ * ipnetwork_v6_table_find, with the same faults, but by an index of the blocks. The index only says where the search
+ * begins. If the blocks ascend, the result is the same whatever the index holds: an index of another list only costs
+ * time. If they do not, the result may depend on the index. */
 IPNETWORK_CHECKED_AT((5, 6)) ipnetwork_fault ipnetwork_v4_index_contains(const ipnetwork_v4 *blocks, size_t block_count,
     const uint32_t *index, size_t index_length, const uint8_t address[4], uint8_t *IPNETWORK_ALONE answer);
 IPNETWORK_CHECKED_AT((5, 6)) ipnetwork_fault ipnetwork_v6_index_contains(const ipnetwork_v6 *blocks, size_t block_count,
@@ -370,11 +386,11 @@ IPNETWORK_CHECKED_AT((5, 6)) ipnetwork_fault ipnetwork_v4_index_find(const ipnet
 IPNETWORK_CHECKED_AT((5, 6)) ipnetwork_fault ipnetwork_v6_index_find(const ipnetwork_v6 *blocks, size_t block_count,
     const uint32_t *index, size_t index_length, const uint8_t address[16], size_t *IPNETWORK_ALONE place);
 
-/* The same of many addresses in one call: answers[i], or places[i], and faults[i] are what the call for one address leaves
- * and returns of the address number i, so that a fault of one leaves its answer as it was, and stops nothing. Of blocks
- * that are not in ascending order another one may answer than in the call for one address. There are
- * address_count addresses, of 4 or 16 octets each, one after the other. What comes after the last of the answers, or
- * places, and faults is not written. IPNETWORK_SHORT_BUFFER if there is room for fewer answers, or places, or faults
+/* The same for many addresses in one call: answers[i] or places[i], and faults[i], are what the call for one address
+ * leaves and returns for address i. A fault leaves the answer or place of its address unchanged, and does not stop the
+ * call. If the blocks are not in ascending order, the result may come from another block than in the call for one
+ * address. There are address_count addresses, of 4 or 16 octets each, one after the other. The rest of answers or
+ * places, and faults, is not written. IPNETWORK_SHORT_BUFFER if there is room for fewer answers or places, or faults,
  * than addresses: then nothing is written. */
 IPNETWORK_CHECKED_FAULT ipnetwork_fault ipnetwork_v4_index_contains_column(const ipnetwork_v4 *blocks, size_t block_count,
     const uint32_t *index, size_t index_length, const uint8_t *addresses, size_t address_count,
@@ -389,19 +405,21 @@ IPNETWORK_CHECKED_FAULT ipnetwork_fault ipnetwork_v6_index_find_column(const ipn
     const uint32_t *index, size_t index_length, const uint8_t *addresses, size_t address_count,
     size_t *IPNETWORK_ALONE places, size_t place_count, uint8_t *IPNETWORK_ALONE faults, size_t fault_count);
 
-/* A table cut into ranges of addresses that all have the same longest block, so that the next calls find it by one search
- * where those above mostly make several. blocks is a table, as ipnetwork_v4_table_make and ipnetwork_v6_table_make leave
- * it; ranges, places and range_count are the caller's memory. A range begins where a block begins, and after the last
- * address of a block unless that is the last of all; where several do, it may stand there several times. ranges[i] is the
- * first address of the range number i, with the prefix length 32 or 128, in ascending order; places[i] is the place in
- * blocks of the longest block that has the addresses from there to the next range (of equal ones, of the last), or
- * IPNETWORK_NO_PLACE if none has them. Before ranges[0] no block has an address. *range_count is how many they are, at most
- * 2 * block_count; what comes after them is not written. That the list is a table is not checked: of another list the
- * block at each place has the addresses too, but there may be a longer one, and IPNETWORK_NO_PLACE says nothing.
- * IPNETWORK_PREFIX if the prefix length of a struct is past the width, else IPNETWORK_SHORT_BUFFER if range_room or
- * place_room, for how many there is room, is less than 2 * block_count: then nothing is written. The time is that of
- * a sort, and of as many calls of ipnetwork_v4_table_find as there are ranges, or of ipnetwork_v4_index_find if index is
- * that of blocks; it may be NULL with the length 0, and one of another list only costs time. */
+/* Divides a table into ranges of addresses that all have the same longest block, so that the next calls find it by one
+ * search, where those above often need several. blocks is a table, as ipnetwork_v4_table_make and
+ * ipnetwork_v6_table_make leave it. A range begins where a block begins, and right after the last address of a block
+ * unless that is the last address of all. If several blocks begin or end there, the same range may be listed several
+ * times. ranges[i] is the first address of range i, with prefix length 32 or 128, in ascending order. places[i] is the
+ * place in blocks of the longest block that has the addresses from there to the next range, and of equal blocks that of
+ * the last one, or IPNETWORK_NO_PLACE if no block has them. Before ranges[0], no block has an address. *range_count is
+ * the number of ranges, at most 2 * block_count; the rest of ranges and places is not written. It is not checked that
+ * the list is a table. For any other list the block at each place has the addresses too, but there may be a longer one,
+ * and IPNETWORK_NO_PLACE says nothing. IPNETWORK_PREFIX if a prefix length is greater than the width, else
+ * IPNETWORK_SHORT_BUFFER if range_room or place_room, the numbers of ranges and places that there is room for, is less
+ * than 2 * block_count: then nothing is written. The call takes the time of a sort, and of a call of
+ * ipnetwork_v4_table_find or ipnetwork_v6_table_find for each range; with an index of blocks, of
+ * ipnetwork_v4_index_find or ipnetwork_v6_index_find. index may be NULL with length 0; for a table, the index of
+ * another list only costs time. */
 #define IPNETWORK_NO_PLACE ((size_t)-1)
 IPNETWORK_CHECKED_AT((9)) ipnetwork_fault ipnetwork_v4_ranges_make(const ipnetwork_v4 *blocks, size_t block_count,
     const uint32_t *index, size_t index_length, ipnetwork_v4 *IPNETWORK_ALONE ranges, size_t range_room,
@@ -410,10 +428,11 @@ IPNETWORK_CHECKED_AT((9)) ipnetwork_fault ipnetwork_v6_ranges_make(const ipnetwo
     const uint32_t *index, size_t index_length, ipnetwork_v6 *IPNETWORK_ALONE ranges, size_t range_room,
     size_t *IPNETWORK_ALONE places, size_t place_room, size_t *IPNETWORK_ALONE range_count);
 
-/* The same ranges, and in beside[i], in place of the place of the longest block, the number that stands at that place in
- * numbers: with the places of a table, as ipnetwork_v4_table_make and ipnetwork_v6_table_make leave them, that of the
- * block's network in the caller's list. IPNETWORK_SHORT_BUFFER, before any other fault, if number_count is less than
- * block_count. The next calls take these numbers as they take places; a number IPNETWORK_NO_PLACE is taken for none. */
+/* The same, but beside[i] is, instead of the place of the longest block, the number at that place in numbers. If
+ * numbers are the places of a table, as ipnetwork_v4_table_make and ipnetwork_v6_table_make leave them, it is the
+ * number of the block's network in the caller's list. IPNETWORK_SHORT_BUFFER, before any other fault, if number_count
+ * is less than block_count. Pass beside as places to the next calls; they take a number IPNETWORK_NO_PLACE as no
+ * block. */
 IPNETWORK_CHECKED_AT((11)) ipnetwork_fault ipnetwork_v4_ranges_make_numbered(const ipnetwork_v4 *blocks, size_t block_count,
     const size_t *numbers, size_t number_count, const uint32_t *index, size_t index_length,
     ipnetwork_v4 *IPNETWORK_ALONE ranges, size_t range_room, size_t *IPNETWORK_ALONE beside, size_t beside_room,
@@ -423,12 +442,13 @@ IPNETWORK_CHECKED_AT((11)) ipnetwork_fault ipnetwork_v6_ranges_make_numbered(con
     ipnetwork_v6 *IPNETWORK_ALONE ranges, size_t range_room, size_t *IPNETWORK_ALONE beside, size_t beside_room,
     size_t *IPNETWORK_ALONE range_count);
 
-/* What ipnetwork_v4_table_find and ipnetwork_v6_table_find find in a table, by its ranges and their places, as the calls
- * above make them, and an index of the ranges, as ipnetwork_v4_index_make and ipnetwork_v6_index_make make it:
- * *place is the place beside the last range that begins at the address or before it. IPNETWORK_NO_MEMBER if there is none,
- * or if IPNETWORK_NO_PLACE, or nothing, stands beside it: then *place is not written. The index only says where the search
- * begins: whatever it holds, the answer is that of the ranges and places. These are not checked: of others *place is what
- * the places say, of ranges in another order maybe that beside another one. If the table changes, make them again. */
+/* Find what ipnetwork_v4_table_find and ipnetwork_v6_table_find find in a table, but by its ranges and their places, as
+ * the calls above make them, and by an index of the ranges, as ipnetwork_v4_index_make and ipnetwork_v6_index_make make
+ * it. *place is the place of the last range that begins at or before the address. IPNETWORK_NO_MEMBER if there is no
+ * such range, or if its place is IPNETWORK_NO_PLACE or missing: then *place is not written. The index only says where
+ * the search begins: if the ranges ascend, the result is the same whatever it holds. Ranges and places are not checked:
+ * of any others, *place is what the places say, and if the ranges do not ascend, it may be the place of another range.
+ * If the table changes, make them again. */
 IPNETWORK_CHECKED_AT((7, 8)) ipnetwork_fault ipnetwork_v4_ranges_find(const ipnetwork_v4 *ranges, size_t range_count,
     const size_t *places, size_t place_count, const uint32_t *index, size_t index_length, const uint8_t address[4],
     size_t *IPNETWORK_ALONE place);
@@ -436,16 +456,18 @@ IPNETWORK_CHECKED_AT((7, 8)) ipnetwork_fault ipnetwork_v6_ranges_find(const ipne
     const size_t *places, size_t place_count, const uint32_t *index, size_t index_length, const uint8_t address[16],
     size_t *IPNETWORK_ALONE place);
 
-/* Return what the calls above write, and IPNETWORK_NO_PLACE where they find none. For one address this is the fastest. */
+/* Return the place that the calls above write, or IPNETWORK_NO_PLACE if they find none. For one address, these calls
+ * are the fastest. */
 IPNETWORK_CHECKED_AT((7)) ipnetwork_place ipnetwork_v4_ranges_place(const ipnetwork_v4 *ranges, size_t range_count,
     const size_t *places, size_t place_count, const uint32_t *index, size_t index_length, const uint8_t address[4]);
 IPNETWORK_CHECKED_AT((7)) ipnetwork_place ipnetwork_v6_ranges_place(const ipnetwork_v6 *ranges, size_t range_count,
     const size_t *places, size_t place_count, const uint32_t *index, size_t index_length, const uint8_t address[16]);
 
-/* ipnetwork_v4_ranges_find and ipnetwork_v6_ranges_find of many addresses in one call: found[i] and faults[i] are what they
- * leave and return of the address number i, so that an address without a block leaves its place as it was, and stops
- * nothing. There are address_count addresses, of 4 or 16 octets each, one after the other. What comes after the last of
- * found and faults is not written. IPNETWORK_SHORT_BUFFER if there is room for fewer of them than addresses: then nothing is written. */
+/* The same as ipnetwork_v4_ranges_find and ipnetwork_v6_ranges_find for many addresses in one call: found[i] and
+ * faults[i] are what they leave and return for address i. An address without a block leaves its place unchanged, and
+ * does not stop the call. There are address_count addresses, of 4 or 16 octets each, one after the other. The rest of
+ * found and faults is not written. IPNETWORK_SHORT_BUFFER if there is room for fewer places or faults than addresses:
+ * then nothing is written. */
 IPNETWORK_CHECKED_FAULT ipnetwork_fault ipnetwork_v4_ranges_find_column(const ipnetwork_v4 *ranges, size_t range_count,
     const size_t *places, size_t place_count, const uint32_t *index, size_t index_length, const uint8_t *addresses,
     size_t address_count, size_t *IPNETWORK_ALONE found, size_t found_count, uint8_t *IPNETWORK_ALONE faults,
@@ -455,14 +477,14 @@ IPNETWORK_CHECKED_FAULT ipnetwork_fault ipnetwork_v6_ranges_find_column(const ip
     size_t address_count, size_t *IPNETWORK_ALONE found, size_t found_count, uint8_t *IPNETWORK_ALONE faults,
     size_t fault_count);
 
-/* The union of two sets, what both have (intersection), and what the first has and the second has not (difference): the
- * fewest blocks with these addresses, in ascending order and without host bits, in the front of blocks, an array of the
- * caller's with room for room of them. Each set is given as its blocks, as a call of aggregate, or one of these calls,
- * leaves them; that it is one is checked. *block_count is how many blocks there are: of a union at most first_count +
- * second_count, of a difference maybe more. IPNETWORK_SHORT_BUFFER if that is more than room: then *block_count is
- * written all the same, and blocks is not. If room is 0, blocks may be NULL. IPNETWORK_PREFIX if the prefix length of a
- * struct is past the width, else IPNETWORK_NO_SET if one of the lists is not that of a set. Both sets may be one array;
- * blocks is another. */
+/* The union of two sets, their intersection, and their difference (the addresses in the first set and not in the
+ * second): the fewest blocks with these addresses, in ascending order and without host bits, in the front of blocks, an
+ * array with room for room blocks. Each set is given by its list of blocks, as aggregate or one of these calls leaves
+ * it; this is checked. *block_count is the number of blocks: for a union at most first_count + second_count, for a
+ * difference maybe more. IPNETWORK_PREFIX if a prefix length is greater than the width, else IPNETWORK_NO_SET if one of
+ * the lists is not the list of a set, else IPNETWORK_SHORT_BUFFER if *block_count is greater than room: then
+ * *block_count is written, but blocks is not. If room is 0, blocks may be NULL. Both sets may be the same array, but
+ * blocks must be another one. */
 IPNETWORK_CHECKED_AT((7)) ipnetwork_fault ipnetwork_v4_union(const ipnetwork_v4 *first, size_t first_count,
     const ipnetwork_v4 *second, size_t second_count, ipnetwork_v4 *IPNETWORK_ALONE blocks, size_t room,
     size_t *IPNETWORK_ALONE block_count);
@@ -482,31 +504,31 @@ IPNETWORK_CHECKED_AT((7)) ipnetwork_fault ipnetwork_v6_difference(const ipnetwor
     const ipnetwork_v6 *second, size_t second_count, ipnetwork_v6 *IPNETWORK_ALONE blocks, size_t room,
     size_t *IPNETWORK_ALONE block_count);
 
-/* The blocks whose addresses are those from first to last, both included: the fewest that there are, in ascending order
- * and without host bits, in the front of blocks, an array of the caller's with room for room of them. There are at most
- * 62 for IPv4, and 254 for IPv6. *block_count is how many they are. IPNETWORK_SHORT_BUFFER if that is more than room:
- * then *block_count is written all the same, and blocks is not. If room is 0, blocks may be NULL. IPNETWORK_NO_RANGE if
- * first comes after last. */
+/* The blocks of the addresses from first to last, both included: the fewest possible, in ascending order and without
+ * host bits, in the front of blocks, an array with room for room blocks. There are at most 62 for IPv4, and 254 for
+ * IPv6. *block_count is their number. IPNETWORK_NO_RANGE if first comes after last, else IPNETWORK_SHORT_BUFFER if
+ * *block_count is greater than room: then *block_count is written, but blocks is not. If room is 0, blocks may be
+ * NULL. */
 IPNETWORK_CHECKED_AT((1, 2, 5)) ipnetwork_fault ipnetwork_v4_range_to_blocks(const uint8_t first[4], const uint8_t last[4],
     ipnetwork_v4 *IPNETWORK_ALONE blocks, size_t room, size_t *IPNETWORK_ALONE block_count);
 IPNETWORK_CHECKED_AT((1, 2, 5)) ipnetwork_fault ipnetwork_v6_range_to_blocks(const uint8_t first[16],
     const uint8_t last[16], ipnetwork_v6 *IPNETWORK_ALONE blocks, size_t room, size_t *IPNETWORK_ALONE block_count);
 
-/* The block number n of this prefix length within a network, counted from 0 in ascending order; for IPv6 n is 16
- * octets, the highest first. IPNETWORK_PREFIX if the prefix length is less than the network's, or past the width;
- * IPNETWORK_NO_MEMBER if the network has no more than n such blocks. */
+/* Block number n of this prefix length within a network, counted from 0 in ascending order; for IPv6, n is 16 octets,
+ * the highest first. IPNETWORK_PREFIX if the prefix length is less than the network's, or either is greater than the
+ * width; else IPNETWORK_NO_MEMBER if the network has at most n such blocks. */
 IPNETWORK_CHECKED ipnetwork_fault ipnetwork_v4_subnet_at(const ipnetwork_v4 *network, uint8_t prefix, uint32_t n,
                                                          ipnetwork_v4 *IPNETWORK_ALONE subnet);
 IPNETWORK_CHECKED ipnetwork_fault ipnetwork_v6_subnet_at(const ipnetwork_v6 *network, uint8_t prefix,
                                                          const uint8_t n[16], ipnetwork_v6 *IPNETWORK_ALONE subnet);
 
-/* The networks, or the addresses, of a column of texts, in the layout of Arrow: texts_length bytes with all texts, one
- * after the other, and offset_count offsets. Text i goes from offsets[i] to offsets[i + 1], so that there is one text
- * less than offsets, and none if there are none; Arrow's offsets are of 32 bits with a sign, and none is negative.
- * networks[i] and faults[i] are what the call for one text leaves and returns of text i: a text that names no network
- * leaves its struct as it was, and stops nothing. What comes after the last of them is not written.
- * IPNETWORK_NO_OFFSETS if an offset is less than the one before, or greater than texts_length; else
- * IPNETWORK_SHORT_BUFFER if there is room for fewer networks, or faults, than texts: then nothing is written. */
+/* Read the networks, or the addresses, of a column of texts in Arrow's layout: texts_length bytes with all texts, one
+ * after the other, and offset_count offsets. Text i goes from offsets[i] to offsets[i + 1], so there is one text less
+ * than offsets, and no text if there are no offsets. Arrow's offsets are signed numbers of 32 bits, and none is
+ * negative. networks[i] or addresses[i], and faults[i], are what the call for one text leaves and returns for text i. A
+ * text that names none leaves its struct unchanged, and does not stop the call. The rest of the structs and faults is
+ * not written. IPNETWORK_NO_OFFSETS if an offset is less than the one before, or greater than texts_length; else
+ * IPNETWORK_SHORT_BUFFER if there is room for fewer structs or faults than texts: then nothing is written. */
 IPNETWORK_CHECKED_FAULT ipnetwork_fault ipnetwork_v4_read_column(const char *texts, size_t texts_length, const uint32_t *offsets,
     size_t offset_count, ipnetwork_v4 *IPNETWORK_ALONE networks, size_t network_count, uint8_t *IPNETWORK_ALONE faults,
     size_t fault_count);
@@ -523,13 +545,14 @@ IPNETWORK_CHECKED_FAULT ipnetwork_fault ipnetwork_address_read_column(const char
     size_t offset_count, ipnetwork_address *IPNETWORK_ALONE addresses, size_t address_count, uint8_t *IPNETWORK_ALONE faults,
     size_t fault_count);
 
-/* The networks of a column printed in the same layout: the texts, as the call for one network prints each, without a
- * zero byte, one after the other in the front of texts, for which there is room for room bytes, and the offsets of each
- * and of the end, so that there is one offset more than networks. *texts_length is how many bytes they have. What comes
- * after the texts and after the last offset is not written. IPNETWORK_PREFIX if the prefix length of one is past the
- * width. IPNETWORK_SHORT_BUFFER if that is more than room, if offset_count, for how many offsets there is room, is not
- * greater than network_count, or if the texts have more than 2147483647 bytes, which is past Arrow's offsets: then
- * *texts_length is written all the same, and nothing else. */
+/* Print the networks of a column in the same layout. The texts, as the call for one network prints each, but without a
+ * zero byte, are written one after the other to the front of texts, which has room for room bytes. The offsets at which
+ * each text begins and the last one ends are written to the front of offsets, so there is one offset more than
+ * networks. *texts_length is the total length of the texts in bytes. The rest of texts and offsets is not written.
+ * IPNETWORK_PREFIX if a prefix length is greater than the width; else IPNETWORK_SHORT_BUFFER if *texts_length is
+ * greater than room, if offset_count, the number of offsets that there is room for, is not greater than network_count,
+ * or if the texts have more than 2147483647 bytes, the maximum of Arrow's offsets: then only *texts_length is
+ * written. */
 IPNETWORK_CHECKED_AT((7)) ipnetwork_fault ipnetwork_v4_print_column(const ipnetwork_v4 *networks, size_t network_count,
     char *IPNETWORK_ALONE texts, size_t room, uint32_t *IPNETWORK_ALONE offsets, size_t offset_count,
     size_t *IPNETWORK_ALONE texts_length);
@@ -537,8 +560,8 @@ IPNETWORK_CHECKED_AT((7)) ipnetwork_fault ipnetwork_v6_print_column(const ipnetw
     char *IPNETWORK_ALONE texts, size_t room, uint32_t *IPNETWORK_ALONE offsets, size_t offset_count,
     size_t *IPNETWORK_ALONE texts_length);
 
-/* The same of networks of either family, as ipnetwork_canonical prints each, and of addresses, as
- * ipnetwork_address_canonical does. If a row is refused by that call, the fault is that of the first such row,
+/* The same for networks of either family, as ipnetwork_canonical prints each, and for addresses, as
+ * ipnetwork_address_canonical does. If these calls refuse rows, the fault is that of the first such row,
  * IPNETWORK_NO_FAMILY or IPNETWORK_PREFIX, and nothing is written. */
 IPNETWORK_CHECKED_AT((7)) ipnetwork_fault ipnetwork_print_column(const ipnetwork_ip *networks, size_t network_count,
     char *IPNETWORK_ALONE texts, size_t room, uint32_t *IPNETWORK_ALONE offsets, size_t offset_count,

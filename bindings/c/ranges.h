@@ -1,8 +1,9 @@
-/* Lists of either family, and tables as ranges, for the bindings for Python and Go, which are compiled with this. It is no
- * part of the library, and has no rule of its own: it chooses the call of a family, and passes its answer on.
+/* Lists of either family, and tables as ranges, for the bindings for Python and Go, which are compiled with this file.
+ * It is not part of the library and computes nothing itself: it chooses the call for a family, and passes its result
+ * on.
  *
- * A table is searched by its ranges, as ipnetwork_v4_ranges_make_numbered and ipnetwork_v6_ranges_make_numbered cut it:
- * beside each stands the number of its longest network in the caller's list. */
+ * A table is searched by its ranges, as ipnetwork_v4_ranges_make_numbered and ipnetwork_v6_ranges_make_numbered make
+ * them: for each range there is the number of its longest network in the caller's list. */
 #ifndef IPNETWORK_RANGES_H
 #define IPNETWORK_RANGES_H
 
@@ -10,7 +11,7 @@
 
 _Static_assert(sizeof(size_t) == sizeof(int64_t), "the numbers beside ranges are searched as places");
 
-/* Structs of one family, of addresses of 4 or 16 octets, and their index, if it has a length. */
+/* Structs of one family, with addresses of 4 or 16 octets, and their index, which may have length 0. */
 typedef struct {
     size_t width;
     const uint8_t *structs;
@@ -28,7 +29,7 @@ static inline ipnetwork_fault list_find(const searched_list *list, const uint8_t
                                    address, place);
 }
 
-/* Whether an address is in a set, as ipnetwork_v4_index_contains and ipnetwork_v6_index_contains answer. */
+/* Whether an address is in a set, as ipnetwork_v4_index_contains and ipnetwork_v6_index_contains tell. */
 static inline ipnetwork_fault list_contains(const searched_list *list, const uint8_t *address, uint8_t *answer) {
     if (list->width == 4)
         return ipnetwork_v4_index_contains((const ipnetwork_v4 *)list->structs, list->count, list->index,
@@ -37,7 +38,7 @@ static inline ipnetwork_fault list_contains(const searched_list *list, const uin
                                        address, answer);
 }
 
-/* How many numbers the index of so many structs has: none if they are few, which are found as fast without. */
+/* The length of the index of a list of count structs: 0 for a short list, which is searched as fast without one. */
 static inline size_t list_index_size(size_t count) {
     size_t length = 0;
     return count < 8 || ipnetwork_index_size(count, &length) != IPNETWORK_OK ? 0 : length;
@@ -50,8 +51,8 @@ static inline ipnetwork_fault list_index(size_t width, const uint8_t *structs, s
     return ipnetwork_v6_index_make((const ipnetwork_v6 *)structs, count, index, length);
 }
 
-/* Cuts a table into ranges, at most twice as many as there are blocks, for which there is room, and puts beside each the
- * number that stands beside its longest block, or -1, which is IPNETWORK_NO_PLACE. */
+/* Divides a table into ranges. There is room for two ranges for each block. Writes to beside the number of the longest
+ * block of each range, or -1, which is IPNETWORK_NO_PLACE, if there is none. */
 static inline ipnetwork_fault table_ranges(const searched_list *table, const int64_t *numbers, uint8_t *ranges,
                                            int64_t *beside, size_t *range_count) {
     const size_t *given = (const size_t *)numbers;
@@ -65,7 +66,7 @@ static inline ipnetwork_fault table_ranges(const searched_list *table, const int
                                              range_count);
 }
 
-/* The number that stands beside the range that an address lies in, or -1, which is IPNETWORK_NO_PLACE as a place. */
+/* The number of the range that an address lies in, or -1, which is IPNETWORK_NO_PLACE as a place. */
 static inline int64_t number_of(const searched_list *ranges, const int64_t *numbers, const uint8_t *address) {
     const size_t *beside = (const size_t *)numbers;
     ipnetwork_place found =

@@ -5,7 +5,7 @@
 
 #include <stddef.h>
 
-/* Texts, what each family answers, and the canonical text of those that are accepted. */
+/* Texts, the fault of each family for them, and the canonical text of those that are accepted. */
 struct row {
     const char *text;
     ipnetwork_fault v4, v6;

@@ -1,7 +1,7 @@
-/* Nanoseconds a call of read and contains, of both families, beside inet_pton, which reads only an address, and
- * nanoseconds a row of a column. The texts are random networks with random prefix lengths; the address asked for lies
- * in the network every other time. Searches in a set and in a table of 10,000 random networks are measured beside a
- * plain binary search in C over the same array, and then the same by an index. */
+/* Nanoseconds per call of read and contains, for both families, compared with inet_pton, which reads only an address,
+ * and nanoseconds per row of a column. The texts are random networks with random prefix lengths; about half of the
+ * addresses are in their network. Searches in a set and in a table of 10,000 random networks are compared with a plain
+ * binary search in C over the same array, and are then made again with an index. */
 #define _POSIX_C_SOURCE 200809L
 #include "ipnetwork.h"
 
@@ -73,7 +73,7 @@ static uint64_t read_v4(size_t i) { return ipnetwork_v4_read(texts_v4[i], length
 static uint64_t read_v6(size_t i) { return ipnetwork_v6_read(texts_v6[i], lengths_v6[i], &six) + six.prefix; }
 static uint64_t has_v4(size_t i) { return ipnetwork_v4_contains(&networks_v4[i], asked_v4[i], &answer) + answer; }
 static uint64_t has_v6(size_t i) { return ipnetwork_v6_contains(&networks_v6[i], asked_v6[i], &answer) + answer; }
-/* Once for all of them, of one network. */
+/* One call for all addresses and one network. */
 static uint8_t answers[COUNT];
 static uint64_t column_v4(size_t i) {
     return i != 0 ? 0 : ipnetwork_v4_contains_column(networks_v4, asked_v4[0], COUNT, answers, COUNT) + answers[1];
@@ -81,7 +81,7 @@ static uint64_t column_v4(size_t i) {
 static uint64_t column_v6(size_t i) {
     return i != 0 ? 0 : ipnetwork_v6_contains_column(networks_v6, asked_v6[0], COUNT, answers, COUNT) + answers[1];
 }
-/* The same texts one after the other, and where each begins and the last ends. */
+/* The same texts one after the other, and the offsets at which each begins and the last one ends. */
 static char joined_v4[sizeof texts_v4], joined_v6[sizeof texts_v6];
 static uint32_t offsets_v4[COUNT + 1], offsets_v6[COUNT + 1];
 static uint8_t read_faults[COUNT];
@@ -106,8 +106,8 @@ static uint64_t read_column_v6(size_t i) {
 static uint64_t pton_v4(size_t i) { return (uint64_t)inet_pton(AF_INET, addresses_v4[i], octets) + octets[0]; }
 static uint64_t pton_v6(size_t i) { return (uint64_t)inet_pton(AF_INET6, addresses_v6[i], octets) + octets[0]; }
 
-/* A set of random networks of 20 to 28 bits, and the table of them, asked for addresses of which every other one lies
- * in one. */
+/* A set of random networks with prefix lengths from 20 to 28, and a table of them. About half of the addresses are in
+ * one of them. */
 enum { MANY = 10000 };
 static ipnetwork_v4 many[MANY], set_blocks[MANY], table_blocks[MANY];
 static size_t set_count, places[MANY], indexes[COUNT];
@@ -135,7 +135,7 @@ static uint32_t number_of(const uint8_t octets[4]) {
     return (uint32_t)octets[0] << 24 | (uint32_t)octets[1] << 16 | (uint32_t)octets[2] << 8 | octets[3];
 }
 
-/* The same question as ipnetwork_v4_set_contains, as one would write it. */
+/* The same as ipnetwork_v4_set_contains, as one would write it in C. */
 __attribute__((noinline)) static ipnetwork_fault plain_contains(const ipnetwork_v4 *blocks, size_t count, const uint8_t address[4], uint8_t *has) {
     uint32_t number = number_of(address);
     size_t from = 0, to = count;
@@ -165,7 +165,8 @@ static uint64_t table_column_v4(size_t i) {
     return i != 0 ? 0 : ipnetwork_v4_table_find_column(table_blocks, MANY, searched[0], COUNT, indexes, COUNT, faults, COUNT) + indexes[1];
 }
 
-/* The same by an index, and sets of IPv6 networks of 36 to 64 bits, of which all share the first 20. */
+/* The same by an index, and sets of IPv6 networks with prefix lengths from 36 to 64, which all share the first 20
+ * bits. */
 static ipnetwork_v6 set_six[MANY];
 static uint8_t searched_six[COUNT][16], told[COUNT];
 static uint32_t *index_set, *index_table, *index_six;
@@ -261,7 +262,7 @@ struct row {
     uint64_t (*call)(size_t);
 };
 
-/* The least of several measurements of each row, which take turns, so that what else the machine does meets all of
+/* The least of several measurements of each row. The rows take turns, so that other load on the machine affects all of
  * them. */
 static void measure(const struct row *rows, size_t count) {
     double least[11];

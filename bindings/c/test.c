@@ -1,5 +1,6 @@
-/* Each call of the header: rows with known answers, buffers of every length, prefix lengths past the width. Every
- * text and buffer stands in a block of exactly its size, so that valgrind or a sanitizer sees a byte too many. */
+/* Tests each call of the header: rows with known results, buffers of every length, prefix lengths greater than the
+ * width. Every text and buffer is in a block of exactly its size, so that valgrind or a sanitizer detects access to one
+ * byte too many. */
 #define _DEFAULT_SOURCE
 #include "ipnetwork.h"
 #include "rows.h"
@@ -30,7 +31,7 @@ static void *block(const void *bytes, size_t length) {
     return copy;
 }
 
-/* This many bytes, at most a page, that end where a page begins that can be neither read nor written. */
+/* This many bytes, at most a page, right before a page that can be neither read nor written. */
 static void *edge(size_t length) {
     size_t page = (size_t)sysconf(_SC_PAGESIZE);
     char *pages = mmap(NULL, 2 * page, PROT_READ | PROT_WRITE, MAP_PRIVATE | MAP_ANONYMOUS, -1, 0);
@@ -45,7 +46,7 @@ static void leave_edge(void *bytes, size_t length) {
         abort();
 }
 
-/* A page that can be read, of zeros, and not written. */
+/* A page of zeros that can be read but not written. */
 static void *read_only_page(void) {
     void *page = mmap(NULL, (size_t)sysconf(_SC_PAGESIZE), PROT_READ, MAP_PRIVATE | MAP_ANONYMOUS, -1, 0);
     if (page == MAP_FAILED)
@@ -53,7 +54,7 @@ static void *read_only_page(void) {
     return page;
 }
 
-/* Bytes, and NULL if there are none, as malloc may give. */
+/* Memory of this many bytes; NULL for none, as malloc may return. */
 static char *somewhere(char *bytes, size_t length) { return length == 0 ? NULL : bytes; }
 
 static ipnetwork_fault read_v4(const char *text, ipnetwork_v4 *network) {
@@ -155,7 +156,7 @@ static void texts(void) {
     CHECK("300 zeros", ipnetwork_v4_read(zeros, sizeof zeros, &network) == YES && network.prefix == 8);
 }
 
-/* NULL beside a length of 0. */
+/* NULL with length 0. */
 static void nothing(void) {
     ipnetwork_v4 four = v4("10.1.9.32/16");
     ipnetwork_v6 six = v6("2001:db8::1/64");
@@ -176,7 +177,7 @@ static void nothing(void) {
     CHECK("NULL", ipnetwork_fault_text(IPNETWORK_OK, NULL, 0, &length) == IPNETWORK_SHORT_BUFFER && length == 8);
 }
 
-/* What each fault says, and what a number that is none does. */
+/* The text of each fault, and of a number that is not one. */
 static void fault_texts(void) {
     static const char *const wanted[] = {"no fault", "more than one slash", "no address",
                                          "no prefix length of the family", "no room for the text", "no mask",
@@ -192,7 +193,7 @@ static void fault_texts(void) {
     }
 }
 
-/* Buffers of each length from none to one more than the longest text needs. */
+/* Buffers of each length from 0 to one more than the longest text needs. */
 static void buffers(void) {
     static const char *const fours[] = {"0.0.0.0/0", "10.1.9.32/16", "255.255.255.255/32"};
     static const char *const sixes[] = {"::/0", "2001:db8::1/64", "::ffff:255.255.255.255/128",
@@ -325,7 +326,7 @@ static void questions_v6(void) {
     }
 }
 
-/* Structs with a prefix length past the width, in every call that takes one, and in either place of two. */
+/* Structs with a prefix length greater than the width, in every call that takes one, and as either of two. */
 static void past_the_width(void) {
     const char *row = "past the width";
     ipnetwork_v4 four = v4("10.1.9.32/16"), good_four = four;
@@ -380,7 +381,7 @@ static void past_the_width(void) {
         CHECK(row, (uint8_t)buffer[at] == 0xa5);
 }
 
-/* Columns of each length up to 20, in blocks of exactly their size: each row is answered as by itself. */
+/* Columns of each length up to 20, in blocks of exactly their size: each row has the result of a call for it only. */
 static void columns(void) {
     ipnetwork_v4 four = v4("10.1.9.32/30");
     ipnetwork_v6 six = v6("2001:db8::1:2/126");
@@ -461,15 +462,16 @@ static void lists(void) {
     CHECK("NULL", ipnetwork_v4_list_contains(NULL, 0, asked, &answer) == YES && answer == 0);
 }
 
-/* Numbers that look random, the same each time. */
+/* Pseudorandom numbers, the same in each run. */
 static uint32_t number(void) {
     static uint32_t state = 20;
     state = state * 1664525 + 1013904223;
     return state >> 16;
 }
 
-/* Of random lists of networks within one of 256 addresses: the aggregate has the same addresses, its blocks ascend, have
- * no host bits and stand apart, and no two of them are the halves of one. Each list is in a block of exactly its size. */
+/* For random lists of networks within 256 addresses, the aggregate has the same addresses; its blocks ascend, have no
+ * host bits and are disjoint, and no two of them are the halves of one block. Each list is in a block of exactly its
+ * size. */
 static void aggregates(void) {
     for (size_t round = 0; round < 4000; round++) {
         size_t count = round % 9, told[2] = {77, 77};
@@ -531,7 +533,7 @@ static void aggregates(void) {
     CHECK("all", is_blank(all[0].address, 4) && all[1].prefix <= 32 && all[2].prefix <= 32);
 }
 
-/* Blocks within 256 addresses: those of which has[] tells, the fewest that there are, and in order. */
+/* The blocks within 256 addresses of those for which has[] is true: the fewest possible, in ascending order. */
 static void fewest(const char *row, const ipnetwork_v4 *fours, const ipnetwork_v6 *sixes, size_t count,
                    const uint8_t has[256]) {
     uint8_t told[256] = {0};
@@ -549,7 +551,8 @@ static void fewest(const char *row, const ipnetwork_v4 *fours, const ipnetwork_v
     CHECK(row, memcmp(told, has, 256) == 0);
 }
 
-/* Random sets within 256 addresses, asked for each of these, against a table with a byte for each. */
+/* Random sets within 256 addresses, searched for each of these addresses, and compared with a table of one byte for
+ * each. */
 static void sets(void) {
     uint32_t state = 7;
     for (unsigned round = 0; round < 600; round++) {
@@ -567,7 +570,7 @@ static void sets(void) {
         }
         CHECK("set", ipnetwork_v4_aggregate(four, room, &count) == YES);
         CHECK("set", ipnetwork_v6_aggregate(six, room, &again) == YES && again == count);
-        /* The blocks stand at the end of the memory. */
+        /* The blocks are at the end of the memory. */
         ipnetwork_v4 *blocks = four + (room - count);
         ipnetwork_v6 *blocks_six = six + (room - count);
         memmove(blocks, four, count * sizeof *four);
@@ -593,7 +596,7 @@ static void sets(void) {
     CHECK("NULL", ipnetwork_v4_set_contains(NULL, 0, past.address, &answer) == YES && answer == 0);
     answer = 77;
     CHECK("NULL", ipnetwork_v6_set_contains(NULL, 0, past_six.address, &answer) == YES && answer == 0);
-    /* The last struct up to the address is looked at, and no other. */
+    /* The search reads the last struct at or before the address, and no other. */
     ipnetwork_v4 last[2] = {v4("10.0.0.0/8"), past};
     ipnetwork_v6 last_six[2] = {v6("::/8"), past_six};
     const uint8_t first[4] = {10, 0, 0, 1}, after[4] = {192, 0, 2, 1};
@@ -614,7 +617,8 @@ typedef ipnetwork_fault (*operation_v6)(const ipnetwork_v6 *, size_t, const ipne
 static const operation_v4 operations_v4[] = {ipnetwork_v4_union, ipnetwork_v4_intersection, ipnetwork_v4_difference};
 static const operation_v6 operations_v6[] = {ipnetwork_v6_union, ipnetwork_v6_intersection, ipnetwork_v6_difference};
 
-/* A random set within 256 addresses, its blocks at the end of the memory, and a table with a byte for each address. */
+/* A random set within 256 addresses, with its blocks at the end of the memory, and a table of one byte for each
+ * address. */
 struct within_256 {
     size_t room, count;
     ipnetwork_v4 *four, *blocks;
@@ -646,7 +650,8 @@ static void leave_set(struct within_256 *set) {
     leave_edge(set->six, set->room * sizeof *set->six);
 }
 
-/* One operation on two random sets: the number that is wanted, a buffer that is one short, and one of exactly its size. */
+/* One operation on two random sets: only the number of blocks, with a buffer that is one block too short, and with one
+ * of exactly its size. */
 static void operate(size_t which, const struct within_256 *a, const struct within_256 *b) {
     uint8_t has[256];
     size_t told = 77, again = 77;
@@ -673,7 +678,7 @@ static void operate(size_t which, const struct within_256 *a, const struct withi
     leave_edge(made_six, blocks * sizeof *made_six);
 }
 
-/* Each of two lists in place of the other, which is that of a set: nothing is written, and the fault is told. */
+/* Each of two lists in place of the other, which is that of a set: nothing is written, and the fault is returned. */
 static void refused_operands(ipnetwork_fault wanted, const ipnetwork_v4 *bad, const ipnetwork_v6 *bad_six, size_t count) {
     ipnetwork_v4 all = v4("0.0.0.0/0"), made = {{77}, 77};
     ipnetwork_v6 all_six = v6("::/0"), made_six = {{77}, 77};
@@ -732,7 +737,8 @@ static int in_order_v6(const void *one, const void *other) {
     return order;
 }
 
-/* Random tables within 256 addresses: of each of these the longest block that has it, found by looking at each block. */
+/* Random tables within 256 addresses: for each of these, the longest block that has it, compared with that of a linear
+ * search. */
 static void tables(void) {
     for (size_t round = 0; round < 600; round++) {
         size_t count = round % 40;
@@ -779,7 +785,7 @@ static void tables(void) {
     CHECK("past", ipnetwork_v6_table_find(&past_six, 1, past_six.address, &index) == PREF && index == 77);
     CHECK("NULL", ipnetwork_v4_table_find(NULL, 0, past.address, &index) == IPNETWORK_NO_MEMBER && index == 77);
     CHECK("NULL", ipnetwork_v6_table_find(NULL, 0, past_six.address, &index) == IPNETWORK_NO_MEMBER && index == 77);
-    /* From a block without the address the search goes on, and comes to the struct; from one with it, it does not. */
+    /* After a block without the address, the search goes on and reaches the struct; after one with it, it does not. */
     ipnetwork_v4 table[2] = {past, v4("10.1.0.0/16")};
     ipnetwork_v6 table_six[2] = {past_six, v6("1::/16")};
     const uint8_t beside[4] = {10, 2, 0, 1}, inside[4] = {10, 1, 0, 1};
@@ -799,7 +805,8 @@ static void random_network(ipnetwork_v4 *four, ipnetwork_v6 *six) {
     six->address[15] = (uint8_t)host;
 }
 
-/* Tables of random networks: each has its block, these ascend, and those that are equal come in the order of the networks. */
+/* Tables of random networks: each network has its block, the blocks ascend, and equal ones are in the order of the
+ * networks. */
 static void tables_made(void) {
     for (size_t round = 0; round < 600; round++) {
         size_t count = round % 40, room = count + round % 3;
@@ -828,7 +835,7 @@ static void tables_made(void) {
         }
         for (size_t i = count * sizeof *fours; i < room * sizeof *fours; i++) CHECK("past", ((uint8_t *)fours)[i] == 77);
         for (size_t i = count * sizeof *places; i < room * sizeof *places; i++) CHECK("past", ((uint8_t *)places)[i] == 77);
-        /* Of each address the last network of the greatest prefix length that has it. */
+        /* For each address, the last of the networks with the greatest prefix length that have it. */
         uint8_t addresses[256][4], addresses_six[256][16] = {{0}}, faults[258], faults_six[258];
         size_t *indexes = edge(257 * sizeof *indexes), *indexes_six = edge(257 * sizeof *indexes_six);
         memset(indexes, 77, 257 * sizeof *indexes);
@@ -884,7 +891,8 @@ static void tables_made(void) {
     CHECK("NULL", ipnetwork_v6_table_make(NULL, 0, NULL, 0, NULL, 0) == YES);
     CHECK("NULL", ipnetwork_v4_table_find_column(NULL, 0, NULL, 0, NULL, 0, NULL, 0) == YES);
     CHECK("NULL", ipnetwork_v6_table_find_column(NULL, 0, NULL, 0, NULL, 0, NULL, 0) == YES);
-    /* A row that meets a prefix length past the width tells it, and stops no other. */
+    /* A row whose search reaches a prefix length greater than the width has that fault, and does not stop the
+     * others. */
     ipnetwork_v4 bad[2] = {v4("10.0.0.0/8"), v4("192.0.2.0/24")};
     uint8_t asked[3][4] = {{10, 0, 0, 1}, {192, 0, 2, 1}, {9, 0, 0, 1}}, told[3] = {77, 77, 77};
     size_t found[3] = {77, 77, 77};
@@ -893,7 +901,7 @@ static void tables_made(void) {
     CHECK("past", told[0] == YES && told[1] == PREF && told[2] == IPNETWORK_NO_MEMBER && found[0] == 0 && found[1] == 77 && found[2] == 77);
 }
 
-/* What an index has to hold, counted from numbers in ascending order as plainly as it can be. The span is below 2^32. */
+/* What an index must hold, counted from numbers in ascending order in the simplest way. The span is less than 2^32. */
 static void plain_index(const uint32_t *starts, size_t count, uint32_t *index, size_t length) {
     uint32_t span = count == 0 ? 0 : starts[count - 1] - starts[0], shift = 0;
     while (shift < 32 && (uint64_t)span >> shift >= length) shift++;
@@ -905,7 +913,7 @@ static void plain_index(const uint32_t *starts, size_t count, uint32_t *index, s
     if (length > 0) index[0] = shift;
 }
 
-/* The answers by an index, of each address and as a column, are those of the calls that search without one. */
+/* The results by an index, for each address and as a column, are those of the calls that search without one. */
 static void asked_by(const ipnetwork_v4 *fours, const ipnetwork_v6 *sixes, size_t count, const uint32_t *index, size_t length,
                      uint8_t (*addresses)[4], uint8_t (*addresses_six)[16], size_t asked) {
     uint8_t answers[300], answers_six[300], faults[300], faults_six[300], found_faults[300], found_faults_six[300];
@@ -939,8 +947,8 @@ static void asked_by(const ipnetwork_v4 *fours, const ipnetwork_v6 *sixes, size_
     }
 }
 
-/* Indexes of lists of random networks, sets and tables, of every length up to 40, and what is asked by them; then by
- * indexes that hold something else. */
+/* Indexes of lists of random networks, sets and tables, of every length up to 40, and searches by them; then searches
+ * by indexes with other contents. */
 static void indexes(void) {
     uint8_t addresses[258][4], addresses_six[258][16] = {{0}};
     for (unsigned host = 0; host < 256; host++) {
@@ -998,7 +1006,7 @@ static void indexes(void) {
         leave_edge(index, length * sizeof *index);
         leave_edge(index_six, length * sizeof *index_six);
     }
-    /* An index of one number: the size of one part that has all blocks. */
+    /* An index of one number: the size of the only part, which has all blocks. */
     ipnetwork_v4 four[3] = {v4("0.0.0.0"), v4("0.0.0.13"), v4("255.255.255.255")};
     ipnetwork_v6 six[3] = {v6("::"), v6("::ffff"), v6("ffff:ffff:ffff:ffff:ffff:ffff:ffff:ffff")};
     uint32_t one = 77;
@@ -1028,7 +1036,8 @@ static void indexes(void) {
     CHECK("room", answer == 0 && none[0] == 77 && size == 1048576);
 }
 
-/* The place of the longest block with the address, of equal ones the last, found as plainly as it can be: by its bits. */
+/* The place of the longest block with the address, and of equal ones of the last, found in the simplest way: by its
+ * bits. */
 static size_t plain_longest(const uint8_t *blocks, size_t count, size_t width, const uint8_t *address) {
     size_t longest = IPNETWORK_NO_PLACE;
     for (size_t i = 0; i < count; i++) {
@@ -1041,7 +1050,7 @@ static size_t plain_longest(const uint8_t *blocks, size_t count, size_t width, c
     return longest;
 }
 
-/* Ranges of one family, whose structs and addresses have so many octets. */
+/* Ranges of one family, with structs and addresses of this many octets. */
 struct ranges_of_table {
     size_t width, count;
     uint8_t *structs;
@@ -1068,7 +1077,7 @@ static ipnetwork_fault column_by(const struct ranges_of_table *of, size_t place_
     return ipnetwork_v6_ranges_find_column((const ipnetwork_v6 *)of->structs, of->count, of->places, place_count, of->index, of->index_length, addresses, asked, places, room, faults, fault_room);
 }
 
-/* Where no block has the address, its place may be one that cannot be written. */
+/* If no block has the address, nothing is written, even where the memory cannot be. */
 static void nothing_is_written(const struct ranges_of_table *of, const uint8_t *blocks, size_t count, const uint8_t *addresses, size_t asked) {
     uint8_t without[300 * 16], faults[300];
     size_t *place = read_only_page(), rows = 0;
@@ -1084,7 +1093,7 @@ static void nothing_is_written(const struct ranges_of_table *of, const uint8_t *
         abort();
 }
 
-/* The same ranges with numbers beside them: one more number than blocks, of which the last stands nowhere. */
+/* The same ranges with numbers: one number more than blocks, the last of which belongs to no block. */
 static void numbers_beside(const struct ranges_of_table *of, const uint8_t *blocks, size_t count) {
     size_t room = 2 * count, stride = of->width + 1, told = 77;
     size_t *numbers = edge((count + 1) * sizeof *numbers), *beside = edge((room + 1) * sizeof *beside);
@@ -1113,15 +1122,15 @@ static void numbers_beside(const struct ranges_of_table *of, const uint8_t *bloc
 }
 
 
-/* The ranges of a table cut it where they have to, and each address has the place that a linear search of the table finds,
- * by itself and in a column, whatever the index holds. */
+/* The ranges of a table begin where they must, and each address has the place that a linear search of the table finds,
+ * in a call for one address and in a column, whatever the index holds. */
 static void asked_ranges(const uint8_t *blocks, size_t count, size_t width, const uint8_t *addresses, size_t asked) {
     struct ranges_of_table of = {width, 77, edge((2 * count + 1) * (width + 1)), edge((2 * count + 1) * sizeof(size_t)), edge(80), 20};
     size_t stride = width + 1, room = 2 * count + 1, found[300];
     uint8_t faults[300];
     memset(of.structs, 77, room * stride);
     memset(of.places, 77, room * sizeof *of.places);
-    /* By no index, by that of the table, and by any numbers. */
+    /* Without an index, with that of the table, and with one of arbitrary numbers. */
     for (size_t i = 0; i < 20; i++) of.index[i] = number() % 4 == 0 ? number() * 65537u : number() % 24;
     if (count % 3 == 1) CHECK("ranges", (width == 4 ? ipnetwork_v4_index_make((const ipnetwork_v4 *)blocks, count, of.index, 20)
                                                     : ipnetwork_v6_index_make((const ipnetwork_v6 *)blocks, count, of.index, 20)) == YES);
@@ -1160,7 +1169,7 @@ static void asked_ranges(const uint8_t *blocks, size_t count, size_t width, cons
         }
     }
     if (of.count > 0) {
-        /* Beside the last range stands no place. */
+        /* The last range has no place. */
         const uint8_t *last = of.structs + (of.count - 1) * stride;
         size_t place = 77;
         CHECK("fewer places", place_by(&of, of.count - 1, last) == IPNETWORK_NO_PLACE);
@@ -1180,7 +1189,7 @@ static void asked_ranges(const uint8_t *blocks, size_t count, size_t width, cons
     leave_edge(of.index, 80);
 }
 
-/* Tables of networks that are put in order, of random ones and of those at the ends of the addresses. */
+/* Tables made of random networks, and of networks at the first and last addresses. */
 static void table_ranges(void) {
     uint8_t addresses[260][4], addresses_six[260][16] = {{0}};
     for (unsigned host = 0; host < 256; host++) {
@@ -1241,7 +1250,7 @@ static void table_ranges(void) {
     CHECK("NULL", ipnetwork_v6_ranges_find_column(NULL, 0, NULL, 0, NULL, 0, NULL, 0, NULL, 0, NULL, 0) == YES);
 }
 
-/* The blocks of ranges within 256 addresses, and the longest lists that there are. */
+/* The blocks of ranges within 256 addresses, and the longest possible lists. */
 static void ranges(void) {
     for (unsigned first = 0; first < 256; first += 3) {
         for (unsigned last = 0; last < 256; last += 5) {
@@ -1289,7 +1298,7 @@ static void ranges(void) {
     CHECK("longest", ipnetwork_v6_range_to_blocks(first, last, NULL, 0, &told) == IPNETWORK_SHORT_BUFFER && told == 254);
 }
 
-/* The blocks within a network by their number. */
+/* Blocks within a network by their number. */
 static void subnets(void) {
     ipnetwork_v4 four = v4("10.7.0.9/16"), made = {{77}, 77};
     ipnetwork_v6 six = v6("2001:db8::9/48"), made_six = {{77}, 77};
@@ -1330,7 +1339,8 @@ static void subnets(void) {
     CHECK("past", made.prefix == 32 && made_six.prefix == 128);
 }
 
-/* Columns of texts, in blocks of exactly their size: each row as the call for its text answers, whatever the others are. */
+/* Columns of texts, in blocks of exactly their size: each row has the result of the call for its text, whatever the
+ * others are. */
 static void columns_of_texts(void) {
     static const size_t count = sizeof rows / sizeof *rows;
     for (size_t shift = 0; shift < count; shift++) {
@@ -1407,7 +1417,7 @@ static void columns_of_texts(void) {
     none = 1;
     CHECK("NULL", ipnetwork_read_column(NULL, 0, &none, 1, NULL, 0, NULL, 0) == IPNETWORK_NO_OFFSETS);
     CHECK("NULL", ipnetwork_read_with_cause_column(NULL, 0, &none, 1, NULL, 0, NULL, 0) == IPNETWORK_NO_OFFSETS);
-    /* Offsets of 32 bits that a number with a sign, or a sum of 32 bits, has not. */
+    /* 32-bit offsets that a signed number, or a 32-bit sum, cannot hold. */
     static const uint32_t wide[] = {2, 0x7fffffff, 0x80000000, 0x80000001, 0xfffffffe, 0xffffffff};
     for (size_t i = 0; i < sizeof wide / sizeof *wide; i++) {
         uint32_t ends[] = {0, wide[i]}, begins[] = {wide[i], 1};
@@ -1453,7 +1463,7 @@ static void either(void) {
     }
 }
 
-/* IPv4-mapped addresses (RFC 4291, section 2.5.5.2) stand for IPv4 addresses, and those beside them for none. */
+/* IPv4-mapped addresses (RFC 4291, section 2.5.5.2) are unmapped to IPv4 addresses, and those next to them are not. */
 static void unmapped(void) {
     static const struct {
         const char *text, *wanted;
@@ -1481,7 +1491,7 @@ static void unmapped(void) {
         CHECK(text, ipnetwork_address_read(mapped[i].wanted, strlen(mapped[i].wanted), &four) == YES);
         CHECK(text, memcmp(octets, four.octets, 4) == 0 && memcmp(&found, &four, sizeof four) == 0);
         six = four;
-        six.octets[4] = 9; /* not looked at */
+        six.octets[4] = 9; /* ignored */
         CHECK(text, ipnetwork_address_unmapped(&six, &found) == YES && memcmp(&found, &four, sizeof four) == 0);
     }
     for (unsigned length = 0; length <= 255; length++) {
@@ -1491,7 +1501,7 @@ static void unmapped(void) {
     }
 }
 
-/* What is asked of networks of either family is answered as for the family. */
+/* The calls for networks of either family give the same results as those for one family. */
 static void questions_of_either(void) {
     static const struct {
         const char *text, *low, *high, *mask;
@@ -1552,7 +1562,8 @@ static void questions_of_either(void) {
     }
 }
 
-/* Families that are neither, prefix lengths past the width, addresses of other lengths: nothing is written. */
+/* Families other than 4 and 6, prefix lengths greater than the width, addresses of other lengths: nothing is
+ * written. */
 static void refused_of_either(void) {
     ipnetwork_ip good, bad, past;
     CHECK("read", read_ip("10.0.0.0/8", &good) == YES && read_ip("::/0", &past) == YES);
@@ -1598,7 +1609,7 @@ static void refused_of_either(void) {
     CHECK("written", answer == 77 && order == 77 && text[0] == 77 && length == 77);
 }
 
-/* Structs, addresses and texts at odd places, since none of them is aligned to more than a byte. */
+/* Structs, addresses and texts at odd addresses in memory, since all of them have an alignment of one byte. */
 static void odd_places(void) {
     for (size_t offset = 0; offset < 8; offset++) {
         uint8_t *bytes = malloc(offset + sizeof(ipnetwork_ip) + 16 + 1);
@@ -1616,8 +1627,8 @@ static void odd_places(void) {
     }
 }
 
-/* Random networks of both families printed as columns: each text is that of the call for one network, and the offsets lead
- * to it. Every buffer ends where the memory does. */
+/* Random networks of both families printed as columns: each text is that of the call for one network, and the offsets
+ * are those of the texts. Every buffer is at the end of the memory. */
 static void printed_columns(void) {
     for (size_t rows = 0; rows < 40; rows++) {
         ipnetwork_v4 *four = edge(rows * sizeof *four);
@@ -1673,7 +1684,8 @@ static void printed_columns(void) {
     CHECK("NULL", ipnetwork_v6_print_column(NULL, 0, NULL, 0, NULL, 0, &told) == IPNETWORK_SHORT_BUFFER && told == 0);
 }
 
-/* Columns of either family, of networks and of addresses: each text as by one call, and the fault of the first bad row. */
+/* Columns of either family, of networks and of addresses: each text is that of the call for one, and the fault is that
+ * of the first bad row. */
 static void printed_columns_of_either(void) {
     for (size_t rows = 0; rows < 40; rows++) {
         ipnetwork_ip *ips = edge(rows * sizeof *ips);
@@ -1738,7 +1750,7 @@ static void printed_columns_of_either(void) {
     CHECK("NULL", ipnetwork_address_print_column(NULL, 0, NULL, 0, NULL, 0, &told) == IPNETWORK_SHORT_BUFFER && told == 0);
 }
 
-/* Where each field stands, and the bytes of structs that are read. */
+/* The offset of each field, and the bytes of structs that are read. */
 static void layout(void) {
     static const uint8_t octets[] = {0x20, 1, 0x0d, 0xb8, 0, 0, 0, 0, 0, 0, 0, 0, 0, 0, 0, 1, 64}, none[17] = {0};
     ipnetwork_v4 four = v4("10.1.9.32/16");

@@ -2,8 +2,8 @@
 
 package ipnetwork
 
-// From Go 1.24 on cgo is told that these functions keep no pointer and call nothing of Go, so that what their callers pass
-// may lie on the stack.
+// From Go 1.24 on, cgo is told that these functions keep no pointer and do not call back into Go, so what their callers
+// pass may be on the stack.
 
 /*
 #cgo noescape ipnetwork_v4_contains_column

@@ -2,7 +2,7 @@
 
 package ipnetwork
 
-// The same of the functions that are called by cgo, on Linux on x86-64 unless the tag ipnetwork_direct is given.
+// The same for the functions that are called by cgo, unless the tag ipnetwork_direct is given on Linux on x86-64.
 
 /*
 #cgo noescape ipnetwork_go_of_address

@@ -7,8 +7,8 @@ import "C"
 
 import "net/netip"
 
-// A function of C is called by cgo, which is given a copy of what is asked and gives one of what is answered. So nothing
-// escapes to the heap, and no memory of Go is passed but the lists of a set or a table, which hold no pointers.
+// Each C function is called by cgo with a copy of its arguments, and returns a copy of its results. So nothing escapes
+// to the heap, and no Go memory is passed except the lists of a set or a table, which contain no pointers.
 
 func callAddress(function *[0]byte, call *C.address_call) {
 	*call = C.ipnetwork_go_of_address(function, *call)
@@ -22,8 +22,8 @@ func callText(function *[0]byte, call *C.text_call) {
 	*call = C.ipnetwork_go_of_text(function, *call)
 }
 
-// search is without an answer, and has a fault, if the address has a zone or is none. The numbers are those of the ranges of
-// a table, and none of a set.
+// search returns a fault and no answer if the address is the zero netip.Addr or has a zone. The numbers are those of
+// the ranges of a table; a set has none.
 func (held *lists) search(function *[0]byte, fourNumbers, sixNumbers []int, address netip.Addr) C.search_answer {
 	var asked C.ipnetwork_address
 	if !give(address, &asked) {

@@ -63,7 +63,7 @@ void ipnetwork_go_size(network_call *call) {
     }
 }
 
-/* Whether a number of 17 octets is below 2 to the power of 32, and then which it is. */
+/* Whether a number of 17 octets is less than 2 to the power of 32; if so, its value. */
 static int is_short(const uint8_t number[17], uint32_t *told) {
     const uint8_t *low = number + 13;
     uint8_t high = 0;
@@ -108,8 +108,8 @@ static searched_list sixes_of(const both_lists *lists) {
     return (searched_list){16, (const uint8_t *)lists->sixes, lists->six_count, lists->six_index, lists->six_index_length};
 }
 
-/* The octets by which an address is asked about, and how many they are: 0 if there are neither 4 nor 16. Those of the IPv4
- * address that a mapped one stands for are put into the room, if such an address counts as that. */
+/* The octets of an address for the search, and their number: 0 if there are neither 4 nor 16. If mapped addresses count
+ * as IPv4 addresses, the octets of the IPv4 address in one are put into the room. */
 static const uint8_t *asked_octets(const both_lists *lists, const ipnetwork_address *address, uint8_t room[16],
                                    size_t *width) {
     *width = address->length == 4 || address->length == 16 ? address->length : 0;
@@ -119,7 +119,7 @@ static const uint8_t *asked_octets(const both_lists *lists, const ipnetwork_addr
     return room;
 }
 
-/* Of an address without octets the answer is left as it is. */
+/* For an address without octets, the answer is unchanged. */
 static ipnetwork_fault contains(const both_lists *lists, const ipnetwork_address *address, uint8_t *answer) {
     uint8_t room[16];
     size_t width;
@@ -129,7 +129,7 @@ static ipnetwork_fault contains(const both_lists *lists, const ipnetwork_address
     return list_contains(&list, octets, answer);
 }
 
-/* The number that stands beside the range of an address, or -1. */
+/* The number of the range of an address, or -1. */
 static ipnetwork_fault find(const search_call *call, const ipnetwork_address *address, int64_t *number) {
     uint8_t room[16];
     size_t width;
@@ -173,7 +173,7 @@ search_answer ipnetwork_go_search(void (*function)(search_call *call), const ipn
     return call.told;
 }
 
-/* Whether a fault is more than that of a row without an address. */
+/* Whether a fault is other than that of a row without an address. */
 static int is_fault(ipnetwork_fault fault) { return fault != IPNETWORK_OK && fault != IPNETWORK_NO_FAMILY; }
 
 ipnetwork_fault ipnetwork_go_contains_each(const ipnetwork_v4 *fours, size_t four_count, const uint32_t *four_index,
@@ -207,12 +207,12 @@ ipnetwork_fault ipnetwork_go_find_each(const ipnetwork_v4 *fours, size_t four_co
     return IPNETWORK_OK;
 }
 
-/* So many rows are asked in one call of the library: the faults of its rows have room here. */
+/* The number of rows in one call of the library; their faults have room here. */
 enum { AT_ONCE = 1024 };
 
 static inline size_t at_most(size_t rows) { return rows < AT_ONCE ? rows : AT_ONCE; }
 
-/* The fault of one of so many rows, if there is one. */
+/* The first fault of these rows, if there is one. */
 static ipnetwork_fault fault_of_row(const uint8_t *faults, size_t rows) {
     uint8_t all = 0;
     for (size_t row = 0; row < rows; row++) all |= faults[row];
@@ -240,8 +240,8 @@ ipnetwork_fault ipnetwork_go_contains_column(size_t width, const uint8_t *struct
     return IPNETWORK_OK;
 }
 
-/* A row without a network keeps -1, which is IPNETWORK_NO_PLACE as a place; its fault is IPNETWORK_NO_MEMBER, as a search
- * among ranges has no other. */
+/* A row without a network keeps -1, which is IPNETWORK_NO_PLACE as a place. Its fault is IPNETWORK_NO_MEMBER, because a
+ * search in ranges has no other. */
 ipnetwork_fault ipnetwork_go_find_column(size_t width, const uint8_t *structs, size_t struct_count, const uint32_t *index,
                                          size_t index_length, const int64_t *numbers, const uint8_t *addresses,
                                          size_t count, int64_t *told) {

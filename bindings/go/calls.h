@@ -1,18 +1,18 @@
-/* The calls that Go makes of the library, as structs with what is asked, what is answered, and the fault. A function
- * keeps none of the pointers that it is given. */
+/* The calls that Go makes of the library, with their arguments, results and fault in a struct. No function keeps a
+ * pointer that it is given. */
 #ifndef IPNETWORK_CALLS_H
 #define IPNETWORK_CALLS_H
 
-/* Hidden, so that a call goes to the function itself in a shared object too. The loader, which would look for it at
+/* Hidden, so that a call goes directly to the function in a shared object too. The loader, which would look it up at
  * the first call, needs more stack than these calls have with the tag ipnetwork_direct. */
 #pragma GCC visibility push(hidden)
 
 #include "ipnetwork.h"
 
-/* One network, address or text each. These do little, and wait for nothing. Those of a network or a text have no
- * pointer in their struct. */
+/* The calls for one network, address or text. They do little, and wait for nothing. The structs of a network or a text
+ * contain no pointer. */
 
-/* A question about a network, an address, or both, which is copied faster than the next. */
+/* A question about a network, an address, or both. This struct is copied faster than the next one. */
 typedef struct {
     ipnetwork_ip network;
     ipnetwork_address address;
@@ -20,8 +20,8 @@ typedef struct {
     ipnetwork_fault fault;
 } address_call;
 
-/* A question about two networks, or with a number. A number is 17 octets, the highest first; the first of the number of
- * a member or a block is 0. */
+/* A question about two networks, or with a number. A number is 17 octets, the highest first; in the number of a member
+ * or a block, the first octet is 0. */
 typedef struct {
     ipnetwork_ip network, other;
     ipnetwork_address address;
@@ -30,7 +30,7 @@ typedef struct {
     ipnetwork_fault fault;
 } network_call;
 
-/* A text that is read or printed: longer ones than this are read by other functions. */
+/* A text that is read or printed. Other functions read longer texts. */
 enum { LONGEST_TEXT = 64 };
 typedef struct {
     char text[LONGEST_TEXT];
@@ -40,8 +40,8 @@ typedef struct {
     ipnetwork_fault fault;
 } text_call;
 
-/* A search among the blocks of a set, or the ranges of a table, those of each family by themselves, with the index of
- * each; and whether an IPv4-mapped address counts as the IPv4 address. */
+/* A search in the blocks of a set, or in the ranges of a table, separately for each family, with the index of each; and
+ * whether an IPv4-mapped address counts as the IPv4 address. */
 typedef struct {
     const ipnetwork_v4 *fours;
     size_t four_count;
@@ -59,7 +59,7 @@ typedef struct {
     uint8_t answer;
 } search_answer;
 
-/* The numbers beside the ranges of each family; a set has none. */
+/* The numbers of the ranges of each family; a set has none. */
 typedef struct {
     both_lists lists;
     const int64_t *four_numbers, *six_numbers;
@@ -85,13 +85,12 @@ void ipnetwork_go_subnet_at(network_call *call);
 void ipnetwork_go_set_contains(search_call *call);
 void ipnetwork_go_find(search_call *call);
 
-/* With the tag ipnetwork_direct: calls each function of the C library that the library needs, so that the linker has
- * found it before the calls above are made on the stack of a goroutine: it may need more stack for that than they
- * have. */
+/* With the tag ipnetwork_direct, calls each function of the C library that the library needs, so that the linker has
+ * resolved it before the calls above are made on the stack of a goroutine, where there may not be enough stack for
+ * that. */
 void ipnetwork_go_link(void);
 
-/* The calls above by cgo: what is asked and what is answered is copied, so that no struct of Go is passed by a
- * pointer. */
+/* The calls above by cgo, with arguments and results copied, so that no Go struct is passed by pointer. */
 address_call ipnetwork_go_of_address(void (*function)(address_call *call), address_call call);
 network_call ipnetwork_go_of_network(void (*function)(network_call *call), network_call call);
 text_call ipnetwork_go_of_text(void (*function)(text_call *call), text_call call);
@@ -101,7 +100,7 @@ search_answer ipnetwork_go_search(void (*function)(search_call *call), const ipn
                                   size_t six_index_length, const int64_t *six_numbers, uint8_t mapped,
                                   ipnetwork_address address);
 
-/* Many rows, which cgo calls. An address without octets is in no set and no block; that is no fault. */
+/* The calls for many rows, made by cgo. An address without octets is in no set and no block; that is not a fault. */
 
 /* Writes whether each address is in a set. */
 ipnetwork_fault ipnetwork_go_contains_each(const ipnetwork_v4 *fours, size_t four_count, const uint32_t *four_index,
@@ -109,30 +108,30 @@ ipnetwork_fault ipnetwork_go_contains_each(const ipnetwork_v4 *fours, size_t fou
                                 const uint32_t *six_index, size_t six_index_length, uint8_t mapped,
                                 const ipnetwork_address *addresses, size_t count, uint8_t *answers);
 
-/* Writes the number beside the range of each address in a table, or -1. */
+/* Writes the number of the range of each address in a table, or -1. */
 ipnetwork_fault ipnetwork_go_find_each(const ipnetwork_v4 *fours, size_t four_count, const uint32_t *four_index,
                             size_t four_index_length, const int64_t *four_numbers, const ipnetwork_v6 *sixes,
                             size_t six_count, const uint32_t *six_index, size_t six_index_length,
                             const int64_t *six_numbers, uint8_t mapped, const ipnetwork_address *addresses,
                             size_t count, int64_t *told);
 
-/* The same of packed addresses of one family, of 4 or 16 octets each. */
+/* The same for packed addresses of one family, of 4 or 16 octets each. */
 ipnetwork_fault ipnetwork_go_contains_column(size_t width, const uint8_t *structs, size_t struct_count, const uint32_t *index,
                                   size_t index_length, const uint8_t *addresses, size_t count, uint8_t *answers);
 ipnetwork_fault ipnetwork_go_find_column(size_t width, const uint8_t *structs, size_t struct_count, const uint32_t *index,
                               size_t index_length, const int64_t *numbers, const uint8_t *addresses, size_t count,
                               int64_t *told);
 
-/* The table of networks of one family: their blocks and the places of these, for which there is room. */
+/* Makes the table of networks of one family: their blocks and the places of the networks, for which there is room. */
 ipnetwork_fault ipnetwork_go_table(size_t width, const uint8_t *networks, size_t count, uint8_t *blocks, size_t *places);
 
-/* The ranges of a table by its index, beside each the number that stands beside its longest block, or -1, and how many
- * they are: at most twice as many as blocks, for which there is room. */
+/* Makes the ranges of a table by its index, with the number of the longest block of each, or -1, and writes how many
+ * there are: at most twice as many as blocks, for which there is room. */
 ipnetwork_fault ipnetwork_go_ranges(size_t width, const uint8_t *blocks, size_t count, const uint32_t *index,
                                     size_t index_length, const int64_t *numbers, uint8_t *ranges, int64_t *beside,
                                     size_t *range_count);
 
-/* How many numbers the index of a list has, and the index itself. */
+/* The length of the index of a list, and the index itself. */
 size_t ipnetwork_go_index_size(size_t count);
 ipnetwork_fault ipnetwork_go_index(size_t width, const uint8_t *structs, size_t count, uint32_t *index, size_t length);
 

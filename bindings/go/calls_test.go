@@ -12,7 +12,7 @@ import (
 	"time"
 )
 
-// Questions about one network or address allocate nothing, wherever the text lies.
+// Questions about one network or address allocate nothing, wherever the text is in memory.
 func TestNoAllocations(t *testing.T) {
 	inFour, inSix := MustParse("10.1.9.32/16"), MustParse("2001:db8::1/32")
 	one, other := netip.MustParseAddr("10.1.0.9"), netip.MustParseAddr("2001:db8::9")
@@ -55,7 +55,7 @@ func TestNoAllocations(t *testing.T) {
 	equal(t, "text", line, "2001:db8::1/32")
 }
 
-// Texts of about 64 bytes: a longer one is read by a call of its own, and copied for it.
+// Texts of about 64 bytes: a longer one is copied, and read by a separate call.
 func TestLengths(t *testing.T) {
 	nines := strings.Repeat("9", 80)
 	for length := 60; length < 70; length++ {
@@ -104,7 +104,7 @@ func TestStacks(t *testing.T) {
 	wait.Wait()
 }
 
-// deeper reads a text that lies on its stack, after some calls of itself, and asks of what it has read.
+// deeper reads a text on its stack, after some recursive calls, and asks about what it has read.
 func deeper(row, depth int) string {
 	var text [40]byte
 	network, err := Parse(string(fmt.Appendf(text[:0], "2001:db8:%x::%x/48", row, row)))

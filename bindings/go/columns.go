@@ -11,9 +11,9 @@ import (
 	"unsafe"
 )
 
-// ContainsColumn writes 1 or 0 to answers for each address of a column: whether it is a member of the network. The column
-// has packed addresses of the network's family, one after the other. NoFamily of the zero Network and if the column ends
-// within an address, NoRoom if there are fewer answers than addresses.
+// ContainsColumn writes 1 to answers for each address of a column that is a member of the network, and 0 for each
+// other. The column has packed addresses of the network's family, one after the other. The error is NoFamily for the
+// zero Network or if the column ends within an address, and NoRoom if there are fewer answers than addresses.
 func (network Network) ContainsColumn(packed []byte, answers []byte) error {
 	width := len(network.held.v4.address)
 	if network.held.family == 6 {
@@ -30,7 +30,7 @@ func (network Network) ContainsColumn(packed []byte, answers []byte) error {
 	return faultOf(C.ipnetwork_v6_contains_column(&network.held.v6, addresses, rows, told, room))
 }
 
-// offsetsOf is the first of some offsets, or none.
+// offsetsOf returns a pointer to the first of some offsets, or nil.
 func offsetsOf(offsets []uint32) *C.uint32_t { return (*C.uint32_t)(unsafe.Pointer(start(offsets))) }
 
 func rowsOf(offsets []uint32) int {
@@ -40,10 +40,10 @@ func rowsOf(offsets []uint32) int {
 	return len(offsets) - 1
 }
 
-// ReadColumn reads a column of texts in Arrow's layout by one call, into memory of the caller: text i goes from offset i to
-// the next. The network of text i is networks[i], and faults[i] is 0; if the text names no network, networks[i] is the zero
-// Network, and faults[i] is the cause, as Parse has it. The error is NoOffsets if the offsets fall, or pass the end, and
-// NoRoom if there are fewer networks, or faults, than texts: then nothing is written.
+// ReadColumn reads a column of texts in Arrow's layout in one call, into the caller's memory: text i goes from offset i
+// to the next. If text i names a network, networks[i] is that network, and faults[i] is 0; if not, networks[i] is the
+// zero Network, and faults[i] is the cause, as from Parse. The error is NoOffsets if the offsets decrease or go past
+// the end of the texts, and NoRoom if there are fewer networks or faults than texts: then nothing is written.
 func ReadColumn(texts []byte, offsets []uint32, networks []Network, faults []byte) error {
 	if err := readInto(texts, offsets, networks, faults); err != nil {
 		return err
@@ -60,18 +60,18 @@ func ReadColumn(texts []byte, offsets []uint32, networks []Network, faults []byt
 	return nil
 }
 
-// readInto is ReadColumn, but leaves networks[i] as it was if text i names no network.
+// readInto is like ReadColumn, but leaves networks[i] unchanged if text i names no network.
 func readInto(texts []byte, offsets []uint32, networks []Network, faults []byte) error {
 	return faultOf(C.ipnetwork_read_with_cause_column((*C.char)(unsafe.Pointer(start(texts))), size(texts), offsetsOf(offsets),
 		size(offsets), held(networks), size(networks), bytesOf(faults), size(faults)))
 }
 
-// held is the first of some networks as the library holds it, or none.
+// held returns a pointer to the first of some networks as the library holds it, or nil.
 func held(networks []Network) *C.ipnetwork_ip {
 	return (*C.ipnetwork_ip)(unsafe.Pointer(start(networks)))
 }
 
-// ParseColumn is ReadColumn into memory of its own.
+// ParseColumn is like ReadColumn, but returns new slices.
 func ParseColumn(texts []byte, offsets []uint32) ([]Network, []Fault, error) {
 	rows := rowsOf(offsets)
 	networks, told := make([]Network, rows), make([]byte, rows)
@@ -83,8 +83,8 @@ func ParseColumn(texts []byte, offsets []uint32) ([]Network, []Fault, error) {
 	return networks, faults, nil
 }
 
-// ParseAddrColumn reads a column of texts as addresses, as ParseColumn reads networks; if there is none, the address is
-// the zero netip.Addr.
+// ParseAddrColumn reads a column of texts as addresses, as ParseColumn reads networks. For a text that names no
+// address, it returns the zero netip.Addr.
 func ParseAddrColumn(texts []byte, offsets []uint32) ([]netip.Addr, error) {
 	rows := rowsOf(offsets)
 	held, told := make([]C.ipnetwork_address, rows), make([]byte, rows)
@@ -102,8 +102,9 @@ func ParseAddrColumn(texts []byte, offsets []uint32) ([]netip.Addr, error) {
 	return addresses, nil
 }
 
-// PrintColumn prints networks in the same layout by one call: the texts, one after the other, and the offsets at which each
-// begins and the last ends. NoFamily if one is the zero Network; NoRoom if the texts have more than 2147483647 bytes.
+// PrintColumn prints networks in the same layout in one call. It returns the texts, one after the other, and the
+// offsets at which each begins and the last one ends. The error is NoFamily if one is the zero Network, and NoRoom if
+// the texts have more than 2147483647 bytes.
 func PrintColumn(networks []Network) ([]byte, []uint32, error) {
 	texts, offsets := make([]byte, len(networks)*(C.IPNETWORK_V6_TEXT-1)), make([]uint32, len(networks)+1)
 	var length C.size_t
@@ -115,7 +116,8 @@ func PrintColumn(networks []Network) ([]byte, []uint32, error) {
 	return texts[:length], offsets, nil
 }
 
-// PrintAddrColumn prints addresses, as PrintColumn prints networks; NoFamily if one is the zero Addr or has a zone.
+// PrintAddrColumn prints addresses, as PrintColumn prints networks. The error is NoFamily if one is the zero netip.Addr
+// or has a zone.
 func PrintAddrColumn(addresses []netip.Addr) ([]byte, []uint32, error) {
 	texts, offsets := make([]byte, len(addresses)*(C.IPNETWORK_ADDRESS_TEXT-1)), make([]uint32, len(addresses)+1)
 	rows := make([]C.ipnetwork_address, len(addresses))

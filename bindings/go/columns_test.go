@@ -8,7 +8,7 @@ import (
 	"testing"
 )
 
-// texts is a column of random texts, some of them of no address, and each by itself.
+// texts returns a column of random texts, some of which name no address, and each text by itself.
 func texts(random *rand.Rand, count int) (whole []byte, offsets []uint32, each []string) {
 	offsets = append(offsets, 0)
 	for row := 0; row < count; row++ {
@@ -87,7 +87,7 @@ func TestPrintColumn(t *testing.T) {
 	}
 }
 
-// A text of each kind, many times, so that there are more than one portion of them, and a long one among them.
+// Texts of each kind, many times, so that they need more than one portion, with a long one among them.
 func manyTexts() (texts []string) {
 	zeros := strings.Repeat("0", 5000)
 	for row := 0; row < 3000; row++ {

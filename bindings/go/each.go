@@ -10,21 +10,21 @@ import (
 	"sync"
 )
 
-// longest is how many bytes a text has at most that is copied to stand among others, and kept how many bytes of texts are
-// kept at most for the next call.
+// longest is the maximum length in bytes of a text that is copied into a textRoom, and kept the maximum number of bytes
+// that a textRoom keeps for the next call.
 const longest, kept = 4096, 1 << 17
 
-// A textRoom has texts one after the other, their offsets, and what is told of each.
+// A textRoom has texts, one after the other, their offsets, and the fault of each.
 type textRoom struct {
 	bytes   []byte
 	offsets [portion + 1]uint32
 	told    [portion]byte
 }
 
-// textRooms are used again.
+// textRooms holds rooms for reuse.
 var textRooms = sync.Pool{New: func() any { return new(textRoom) }}
 
-// take puts the texts that come before one that is too long into the room, at most 1,024, and tells how many they are.
+// take copies the texts before the first that is too long, at most 1,024, into the room, and returns their number.
 func (room *textRoom) take(texts []string) int {
 	room.bytes = room.bytes[:0]
 	for row, text := range texts[:least(len(texts), portion)] {
@@ -37,8 +37,8 @@ func (room *textRoom) take(texts []string) int {
 	return least(len(texts), portion)
 }
 
-// ParseEach reads each text as Parse does, by one call for each 1,024 of them. If a text names no network, the network is
-// the zero Network, and the fault is the cause; the other faults are 0.
+// ParseEach reads each text as Parse does, with one call of the library for every 1,024 texts. If a text names no
+// network, the network is the zero Network, and the fault is the cause; the other faults are 0.
 func ParseEach(texts []string) ([]Network, []Fault) {
 	networks, faults := make([]Network, len(texts)), make([]Fault, len(texts))
 	room := textRooms.Get().(*textRoom)
@@ -64,7 +64,7 @@ func ParseEach(texts []string) ([]Network, []Fault) {
 	return networks, faults
 }
 
-// widen gives what is told of each row as faults.
+// widen converts the fault of each row.
 func widen(told []byte, faults []Fault) {
 	faults = faults[:len(told)]
 	for row, fault := range told {
@@ -72,8 +72,8 @@ func widen(told []byte, faults []Fault) {
 	}
 }
 
-// ContainsEach reports for each address whether it is a member of the network, as Contains does, by one call for each 1,024
-// of them.
+// ContainsEach reports for each address whether it is a member of the network, as Contains does, with one call of the
+// library for every 1,024 addresses.
 func (network Network) ContainsEach(addresses []netip.Addr) []bool {
 	answers := make([]bool, len(addresses))
 	if network.Bits() < 0 {
@@ -87,7 +87,7 @@ func (network Network) ContainsEach(addresses []netip.Addr) []bool {
 	for from := 0; from < len(addresses); from += portion {
 		some := addresses[from:least(from+portion, len(addresses))]
 		for row, address := range some {
-			// An address of no member is asked about as the one that stood there before.
+			// If the address cannot be a member, the octets from an earlier one are checked, and the answer is ignored.
 			answers[from+row] = address.Is4() == network.Is4() && pack(address, packed[row*width:])
 		}
 		if err := network.ContainsColumn(packed[:len(some)*width], told); err != nil {
@@ -100,7 +100,7 @@ func (network Network) ContainsEach(addresses []netip.Addr) []bool {
 	return answers
 }
 
-// pack writes the octets of an address, if there is one without a zone.
+// pack writes the octets of an address, and returns whether it is valid and has no zone.
 func pack(address netip.Addr, octets []byte) bool {
 	if address.Is4() {
 		*(*[4]byte)(octets) = address.As4()

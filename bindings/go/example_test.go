@@ -33,7 +33,7 @@ func ExampleSet() {
 	// Output: [10.0.0.0/8] [10.0.0.0/16 10.2.0.0/15] false
 }
 
-// A peer as a socket of both families tells it, and a list of what is denied.
+// A peer as a socket for both families reports it, and a list of denied networks.
 func ExampleSet_Mapped() {
 	denied, _ := ipnetwork.NewSet([]ipnetwork.Network{ipnetwork.MustParse("10.0.0.0/8")})
 	peer := netip.MustParseAddrPort("[::ffff:10.1.9.32]:443").Addr()

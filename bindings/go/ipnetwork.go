@@ -1,27 +1,28 @@
 //go:build cgo
 
-// Package ipnetwork reads, prints and asks IP networks in CIDR notation, by a library whose functions are proved on
-// Linux on x86-64 and ARM64; elsewhere it is made of the proved sources.
-// Addresses are those of net/netip.
+// Package ipnetwork reads and prints IP networks in CIDR notation and answers questions about them, with a library
+// whose functions are proved on Linux on x86-64 and ARM64; on other systems the library is built from the proved
+// sources. Addresses are those of net/netip.
 //
-// A server that listens on IPv4 and IPv6 by one socket is told of an IPv4 peer as an IPv4-mapped IPv6 address, such as
-// ::ffff:10.1.9.32, which is in no IPv4 network: it passes a list of what is denied. Ask about what its Unmap gives,
+// A server that listens on IPv4 and IPv6 with one socket sees the address of an IPv4 peer as an IPv4-mapped IPv6
+// address, such as ::ffff:10.1.9.32, which is in no IPv4 network: such a peer gets past a list of denied networks. So
+// ask about the result of its Unmap method,
 //
 //	denied.Contains(peer.Addr().Unmap())
 //
-// or ask the set or the table that the method Mapped gives, which does so for each address.
+// or use the set or table that the method Mapped returns, which does so for each address.
 //
 // A network keeps the host bits of its address. Its members are the addresses that share the first bits of its address,
 // as many as the prefix length says, and the questions are about the members.
 //
-// The library is called by cgo. A question about one network, address or text of at most 64 bytes allocates nothing unless
-// its result is a string or a number of package big. The functions whose names end in Each or Column, and those that make
-// or combine sets and tables, share a call among many rows.
+// The library is called by cgo. A question about one network, address or text of at most 64 bytes allocates nothing
+// unless its result is a string or a number of package math/big. The functions whose names end in Each or Column, and
+// those that make or combine sets and tables, handle many rows in one call.
 //
-// With the build tag ipnetwork_direct (go build -tags ipnetwork_direct) such a question runs on the stack of the goroutine
-// that asks it, which saves most of the time that a call by cgo takes. That rests on what Go's runtime does and does not
-// promise, and on the stack that the functions of C need as they are compiled: bindings/README.md says what it is. On
-// other machines and systems the tag changes nothing.
+// With the build tag ipnetwork_direct (go build -tags ipnetwork_direct) such a question runs on the stack of the
+// calling goroutine, which saves most of the time that a call by cgo takes. This relies on what Go's runtime does and
+// does not promise, and on how much stack the C functions need as they are compiled: see bindings/README.md. On other
+// machines and systems the tag has no effect.
 package ipnetwork
 
 /*
@@ -55,7 +56,7 @@ func init() {
 	}
 }
 
-// The functions of C, which callAddress, callNetwork, callText and search call.
+// The C functions that callAddress, callNetwork, callText and search call.
 var (
 	toRead         = (*[0]byte)(C.ipnetwork_go_read)
 	toReadAddress  = (*[0]byte)(C.ipnetwork_go_read_address)
@@ -66,23 +67,23 @@ var (
 // A Fault says why there is no network, or no result.
 type Fault uint32
 
-// The faults that a caller can meet.
+// The faults that calls return.
 const (
-	// Format: the text holds two or more slashes.
+	// Format: the text has two or more slashes.
 	Format Fault = C.IPNETWORK_FORMAT
-	// Address: what stands before the slash, or the whole text if it has none, is no address.
+	// Address: the part before the slash, or the whole text if it has none, is not an address.
 	Address Fault = C.IPNETWORK_ADDRESS
-	// Prefix: the prefix length, or what stands for it after the slash, is none of the family.
+	// Prefix: the prefix length, or the text after the slash, is not a prefix length of the family.
 	Prefix Fault = C.IPNETWORK_PREFIX
-	// NoRoom: there is room for fewer answers than there are rows.
+	// NoRoom: there is room for fewer results than there are rows.
 	NoRoom Fault = C.IPNETWORK_SHORT_BUFFER
-	// NoMask: the address is no mask.
+	// NoMask: the address is not a mask.
 	NoMask Fault = C.IPNETWORK_NO_MASK
 	// NoMember: the network has no member, or no block, of that number.
 	NoMember Fault = C.IPNETWORK_NO_MEMBER
 	// NoFamily: the zero Network, the zero netip.Addr, an address with a zone, or one of the other family.
 	NoFamily Fault = C.IPNETWORK_NO_FAMILY
-	// NoOffsets: the offsets of a column fall, or pass the end of its texts.
+	// NoOffsets: the offsets of a column decrease, or go past the end of its texts.
 	NoOffsets Fault = C.IPNETWORK_NO_OFFSETS
 )
 
@@ -115,15 +116,15 @@ func faultOf(number C.ipnetwork_fault) error {
 	return Fault(number)
 }
 
-// mustBe panics at a fault that a set or a table, which was made by the library, cannot have.
+// mustBe panics if there is a fault, which a set or a table made by the library cannot have.
 func mustBe(number C.ipnetwork_fault) {
 	if number != C.IPNETWORK_OK {
 		panic(Fault(number))
 	}
 }
 
-// A Network of either family. Networks are equal by == if address and prefix length are. The zero Network is no network:
-// it has no members, and its text is empty.
+// A Network is an IPv4 or IPv6 network. Networks are equal by == if their addresses and prefix lengths are. The zero
+// Network is not a network: it has no members, and its text is empty.
 type Network struct{ held C.ipnetwork_ip }
 
 func networkOf(held C.ipnetwork_ip, fault C.ipnetwork_fault) (Network, error) {
@@ -133,7 +134,8 @@ func networkOf(held C.ipnetwork_ip, fault C.ipnetwork_fault) (Network, error) {
 	return Network{held}, nil
 }
 
-// give writes an address as the library takes it. One with a zone, or none, is of neither family, and is not written.
+// give writes an address in the library's form. The zero netip.Addr and an address with a zone have no such form: then
+// give returns false and writes nothing.
 func give(address netip.Addr, held *C.ipnetwork_address) bool {
 	if address.Is4() {
 		*(*[4]byte)(unsafe.Pointer(&held.octets)) = address.As4()
@@ -155,7 +157,7 @@ func taken(held *C.ipnetwork_address) netip.Addr {
 	return netip.AddrFrom16(*(*[16]byte)(unsafe.Pointer(&held.octets)))
 }
 
-// addressOf is the zero netip.Addr if there is a fault.
+// addressOf returns the zero netip.Addr if there is a fault.
 func addressOf(held *C.ipnetwork_address, fault C.ipnetwork_fault) netip.Addr {
 	if fault != C.IPNETWORK_OK {
 		return netip.Addr{}
@@ -169,12 +171,12 @@ func giveText(text string, call *C.text_call) {
 	call.length = C.size_t(len(text))
 }
 
-// Parse gives the network that a text names, of the family that the text has. Of any other text the error is the cause:
-// Format if it has two slashes or more, else Address if what stands before the slash, or the whole text if it has none, is
-// an address of neither family, else Prefix.
+// Parse returns the network of either family that a text names. For any other text the error is the cause: Format if it
+// has two or more slashes, else Address if the part before the slash, or the whole text if it has none, is an address
+// of neither family, else Prefix.
 func Parse(text string) (Network, error) {
 	if len(text) > C.LONGEST_TEXT {
-		call := C.read_long(strings.Clone(text)) // of which cgo lets the copy alone escape
+		call := C.read_long(strings.Clone(text)) // so that only the copy escapes by cgo
 		return networkOf(call.network, call.fault)
 	}
 	var call C.text_call
@@ -183,7 +185,7 @@ func Parse(text string) (Network, error) {
 	return networkOf(call.network, call.fault)
 }
 
-// MustParse is Parse, and panics if the text names no network.
+// MustParse is like Parse, but panics if the text names no network.
 func MustParse(text string) Network {
 	network, err := Parse(text)
 	if err != nil {
@@ -192,7 +194,8 @@ func MustParse(text string) Network {
 	return network
 }
 
-// ParseAddr gives the address that a text names; any other text, with a slash or a zone, is Address.
+// ParseAddr returns the address that a text names. For any other text, such as one with a slash or a zone, the error is
+// Address.
 func ParseAddr(text string) (netip.Addr, error) {
 	if len(text) > C.LONGEST_TEXT {
 		call := C.read_long_address(strings.Clone(text))
@@ -204,8 +207,8 @@ func ParseAddr(text string) (netip.Addr, error) {
 	return addressOf(&call.address, call.fault), faultOf(call.fault)
 }
 
-// New gives the network of this address, host bits kept, and this prefix length; Prefix past the width, and NoFamily if
-// the address has a zone.
+// New returns the network of this address, host bits kept, and this prefix length. The error is Prefix if the prefix
+// length is negative or greater than the width, and NoFamily if the address is the zero netip.Addr or has a zone.
 func New(address netip.Addr, prefix int) (Network, error) {
 	var call C.address_call
 	if !give(address, &call.address) {
@@ -219,10 +222,11 @@ func New(address netip.Addr, prefix int) (Network, error) {
 	return networkOf(call.network, call.fault)
 }
 
-// FromPrefix gives the network of a netip.Prefix, host bits kept.
+// FromPrefix returns the network of a netip.Prefix, host bits kept.
 func FromPrefix(prefix netip.Prefix) (Network, error) { return New(prefix.Addr(), prefix.Bits()) }
 
-// PrefixOfMask gives the prefix length of a mask; NoMask if the address is none.
+// PrefixOfMask returns the prefix length of a mask. The error is NoMask if the address is not a mask, and NoFamily if
+// it is the zero netip.Addr or has a zone.
 func PrefixOfMask(mask netip.Addr) (int, error) {
 	var call C.address_call
 	if !give(mask, &call.address) {
@@ -232,10 +236,10 @@ func PrefixOfMask(mask netip.Addr) (int, error) {
 	return int(call.prefix), faultOf(call.fault)
 }
 
-// Prefix gives the network as a netip.Prefix, host bits kept.
+// Prefix returns the network as a netip.Prefix, host bits kept.
 func (network Network) Prefix() netip.Prefix { return netip.PrefixFrom(network.Addr(), network.Bits()) }
 
-// Addr gives the address, host bits included.
+// Addr returns the address, host bits included.
 func (network Network) Addr() netip.Addr {
 	switch network.held.family {
 	case 4:
@@ -246,7 +250,7 @@ func (network Network) Addr() netip.Addr {
 	return netip.Addr{}
 }
 
-// Bits gives the prefix length, and -1 of the zero Network.
+// Bits returns the prefix length, or -1 for the zero Network.
 func (network Network) Bits() int {
 	switch network.held.family {
 	case 4:

@@ -11,7 +11,7 @@ import (
 	"testing"
 )
 
-// rows is how many random texts and networks are compared with net/netip: IPNETWORK_ROWS, or ten thousand.
+// rows is the number of random texts and networks that are compared with net/netip: IPNETWORK_ROWS, or ten thousand.
 func rows() int {
 	if count, err := strconv.Atoi(os.Getenv("IPNETWORK_ROWS")); err == nil {
 		return count
@@ -100,7 +100,7 @@ func TestJSON(t *testing.T) {
 	equal(t, "refused", json.Unmarshal([]byte(`{"net":"10.1"}`), &read) != nil, true)
 }
 
-// The zero Network in JSON, as a value and as a key, beside the zero netip.Prefix.
+// The zero Network in JSON, as a value and as a key, compared with the zero netip.Prefix.
 func TestZeroJSON(t *testing.T) {
 	text, err := json.Marshal(map[Network][]Network{{}: {{}, MustParse("::/0")}})
 	peer, _ := json.Marshal(map[netip.Prefix][]netip.Prefix{{}: {{}, netip.MustParsePrefix("::/0")}})

@@ -7,7 +7,7 @@ import (
 	"fmt"
 )
 
-// An ElementError says which element of a list is no network, counted from 0, and why: it wraps the Fault.
+// An ElementError says which element of a list, counted from 0, names no network, and why: it wraps the Fault.
 type ElementError struct {
 	Index int
 	Text  string
@@ -18,14 +18,14 @@ func (err *ElementError) Error() string {
 	return fmt.Sprintf("element %d, %q: %v", err.Index, err.Text, err.Fault)
 }
 
-// Unwrap gives the Fault.
+// Unwrap returns the Fault.
 func (err *ElementError) Unwrap() error { return err.Fault }
 
-// MarshalJSON gives the fewest networks that have the addresses of the set, as Networks does, as a list of texts.
+// MarshalJSON returns the fewest networks that have the addresses of the set, as Networks does, as a list of texts.
 func (set Set) MarshalJSON() ([]byte, error) { return json.Marshal(set.Networks()) }
 
-// UnmarshalJSON makes the set of a list of texts, each of which Parse reads. If one names no network, the error is an
-// ElementError, and the set is left as it was.
+// UnmarshalJSON makes the set from a list of texts, each of which Parse reads. If one names no network, the error is an
+// ElementError, and the set is unchanged.
 func (set *Set) UnmarshalJSON(list []byte) error {
 	if string(list) == "null" {
 		return nil

@@ -2,8 +2,8 @@
 
 package ipnetwork
 
-// Where the header and the library stand in the repository: on Linux on x86-64 and ARM64 the proved library, elsewhere the
-// one of plain Rust. In the module that `make go` writes, library_GOOS_GOARCH.go stands in the place of this file.
+// Where the header and the library are in the repository: on Linux on x86-64 and ARM64 the proved library, elsewhere
+// the one of plain Rust. The module that `make go` writes has library_GOOS_GOARCH.go instead of this file.
 
 /*
 #cgo CFLAGS: -std=c11 -I${SRCDIR}/../c

@@ -5,8 +5,8 @@
 
 int bcmp(const void *one, const void *other, size_t length);
 
-/* With the tag the package is compiled so that these are calls, and none is made another (-fno-builtin-memcpy and its
- * like). */
+/* With the tag, the package is compiled so that these remain calls and are not replaced by others (-fno-builtin-memcpy
+ * and the like). */
 void ipnetwork_go_link(void) {
     static char one[16], other[16];
     memcpy(one, other, sizeof one);

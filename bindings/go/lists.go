@@ -11,8 +11,8 @@ import (
 	"unsafe"
 )
 
-// lists are the blocks of a set, or the ranges of a table, those of each family by themselves, with the index by which they
-// are searched. They do not change, so that any goroutines may ask them at the same time.
+// lists has the blocks of a set, or the ranges of a table, separately for each family, with the indexes by which they
+// are searched. They do not change, so several goroutines may search them at the same time.
 type lists struct {
 	fours               []C.ipnetwork_v4
 	sixes               []C.ipnetwork_v6
@@ -21,7 +21,7 @@ type lists struct {
 	mapped bool
 }
 
-// asMapped is what the functions of C take for that.
+// asMapped returns mapped as the C functions take it.
 func (held *lists) asMapped() C.uint8_t {
 	if held.mapped {
 		return 1
@@ -29,7 +29,7 @@ func (held *lists) asMapped() C.uint8_t {
 	return 0
 }
 
-// addressesOf gives packed IPv6 addresses, each of 16 octets, as addresses.
+// addressesOf returns packed IPv6 addresses, of 16 octets each, as addresses.
 func addressesOf(packed []byte) []netip.Addr {
 	addresses := make([]netip.Addr, len(packed)/16)
 	for row := range addresses {
@@ -38,7 +38,7 @@ func addressesOf(packed []byte) []netip.Addr {
 	return addresses
 }
 
-// start is the first element of a slice, or nil.
+// start returns a pointer to the first element of a slice, or nil.
 func start[Element any](elements []Element) *Element {
 	if len(elements) == 0 {
 		return nil
@@ -48,16 +48,16 @@ func start[Element any](elements []Element) *Element {
 
 func size[Element any](elements []Element) C.size_t { return C.size_t(len(elements)) }
 
-// trimmed is a copy of a list in memory of its length.
+// trimmed returns a copy of a list in memory of its own length.
 func trimmed[Struct any](structs []Struct) []Struct { return append([]Struct(nil), structs...) }
 
-// bytesOf is the first byte of some elements, or nil.
+// bytesOf returns a pointer to the first byte of some elements, or nil.
 func bytesOf[Element any](elements []Element) *C.uint8_t {
 	return (*C.uint8_t)(unsafe.Pointer(start(elements)))
 }
 
-// indexed gives the index of a list of structs, whose addresses have so many octets: four numbers of 32 bits for each struct,
-// 2^20 at most, and none if they are fewer than eight.
+// indexed returns the index of a list of structs, with addresses of width octets: four 32-bit numbers for each struct,
+// at most 2^20, and none for fewer than eight structs.
 func indexed[Struct any](width C.size_t, structs []Struct) ([]C.uint32_t, error) {
 	index := make([]C.uint32_t, C.ipnetwork_go_index_size(size(structs)))
 	number := C.ipnetwork_go_index(width, bytesOf(structs), size(structs), start(index), size(index))
@@ -72,7 +72,8 @@ func (held *lists) index() (err error) {
 	return err
 }
 
-// packedRows is how many addresses of 4 or 16 octets a column has; NoFamily of another length, and if it ends within one.
+// packedRows returns the number of addresses of 4 or 16 octets in a column. The error is NoFamily for any other length,
+// or if the column ends within an address.
 func packedRows(packed []byte, length int) (int, error) {
 	if length != 4 && length != 16 || len(packed)%length != 0 {
 		return 0, NoFamily
@@ -80,13 +81,14 @@ func packedRows(packed []byte, length int) (int, error) {
 	return len(packed) / length, nil
 }
 
-// portion is how many rows of a slice one call takes at most.
+// portion is the maximum number of rows of a slice in one call.
 const portion = 1024
 
-// addressRooms are those of addresses as the library takes them, which are used again.
+// addressRooms holds memory for addresses in the library's form, for reuse.
 var addressRooms = sync.Pool{New: func() any { return new([portion]C.ipnetwork_address) }}
 
-// inPortions gives the addresses to a call as the library takes them, at most 1,024 at a time, with the number of the first.
+// inPortions passes the addresses to a call in the library's form, at most 1,024 at a time, with the number of the
+// first.
 func inPortions(addresses []netip.Addr, call func(from int, held []C.ipnetwork_address)) {
 	room := addressRooms.Get().(*[portion]C.ipnetwork_address)
 	for from := 0; from < len(addresses); from += portion {

@@ -14,7 +14,7 @@ import (
 	"unsafe"
 )
 
-// A function of C is called on the stack of the goroutine that asks: package direct says what that rests on.
+// Each C function is called on the stack of the calling goroutine: package direct says what that relies on.
 
 func init() { C.ipnetwork_go_link() }
 
@@ -30,8 +30,8 @@ func callText(function *[0]byte, call *C.text_call) {
 	direct.Call(unsafe.Pointer(function), unsafe.Pointer(call))
 }
 
-// search is without an answer, and has a fault, if the address has a zone or is none. The numbers are those of the ranges of
-// a table, and none of a set.
+// search returns a fault and no answer if the address is the zero netip.Addr or has a zone. The numbers are those of
+// the ranges of a table; a set has none.
 func (held *lists) search(function *[0]byte, fourNumbers, sixNumbers []int, address netip.Addr) C.search_answer {
 	call := C.search_call{lists: C.both_lists{
 		fours: start(held.fours), four_count: size(held.fours),

@@ -24,8 +24,8 @@ var (
 	toSubnetAt   = (*[0]byte)(C.ipnetwork_go_subnet_at)
 )
 
-// Contains reports whether an address is a member of the network. No address of the other family is, not even an IPv4-mapped
-// one of an IPv4 network, whose Unmap is; and none with a zone.
+// Contains reports whether an address is a member of the network. An address of the other family is not, not even an
+// IPv4-mapped one whose Unmap is a member of the IPv4 network; neither is an address with a zone.
 func (network Network) Contains(address netip.Addr) bool {
 	var call C.address_call
 	call.network = network.held
@@ -36,13 +36,13 @@ func (network Network) Contains(address netip.Addr) bool {
 	return call.answer == 1
 }
 
-// Network gives the least member: the address with its host bits cleared.
+// Network returns the least member: the address with its host bits cleared.
 func (network Network) Network() netip.Addr { return network.end(toLeast) }
 
-// Broadcast gives the greatest member: the address with its host bits set.
+// Broadcast returns the greatest member: the address with its host bits set.
 func (network Network) Broadcast() netip.Addr { return network.end(toGreatest) }
 
-// Mask gives the mask of the prefix length.
+// Mask returns the mask of the prefix length.
 func (network Network) Mask() netip.Addr { return network.end(toMask) }
 
 func (network Network) end(function *[0]byte) netip.Addr {
@@ -52,7 +52,7 @@ func (network Network) end(function *[0]byte) netip.Addr {
 	return addressOf(&call.address, call.fault)
 }
 
-// Size gives the number of members, 0 of the zero Network.
+// Size returns the number of members, 0 for the zero Network.
 func (network Network) Size() *big.Int {
 	var call C.network_call
 	call.network = network.held
@@ -60,7 +60,8 @@ func (network Network) Size() *big.Int {
 	return new(big.Int).SetBytes((*[17]byte)(unsafe.Pointer(&call.number))[:])
 }
 
-// Nth gives the member number n in order, counted from 0; NoMember if there is none.
+// Nth returns member number n in ascending order, counted from 0. The error is NoMember if there is none, and NoFamily
+// for the zero Network.
 func (network Network) Nth(n *big.Int) (netip.Addr, error) {
 	if n.Sign() < 0 || n.BitLen() > 128 {
 		return netip.Addr{}, NoMember
@@ -72,8 +73,9 @@ func (network Network) Nth(n *big.Int) (netip.Addr, error) {
 	return addressOf(&call.address, call.fault), faultOf(call.fault)
 }
 
-// SubnetAt gives the block number n of this prefix length within the network, counted from 0 in ascending order; Prefix if
-// the prefix length is less than the network's, or past the width, and NoMember if there is no such block.
+// SubnetAt returns block number n of this prefix length within the network, counted from 0 in ascending order. The
+// error is Prefix if the prefix length is less than the network's or greater than the width, NoMember if there is no
+// such block, and NoFamily for the zero Network.
 func (network Network) SubnetAt(prefix int, n *big.Int) (Network, error) {
 	if prefix < 0 || prefix > 255 {
 		return Network{}, Prefix
@@ -88,7 +90,8 @@ func (network Network) SubnetAt(prefix int, n *big.Int) (Network, error) {
 	return networkOf(call.other, call.fault)
 }
 
-// IsSubnetOf reports whether each member of this network is a member of the other; false if the families differ.
+// IsSubnetOf reports whether each member of this network is a member of the other, which is false if the families
+// differ.
 func (network Network) IsSubnetOf(other Network) bool {
 	var call C.network_call
 	call.network, call.other = network.held, other.held
@@ -96,7 +99,7 @@ func (network Network) IsSubnetOf(other Network) bool {
 	return call.answer == 1
 }
 
-// Overlaps reports whether some address is a member of both.
+// Overlaps reports whether some address is a member of both networks.
 func (network Network) Overlaps(other Network) bool {
 	var call C.network_call
 	call.network, call.other = network.held, other.held
@@ -104,8 +107,8 @@ func (network Network) Overlaps(other Network) bool {
 	return call.answer == 1
 }
 
-// Compare is -1 if this network comes first, by family, address and prefix length, 1 if the other does, and 0 if they are
-// equal, or one of them is the zero Network.
+// Compare returns -1 if this network comes first, by family, address and prefix length, 1 if the other does, and 0 if
+// they are equal or one of them is the zero Network.
 func (network Network) Compare(other Network) int {
 	var call C.network_call
 	call.network, call.other = network.held, other.held

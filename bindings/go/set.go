@@ -12,17 +12,18 @@ import (
 
 var toSearchSet = (*[0]byte)(C.ipnetwork_go_set_contains)
 
-// A Set is the addresses of networks of either family. It does not change, and any goroutines may ask it at the same time.
-// The zero Set has none.
+// A Set is a set of addresses of either family, made from networks. It does not change, so several goroutines may use
+// it at the same time. The zero Set is empty.
 //
-// It holds the fewest networks that have these addresses, and an index of them: 21 bytes for each IPv4 network, and 33 for
-// each IPv6.
+// It holds the fewest networks that have these addresses, and an index of them: 21 bytes for each IPv4 network, and 33
+// for each IPv6 network.
 //
-// An IPv4-mapped IPv6 address, such as ::ffff:10.1.9.32, is in no IPv4 network: ask about its Unmap, or ask the set that
-// Mapped gives.
+// An IPv4-mapped IPv6 address, such as ::ffff:10.1.9.32, is in no IPv4 network: ask about its Unmap, or use the set
+// that Mapped returns.
 type Set struct{ lists }
 
-// NewSet gives the addresses of networks, in any order, host bits or not; NoFamily if one is the zero Network.
+// NewSet returns the set of the addresses of networks, in any order and with or without host bits. The error is
+// NoFamily if one is the zero Network.
 func NewSet(networks []Network) (Set, error) {
 	var set Set
 	for _, network := range networks {
@@ -51,23 +52,23 @@ func (set *Set) aggregate() error {
 	return set.index()
 }
 
-// Mapped gives the same set, which takes an IPv4-mapped IPv6 address that it is asked about for the IPv4 address: so that
-// peers of a socket of both families are found in lists of IPv4 networks. The sets made of it do so too.
+// Mapped returns the same set, in which an IPv4-mapped IPv6 address that is asked about counts as the IPv4 address, so
+// that peers of a socket for both families are found in lists of IPv4 networks. Sets made from it do the same.
 func (set Set) Mapped() Set {
 	set.mapped = true
 	return set
 }
 
-// Union gives the addresses that one of the sets has, or both.
+// Union returns the set of the addresses in at least one of the two sets.
 func (set Set) Union(other Set) (Set, error) { return set.operate(C.SET_UNION, other) }
 
-// Intersection gives the addresses that both sets have.
+// Intersection returns the set of the addresses in both sets.
 func (set Set) Intersection(other Set) (Set, error) { return set.operate(C.SET_INTERSECTION, other) }
 
-// Difference gives the addresses that this set has and the other has not.
+// Difference returns the set of the addresses that are in this set and not in the other.
 func (set Set) Difference(other Set) (Set, error) { return set.operate(C.SET_DIFFERENCE, other) }
 
-// operate asks once more if a difference has more blocks than both sets; no other operation does.
+// operate makes a second call if a difference has more blocks than both sets; no other operation needs one.
 func (set Set) operate(operation C.int, other Set) (Set, error) {
 	var made Set
 	for room := len(set.fours) + len(other.fours); ; {
@@ -101,7 +102,7 @@ func (set Set) operate(operation C.int, other Set) (Set, error) {
 	return made, err
 }
 
-// Networks gives the fewest networks that have these addresses: those of IPv4 first, in ascending order.
+// Networks returns the fewest networks that have these addresses, in ascending order, IPv4 first.
 func (set Set) Networks() []Network {
 	networks := make([]Network, 0, len(set.fours)+len(set.sixes))
 	for _, held := range set.fours {
@@ -113,13 +114,14 @@ func (set Set) Networks() []Network {
 	return networks
 }
 
-// Aggregate gives the fewest networks with the same addresses: those of IPv4 first, in ascending order.
+// Aggregate returns the fewest networks with the same addresses, in ascending order, IPv4 first. The error is NoFamily
+// if one is the zero Network.
 func Aggregate(networks []Network) ([]Network, error) {
 	set, err := NewSet(networks)
 	return set.Networks(), err
 }
 
-// Contains reports whether an address is one of the set, by a search in a few steps. No address with a zone is.
+// Contains reports whether an address is in the set, by a search in a few steps. No address with a zone is.
 func (set Set) Contains(address netip.Addr) bool {
 	told := set.search(toSearchSet, nil, nil, address)
 	if told.fault != C.IPNETWORK_NO_FAMILY {
@@ -128,10 +130,10 @@ func (set Set) Contains(address netip.Addr) bool {
 	return told.answer == 1
 }
 
-// ContainsColumn writes 1 or 0 to answers for each address of a column: whether it is one of the set, as Contains reports.
-// The column has packed addresses of one family, one after the other, of length octets each: 4 or 16. NoFamily for another
-// length, and if the column ends within an address; NoRoom if there are fewer answers than addresses: then nothing is
-// written.
+// ContainsColumn writes 1 to answers for each address of a column that is in the set, as Contains reports, and 0 for
+// each other. The column has packed addresses of one family, one after the other, of length octets each: 4 or 16. The
+// error is NoFamily for any other length or if the column ends within an address, and NoRoom if there are fewer answers
+// than addresses: then nothing is written.
 func (set Set) ContainsColumn(packed []byte, length int, answers []byte) error {
 	rows, err := packedRows(packed, length)
 	if err != nil {
@@ -155,11 +157,12 @@ func (set Set) ContainsColumn(packed []byte, length int, answers []byte) error {
 	return nil
 }
 
-// ContainsEach reports for each address whether it is one of the set, as Contains does, by one call for each 1,024 of them.
+// ContainsEach reports for each address whether it is in the set, as Contains does, with one call of the library for
+// every 1,024 addresses.
 func (set Set) ContainsEach(addresses []netip.Addr) []bool {
 	answers := make([]bool, len(addresses))
 	inPortions(addresses, func(from int, held []C.ipnetwork_address) {
-		// A bool of Go is a byte, 0 or 1.
+		// A Go bool is a byte, 0 or 1.
 		mustBe(C.ipnetwork_go_contains_each(start(set.fours), size(set.fours), start(set.fourIndex), size(set.fourIndex),
 			start(set.sixes), size(set.sixes), start(set.sixIndex), size(set.sixIndex), set.asMapped(), &held[0], size(held),
 			(*C.uint8_t)(unsafe.Pointer(&answers[from]))))

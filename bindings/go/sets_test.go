@@ -23,7 +23,7 @@ func TestSets(t *testing.T) {
 	}
 }
 
-// blocksWithin256 gives random networks of both families within 256 addresses, and which of these they have.
+// blocksWithin256 returns random networks of both families within 256 addresses, and which of these they have.
 func blocksWithin256(random *rand.Rand, count int) ([]Network, [256]bool) {
 	var networks []Network
 	var has [256]bool
@@ -70,7 +70,7 @@ func TestOperationsOnSets(t *testing.T) {
 	equal(t, "none", fmt.Sprint(empty.Networks(), err), "[] <nil>")
 }
 
-// asColumns compares what a column of each family is answered with what single addresses are.
+// asColumns compares the results for a column of each family with those for single addresses.
 func asColumns(t *testing.T, table Table, set Set, addresses []netip.Addr) {
 	for _, length := range []int{4, 16} {
 		var packed, has []byte
@@ -127,7 +127,7 @@ func TestManyRows(t *testing.T) {
 	asColumns(t, table, set, addresses)
 }
 
-// Tables of random networks: of each address the last network of the greatest prefix length that has it.
+// Tables of random networks: for each address, the last of the networks with the greatest prefix length that have it.
 func TestTables(t *testing.T) {
 	random := rand.New(rand.NewSource(31))
 	for round := 0; round < 100; round++ {
@@ -161,7 +161,7 @@ func TestTables(t *testing.T) {
 	asColumns(t, none, Set{}, []netip.Addr{netip.MustParseAddr("10.0.0.1"), netip.MustParseAddr("::1")})
 }
 
-// Networks that lie in each other, down to one address, at both ends of the address space: where one ends there is another.
+// Nested networks, down to one address, at both ends of the address space and within it.
 func TestNested(t *testing.T) {
 	for _, corner := range []string{"0.0.0.0", "255.255.255.255", "192.0.2.77", "::", "ffff:ffff:ffff:ffff:ffff:ffff:ffff:ffff", "2001:db8::77"} {
 		address := netip.MustParseAddr(corner)
@@ -184,7 +184,7 @@ func TestNested(t *testing.T) {
 	}
 }
 
-// Goroutines that ask one table and one set at the same time, while others are made of the same networks.
+// Goroutines that use one table and one set at the same time, while others are made from the same networks.
 func TestAskedAtOnce(t *testing.T) {
 	networks, addresses := networks10000()
 	table, _ := NewTable(networks)
@@ -210,7 +210,7 @@ func TestAskedAtOnce(t *testing.T) {
 	wait.Wait()
 }
 
-// A list of JSON that has a text of no network is refused, with the element that it is.
+// A JSON list with a text that names no network is refused, with the number of that element.
 func TestSetOfJSON(t *testing.T) {
 	var rules struct{ Denied Set }
 	list := `{"Denied": ["10.0.0.0/9", "2001:db8::/32", "10.128.0.0/9"]}`
@@ -246,7 +246,7 @@ func panics(ask func()) (told bool) {
 	return
 }
 
-// A fault that no set and no table has is told, and is not an answer.
+// A fault that no set or table can have causes a panic, and is not taken for an answer.
 func TestFaultsPanic(t *testing.T) {
 	set, _ := NewSet([]Network{MustParse("10.0.0.0/8")})
 	address := netip.MustParseAddr("10.1.2.3")
@@ -261,7 +261,7 @@ func TestFaultsPanic(t *testing.T) {
 	equal(t, "no address", panics(func() { set.Contains(netip.Addr{}) }), false)
 }
 
-// By Mapped an IPv4-mapped address has the answer of the IPv4 address, in each question.
+// With Mapped, an IPv4-mapped address has the result of the IPv4 address, in each question.
 func TestMapped(t *testing.T) {
 	networks := []Network{MustParse("10.0.0.0/8"), MustParse("10.1.0.0/16"), MustParse("::/0")}
 	set, _ := NewSet(networks)
@@ -307,7 +307,7 @@ func TestMapped(t *testing.T) {
 	equal(t, "kept", left.Contains(netip.MustParseAddr("::ffff:10.1.0.0")), false)
 }
 
-// A table and a set of many networks of each family, beside a search of all of them.
+// A table and a set of many networks of each family, compared with a linear search of all of them.
 func TestManyNetworks(t *testing.T) {
 	random := rand.New(rand.NewSource(9))
 	var prefixes []netip.Prefix

@@ -7,7 +7,7 @@ import (
 	"testing"
 )
 
-// Each measurement is of one question, or of one row of a column; those of net/netip stand beside them.
+// Each measurement is of one question, or of one row of a column; those of net/netip are next to them.
 
 var (
 	sink     bool
@@ -89,7 +89,7 @@ func BenchmarkMasked6OfNetip(b *testing.B) {
 	}
 }
 
-// many is how many rows a column or a slice has below.
+// many is the number of rows of each column or slice below.
 const many = 4096
 
 // benchRows asks about as many rows as there are measurements, many at a time.
@@ -118,7 +118,8 @@ func BenchmarkContainsEach(b *testing.B) {
 	benchRows(b, func() { sink = network.ContainsEach(addresses)[0] })
 }
 
-// benchReadColumn is of the texts that benchParse reads, and of random texts of both families, of which some name nothing.
+// benchReadColumn measures the texts that benchParse reads, and random texts of both families, some of which name
+// nothing.
 func benchReadColumn(b *testing.B, whole []byte, offsets []uint32) {
 	networks, faults := make([]Network, many), make([]byte, many)
 	benchRows(b, func() { _ = ReadColumn(whole, offsets, networks, faults) })
@@ -172,7 +173,8 @@ func BenchmarkParseAddrsOfNetip(b *testing.B) {
 	})
 }
 
-// networks10000 are 10,000 random IPv4 networks of 20 to 28 bits, and as many addresses, of which half lie in one.
+// networks10000 returns 10,000 random IPv4 networks with prefix lengths from 20 to 28, and as many addresses, half of
+// which are in one of them.
 func networks10000() (networks []Network, addresses []netip.Addr) {
 	random := rand.New(rand.NewSource(1))
 	for len(networks) < 10000 {
@@ -211,7 +213,7 @@ func BenchmarkContainsOfSet(b *testing.B) {
 	}
 }
 
-// packed10000 are many of the addresses of networks10000, one after the other.
+// packed10000 returns many of the addresses of networks10000, one after the other.
 func packed10000(addresses []netip.Addr) (packed []byte) {
 	for _, address := range addresses[:many] {
 		packed = append(packed, address.AsSlice()...)

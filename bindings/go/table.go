@@ -12,22 +12,23 @@ import (
 
 var toFind = (*[0]byte)(C.ipnetwork_go_find)
 
-// A Table finds the longest of some networks of either family that has an address. It does not change, and any goroutines
-// may ask it at the same time. The zero Table has no networks.
+// A Table finds the longest of some networks of either family that has an address. It does not change, so several
+// goroutines may use it at the same time. The zero Table has no networks.
 //
-// A table of n networks holds at most 2 n ranges of addresses, each with the number of its longest network, and an index of
-// them: at most 58 n bytes of IPv4 networks, and 82 n of IPv6. NewTable makes all of it, and no question allocates but
-// FindEach, for its result.
+// A table of n networks holds at most 2 n ranges of addresses, each with the number of its longest network, and an
+// index of them: at most 58 n bytes for IPv4 networks, and 82 n for IPv6. NewTable makes all of it, and no question
+// allocates except FindEach, and FindColumn of 16-octet addresses in a table that Mapped returned.
 //
-// An IPv4-mapped IPv6 address, such as ::ffff:10.1.9.32, is in no IPv4 network: ask about its Unmap, or ask the table that
-// Mapped gives.
+// An IPv4-mapped IPv6 address, such as ::ffff:10.1.9.32, is in no IPv4 network: ask about its Unmap, or use the table
+// that Mapped returns.
 type Table struct {
 	lists
 	// The number of the longest network of each range, or -1.
 	fourNumbers, sixNumbers []int
 }
 
-// NewTable gives the table of networks, in any order, host bits or not; NoFamily if one is the zero Network.
+// NewTable returns the table of networks, in any order and with or without host bits. The error is NoFamily if one is
+// the zero Network.
 func NewTable(networks []Network) (Table, error) {
 	var fours []C.ipnetwork_v4
 	var sixes []C.ipnetwork_v6
@@ -53,14 +54,14 @@ func NewTable(networks []Network) (Table, error) {
 	return table, nil
 }
 
-// Mapped gives the same table, which takes an IPv4-mapped IPv6 address that it is asked about for the IPv4 address.
+// Mapped returns the same table, in which an IPv4-mapped IPv6 address that is asked about counts as the IPv4 address.
 func (table Table) Mapped() Table {
 	table.mapped = true
 	return table
 }
 
-// ranged gives the ranges of the table of networks of one family, the number of the longest network of each, and the index
-// of the ranges.
+// ranged returns the ranges of the table of networks of one family, the number of the longest network of each range,
+// and the index of the ranges.
 func ranged[Struct any](width C.size_t, networks []Struct, numbers []int) ([]Struct, []int, []C.uint32_t, error) {
 	blocks, places := make([]Struct, len(networks)), make([]C.size_t, len(networks))
 	in := bytesOf(blocks)
@@ -86,11 +87,11 @@ func ranged[Struct any](width C.size_t, networks []Struct, numbers []int) ([]Str
 	return ranges, trimmed(told[:count]), index, err
 }
 
-// int64s is the first of some numbers, which have 64 bits here, or none.
+// int64s returns a pointer to the first of some numbers, which have 64 bits here, or nil.
 func int64s(numbers []int) *C.int64_t { return (*C.int64_t)(unsafe.Pointer(start(numbers))) }
 
-// Find returns which of the networks, counted from 0, is the longest one that has an address: the last one, if some have the
-// same block. The number is -1 if none has it, as none has an address with a zone.
+// Find returns the number, counted from 0, of the longest network that has an address, and of networks with the same
+// block that of the last one. It returns -1 if no network has the address, as for an address with a zone.
 func (table Table) Find(address netip.Addr) int {
 	told := table.search(toFind, table.fourNumbers, table.sixNumbers, address)
 	if told.fault == C.IPNETWORK_NO_FAMILY {
@@ -100,9 +101,9 @@ func (table Table) Find(address netip.Addr) int {
 	return int(told.number)
 }
 
-// FindColumn writes to numbers what Find returns for each address of a column, by one call. The column has packed addresses
-// of one family, one after the other, of length octets each: 4 or 16. NoFamily for another length, and if the column ends
-// within an address; NoRoom if there are fewer numbers than addresses: then nothing is written.
+// FindColumn writes to numbers what Find returns for each address of a column. The column has packed addresses of one
+// family, one after the other, of length octets each: 4 or 16. The error is NoFamily for any other length or if the
+// column ends within an address, and NoRoom if there are fewer numbers than addresses: then nothing is written.
 func (table Table) FindColumn(packed []byte, length int, numbers []int) error {
 	rows, err := packedRows(packed, length)
 	if err != nil {
@@ -124,7 +125,7 @@ func (table Table) FindColumn(packed []byte, length int, numbers []int) error {
 	return nil
 }
 
-// FindEach returns for each address what Find does, by one call for each 1,024 of them.
+// FindEach returns for each address what Find does, with one call of the library for every 1,024 addresses.
 func (table Table) FindEach(addresses []netip.Addr) []int {
 	numbers := make([]int, len(addresses))
 	inPortions(addresses, func(from int, held []C.ipnetwork_address) {

@@ -1,32 +1,35 @@
 /**
- * IP networks in CIDR notation, read, printed and asked by a proved library.
+ * IP networks in CIDR notation, read, printed and queried by a proved library.
  *
  * A network keeps the host bits of its address. Its members are the addresses that share the first
- * bits of its address, as many as the prefix length says. Values do not change, and their text
- * (`toString`) is the key of a `Map` for them: two of them are equal exactly if their texts are.
+ * bits of its address, as many as the prefix length says. Values do not change. Two of them are
+ * equal exactly if their texts (`toString`) are, so use the text as the key of a `Map`.
  *
- * `structuredClone` and `postMessage` refuse values: send the text, or what `toJSON` gives.
+ * `structuredClone` and `postMessage` refuse values: send the text, or the result of `toJSON`.
  *
  * An argument of a wrong type is a `TypeError` that names the argument. A text that names no
- * network, and a prefix length that is none, is an `IpNetworkError` with the cause as its `code`.
+ * network, or an invalid prefix length, is an `IpNetworkError` with the cause as its `code`.
  */
 
 /** Why something is refused: see {@link IpNetworkError.code}. */
 export type IpNetworkErrorCode = 'format' | 'address' | 'prefix' | 'range' | 'freed';
 
-/** The error for what names no network, no address or no range. */
+/**
+ * The error for a text that names no network or address, an invalid prefix length or range, or a
+ * freed object.
+ */
 export class IpNetworkError extends Error {
   readonly name: 'IpNetworkError';
   /**
-   * The cause. `format`: the text has two or more slashes; `address`: what stands before the slash,
-   * or the whole text, is no address; `prefix`: what stands after the slash is no prefix length, or
-   * a number is none; `range`: the first address of a range comes after the last one, or they are
-   * of two families; `freed`: the set or the table was freed.
+   * The cause. `format`: the text has two or more slashes; `address`: the part before the slash, or
+   * the whole text, is not an address; `prefix`: the part after the slash, or a number, is not a
+   * prefix length; `range`: the first address of a range comes after the last one, or they are of
+   * different families; `freed`: the set or the table was freed.
    */
   readonly code: IpNetworkErrorCode;
   /** The text that was refused, if it was a text. */
   readonly input?: string;
-  /** Its place, if it stood in a list. */
+  /** Its index, if it was in a list. */
   readonly index?: number;
 }
 
@@ -41,8 +44,8 @@ export abstract class IpAddress {
   /** The same, but undefined if the text names none. */
   static tryParse(text: string): Ipv4Address | Ipv6Address | undefined;
   /**
-   * The address of these 4 or 16 octets, the highest first. RangeError if they are of another
-   * number.
+   * The address of these 4 or 16 octets, the highest first. RangeError if there are neither 4 nor
+   * 16.
    */
   static fromOctets(octets: Uint8Array): Ipv4Address | Ipv6Address;
   /** The order of two addresses, for `sort`. */
@@ -52,8 +55,8 @@ export abstract class IpAddress {
   /** A copy of the octets, 4 or 16, the highest first. */
   readonly octets: Uint8Array;
   /**
-   * The IPv4 address that an IPv4-mapped one, of ::ffff:0:0/96, stands for (RFC 4291, section
-   * 2.5.5.2), and any other as it is.
+   * The IPv4 address in an IPv4-mapped one, of ::ffff:0:0/96 (RFC 4291, section 2.5.5.2); any other
+   * address as it is.
    */
   readonly unmapped: Ipv4Address | Ipv6Address;
   /**
@@ -61,11 +64,13 @@ export abstract class IpAddress {
    * IPv6.
    */
   compare(other: IpAddress): -1 | 0 | 1;
-  /** Whether both are the same address. An IPv4-mapped IPv6 address equals no IPv4 address. */
+  /**
+   * Whether both are the same address. An IPv4-mapped IPv6 address is not equal to an IPv4 address.
+   */
   equals(other: IpAddress): boolean;
   /**
-   * The canonical text. That of IPv6 is as RFC 5952, section 4, says, with IPv4-mapped addresses
-   * dotted.
+   * The canonical text. IPv6 addresses are printed as RFC 5952, section 4, says, and IPv4-mapped
+   * ones end in dotted decimal.
    */
   toString(): string;
   /** The same. */
@@ -74,7 +79,7 @@ export abstract class IpAddress {
 
 /** An IPv4 address. */
 export class Ipv4Address extends IpAddress {
-  /** The address of this number, from 0 to 4294967295. RangeError if it is another. */
+  /** The address with this number, from 0 to 4294967295. RangeError for any other number. */
   constructor(number: number);
   static parse(text: string): Ipv4Address;
   static tryParse(text: string): Ipv4Address | undefined;
@@ -87,7 +92,7 @@ export class Ipv4Address extends IpAddress {
 
 /** An IPv6 address. */
 export class Ipv6Address extends IpAddress {
-  /** The address of this number, from 0n to 2n ** 128n - 1n. RangeError if it is another. */
+  /** The address with this number, from 0n to 2n ** 128n - 1n. RangeError for any other number. */
   constructor(number: bigint);
   static parse(text: string): Ipv6Address;
   static tryParse(text: string): Ipv6Address | undefined;
@@ -97,7 +102,7 @@ export class Ipv6Address extends IpAddress {
   readonly number: bigint;
 }
 
-/** How the addresses of one network stand to those of another. */
+/** How the addresses of one network relate to those of another. */
 export type Relation = 'same' | 'inside' | 'around' | 'apart';
 
 /** A network of either family. It is also an iterable of its addresses, in ascending order. */
@@ -106,8 +111,8 @@ export abstract class IpNetwork<A extends IpAddress = Ipv4Address | Ipv6Address>
   protected constructor();
   /**
    * The network that a text names: an address, and after a `/` a prefix length or, for IPv4, a
-   * mask. Without a `/` it is the single address. IpNetworkError with the cause if the text names
-   * none.
+   * mask. Without a `/`, it is the network of the single address. IpNetworkError with the cause if
+   * the text names none.
    */
   static parse(text: string): Ipv4Network | Ipv6Network;
   /** The same, but undefined if the text names none. */
@@ -129,24 +134,24 @@ export abstract class IpNetwork<A extends IpAddress = Ipv4Address | Ipv6Address>
   readonly last: A;
   /** The mask. */
   readonly mask: A;
-  /** The number of members: two to the power of the host bits. */
+  /** The number of members: two to the power of the number of host bits. */
   readonly size: bigint;
   /** The network with the same members and no host bits. */
   readonly block: IpNetwork<A>;
   /**
-   * Whether an address is a member. One of the other family is none. IpNetworkError for a text that
-   * names no address.
+   * Whether an address is a member. An address of the other family is not. IpNetworkError for a
+   * text that names no address.
    */
   contains(address: IpAddress | string): boolean;
-  /** Whether each member of this network is one of the other. */
+  /** Whether each member of this network is a member of the other. */
   isSubnetOf(other: IpNetwork | string): boolean;
-  /** Whether each member of the other network is one of this. */
+  /** Whether each member of the other network is a member of this one. */
   isSupernetOf(other: IpNetwork | string): boolean;
-  /** Whether some address is a member of both. */
+  /** Whether some address is a member of both networks. */
   overlaps(other: IpNetwork | string): boolean;
   /**
-   * Whether both have the same members, this lies inside the other or around it, or they share
-   * none.
+   * Whether both have the same members, this network is inside the other or around it, or they
+   * share none.
    */
   relationTo(other: IpNetwork | string): Relation;
   /**
@@ -155,14 +160,14 @@ export abstract class IpNetwork<A extends IpAddress = Ipv4Address | Ipv6Address>
   compare(other: IpNetwork): -1 | 0 | 1;
   /** Whether both have the same address, host bits included, and the same prefix length. */
   equals(other: IpNetwork): boolean;
-  /** The member of this number, counted from 0; undefined past the last. */
+  /** The member with this number, counted from 0; undefined past the last. */
   nth(number: number | bigint): A | undefined;
   /**
    * The blocks of this prefix length within the network, in ascending order. IpNetworkError if it
-   * is less than its own.
+   * is less than the network's own, or not a prefix length of the family.
    */
   subnets(prefix: number): IterableIterator<IpNetwork<A>>;
-  /** The one of this number, counted from 0; undefined past the last. */
+  /** The block with this number, counted from 0; undefined past the last. */
   subnetAt(prefix: number, number: number | bigint): IpNetwork<A> | undefined;
   [Symbol.iterator](): IterableIterator<A>;
   /**
@@ -197,28 +202,29 @@ export class Ipv6Network extends IpNetwork<Ipv6Address> {
   subnetAt(prefix: number, number: number | bigint): Ipv6Network | undefined;
 }
 
-/** How addresses are taken that are asked for. */
+/** An option for the addresses that are asked about. */
 export interface Mapped {
   /**
-   * Whether an IPv4-mapped address, such as ::ffff:10.1.9.32, is taken for the IPv4 address that it
-   * stands for, as `unmapped` gives it. A server that listens on IPv6 tells its IPv4 peers so. The
-   * networks of a list are not changed. Not unless it is true.
+   * Whether an IPv4-mapped address, such as ::ffff:10.1.9.32, counts as the IPv4 address in it,
+   * which `unmapped` returns. A server that listens on IPv6 sees its IPv4 peers so. The networks of
+   * a list are not changed. The default is false.
    */
   readonly mapped?: boolean;
 }
 
 /**
- * A column of texts read as addresses in a few calls. It is also an iterable of what `at` gives.
+ * A column of texts read as addresses in a few calls. It is also an iterable of the results of
+ * `at`.
  */
 export class AddressColumn implements Iterable<Ipv4Address | Ipv6Address | undefined> {
   private constructor();
-  /** Reads a column. A text that names no address stops nothing. */
+  /** Reads a column. A text that names no address does not stop the call. */
   static read(texts: readonly string[], options?: Mapped): AddressColumn;
   /** The number of rows. */
   readonly length: number;
   /** How many of them name no address. */
   readonly refused: number;
-  /** The address of a row; undefined if its text names none, and where there is no such row. */
+  /** The address of a row; undefined if its text names none, or if there is no such row. */
   at(row: number): Ipv4Address | Ipv6Address | undefined;
   /** Why the text of a row names none; undefined if it names one. */
   codeAt(row: number): 'address' | undefined;
@@ -227,16 +233,18 @@ export class AddressColumn implements Iterable<Ipv4Address | Ipv6Address | undef
   toJSON(): (string | null)[];
 }
 
-/** A column of texts read as networks in a few calls. It is also an iterable of what `at` gives. */
+/**
+ * A column of texts read as networks in a few calls. It is also an iterable of the results of `at`.
+ */
 export class NetworkColumn implements Iterable<Ipv4Network | Ipv6Network | undefined> {
   private constructor();
-  /** Reads a column. A text that names no network stops nothing. */
+  /** Reads a column. A text that names no network does not stop the call. */
   static read(texts: readonly string[]): NetworkColumn;
   /** The number of rows. */
   readonly length: number;
   /** How many of them name no network. */
   readonly refused: number;
-  /** The network of a row; undefined if its text names none, and where there is no such row. */
+  /** The network of a row; undefined if its text names none, or if there is no such row. */
   at(row: number): Ipv4Network | Ipv6Network | undefined;
   /** Why the text of a row names none; undefined if it names one. */
   codeAt(row: number): 'format' | 'address' | 'prefix' | undefined;
@@ -248,7 +256,7 @@ export class NetworkColumn implements Iterable<Ipv4Network | Ipv6Network | undef
 }
 
 /**
- * Networks as a list, or as a column none of whose rows is refused. A wrong text is an
+ * Networks as a list, or as a column in which each text names one. A text that names none is an
  * IpNetworkError with its index.
  */
 export type Networks = (Iterable<IpNetwork | string> & object) | NetworkColumn;
@@ -258,32 +266,32 @@ export type AddressRange =
   { first: Ipv4Address; last: Ipv4Address } | { first: Ipv6Address; last: Ipv6Address };
 
 /**
- * A set of addresses of both families, kept as the fewest networks with exactly these. It is also
- * an iterable of these networks.
+ * A set of addresses of both families, kept as the fewest networks with exactly these addresses. It
+ * is also an iterable of these networks.
  */
 export class AddressSet implements Iterable<Ipv4Network | Ipv6Network> {
-  /** The addresses of networks, in any order, host bits or not. */
+  /** The set of the addresses of networks, in any order and with or without host bits. */
   constructor(networks?: Networks, options?: Mapped);
-  /** Whether the option was given to it, or to a set that it is made of. */
+  /** Whether the option was given for this set, or for a set that it is made from. */
   readonly mapped: boolean;
-  /** Whether an address lies in the set, by a binary search. */
+  /** Whether an address is in the set, by a binary search. */
   contains(address: IpAddress | string): boolean;
-  /** Whether each member of a network lies in the set. */
+  /** Whether each member of a network is in the set. */
   covers(network: IpNetwork | string): boolean;
   /**
-   * For each row 1 if its address lies in the set, else 0. A row without an address does not:
-   * `codeAt` tells which.
+   * For each row 1 if its address is in the set, else 0. A row without an address has 0: `codeAt`
+   * tells which do.
    */
   containsColumn(addresses: AddressColumn | readonly string[]): Uint8Array;
-  /** The addresses of both or of one. */
+  /** The addresses that are in at least one of the two sets. */
   union(other: AddressSet): AddressSet;
-  /** The addresses that both have. */
+  /** The addresses that are in both sets. */
   intersection(other: AddressSet): AddressSet;
-  /** The addresses of this set that the other has not. */
+  /** The addresses that are in this set and not in the other. */
   difference(other: AddressSet): AddressSet;
-  /** The addresses that one of both has, and not the other. */
+  /** The addresses that are in exactly one of the two sets. */
   symmetricDifference(other: AddressSet): AddressSet;
-  /** All addresses of both families that the set has not. */
+  /** All addresses of both families that are not in the set. */
   complement(): AddressSet;
   /** Whether both have the same addresses, whatever their options are. */
   equals(other: AddressSet): boolean;
@@ -291,60 +299,57 @@ export class AddressSet implements Iterable<Ipv4Network | Ipv6Network> {
   readonly size: bigint;
   /** The number of its networks. */
   readonly blockCount: number;
-  /** The fewest networks with its addresses, in ascending order, those of IPv4 first. */
+  /** The fewest networks with its addresses, in ascending order, IPv4 first. */
   blocks(): IterableIterator<Ipv4Network | Ipv6Network>;
   [Symbol.iterator](): IterableIterator<Ipv4Network | Ipv6Network>;
-  /**
-   * The fewest ranges with its addresses, both ends included, in ascending order, those of IPv4
-   * first.
-   */
+  /** The fewest ranges with its addresses, both ends included, in ascending order, IPv4 first. */
   ranges(): IterableIterator<AddressRange>;
   /** The texts of its networks. */
   toJSON(): string[];
   /**
-   * Gives its memory back now, and not only when the set is collected. No call but this one may
-   * follow.
+   * Frees its memory now, and not only when the set is collected. After that, no call but this one
+   * may be made.
    */
   free(): void;
 }
 
-/** Networks with values, asked for the longest network that has an address. */
+/** Networks with values, searched for the longest network that has an address. */
 export class PrefixTable<V> implements Iterable<[Ipv4Network | Ipv6Network, V]> {
-  /** A table of pairs. Of pairs whose networks have the same members, the last one counts. */
+  /**
+   * A table of pairs. If the networks of several pairs have the same members, the last pair counts.
+   */
   constructor(entries?: Iterable<readonly [IpNetwork | string, V]>, options?: Mapped);
-  /** Whether the option was given to it. */
+  /** Whether the option was given for this table. */
   readonly mapped: boolean;
   /**
-   * The longest network with an address, without host bits, and its value; undefined if none has
-   * it.
+   * The longest network that has an address, without host bits, and its value; undefined if none
+   * has it.
    */
   lookup(address: IpAddress | string): { network: Ipv4Network | Ipv6Network; value: V } | undefined;
   /**
-   * For each row the value that lookup gives of its address; undefined if there is none, or no
-   * address.
+   * For each row the value that `lookup` finds for its address; undefined if it finds none, or the
+   * row has no address.
    */
   lookupColumn(addresses: AddressColumn | readonly string[]): (V | undefined)[];
   /** The value of the network with exactly these members. */
   get(network: IpNetwork | string): V | undefined;
-  /** Whether there is one. */
+  /** Whether the table has the network with exactly these members. */
   has(network: IpNetwork | string): boolean;
   /** The number of networks. */
   readonly size: number;
-  /**
-   * The networks, without host bits, with their values, in ascending order, those of IPv4 first.
-   */
+  /** The networks, without host bits, with their values, in ascending order, IPv4 first. */
   entries(): IterableIterator<[Ipv4Network | Ipv6Network, V]>;
   [Symbol.iterator](): IterableIterator<[Ipv4Network | Ipv6Network, V]>;
   /** The texts of the networks with their values. */
   toJSON(): [string, V][];
   /**
-   * Gives its memory back now, and not only when the table is collected. No call but this one may
-   * follow.
+   * Frees its memory now, and not only when the table is collected. After that, no call but this
+   * one may be made.
    */
   free(): void;
 }
 
-/** The fewest networks with the addresses of these, in ascending order, those of IPv4 first. */
+/** The fewest networks with the addresses of these networks, in ascending order, IPv4 first. */
 export function aggregate(networks: Networks): (Ipv4Network | Ipv6Network)[];
 
 /** The fewest networks with the addresses from first to last, both included, in ascending order. */

@@ -1,9 +1,9 @@
-/* Functions of SQL on IP networks in CIDR notation: a loadable extension of SQLite over the library for C. README.md
- * beside this file says what each answers.
+/* SQL functions for IP networks in CIDR notation: a loadable extension for SQLite on top of the library for C.
+ * README.md next to this file says what each function returns.
  *
- * Nothing is kept between statements, and nothing is allocated here but what longest.h keeps for one: answers and
- * messages are made on the stack, and SQLite copies them. The one variable is the pointer to SQLite's functions that
- * sqlite3ext.h asks each extension for. */
+ * Nothing is kept between statements, and nothing is allocated here except what longest.h keeps for one statement:
+ * results and messages are made on the stack, and SQLite copies them. The only variable is the pointer to SQLite's
+ * functions that sqlite3ext.h requires of each extension. */
 #include "ipnetwork.h"
 
 #include <sqlite3ext.h>
@@ -14,13 +14,13 @@ SQLITE_EXTENSION_INIT1
 #error "cidr.c needs the header of SQLite 3.31 or later"
 #endif
 
-/* How many bytes of a refused text a message shows. */
+/* The number of bytes of a refused text that a message shows. */
 #define SHOWN 60
 
-/* Enough for these bytes, each as \xHH, and the zero byte after them. */
+/* The size of a buffer for these bytes, each as \xHH, and a zero byte. */
 #define SHOWN_TEXT (4 * SHOWN + 1)
 
-/* Enough for a message: the name of a function, what a fault says and the bytes shown are most of it. */
+/* The size of a buffer for a message: most of it is the name of a function, the text of a fault and the bytes shown. */
 #define MESSAGE (SHOWN_TEXT + IPNETWORK_FAULT_TEXT + 120)
 
 struct text {
@@ -28,7 +28,7 @@ struct text {
     size_t length;
 };
 
-/* A function of SQL: answer is called with as many values as it has arguments, none of which is NULL. */
+/* An SQL function: answer is called with as many values as the function has arguments, none of which is NULL. */
 struct function {
     const char *name;
     int arguments;
@@ -40,7 +40,7 @@ static const char *name_of_call(sqlite3_context *context) {
     return function->name;
 }
 
-/* The front of a text, for a message. A byte that is not printable ASCII, and a quote and a backslash, is \xHH. */
+/* The front of a text, for a message. A byte that is not printable ASCII, a quote or a backslash is shown as \xHH. */
 static void show(struct text text, char shown[SHOWN_TEXT]) {
     char *end = shown;
     for (size_t i = 0; i < text.length && i < SHOWN; i++) {
@@ -55,14 +55,14 @@ static void show(struct text text, char shown[SHOWN_TEXT]) {
     *end = '\0';
 }
 
-/* What a fault says, and a zero byte after it. */
+/* The text of a fault, and a zero byte. */
 static void tell(ipnetwork_fault fault, char words[IPNETWORK_FAULT_TEXT]) {
     size_t length;
     if (ipnetwork_fault_text(fault, words, IPNETWORK_FAULT_TEXT, &length) != IPNETWORK_OK)
         words[0] = '\0';
 }
 
-/* The error of an argument, counted from 0, whose text is refused. */
+/* The error for an argument, counted from 0, whose text is refused. */
 static void refuse(sqlite3_context *context, int argument, ipnetwork_fault fault, struct text text) {
     char words[IPNETWORK_FAULT_TEXT], shown[SHOWN_TEXT], message[MESSAGE];
     const char *name = name_of_call(context);
@@ -86,7 +86,7 @@ static const char *name_of_type(int type) {
     }
 }
 
-/* The error of an argument, counted from 0, of another type than this. */
+/* The error for an argument, counted from 0, that is not of this type. */
 static void refuse_type(sqlite3_context *context, sqlite3_value **values, int argument, const char *wanted) {
     char message[MESSAGE];
     sqlite3_snprintf(MESSAGE, message, "%s, argument %d: %s, not %s", name_of_call(context), argument + 1,
@@ -131,7 +131,7 @@ static int take_address(sqlite3_context *context, sqlite3_value **values, int ar
     return fault == IPNETWORK_OK;
 }
 
-/* Whether these bytes are a blob of give_address: then what address it is. */
+/* Whether these bytes are a blob of give_address; if so, the address. */
 static int address_of_blob(const uint8_t *blob, size_t length, ipnetwork_address *address) {
     if ((length != 5 || blob[0] != 4) && (length != 17 || blob[0] != 6))
         return 0;
@@ -158,8 +158,8 @@ static int take_blob(sqlite3_context *context, sqlite3_value **values, int argum
     return 1;
 }
 
-/* Whether a call of the library gave an answer. The library refuses no struct that it has read itself, so that this
- * error is for a library that is not the one of the header. */
+/* Whether a call of the library succeeded. The library does not refuse a struct that it has read itself, so an error
+ * here means that the library does not match its header. */
 static int is_answered(sqlite3_context *context, ipnetwork_fault fault) {
     char words[IPNETWORK_FAULT_TEXT], message[MESSAGE];
     if (fault == IPNETWORK_OK)
@@ -200,7 +200,7 @@ static void answer_text(sqlite3_context *context, sqlite3_value **values) {
         give_network(context, &network);
 }
 
-/* NULL, the result that SQLite has where none is given, for what is no text of a network. */
+/* NULL, which SQLite takes as the result if none is set, for a text that names no network. */
 static void answer_text_or_null(sqlite3_context *context, sqlite3_value **values) {
     struct text text;
     ipnetwork_ip network;
@@ -246,7 +246,7 @@ static void answer_addr(sqlite3_context *context, sqlite3_value **values) {
         give_address(context, &address);
 }
 
-/* NULL for what is no text of an address. */
+/* NULL for a text that names no address. */
 static void answer_addr_or_null(sqlite3_context *context, sqlite3_value **values) {
     struct text text;
     ipnetwork_address address;
@@ -311,7 +311,7 @@ static const struct function functions[] = {
 
 #include "longest.h"
 
-/* What SQLite calls for each of them. The result is NULL if an argument is. */
+/* SQLite calls this for each function. The result is NULL if an argument is. */
 static void call(sqlite3_context *context, int count, sqlite3_value **values) {
     const struct function *function = sqlite3_user_data(context);
     for (int i = 0; i < count; i++)
@@ -323,7 +323,7 @@ static void call(sqlite3_context *context, int count, sqlite3_value **values) {
 #if defined(__GNUC__)
 __attribute__((visibility("default")))
 #endif
-/* What SQLite calls as it loads the extension; its name is made of the name of the file, cidr.so. */
+/* SQLite calls this when it loads the extension; its name is derived from the file name, cidr.so. */
 int sqlite3_cidr_init(sqlite3 *database, char **message, const sqlite3_api_routines *api) {
     (void)message;
     SQLITE_EXTENSION_INIT2(api)

@@ -1,10 +1,10 @@
-/* cidr_longest(list, address), a table-valued function: the longest network of a list that has an address. A part of
- * cidr.c, whose functions for messages it uses.
+/* cidr_longest(list, address), a table-valued function: the longest network of a list that has an address. This file is
+ * part of cidr.c, whose functions for messages it uses.
  *
- * A cursor reads the list once, into a table of the library for each family, and asks it of each address after that. It
- * is a cursor of one statement: what is kept goes with it. */
+ * A cursor reads the list once, into a table of the library for each family, and then searches it for each address. A
+ * cursor belongs to one statement, and what it keeps is freed with it. */
 
-/* The networks of a list of one family, V, with the rows that they stand in, and the library's table of them. */
+/* The networks of one family, V, of a list, with their row numbers, and the library's table of them. */
 #define LIST(V)                                                                                            \
     struct list_##V {                                                                                      \
         ipnetwork_##V *networks, *blocks;                                                                  \
@@ -78,7 +78,8 @@ struct longest {
     sqlite3 *database;
 };
 
-/* The row that was found, unless it is at its end; and the list of this name, which is NULL before one is read. */
+/* The row that was found, unless the cursor is at its end; and the name of the list, which is NULL before one is
+ * read. */
 struct cursor {
     sqlite3_vtab_cursor base;
     char *name;
@@ -104,7 +105,7 @@ static int longest_connect(sqlite3 *database, void *nothing, int count, const ch
     memset(table, 0, sizeof *table);
     table->database = database;
     *made = &table->base;
-    /* It reads any table that it is told: not where a schema says so. */
+    /* It reads any table that it is given, so a schema may not use it. */
     return sqlite3_vtab_config(database, SQLITE_VTAB_DIRECTONLY);
 }
 
@@ -113,14 +114,14 @@ static int longest_disconnect(sqlite3_vtab *table) {
     return SQLITE_OK;
 }
 
-/* What stops a statement: a message, which the caller gives by sqlite3_mprintf. */
+/* Stops a statement with a message, which the caller makes with sqlite3_mprintf. */
 static int stop(sqlite3_vtab *table, char *message) {
     sqlite3_free(table->zErrMsg);
     table->zErrMsg = message;
     return message == NULL ? SQLITE_NOMEM : SQLITE_ERROR;
 }
 
-/* Both arguments are given, in this order. */
+/* Both arguments must be given, in this order. */
 static int longest_plan(sqlite3_vtab *table, sqlite3_index_info *info) {
     int given[2] = {-1, -1};
     for (int i = 0; i < info->nConstraint; i++) {
@@ -166,7 +167,7 @@ static int longest_close(sqlite3_vtab_cursor *base) {
     return SQLITE_OK;
 }
 
-/* Adds the network of the row that a statement is at. One without a network, NULL, is passed over. */
+/* Adds the network in the current row of a statement. A row with NULL instead of a network is skipped. */
 static int add_row(struct cursor *cursor, sqlite3_stmt *rows, const char *name) {
     sqlite3_int64 row = sqlite3_column_int64(rows, 0);
     int type = sqlite3_column_type(rows, 1);
@@ -221,7 +222,7 @@ static int read_list(struct cursor *cursor, const char *name) {
     return status;
 }
 
-/* The address that an argument is, as a text or as a blob. */
+/* The address in an argument, as a text or as a blob. */
 static int read_address(struct cursor *cursor, sqlite3_value *value, ipnetwork_address *address) {
     sqlite3_vtab *table = cursor->base.pVtab;
     int type = sqlite3_value_type(value);

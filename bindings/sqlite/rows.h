@@ -1,8 +1,7 @@
 #ifndef ROWS_H
 #define ROWS_H
 
-/* Expressions of SQL, and the answer of each as quote() prints it; or, where it begins with "error: ", the message of
- * the refusal. */
+/* SQL expressions, and the result of each as quote() prints it; or, if it begins with "error: ", the error message. */
 struct row {
     const char *expression, *answer;
 };
@@ -93,7 +92,7 @@ static const struct row rows[] = {
     {"cidr_addr('10.9.8.7') BETWEEN cidr_first('::/0') AND cidr_last('::/0')", "0"},
     {"cidr_addr('10.9.8.7') BETWEEN cidr_first('10.0.0.0/8') AND cidr_last('10.0.0.0/8')", "1"},
 
-    /* RFC 4291, section 2.5.5.2: what an IPv4-mapped address stands for; any other one is as it is. */
+    /* RFC 4291, section 2.5.5.2: the IPv4 address in an IPv4-mapped one; any other address as it is. */
     {"cidr_unmapped('::ffff:129.144.52.38')", "'129.144.52.38'"},
     {"cidr_unmapped('0:0:0:0:0:FFFF:7F00:1')", "'127.0.0.1'"},
     {"cidr_unmapped('::ffff:0:0')", "'0.0.0.0'"},
@@ -123,7 +122,7 @@ static const struct row rows[] = {
     {"cidr_print(X'')", "error: cidr_print, argument 1: a blob of 0 bytes that is no address"},
     {"cidr_print(zeroblob(17))", "error: cidr_print, argument 1: a blob of 17 bytes that is no address"},
 
-    /* NULL in the place of an error, whatever is wrong, and else the same. */
+    /* NULL instead of an error, whatever is wrong, and otherwise the same. */
     {"cidr_text_or_null('10.1.9.32/255.255.0.0')", "'10.1.9.32/16'"},
     {"cidr_text_or_null('2001:DB8::1/064')", "'2001:db8::1/64'"},
     {"cidr_text_or_null('10/8')", "NULL"},
@@ -255,7 +254,7 @@ static const struct row rows[] = {
     {"cidr_text_or_null(NULL)", "NULL"},
     {"cidr_addr_or_null(NULL)", "NULL"},
 
-    /* Each takes as many arguments as it has. */
+    /* A wrong number of arguments. */
     {"cidr_text()", "error: wrong number of arguments to function cidr_text()"},
     {"cidr_text('::', '::')", "error: wrong number of arguments to function cidr_text()"},
     {"cidr_has('::')", "error: wrong number of arguments to function cidr_has()"},

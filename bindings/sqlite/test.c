@@ -1,10 +1,10 @@
-/* The extension of SQLite, loaded as others load it: rows with known answers, in a database of each encoding; texts
- * that SQL cannot spell; schemas that use the functions; memory that is refused; four threads at once.
+/* Tests the extension for SQLite, loaded like any other: rows with known results, in a database of each encoding; texts
+ * that SQL cannot spell; schemas that use the functions; refused memory; four threads at once.
  *
  *   test PATH_OF_THE_EXTENSION [LENGTH]
  *
- * LENGTH is how many bytes the longest texts have, 10,000,000 where it is not given; in UTF-16 at most 100,000. Each
- * answer that is not the right one is a line on standard error. The status is 0 if there is none. */
+ * LENGTH is the length of the longest texts in bytes, by default 10,000,000, and at most 100,000 in UTF-16. Each wrong
+ * result is a line on standard error. The status is 0 if there is none. */
 #include "rows.h"
 
 #include <pthread.h>
@@ -18,7 +18,7 @@ static const char *extension;
 static size_t longest = 10000000;
 static atomic_int failures;
 
-/* What stops the test: there is no answer to judge. */
+/* Stops the test, because there is no result to check. */
 static void need(int holds, const char *what) {
     if (holds)
         return;
@@ -40,8 +40,8 @@ static sqlite3 *open_database(const char *encoding) {
     return database;
 }
 
-/* The first column of the first row of a statement, NULL where it has none, as quote() prints it, or "error: " and the
- * message. The parameter ?1 is a text of these bytes, which stand in a block of their own. */
+/* The first column of the first row of a statement as quote() prints it, or NULL if there is no row; or "error: " and
+ * the message. The parameter ?1 is a text of these bytes, in a block of exactly their size. */
 static char *answer(sqlite3 *database, const char *sql, const char *bytes, size_t length) {
     sqlite3_stmt *statement = NULL;
     char *copy = malloc(length + 1), *said;
@@ -72,7 +72,7 @@ static char *answer(sqlite3 *database, const char *sql, const char *bytes, size_
     return said;
 }
 
-/* Sees that the answer to an expression is this one, or, where it ends with "..", begins with what stands before. */
+/* Checks the result of an expression; if the expected one ends with "..", only the part before that. */
 static void expect_of(sqlite3 *database, const char *expression, const char *bytes, size_t length, const char *right) {
     char *sql = sqlite3_mprintf("SELECT quote(%s)", expression);
     need(sql != NULL, "no memory");
@@ -91,7 +91,7 @@ static void expect(sqlite3 *database, const char *expression, const char *right)
     expect_of(database, expression, NULL, 0, right);
 }
 
-/* Sees that a statement, or several, are run. */
+/* Checks that one or more statements run without an error. */
 static void run(sqlite3 *database, const char *sql) {
     char *message = NULL;
     if (sqlite3_exec(database, sql, NULL, NULL, &message) != SQLITE_OK) {
@@ -106,7 +106,8 @@ static void each_row(sqlite3 *database) {
         expect(database, rows[i].expression, rows[i].answer);
 }
 
-/* Texts that are no network and no address, some of which would be if they were cut, or read past what is wrong. */
+/* Texts that name neither a network nor an address, some of which would if they were cut short, or read past the
+ * error. */
 static const struct {
     const char *bytes;
     size_t length;
@@ -137,7 +138,7 @@ static const struct {
           "10.0.0.0"),
 };
 
-/* Sees that a text is refused by each function: as a network, and as an address. */
+/* Checks that each function refuses a text, as a network and as an address. */
 static void expect_refused(sqlite3 *database, const char *bytes, size_t length) {
     static const char *refusing[] = {"cidr_text(?1)",   "cidr_first(?1)",        "cidr_last(?1)",
                                      "cidr_prefix(?1)", "cidr_family(?1)",       "cidr_has(?1, '::')",
@@ -197,8 +198,8 @@ static void each_message(sqlite3 *database) {
               "', the first 60 of 200 bytes");
 }
 
-/* Where only functions that are deterministic, and innocuous, may stand: in an index, a generated column, a check and a
- * view of a schema that is not trusted. */
+/* The places where SQLite allows only deterministic and innocuous functions: an index, a generated column, a check, and
+ * a view in a schema that is not trusted. */
 static void schemas(sqlite3 *database) {
     run(database, "PRAGMA trusted_schema = 0;"
         "CREATE TABLE log(client TEXT NOT NULL, address BLOB AS (cidr_addr(client)) STORED);"
@@ -215,7 +216,7 @@ static void schemas(sqlite3 *database) {
     expect(database, "(SELECT client FROM log ORDER BY address DESC LIMIT 1)", "'2001:db8::1'");
     expect(database, "(SELECT text || has || covers || hex(first) || hex(last) || prefix || family || (cause IS NULL)"
            " FROM canonical WHERE text IS NOT NULL)", "'10.1.9.32/810040A000000040AFFFFFF841'");
-    /* A list that skips what is no network, and a log that keeps it without an address. */
+    /* A list that skips texts that name no network, and a log that keeps lines without an address. */
     run(database, "CREATE TABLE list(text TEXT NOT NULL CHECK (cidr_cause(text) IS NULL),"
         " first BLOB AS (cidr_first(cidr_text_or_null(text))) STORED,"
         " last BLOB AS (cidr_last(cidr_text_or_null(text))) STORED);"
@@ -283,7 +284,7 @@ static void longest_of_list(sqlite3 *database) {
     expect(database, "(SELECT group_concat(client || ' ' || name) FROM log"
            " JOIN cidr_longest('nets', address) AS found JOIN nets ON nets.rowid = found.number)",
            "'10.1.9.32 c,2001:db8::1 e,10.200.0.1 a'");
-    /* Each list is read, and each change of one. */
+    /* Each list is read, and read again after a change. */
     expect(database, "(SELECT group_concat(list || ' ' || number) FROM"
            " (SELECT column1 AS list FROM (VALUES ('nets'), ('empty'), ('no \"list\"'), ('nets')))"
            " JOIN cidr_longest(list, '10.1.2.3'))", "'nets 4,no \"list\" 1,nets 4'");

@@ -18,10 +18,12 @@ program=$(program_of cidr_filter)
 valued=" -f -e -k -d -m --nth --after --bad "
 
 counts=
+named=
 option() {
     case $1 in
     -f) [ "$2" != - ] || refuse "-f -: standard input is the log" ;;
     -c) counts=1 ;;
+    -H) named='(standard input):' ;;
     -n) refuse "-n: each part would be numbered from 1" ;;
     -[mlq]) refuse "$1: a line would end its part only" ;;
     --bad)
@@ -51,9 +53,9 @@ if [ "$counts" ]; then
     filter_parts "$@" > "$folder/counts" || failed=1
     total=0
     while read -r count; do
-        total=$((total + count))
+        total=$((total + ${count#"$named"}))
     done < "$folder/counts"
-    printf '%s\n' "$total"
+    printf '%s\n' "$named$total"
 else
     filter_parts "$@" || failed=1
 fi

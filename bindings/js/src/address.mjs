@@ -6,26 +6,26 @@ import { INSPECT, SENT } from './shown.mjs';
 import { fourContains, sixContains } from './words.mjs';
 
 /**
- * What only this package has: the first argument of a constructor that is given what the library
- * wrote.
+ * Known only to this package: the first argument of a constructor that is called with what the
+ * library wrote.
  */
 export const MADE = Symbol('made');
 
-/* What a typed array is and how long, whatever it has been given as properties. */
+/* The type and the length of a typed array, whatever properties were added to it. */
 const TYPED = Object.getPrototypeOf(Uint8Array.prototype);
 const tagOf = Object.getOwnPropertyDescriptor(TYPED, Symbol.toStringTag).get;
 const lengthOf = Object.getOwnPropertyDescriptor(TYPED, 'length').get;
 
-/* Friends of the class: they reach its fields. They are constants once it is there, so that an
- * engine need not ask what they are. */
+/* Functions with access to the fields of the class. They are constant after the class is defined,
+ * so that an engine need not check what they are. */
 const ofAddress = { __proto__: null };
 
 /** An address of either family. It does not change. */
 export class IpAddress {
   sent = SENT;
-  /* Numbers from the beginning, so that an engine need not ask what they are. */
+  /* Numbers from the start, so that an engine need not check what they are. */
   #family = 0;
-  /* The octets, four in a number, as they stand in the memory. */
+  /* The octets, four in a number, as they are in the memory. */
   #a = 0;
   #b = 0;
   #c = 0;
@@ -45,7 +45,7 @@ export class IpAddress {
       target[at + 2] = address.#c;
       target[at + 3] = address.#d;
     };
-    /* One for each family, so that an engine sees objects of one shape in it. */
+    /* One for each family, so that an engine sees objects of only one shape in it. */
     ofAddress.liesInFour = (address, prefix, a) => (
       address.#family === 4 && fourContains(prefix, a, address.#a) === 1
     );
@@ -225,7 +225,7 @@ export class Ipv6Address extends IpAddress {
  */
 export const { familyOf, isAddress, putAddress, liesInFour, liesInSix } = ofAddress;
 
-/** The address whose octets, 4 or 16, stand at this place. */
+/** The address with the 4 or 16 octets at this place. */
 export function addressAt(place, length) {
   const from = view;
   const first = from.getInt32(place, LITTLE);
@@ -248,7 +248,7 @@ function requireAddress(value, name) {
   return value;
 }
 
-/** How many octets a Uint8Array has, or a TypeError. No code of the value is run. */
+/** The number of octets of a Uint8Array, or a TypeError. No code of the value is run. */
 function countOf(octets) {
   if (tagOf.call(octets) !== 'Uint8Array') throw wrongType('octets', 'a Uint8Array', octets);
   return lengthOf.call(octets);

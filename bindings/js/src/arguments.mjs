@@ -2,7 +2,7 @@ import { ADDRESS, LITTLE, NUMBER, view } from './memory.mjs';
 import { prefixError, wrongType } from './errors.mjs';
 import { addressOf, familyOf, putAddress } from './address.mjs';
 
-/** The whole number that an argument is, or an error that names the argument. */
+/** The integer that an argument is, or an error that names the argument. */
 export function wholeNumber(value, name) {
   if (typeof value !== 'number' && typeof value !== 'bigint') {
     throw wrongType(name, 'a number or a bigint', value);
@@ -13,7 +13,7 @@ export function wholeNumber(value, name) {
   return value;
 }
 
-/** Whether the options say that IPv4-mapped addresses are taken for IPv4 addresses. */
+/** Whether the options say that IPv4-mapped addresses count as IPv4 addresses. */
 export function mappedOf(options) {
   if (options === undefined) return false;
   if (typeof options !== 'object' || options === null) {
@@ -24,7 +24,7 @@ export function mappedOf(options) {
   return mapped;
 }
 
-/** Writes a number to NUMBER as the calls of a family take it; whether it has room there. */
+/** Writes a number to NUMBER as the calls of a family take it, and returns whether it fits. */
 export function putNumber(number, family) {
   if (family === 4) {
     if (number > 0xffffffff) return false;

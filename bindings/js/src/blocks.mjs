@@ -11,8 +11,8 @@ import { IpNetworkError, never, wrongType } from './errors.mjs';
 import { elementOf, familyOfNetwork, isNetwork, networkAt, putNetwork } from './network.mjs';
 
 /**
- * What the lists of one family have: bytes of an address and of a struct, bits, and the calls of
- * the library.
+ * The properties of the lists of one family: the bytes of an address and of a struct, the bits, and
+ * the library's calls.
  */
 const FOUR = {
   family: 4, octets: 4, struct: 5, width: 32, textRoom: 20,
@@ -34,7 +34,7 @@ export const KINDS = [FOUR, SIX];
 
 const SHORT_BUFFER = 4;
 
-/** The packed network of this number. One that was freed is an error. */
+/** The packed network with this number. If the list was freed, it is an error. */
 export function blockAt({ struct, family }, packed, number) {
   const from = number * struct;
   if (from >= packed.length) throw new IpNetworkError('what is listed was freed', 'freed');
@@ -43,8 +43,8 @@ export function blockAt({ struct, family }, packed, number) {
 }
 
 /**
- * Networks of one family, packed, as the library keeps them. A list that is asked stands in the
- * memory too: an index, by which the library searches it, and after that the networks.
+ * Networks of one family, packed, as the library keeps them. A list that is searched is also in the
+ * memory: an index, by which the library searches it, followed by the networks.
  */
 export class Blocks extends Standing {
   constructor(kind, packed) {
@@ -74,12 +74,12 @@ export class Blocks extends Standing {
     never(this.kind.indexMake(place, 0, this.count, 0, index, 0, this.indexCount, 0));
   }
 
-  /** The network of this number. */
+  /** The network with this number. */
   at(index) {
     return blockAt(this.kind, this.packed, index);
   }
 
-  /** Gives its memory back. It has no networks from here on. */
+  /** Frees its memory. The list has no networks after that. */
   free() {
     this.leave();
     this.packed = new Uint8Array(0);
@@ -88,7 +88,8 @@ export class Blocks extends Standing {
 }
 
 /**
- * Gives a place in the memory with a copy of these bytes to a function, and takes it back after.
+ * Calls a function with a place in the memory that has a copy of these bytes, and frees it
+ * afterwards.
  */
 export function withCopy(packed, use) {
   return withRoom(packed.length, (place) => {
@@ -98,7 +99,8 @@ export function withCopy(packed, use) {
 }
 
 /**
- * Gives a place in the memory with room for so many bytes to a function, and takes it back after.
+ * Calls a function with a place in the memory that has room for this many bytes, and frees it
+ * afterwards.
  */
 export function withRoom(length, use) {
   const place = take(Math.max(length, 1));
@@ -110,7 +112,7 @@ export function withRoom(length, use) {
 }
 
 /**
- * Gives the place of a list to a function: its own, if it stands in the memory, or that of a copy.
+ * Calls a function with the place of a list: its own, if it is in the memory, or that of a copy.
  */
 function withList(list, use) {
   return list.stand.place !== 0 ? use(list.place) : withCopy(list.packed, use);
@@ -119,7 +121,7 @@ function withList(list, use) {
 /** The number that a call has written to ANSWER. */
 export const counted = () => view.getUint32(ANSWER, true);
 
-/** The least list with the addresses of these packed networks. */
+/** The shortest list with the addresses of these packed networks. */
 export function aggregated(kind, packed) {
   return withCopy(packed, (place) => {
     never(kind.aggregate(place, 0, packed.length / kind.struct, 0, ANSWER, 0));
@@ -127,7 +129,7 @@ export function aggregated(kind, packed) {
   });
 }
 
-/** The union, intersection or difference of two least lists, by the call of this name. */
+/** The union, intersection or difference of two shortest lists, by the call with this name. */
 export function combined(one, other, name) {
   const { kind } = one;
   return withList(one, (first) => withList(other, (second) => {
@@ -143,13 +145,13 @@ export function combined(one, other, name) {
   }));
 }
 
-/** Whether a value that is no text is an iterable. */
+/** Whether a value is an iterable other than a string. */
 export const isIterable = (value) => (
   typeof value === 'object' && value !== null && typeof value[Symbol.iterator] === 'function');
 
 /**
- * The networks that an argument lists, as values: an iterable of networks and texts. A wrong text
- * has its index.
+ * The networks that an argument lists, as values: an iterable of networks and texts. The error for
+ * a wrong text has its index.
  */
 export function networksOf(value, name) {
   if (isNetwork(value) || !isIterable(value)) {
@@ -179,7 +181,9 @@ export function sameBlocks(one, other) {
   return true;
 }
 
-/** The networks of a list, in its order. A list that is freed before the last one is an error. */
+/**
+ * The networks of a list, in its order. If the list is freed before the last one, it is an error.
+ */
 export function* eachOf(list) {
   const { count } = list;
   for (let index = 0; index < count; index += 1) yield list.at(index);

@@ -9,8 +9,8 @@ import { readRows } from './rows.mjs';
 import { INSPECT, SENT, shownList } from './shown.mjs';
 import { textAt } from './texts.mjs';
 
-/* How columns are read: an address is 16 octets and how many they are, a network its family and
- * a struct of each. */
+/* How columns are read: an address is 16 octets and their number, a network is its family and a
+ * struct for each family. */
 const ADDRESSES = {
   call: addressReadColumn, struct: 17, tag: 16, starts: [0, 0], lengths: [4, 16],
 };
@@ -20,7 +20,7 @@ const NETWORKS = {
 
 const PRINTED_ROWS = 1024;
 
-/* Friends of the classes: they reach their rows. */
+/* Functions with access to the rows of the classes. */
 let addressRows;
 let networkRows;
 
@@ -142,8 +142,8 @@ function rowOf(row) {
 }
 
 /**
- * What make gives of the struct of a row, which is written to this place; undefined if the row has
- * none.
+ * The result of make for the struct of a row, which is written to this place; undefined if the row
+ * has none.
  */
 function structAt(rows, row, place, make) {
   const family = rows.families[rowOf(row)];
@@ -175,8 +175,8 @@ function printedAll(kind, packed) {
 }
 
 /**
- * The rows of a column of addresses, or of texts that are read as one; where they are mapped, with
- * the IPv4 address in the place of each IPv4-mapped one.
+ * The rows of a column of addresses, or of texts that are read as one; if mapped, with each
+ * IPv4-mapped address replaced by the IPv4 address.
  */
 export function rowsOfAddresses(value, mapped) {
   const rows = addressRows(value) ?? addressRows(columnOf(value));
@@ -195,8 +195,8 @@ function columnOf(value) {
 export const rowsOfNetworks = (value) => networkRows(value);
 
 /**
- * Asks of each address of a family, some thousands at a time: ask is told where the addresses of a
- * chunk stand, how many they are and the number of the first one.
+ * Calls `ask` for the addresses of a family, some thousands at a time, with the place of the
+ * addresses of a chunk, their number, and the number of the first one.
  */
 export function eachChunkOf(rows, kind, ask) {
   const packed = rows.packedOf(kind);
@@ -208,8 +208,8 @@ export function eachChunkOf(rows, kind, ask) {
 }
 
 /**
- * For each row what one of two lists has at its place, by its family, or what a row without an
- * address gets. The lists are not used otherwise.
+ * For each row the element of one of two lists at the row's place, by its family, or a given value
+ * if the row has no address. The lists are not used for anything else.
  */
 export function eachRow(rows, lists, Kind, none) {
   const { families, places, count } = rows;

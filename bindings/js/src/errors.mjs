@@ -12,8 +12,8 @@ export const codeOf = (fault) => CODES[fault];
 const quoted = (text) => JSON.stringify(text.length > SHOWN ? `${text.slice(0, SHOWN)}…` : text);
 
 /**
- * Why there is no network, address or range: the error that this package throws for what is
- * refused.
+ * The error that this package throws for what it refuses: it says why there is no network, address
+ * or range.
  */
 export class IpNetworkError extends Error {
   constructor(message, code, input, index) {
@@ -27,7 +27,7 @@ Object.defineProperty(
   IpNetworkError.prototype, 'name', { value: 'IpNetworkError', configurable: true, writable: true },
 );
 
-/** The error of a text that names no network: for a list with the text's place in it. */
+/** The error for a text that names no network, with its index if it is in a list. */
 export function networkError(fault, text, wanted, index) {
   const code = CODES[fault];
   const at = index === undefined ? '' : ` at ${index}`;
@@ -35,13 +35,13 @@ export function networkError(fault, text, wanted, index) {
   return new IpNetworkError(`no ${wanted}${at}: ${shown}${MESSAGES[code]}`, code, text, index);
 }
 
-/** What is said where an address is asked for and a network given. */
+/** The message if a network is given where an address is expected. */
 export const networkGiven = (name) => (
   `${name} must be an address, not a network: isSubnetOf tells whether one lies in another, and `
   + 'covers whether in a set'
 );
 
-/** The error of a text that names no address. */
+/** The error for a text that names no address. */
 export function addressError(text, wanted) {
   const more = text.includes('/')
     ? ': with a slash it is no address; isSubnetOf tells whether a network lies in another, and '
@@ -50,14 +50,14 @@ export function addressError(text, wanted) {
   return new IpNetworkError(`no ${wanted}: ${quoted(text)}${more}`, 'address', text);
 }
 
-/** The error of a prefix length that is not one of least to most. */
+/** The error for a prefix length that is not from least to most. */
 export function prefixError(prefix, least, most) {
   return new IpNetworkError(
     `prefix is ${prefix}, not a whole number from ${least} to ${most}`, 'prefix',
   );
 }
 
-/** What a value is, in a word or two. No code of the value's is run. */
+/** A word or two for what a value is. No code of the value is run. */
 function kindOf(value) {
   if (value === null) return 'null';
   if (typeof value === 'object') return 'an object';
@@ -65,7 +65,7 @@ function kindOf(value) {
   return `a ${typeof value}`;
 }
 
-/** The TypeError for an argument: its name, what it has to be, and what it is. */
+/** The TypeError for an argument: its name, what it must be, and what it is. */
 export const wrongType = (name, wanted, value) => new TypeError(
   `${name} must be ${wanted}, not ${kindOf(value)}`
 );
@@ -76,7 +76,7 @@ export function textOf(value, name) {
   return value;
 }
 
-/** Throws if the library refused what this package had checked: a fault of this package. */
+/** Throws if the library refused what this package had checked, which is a bug of this package. */
 export function never(fault) {
   if (fault !== 0) throw new Error(`fault ${fault} of a call that has none`);
 }

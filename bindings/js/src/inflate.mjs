@@ -1,5 +1,5 @@
-/* RFC 1951, section 3.2.5: the least length or distance of each code, and how many bits more
- * follow it. */
+/* RFC 1951, section 3.2.5: the least length or distance of each code, and the number of extra bits
+ * that follow it. */
 const LENGTHS = [
   3, 4, 5, 6, 7, 8, 9, 10, 11, 13, 15, 17, 19, 23, 27, 31, 35, 43, 51, 59, 67, 83, 99, 115, 131,
   163, 195, 227, 258,
@@ -11,10 +11,10 @@ const DISTANCE_BITS = Array.from({ length: 30 }, (_, code) => Math.max(0, (code 
 const DISTANCES = DISTANCE_BITS.map((bits, code) => (
   code < 4 ? code + 1 : ((2 + (code & 1)) << bits) + 1
 ));
-/* Section 3.2.7: the order in which the lengths of the codes of lengths come. */
+/* Section 3.2.7: the order of the lengths of the code length codes. */
 const ORDER = [16, 17, 18, 0, 8, 7, 9, 6, 10, 5, 11, 4, 12, 3, 13, 2, 14, 1, 15];
 
-/** How many codes there are of each length, and their symbols in the order of the codes. */
+/** The number of codes of each length, and their symbols in the order of the codes. */
 function codesOf(lengths) {
   const counts = new Uint16Array(16);
   for (const length of lengths) counts[length] += 1;
@@ -30,7 +30,7 @@ function codesOf(lengths) {
   return { counts, symbols };
 }
 
-/** The bits of a stream, each byte from its lowest on. */
+/** The bits of a stream, from the lowest bit of each byte on. */
 class Bits {
   constructor(bytes) {
     this.bytes = bytes;
@@ -39,7 +39,7 @@ class Bits {
     this.held = 0;
   }
 
-  /** The number of so many bits, the lowest first. */
+  /** The number in the next `count` bits, the lowest first. */
   take(count) {
     while (this.held < count) {
       this.hold |= this.bytes[this.at++] << this.held;
@@ -51,7 +51,7 @@ class Bits {
     return value;
   }
 
-  /** The symbol of the code that comes next. */
+  /** The symbol of the next code. */
   symbol({ counts, symbols }) {
     let code = 0;
     let first = 0;
@@ -65,7 +65,7 @@ class Bits {
     }
   }
 
-  /** The codes of a block that states them: of bytes and lengths, and of distances. */
+  /** The codes that a block contains: those of bytes and lengths, and those of distances. */
   codes() {
     const literals = this.take(5) + 257;
     const distances = this.take(5) + 1;
@@ -88,8 +88,8 @@ class Bits {
 }
 
 /**
- * The bytes that a stream of RFC 1951 packs. All its blocks state their codes, and it has so many
- * bytes unpacked.
+ * The uncompressed bytes of a stream of RFC 1951. All its blocks contain their codes, and it has
+ * length bytes.
  */
 export function inflated(packed, length) {
   const bits = new Bits(packed);

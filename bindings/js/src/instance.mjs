@@ -1,12 +1,12 @@
 /**
- * The calls of a module of WebAssembly, and its memory. A pointer or a size is two numbers, the low
- * 32 bits and the high ones.
+ * The calls of a WebAssembly module, and its memory. A pointer or a size is two numbers: the low 32
+ * bits and the high 32.
  */
 export function instanceOf(bytes) {
   return new WebAssembly.Instance(compiled(bytes), {}).exports;
 }
 
-/** The module of these bytes, which are those of one: it is not refused for what it is. */
+/** The module of these bytes, which must be those of a valid module. */
 function compiled(bytes) {
   try {
     return new WebAssembly.Module(bytes);

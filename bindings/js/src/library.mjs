@@ -1,6 +1,6 @@
 import { inflated } from './inflate.mjs';
 import { instanceOf } from './instance.mjs';
-/* What build.mjs writes: the module, packed and spelled, and how many bytes it has. */
+/* Written by build.mjs: the module, compressed and spelled as text, and its length in bytes. */
 import { MODULE, MODULE_LENGTH } from './module.mjs';
 import { unspelled } from './spelling.mjs';
 

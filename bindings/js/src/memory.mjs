@@ -1,7 +1,7 @@
 import { library } from './library.mjs';
 
-/* The places of single structs, answers and short texts, which each call writes anew. A struct
- * takes at most 32 bytes. */
+/* The places of single structs, results and short texts, which each call overwrites. A struct takes
+ * at most 32 bytes. */
 export const NETWORK = Math.ceil(Number(library.__heap_base.value) / 64) * 64;
 export const OTHER = NETWORK + 32;
 export const ADDRESS = NETWORK + 64;
@@ -14,20 +14,20 @@ const LEAST_ORDER = 6;
 const LARGEST_ORDER = 31;
 const PAGE = 65536;
 
-/** Whether the engine has the low octets of such a number first, as the memory always has. */
+/** Whether the engine stores the low octets of such a number first, as the memory always does. */
 export const LITTLE = new Uint8Array(Uint32Array.of(1).buffer)[0] === 1;
 
 /**
- * The memory as bytes, as numbers of 32 and 64 bits at any place, and as signed numbers of 32 bits
- * one after the other, which are written faster. All are made anew where the memory grows.
+ * The memory as bytes, as numbers of 32 and 64 bits at any place, and as an array of signed 32-bit
+ * numbers, which is faster to write. All are made anew when the memory grows.
  */
 export let bytes = new Uint8Array(library.memory.buffer);
 export let view = new DataView(library.memory.buffer);
 export let words = new Int32Array(library.memory.buffer);
 
 /**
- * The bits that are 1 in any of so many bytes from this place on, a multiple of 4: they are looked
- * at four at a time.
+ * The bits that are 1 in any of these bytes, from this place on, a multiple of 4. They are read
+ * four at a time.
  */
 export function bitsOf(place, length) {
   const fours = words;
@@ -39,15 +39,13 @@ export function bitsOf(place, length) {
   return bits;
 }
 
-/* Free blocks by order: one of order k has 2^k bytes, and its place is a multiple of that. */
+/* Free blocks by order: a block of order k has 2^k bytes, and its place is a multiple of that. */
 const free = Array.from({ length: LARGEST_ORDER + 1 }, () => new Set());
 let end = 0;
 
 const orderOf = (length) => Math.max(LEAST_ORDER, 32 - Math.clz32(length - 1));
 
-/**
- * Makes the block at this place free, and one of it and its neighbour as long as that is free too.
- */
+/** Frees the block at this place, and merges it with its neighbour as long as that is free too. */
 function putBack(place, order) {
   while (order < LARGEST_ORDER) {
     const size = 2 ** order;
@@ -59,9 +57,7 @@ function putBack(place, order) {
   free[order].add(place);
 }
 
-/**
- * Makes free what lies between the last place that was known and this one, in the largest blocks.
- */
+/** Frees the memory from the last known place to this one, in the largest blocks. */
 function addUpTo(limit) {
   while (end < limit) {
     let order = LEAST_ORDER;
@@ -95,7 +91,7 @@ function grow(order) {
 }
 
 /**
- * A place for this many bytes, which nothing else has until it is given back. RangeError if there
+ * A place for this many bytes, which nothing else uses until it is given back. RangeError if there
  * is no memory.
  */
 export function take(length) {
@@ -113,12 +109,12 @@ export function take(length) {
   return place;
 }
 
-/** Gives back what take gave for this length. */
+/** Gives back the place that take returned for this length. */
 export function giveBack(place, length) {
   putBack(place, orderOf(length));
 }
 
-/** How many bytes the memory has: those in use and those that wait to be used again. */
+/** The number of bytes of the memory: those in use and those that wait for reuse. */
 export const memorySize = () => bytes.length;
 
 end = TEXT + TEXT_ROOM;

@@ -14,8 +14,8 @@ import {
 } from './address.mjs';
 import { INSPECT, SENT } from './shown.mjs';
 
-/* Friends of the class: they reach its fields. They are constants once it is there, so that an
- * engine need not ask what they are. */
+/* Functions with access to the fields of the class. They are constant after the class is defined,
+ * so that an engine need not check what they are. */
 const ofNetwork = { __proto__: null };
 
 /**
@@ -23,9 +23,9 @@ const ofNetwork = { __proto__: null };
  */
 export class IpNetwork {
   sent = SENT;
-  /* Numbers from the beginning, so that an engine need not ask what they are. */
+  /* Numbers from the start, so that an engine need not check what they are. */
   #family = 0;
-  /* The octets of the address, four in a number, as they stand in the memory. */
+  /* The octets of the address, four in a number, as they are in the memory. */
   #a = 0;
   #b = 0;
   #c = 0;
@@ -37,8 +37,8 @@ export class IpNetwork {
     ofNetwork.isNetwork = (value) => (
       typeof value === 'object' && value !== null && #family in value
     );
-    /* Each writes the struct to NETWORK: one for each family, so that an engine sees objects of one
-     * shape in it. */
+    /* Each writes the struct to NETWORK. There is one for each family, so that an engine sees
+     * objects of only one shape in it. */
     ofNetwork.holdFour = (network) => {
       words[NETWORK >>> 2] = network.#a;
       bytes[NETWORK + 4] = network.#prefix;
@@ -262,7 +262,7 @@ export class IpNetwork {
     }
   }
 
-  /** The member of this number, or undefined past the last. */
+  /** The member with this number, or undefined past the last. */
   #member(number) {
     if (!putNumber(number, this.#family)) return undefined;
     this.#hold();
@@ -272,7 +272,9 @@ export class IpNetwork {
     return fault === 0 ? addressAt(ADDRESS, this.#octets) : undefined;
   }
 
-  /** The block of this prefix length and number within the network, or undefined past the last. */
+  /**
+   * The block with this prefix length and number within the network, or undefined past the last.
+   */
   #subnet(prefix, number) {
     if (!putNumber(number, this.#family)) return undefined;
     this.#hold();
@@ -282,7 +284,7 @@ export class IpNetwork {
     return fault === 0 ? networkAt(OTHER, this.#family) : undefined;
   }
 
-  /** What each number from 0 on gives, up to the first that gives undefined. */
+  /** The results for the numbers from 0 on, up to the first that is undefined. */
   *#each(give) {
     for (let number = 0; number < Number.MAX_SAFE_INTEGER; number += 1) {
       const value = give(number);
@@ -312,7 +314,7 @@ export class Ipv4Network extends IpNetwork {
       return;
     }
     const word4 = requireParts(address, prefix, 4, 32);
-    /* 0 in place of -0. */
+    /* 0 instead of -0. */
     super(MADE, 4, prefix + 0, word4, 0, 0, 0);
   }
 
@@ -354,7 +356,7 @@ export class Ipv6Network extends IpNetwork {
   }
 }
 
-/** The network of this family whose struct stands at this place. */
+/** The network of this family with the struct at this place. */
 export function networkAt(place, family) {
   const from = view;
   const first = from.getInt32(place, LITTLE);
@@ -370,7 +372,7 @@ export function networkOf(value, name) {
   return IpNetwork.parse(value);
 }
 
-/** The same of the element of a list, whose place in it an error tells. */
+/** The same for an element of a list, with its index in the error. */
 export function elementOf(value, name, index) {
   if (isNetwork(value)) return value;
   if (typeof value !== 'string') {
@@ -382,8 +384,8 @@ export function elementOf(value, name, index) {
 }
 
 /**
- * The address that a list is asked for; where addresses are mapped, the IPv4 address in the place
- * of an IPv4-mapped one.
+ * The address that is looked up in a list; if addresses are mapped, with an IPv4-mapped one
+ * replaced by the IPv4 address.
  */
 export function memberOf(value, mapped) {
   if (isNetwork(value)) throw new TypeError(networkGiven('address'));

@@ -5,14 +5,14 @@ import { Standing } from './standing.mjs';
 import { counted, withRoom } from './blocks.mjs';
 import { eachChunkOf } from './columns.mjs';
 
-/** So many numbers of the library's size_t from this place on. */
+/** `count` numbers of the library's size_t from this place on. */
 const numbersAt = (place, count) => Uint32Array.from(
   { length: count }, (_, at) => view.getUint32(place + 8 * at, true),
 );
 
 /**
- * Ranges of addresses of one family, and beside each the place of the block that a search finds
- * there, packed, as the library makes them of a table.
+ * Ranges of addresses of one family, with the place of the block that a search finds in each,
+ * packed, as the library makes them from a table.
  */
 class Ranges extends Standing {
   constructor(kind, ranges, beside) {
@@ -27,7 +27,7 @@ class Ranges extends Standing {
     this.indexCount = indexCount;
   }
 
-  /** What stands beside the ranges comes first, then their index, and then they. */
+  /** The places come first, then the index, and then the ranges. */
   write(place) {
     const index = place + this.beside.length;
     const ranges = index + 4 * this.indexCount;
@@ -69,7 +69,7 @@ class Ranges extends Standing {
     return found;
   }
 
-  /** Gives its memory back. It has no range from here on. */
+  /** Frees its memory. There are no ranges after that. */
   free() {
     this.leave();
     this.ranges = this.beside = new Uint8Array(0);
@@ -79,7 +79,7 @@ class Ranges extends Standing {
 
 /**
  * The table of these packed networks: its blocks, packed, the number of the network of each, and
- * the ranges by which the longest one is found, of equal ones the last.
+ * the ranges by which the longest one is found, and of equal ones the last.
  */
 export function tableOf(kind, packed) {
   const { struct } = kind;

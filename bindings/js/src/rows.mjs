@@ -4,14 +4,14 @@ import { never, wrongType } from './errors.mjs';
 import { withRoom } from './blocks.mjs';
 import { putText } from './texts.mjs';
 
-/* A column goes through the memory in chunks of at most this many rows, and of about so many
+/* A column goes through the memory in chunks of at most this many rows, and of about this many
  * units of text. */
 const CHUNK_ROWS = 4096;
 const CHUNK_UNITS = 65536;
 
 const encoder = new TextEncoder();
 
-/** Packed structs of one family, each of so many bytes, one after the other. */
+/** Packed structs of one family, of equal length, one after the other. */
 class Packed {
   constructor(struct) {
     this.struct = struct;
@@ -19,7 +19,7 @@ class Packed {
     this.count = 0;
   }
 
-  /** Makes room for so many more. */
+  /** Makes room for `count` more. */
   reserve(count) {
     const length = (this.count + count) * this.struct;
     if (length <= this.bytes.length) return;
@@ -28,7 +28,7 @@ class Packed {
     this.bytes = longer;
   }
 
-  /** Takes over one from the memory. There has to be room for it. */
+  /** Copies one from the memory. There must be room for it. */
   push(place) {
     const { struct, bytes: target } = this;
     const from = bytes;
@@ -37,7 +37,7 @@ class Packed {
     this.count += 1;
   }
 
-  /** Writes the one of this number to the memory. */
+  /** Writes the one with this number to the memory. */
   put(number, place) {
     const { struct, bytes: from } = this;
     const target = bytes;
@@ -51,10 +51,10 @@ class Packed {
 }
 
 /**
- * The rows that a column of texts names: of each its fault, and its family and its place among
- * those of the family. A form says by which call of the library a column is read: how many bytes
- * its structs have, which of them is 4 for IPv4, and of each family where the packed form begins in
- * a struct, and how long that is.
+ * The rows of a column of texts: for each row its fault, its family, and its place among those of
+ * the family. A form says by which call of the library a column is read, the length of its structs
+ * in bytes, which byte is 4 for IPv4, and for each family where the packed form begins in a struct,
+ * and its length.
  */
 export class Rows {
   #unmapped;
@@ -69,7 +69,7 @@ export class Rows {
     this.packed = form.lengths.map((length) => new Packed(length));
   }
 
-  /** Takes over so many rows from the memory, the first of which has this number. */
+  /** Copies rows from the memory, the first of which has this number. */
   take(first, count, structs, faults) {
     const { struct, tag, starts } = this.form;
     const [fours, sixes] = this.packed;
@@ -89,8 +89,8 @@ export class Rows {
   }
 
   /**
-   * Of a column of addresses, these rows with the IPv4 address in the place of each IPv4-mapped
-   * one.
+   * For a column of addresses, these rows with each IPv4-mapped address replaced by the IPv4
+   * address.
    */
   get unmapped() {
     this.#unmapped ??= this.packed[1].count === 0 ? this : this.#unmap();
@@ -115,7 +115,7 @@ export class Rows {
     return made;
   }
 
-  /** Takes over the struct of a row and a family from the memory. There has to be room for it. */
+  /** Copies the struct of a row and a family from the memory. There must be room for it. */
   #push(row, family, place) {
     const packed = this.packed[family === 4 ? 0 : 1];
     this.families[row] = family;
@@ -141,7 +141,7 @@ export function readRows(texts, form) {
   return rows;
 }
 
-/** The texts of the next chunk. Each element is looked at once. */
+/** The texts of the next chunk. Each element is read once. */
 function chunkOf(texts, from, count) {
   const chunk = [];
   let units = 0;
@@ -154,7 +154,7 @@ function chunkOf(texts, from, count) {
   return chunk;
 }
 
-/** Reads a chunk, and tells where its structs and its faults stand. */
+/** Reads a chunk, and passes on where its structs and its faults are. */
 function readChunk(chunk, { call, struct }, tell) {
   const count = chunk.length;
   const units = chunk.reduce((sum, text) => sum + text.length, 0);
@@ -169,7 +169,7 @@ function readChunk(chunk, { call, struct }, tell) {
   });
 }
 
-/** Writes texts one after the other, and where each begins and the last one ends. */
+/** Writes texts one after the other, and the offsets at which each begins and the last one ends. */
 function putChunk(chunk, units, place, offsets) {
   let at = 0;
   for (let row = 0; row < chunk.length; row += 1) {
@@ -181,7 +181,7 @@ function putChunk(chunk, units, place, offsets) {
     chunk.join(''), bytes.subarray(place, place + units),
   );
   if (read === units && written === units) return;
-  /* Some unit is not ASCII: it takes more bytes than one. */
+  /* Some unit is not ASCII and takes more than one byte. */
   let start = place;
   for (const text of chunk) {
     putText(text, start);

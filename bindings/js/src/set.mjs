@@ -11,8 +11,8 @@ import { eachChunkOf, eachRow, rowsOfAddresses, rowsOfNetworks } from './columns
 import { INSPECT, SENT, shownList } from './shown.mjs';
 
 /**
- * For each family the packed networks that an argument lists: an iterable, or a column, none of
- * whose rows is refused.
+ * For each family the packed networks that an argument lists: an iterable, or a column in which
+ * each text names one.
  */
 export function packedNetworks(value, name) {
   const rows = rowsOfNetworks(value);
@@ -27,14 +27,14 @@ export function packedNetworks(value, name) {
   return KINDS.map((kind) => rows.packedOf(kind));
 }
 
-/* Friends of the class: the lists of a set, undefined for any other value; and whether it is
- * mapped. */
+/* Functions with access to the class: the lists of a set, or undefined for any other value; and
+ * whether it is mapped. */
 let listsOf;
 let isMapped;
 
 /**
- * A set of addresses of both families, kept as the fewest networks with exactly these. It does not
- * change.
+ * A set of addresses of both families, kept as the fewest networks with exactly these addresses. It
+ * does not change.
  */
 export class AddressSet {
   sent = SENT;
@@ -78,8 +78,8 @@ export class AddressSet {
     const list = this.#used()[four ? 0 : 1];
     const { index, indexCount, place, count, kind } = list;
     putNetwork(inner, OTHER);
-    /* The set has the network's addresses if one of its blocks has them: no two of them are the
-     * halves of one. */
+    /* The set has the network's addresses if one of its blocks has them, because no two blocks are
+     * the halves of one. */
     const found = kind.indexFind(place, 0, count, 0, index, 0, indexCount, 0, OTHER, 0, NUMBER, 0);
     if (found !== 0) return false;
     const block = place + view.getUint32(NUMBER, true) * kind.struct;
@@ -193,7 +193,7 @@ function requireLists(value) {
   return lists;
 }
 
-/** For each address of a list's family 1 or 0. */
+/** For each address of a list's family, 1 or 0. */
 function answersOf(list, rows) {
   const { kind } = list;
   const answers = new Uint8Array(rows.packedOf(kind).length / kind.octets);
@@ -210,7 +210,7 @@ function answersOf(list, rows) {
   return answers;
 }
 
-/** How many addresses a list has. */
+/** The number of addresses of a list. */
 function sizeOf(list) {
   const { struct, width } = list.kind;
   const ofPrefix = new Array(width + 1).fill(0);
@@ -220,7 +220,7 @@ function sizeOf(list) {
   );
 }
 
-/** The fewest networks with the addresses of these, in ascending order, those of IPv4 first. */
+/** The fewest networks with the addresses of these networks, in ascending order, IPv4 first. */
 export function aggregate(networks) {
   const packed = packedNetworks(networks, 'networks');
   return KINDS.flatMap((kind, which) => [...eachOf(aggregated(kind, packed[which]))]);

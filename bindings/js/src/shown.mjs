@@ -2,15 +2,15 @@
 export const INSPECT = Symbol.for('nodejs.util.inspect.custom');
 
 /**
- * What each value has as a property of its own. `structuredClone` and `postMessage` copy such
- * properties, and not what a class keeps for itself: of a symbol there is no copy, so that they
- * refuse the value, and do not give an empty object.
+ * An own property of each value. `structuredClone` and `postMessage` copy such properties, but not
+ * private fields. A symbol cannot be copied, so they refuse the value instead of making an empty
+ * object.
  */
 export const SENT = Symbol('a value of ipnetwork, which is sent as its text');
 
 const MOST_SHOWN = 5;
 
-/** The class of a value, how many members it has, and the first of them. */
+/** The class of a value, the number of its members, and the first of them. */
 export function shownList(value, count, members, [open, close] = '{}') {
   const shown = [];
   for (const member of members) {

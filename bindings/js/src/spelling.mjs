@@ -1,8 +1,8 @@
-/* The 91 characters of ASCII from `#` to `~`, without `\`, and with `!` in the place of `<`, are
- * the digits from 0 on: none ends a string or begins a tag of HTML. */
+/* The 91 ASCII characters from `#` to `~`, without `\`, and with `!` instead of `<`, are the digits
+ * from 0 on: none ends a string or begins an HTML tag. */
 const digitOf = (code) => (code === 33 ? 60 : code) - 35 - (code > 92 ? 1 : 0);
 
-/** The bytes that a text spells: each two digits are 13 bits, the lowest first. */
+/** The bytes that a text spells: every two digits are 13 bits, the lowest first. */
 export function unspelled(text) {
   const bytes = new Uint8Array((text.length * 13) >> 4);
   let hold = 0;

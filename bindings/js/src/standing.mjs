@@ -1,7 +1,6 @@
 import { giveBack, take } from './memory.mjs';
 
-/* Lists that stand in the memory, the one that has stood there longest first, and the most that
- * may stand there. */
+/* The lists in the memory, the oldest first, and the maximum number and size of them. */
 const standing = new Set();
 const MOST_LISTS = 4096;
 const MOST_BYTES = 64 * 1024 * 1024;
@@ -9,21 +8,21 @@ let standingBytes = 0;
 const registry = new FinalizationRegistry(leave);
 
 /**
- * A list that is kept outside the memory, and once it is asked stands in it, where `write` puts so
- * many bytes.
+ * A list that is kept outside the memory and, after the first question, also in it, where `write`
+ * puts its bytes.
  */
 export class Standing {
   constructor(length) {
     this.stand = { place: 0, length: Math.max(length, 1) };
   }
 
-  /** The place in the memory where it stands from here on until others need the room. */
+  /** Its place in the memory, which it keeps until others need the room. */
   get start() {
     const { stand } = this;
     return stand.place !== 0 ? stand.place : enter(this);
   }
 
-  /** Gives its memory back. */
+  /** Frees its memory. */
   leave() {
     leave(this.stand);
   }

@@ -11,7 +11,10 @@ import { tableOf } from './ranges.mjs';
 import { INSPECT, SENT, shownList } from './shown.mjs';
 import { textAt } from './texts.mjs';
 
-/** The blocks of a family with their values, in order, of equal ones in that of the pairs. */
+/**
+ * The blocks of a family with their values, in ascending order; equal ones are in the order of the
+ * pairs.
+ */
 class FamilyTable {
   #places;
 
@@ -31,7 +34,10 @@ class FamilyTable {
     return blockAt(this.kind, this.blocks, place);
   }
 
-  /** The places by the packed blocks as texts, in their order: of equal blocks the last place. */
+  /**
+   * The places of the blocks, by the packed blocks as texts, in their order; for equal blocks, the
+   * last place.
+   */
   get places() {
     this.#places ??= this.#placed();
     return this.#places;
@@ -61,7 +67,10 @@ class FamilyTable {
   }
 }
 
-/** Networks with values, asked for the longest network that has an address. It does not change. */
+/**
+ * Networks with values, searched for the longest network that has an address. A table does not
+ * change.
+ */
 export class PrefixTable {
   sent = SENT;
   #tables;

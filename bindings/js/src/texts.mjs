@@ -1,13 +1,10 @@
 import { ANSWER, TEXT, TEXT_ROOM, bytes, giveBack, take } from './memory.mjs';
 
-/**
- * A byte that stands in no text of a network: it takes the place of each unit of a text that is not
- * ASCII.
- */
+/** A byte that is in no text of a network. It replaces each unit of a text that is not ASCII. */
 const NOT_ASCII = 0xff;
 
 /**
- * Writes the units of a text to the memory, a byte for each. The memory has to have room for them.
+ * Writes the units of a text to the memory, a byte for each. The memory must have room for them.
  */
 export function putText(text, place) {
   const target = bytes;
@@ -19,7 +16,8 @@ export function putText(text, place) {
 }
 
 /**
- * Asks a call of the library that reads a text: its fault, with the result in the memory at out.
+ * Calls a function of the library that reads a text, and returns its fault; the result is in the
+ * memory at out.
  */
 export function askText(call, text, out) {
   const length = text.length;
@@ -38,7 +36,7 @@ export function askText(call, text, out) {
 
 const unit = String.fromCharCode;
 
-/** The text of so many bytes of ASCII at this place. */
+/** The text of this many ASCII bytes at this place. */
 export function textAt(place, length) {
   const from = bytes;
   const last = place + length;
@@ -58,7 +56,7 @@ export function textAt(place, length) {
   return text;
 }
 
-/** The text that a call of the library prints of the struct at this place. */
+/** The text that a call of the library prints for the struct at this place. */
 export function printed(call, struct) {
   call(struct, 0, TEXT, 0, TEXT_ROOM, 0, ANSWER, 0);
   return textAt(TEXT, bytes[ANSWER]);

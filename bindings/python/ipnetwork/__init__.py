@@ -1,4 +1,4 @@
-"""IP networks in CIDR notation, read, printed and asked by a library whose functions are proved.
+"""IP networks in CIDR notation, read, printed and queried by a library whose functions are proved.
 
 >>> from ipaddress import IPv4Address, IPv6Address
 >>> network = ip_network("10.1.9.32/16")
@@ -11,30 +11,31 @@ True
 
 A network keeps the host bits of its address, as ``ipaddress.ip_interface`` does. Its members are
 the addresses that share the first bits of its address, as many as the prefix length says, and the
-questions are about the members. Networks are hashable, equal if address and prefix length are, and
-ordered by address and then by prefix length, so that they can be sorted. ``a <= b`` is that order,
-as in ``ipaddress``; whether a is part of b is ``a.subnet_of(b)``. Addresses are those of
-``ipaddress``, which ``read_address`` reads. What asks about an address takes a network of one
-address as that address; only in a ``PrefixTable`` a network is a key.
+questions are about the members. Networks are hashable, equal if their addresses and prefix lengths
+are, and ordered by address and then by prefix length, so they can be sorted. As in ``ipaddress``,
+``a <= b`` is that order; ``a.subnet_of(b)`` tells whether a is part of b. Addresses are those of
+``ipaddress``, which ``read_address`` reads. Where an address is asked about, a network of one
+address may be given instead; only in a ``PrefixTable`` a network is a key.
 
 >>> read_address("10.1.255.255") in network, ip_network("10.1.255.255") in network
 (True, True)
 
-A server that listens on IPv4 and IPv6 by one socket is told of an IPv4 peer as
-``::ffff:10.1.9.32``, an IPv4-mapped IPv6 address, which is in no IPv4 network: it passes a list of what is denied. So ask
-about ``unmapped(address)``, or give a set or a table ``mapped=True``, by which such an address
-counts as the IPv4 address.
+A server that listens on IPv4 and IPv6 with one socket sees the address of an IPv4 peer as
+``::ffff:10.1.9.32``, an IPv4-mapped IPv6 address, which is in no IPv4 network: such a peer gets
+past a list of denied networks. So ask about ``unmapped(address)``, or make a set or a table with
+``mapped=True``, in which such an address counts as the IPv4 address.
 
 >>> unmapped(IPv6Address("::ffff:10.1.9.32")) in network
 True
 
-``AddressSet`` is a set of addresses, which ``AddressSetBuilder`` makes by and by; ``Table`` and
+``AddressSet`` is a set of addresses, which ``AddressSetBuilder`` makes step by step; ``Table`` and
 ``PrefixTable`` find the longest network that has an address, and the value that belongs to it.
 
-The package calls the library by an extension, ``_native``, which its wheel has if it was built
-where there were a C compiler and the headers of Python, or else by ``ctypes``, which a
-RuntimeWarning says, since a call is slower so: ``CORE`` says by which. If the environment variable
-IPNETWORK_LIBRARY names a shared library, it is used, by ``ctypes``, without a warning.
+The package calls the library by an extension, ``_native``, if its wheel was built where a C
+compiler and the headers of Python were available, and otherwise by ``ctypes``: calls are slower
+then, and a RuntimeWarning says so. ``CORE`` tells which of the two it is. If the environment
+variable IPNETWORK_LIBRARY names a shared library, that library is used, by ``ctypes`` and without a
+warning.
 """
 
 from __future__ import annotations
@@ -86,7 +87,7 @@ __all__ = [
     "unmapped",
 ]
 
-#: By what the library is called: "native" or "ctypes".
+#: How the library is called: "native" or "ctypes".
 CORE: str = "ctypes" if _core.__name__.endswith("ctypes") else "native"
 
 if CORE == "ctypes" and not _ASKED:
@@ -105,10 +106,10 @@ for _public in (AddressSet, AddressSetBuilder, IPv4Network, IPv6Network, PrefixT
 def read_address_column(
     texts: ReadableBuffer, offsets: ReadableBuffer, *, mapped: bool = False
 ) -> tuple[bytearray, bytearray]:
-    """The addresses of either family of a column of texts in Arrow's layout, as
-    ``IPv4Network.read_column`` has it, and for each a byte that is 0 if its text is one. Each
-    address is 17 bytes: its octets, zeros after those of an IPv4 address, and how many they are, 4
-    or 16, or 0 if there is none. With ``mapped``, an IPv4-mapped address is the IPv4 address.
+    """The addresses of either family that a column of texts in Arrow's layout names, as in
+    ``IPv4Network.read_column``, and for each text a byte that is 0 if it names one. Each address is
+    17 bytes: its octets, followed by zeros for an IPv4 address, and their number, 4 or 16, or 0 if
+    there is no address. With ``mapped``, an IPv4-mapped address is read as the IPv4 address.
 
     >>> import array
     >>> offsets = array.array("I", [0, 7, 10, 11])
@@ -123,9 +124,9 @@ def read_address_column(
 def print_address_column(
     addresses: ReadableBuffer, offset_bits: int = 32
 ) -> tuple[bytearray, bytearray]:
-    """The texts of a column of addresses in Arrow's layout, with offsets of 32 or of 64 bits, as
-    ``IPv4Network.print_column`` has it. The column has 17 bytes for each address, as
-    ``read_address_column`` gives it; AddressError if a row is no address.
+    """The texts of a column of addresses in Arrow's layout, with offsets of 32 or 64 bits, as in
+    ``IPv4Network.print_column``. The column has 17 bytes for each address, as
+    ``read_address_column`` returns it. AddressError if a row is not an address.
 
     >>> column = bytes([8, 8, 8, 8, *bytes(12), 4, *bytes(15), 1, 16])
     >>> texts, offsets = print_address_column(column)

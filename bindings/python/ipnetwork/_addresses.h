@@ -1,4 +1,4 @@
-/* What a network of the extension holds, and how errors and addresses go to Python and come from it. */
+/* The objects that hold a network, and the conversion of errors and addresses to and from Python. */
 #ifndef IPNETWORK_ADDRESSES_H
 #define IPNETWORK_ADDRESSES_H
 
@@ -9,25 +9,25 @@
 #include <string.h>
 #include "ipnetwork.h"
 
-/* What a module holds. Each interpreter that imports the extension has a module of its own, and
- * nothing here is shared. */
+/* The state of a module. Each interpreter that imports the extension has its own module, and nothing here is
+ * shared. */
 typedef struct {
     PyTypeObject *network_type, *v4_type, *v6_type;    /* the types of this module */
-    PyObject *v4_class, *v6_class;                     /* the classes that `register` is given */
+    PyObject *v4_class, *v6_class;                     /* the classes given to `register` */
     PyObject *v4_address, *v6_address, *base_network;  /* those of ipaddress */
     PyObject *make_error, *map_of, *range_of;
     PyObject *name_ip, *name_scope, *sixty_four, *zero, *one;
-    PyObject *masks[2][129];  /* those asked for already, by prefix length */
+    PyObject *masks[2][129];  /* those that were asked for, by prefix length */
     int plain;                /* whether an address of ipaddress is only its number: see `is_plain` */
 } State;
 
-/* A network keeps its class, which keeps the module of its base, so that the state is there as
- * long as the network is. */
+/* A network keeps its class, which keeps the module of its base, so the state lives as long as the
+ * network. */
 typedef struct {
     PyObject_HEAD
     State *state;
     ipnetwork_ip held;
-    /* Asked for as the network is made, since `ipaddress` has these at hand too. */
+    /* Computed when the network is made, because `ipaddress` does so too. */
     PyObject *least, *mask;
     /* What the library returned already, or NULL. */
     PyObject *text, *ip, *greatest, *size;
@@ -35,10 +35,10 @@ typedef struct {
 
 static PyObject *again(PyObject *told) { Py_INCREF(told); return told; }
 
-/* What is kept at a place, or NULL. Each place is filled once, and by one thread only. */
+/* The object kept at a place, or NULL. Each place is filled once, and by one thread only. */
 static PyObject *kept_at(PyObject **place) { return __atomic_load_n(place, __ATOMIC_ACQUIRE); }
 
-/* Keeps what is made, if no other thread was first, and gives a new reference to what is kept. */
+/* Keeps an object, unless another thread was first, and returns a new reference to the one that is kept. */
 static PyObject *kept(PyObject **place, PyObject *made) {
     PyObject *first = NULL;
     if (made == NULL) return NULL;
@@ -48,7 +48,7 @@ static PyObject *kept(PyObject **place, PyObject *made) {
     return again(first);
 }
 
-/* Raises what `_errors.error` makes of a fault and of what was given. */
+/* Raises the error that `_errors.error` makes from a fault and the given object. */
 static void raise_fault(State *state, ipnetwork_fault fault, PyObject *given) {
     PyObject *error = PyObject_CallFunction(state->make_error, "IO", (unsigned int)fault, given);
     if (error != NULL) {
@@ -57,14 +57,15 @@ static void raise_fault(State *state, ipnetwork_fault fault, PyObject *given) {
     }
 }
 
-/* A question about a network that the library made has no fault. */
+/* Checks that there is no fault: a question about a network made by the library has none. */
 static int answered(ipnetwork_fault fault) {
     if (fault == IPNETWORK_OK) return 1;
     PyErr_Format(PyExc_RuntimeError, "the library returned fault %u for a question about a network", (unsigned int)fault);
     return 0;
 }
 
-/* The number as 16 octets, the highest first; 0 with OverflowError where it is negative or has more than 128 bits. */
+/* The number as 16 octets, the highest first; 0 with OverflowError if it is negative or has more than 128
+ * bits. */
 static int octets_of_number(State *state, PyObject *number, uint8_t octets[16]) {
     unsigned long long low = PyLong_AsUnsignedLongLongMask(number), high;
     if (low == (unsigned long long)-1 && PyErr_Occurred()) return 0;
@@ -86,7 +87,7 @@ static uint64_t word_at(const uint8_t *octets) {
     return word;
 }
 
-/* A number times 2^64, and another added; the first one is let go of. */
+/* A number times 2^64 plus another one; releases the first. */
 static PyObject *number_on(State *state, PyObject *upper, uint64_t low) {
     PyObject *lower = upper == NULL ? NULL : PyLong_FromUnsignedLongLong(low), *number = NULL;
     PyObject *shifted = lower == NULL ? NULL : PyNumber_Lshift(upper, state->sixty_four);
@@ -117,7 +118,7 @@ static int is_plain(PyObject *type, const char *slots) {
     return same;
 }
 
-/* The address of ipaddress of 4 or 16 octets. */
+/* The address of ipaddress with these 4 or 16 octets. */
 static PyObject *address_object(State *state, const uint8_t *octets, uint8_t length) {
     PyObject *number = number_of_octets(state, octets, length), *address = NULL;
     PyObject *type = length == 4 ? state->v4_address : state->v6_address;
@@ -133,7 +134,8 @@ static PyObject *address_object(State *state, const uint8_t *octets, uint8_t len
     return address;
 }
 
-/* What an object is: an address, its octets put where the last argument says; an address with a zone; or neither. */
+/* The kind of an object: an address, whose octets are written through the last argument; an address with a
+ * zone; or neither. */
 enum { IS_ADDRESS, HAS_ZONE, NO_ADDRESS, HAS_RAISED };
 
 static int address_of(State *state, PyObject *object, ipnetwork_address *address) {
@@ -175,20 +177,21 @@ static PyObject *type_name(PyObject *object) {
     return whole;
 }
 
-/* Raises a TypeError with the name of the type of an object in it, by `%U`. */
+/* Raises a TypeError with the name of the type of an object, for `%U`. */
 static void wrong_type(const char *words, PyObject *object) {
     PyObject *name = type_name(object);
     if (name != NULL) PyErr_Format(PyExc_TypeError, words, name);
     Py_XDECREF(name);
 }
 
-/* Raises the TypeError of what is no address. */
+/* Raises the TypeError for an object that is not an address. */
 static void no_address(PyObject *object) {
     wrong_type("an address is IPv4Address or IPv6Address of ipaddress, not %U"
                ": read_address reads a text", object);
 }
 
-/* The same as `address_of`, but that a network of one address is that address; of another network NO_ADDRESS. */
+/* The same as `address_of`, but a network of one address is that address, and any other network is
+ * NO_ADDRESS. */
 static int alone_of(State *state, PyObject *object, ipnetwork_address *address) {
     int kind = address_of(state, object, address);
     if (kind != NO_ADDRESS) return kind;
@@ -211,7 +214,8 @@ static int alone_of(State *state, PyObject *object, ipnetwork_address *address) 
     return kind == HAS_RAISED && !PyErr_Occurred() ? NO_ADDRESS : kind;
 }
 
-/* The answer of `in` about what has no octets: an address with a zone and a network are no members; else TypeError. */
+/* The result of `in` for an object without octets: an address with a zone or a network is no member; anything
+ * else is a TypeError. */
 static int no_member(State *state, PyObject *object, int kind) {
     if (kind == HAS_RAISED) return -1;
     if (kind == HAS_ZONE || PyObject_TypeCheck(object, state->network_type)) return 0;
@@ -232,7 +236,7 @@ static PyObject *read_address(PyObject *module, PyObject *text) {
     const char *bytes = PyUnicode_AsUTF8AndSize(text, &length);
     if (bytes == NULL) {
         if (!PyErr_ExceptionMatches(PyExc_UnicodeEncodeError)) return NULL;
-        PyErr_Clear(); /* half a surrogate pair, which is no address */
+        PyErr_Clear(); /* half a surrogate pair, which is not in an address */
     }
     fault = bytes == NULL ? IPNETWORK_ADDRESS : ipnetwork_address_read(bytes, (size_t)length, &address);
     if (fault != IPNETWORK_OK) return raise_fault(state, fault, text), NULL;

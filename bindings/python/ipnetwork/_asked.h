@@ -1,11 +1,11 @@
-/* What a set or a table is asked about: an address, or a network of this package or of
+/* The objects that a set or a table can be asked about: an address, or a network of this package or of
  * ipaddress. */
 #ifndef IPNETWORK_ASKED_H
 #define IPNETWORK_ASKED_H
 
 #include "_networks.h"
 
-/* The network of an address and a prefix length, put where the last argument says. */
+/* Writes the network of an address and a prefix length through the last argument. */
 static int put_asked(const ipnetwork_address *address, long prefix, ipnetwork_ip *held) {
     memset(held, 0, sizeof *held);
     held->family = address->length == 4 ? 4 : 6;
@@ -13,7 +13,7 @@ static int put_asked(const ipnetwork_address *address, long prefix, ipnetwork_ip
                                                : put(held, address->octets, (uint8_t)prefix));
 }
 
-/* The same of a network of ipaddress, whose address may have a zone. */
+/* The same for a network of ipaddress, whose address may have a zone. */
 static int asked_of_theirs(State *state, PyObject *given, ipnetwork_ip *held) {
     ipnetwork_address address;
     PyObject *least = PyObject_GetAttrString(given, "network_address"), *length = NULL;
@@ -27,9 +27,8 @@ static int asked_of_theirs(State *state, PyObject *given, ipnetwork_ip *held) {
     return put_asked(&address, prefix, held) ? IS_ADDRESS : HAS_RAISED;
 }
 
-/* Puts the network that is asked about where the last argument says; of an address, that of the
- * address only. HAS_ZONE where an address has a zone, and so no network; HAS_RAISED with TypeError
- * of any other object. */
+/* Writes the network that is asked about, or the network of only an address, through the last argument.
+ * HAS_ZONE if an address has a zone, and thus no network; HAS_RAISED with TypeError for any other object. */
 static int asked_of(State *state, PyObject *given, ipnetwork_ip *held) {
     ipnetwork_address address;
     if (PyObject_TypeCheck(given, state->network_type)) {
@@ -48,7 +47,7 @@ static int asked_of(State *state, PyObject *given, ipnetwork_ip *held) {
     return HAS_RAISED;
 }
 
-/* The bytes of the block of a prefix length that has the address of a network. */
+/* The bytes of the block with this prefix length that has the address of a network. */
 static int block_at(const ipnetwork_ip *held, uint8_t prefix, uint8_t row[17]) {
     uint8_t width = width_of(held);
     ipnetwork_ip whole = {.family = held->family};
@@ -69,9 +68,9 @@ static PyObject *block_row(PyObject *module, PyObject *given) {
     return PyBytes_FromStringAndSize((const char *)row, width_of(&held) + 1);
 }
 
-/* longest_key(keys, fours, sixes, asked): of the keys of a dict, which are the bytes of structs
- * without host bits, that of the longest network that has all of what is asked about; None if none
- * has. The prefix lengths of the keys are those of these bytes, in descending order. */
+/* longest_key(keys, fours, sixes, asked): the key in a dict, whose keys are the bytes of structs without host
+ * bits, of the longest network that has all that is asked about; None if there is none. fours and sixes are
+ * the prefix lengths of the keys, in descending order. */
 static PyObject *longest_key(PyObject *module, PyObject *arguments) {
     State *state = PyModule_GetState(module);
     PyObject *keys, *given;

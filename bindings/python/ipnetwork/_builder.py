@@ -1,4 +1,4 @@
-"""A set of addresses that changes."""
+"""A builder for sets of addresses."""
 
 from __future__ import annotations
 
@@ -19,7 +19,7 @@ _LEAST = 1024  # so many changes are collected at least before they are made
 
 
 class _Change(NamedTuple):
-    """What is taken from a set, and what is then added to it."""
+    """The addresses that are removed from a set, and those that are then added to it."""
 
     removed: AddressSet
     added: AddressSet
@@ -34,14 +34,14 @@ class _Change(NamedTuple):
 
 
 class _Step(NamedTuple):
-    """A network that is added, or taken away: the bytes of its struct."""
+    """A network that is added or removed: the bytes of its struct."""
 
     adds: bool
     row: bytes
 
 
 def _of_run(adds: bool, rows: list[bytes]) -> _Change:
-    """The change of steps that all add, or all take away."""
+    """The change made by steps that all add, or all remove."""
     fours = core.aggregate(4, b"".join([row for row in rows if len(row) == 5]))
     sixes = core.aggregate(6, b"".join([row for row in rows if len(row) == 17]))
     run, none = AddressSet._of(fours, sixes), AddressSet()
@@ -49,8 +49,8 @@ def _of_run(adds: bool, rows: list[bytes]) -> _Change:
 
 
 def _in_one(steps: list[_Step]) -> _Change:
-    """The change of steps, one after the other: of neighbours first, so that each step takes part
-    in few operations."""
+    """The change made by steps, one after the other. Neighbours are combined first, so that each
+    step takes part in few operations."""
     runs = groupby(steps, key=attrgetter("adds"))
     changes = [_of_run(adds, [step.row for step in run]) for adds, run in runs]
     while len(changes) > 1:
@@ -60,11 +60,11 @@ def _in_one(steps: list[_Step]) -> _Change:
 
 
 class AddressSetBuilder:
-    """A set of addresses that networks are added to and taken from, one by one.
+    """A set of addresses to which networks are added, and from which they are removed, one by one.
 
-    ``build`` gives the addresses so far as an ``AddressSet``, and the builder goes on from there.
-    With ``mapped``, an IPv4-mapped address counts as the IPv4 address in these sets. A
-    change takes a few microseconds, whatever the size of the set; ``build`` takes time in
+    ``build`` returns the addresses so far as an ``AddressSet``, and the builder can be changed
+    further. With ``mapped``, an IPv4-mapped address counts as the IPv4 address in these sets. On
+    average a change takes a few microseconds, whatever the size of the set; ``build`` takes time in
     proportion to it. Several threads may change one builder.
 
     >>> builder = AddressSetBuilder([ip_network("10.0.0.0/8")])
@@ -97,11 +97,11 @@ class AddressSetBuilder:
             self._lock.release()
 
     def add(self, network: Either) -> None:
-        """Adds the addresses of a network. Those that are there already change nothing."""
+        """Adds the addresses of a network. Those that are already there change nothing."""
         self._take(True, network)
 
     def discard(self, network: Either) -> None:
-        """Takes away the addresses of a network. Those that are not there change nothing."""
+        """Removes the addresses of a network. Those that are not there change nothing."""
         self._take(False, network)
 
     def update(self, networks: Iterable[Either]) -> None:
@@ -110,7 +110,7 @@ class AddressSetBuilder:
             self._take(True, network)
 
     def difference_update(self, networks: Iterable[Either]) -> None:
-        """Takes away the addresses of networks, or of a set."""
+        """Removes the addresses of networks, or of a set."""
         for network in networks:
             self._take(False, network)
 
@@ -120,7 +120,7 @@ class AddressSetBuilder:
         try:
             count = len(self._steps)
             if count:
-                # To make these changes a second time would change nothing.
+                # Making these changes a second time would change nothing.
                 self._made = _in_one(self._steps).of(self._made)
                 del self._steps[:count]
             return self._made

@@ -1,8 +1,8 @@
 # mypy: ignore-errors
 # The types of these names are those of _native.pyi.
-"""The core of the package over ``ctypes``, which needs no compiler: the names of ``_native.c``, and
-what they mean. Each answer about texts, members, order and ends is one of the library's, as by the
-extension.
+"""The core of the package over ``ctypes``, which needs no compiler: the same names as in
+``_native.c``, with the same meanings. Each answer about texts, members, order and ends comes from
+the library, as with the extension.
 """
 
 from __future__ import annotations
@@ -77,8 +77,8 @@ __all__ = [
 
 
 def _asked(given: object) -> Union[bytes, None]:
-    """The bytes of the struct of the network that is asked about, of an address that of the address
-    only; None where an address has a zone. TypeError of any other object."""
+    """The bytes of the struct of the network that is asked about, or of the network of only an
+    address; None if the address has a zone. TypeError for any other object."""
     if isinstance(given, Network):
         return given._row
     address, prefix = given, None
@@ -96,7 +96,7 @@ def _asked(given: object) -> Union[bytes, None]:
 
 
 def _block_at(row: bytes, prefix: int) -> bytes:
-    """The bytes of the block of a prefix length that has the address of a network."""
+    """The bytes of the block with this prefix length that has the address of a network."""
     width = len(row) - 1
     octets = (ctypes.c_ubyte * width)()
     call = library.ipnetwork_v4_network if width == 4 else library.ipnetwork_v6_network
@@ -113,9 +113,9 @@ def block_row(network: object) -> Union[bytes, None]:
 def longest_key(
     keys: dict[bytes, object], fours: bytes, sixes: bytes, asked: object
 ) -> Union[bytes, None]:
-    """Of the keys of a dict, which are the bytes of structs without host bits, that of the longest
-    network that has all of what is asked about; None if none has. The prefix lengths of the keys
-    are those of these bytes, in descending order."""
+    """Of the keys of a dict, which are the bytes of structs without host bits, returns that of the
+    longest network that has all that is asked about; None if there is none. ``fours`` and ``sixes``
+    are the prefix lengths of the keys, in descending order."""
     row = _asked(asked)
     if row is None:
         return None
@@ -139,7 +139,7 @@ def set_contains(search: tuple[bytes, bytes, bytes, bytes, bool], asked: object)
         return False
     if isinstance(asked, (IPv4Address, IPv6Address)):
         return True
-    # One block has all of them, since the blocks are the fewest with their addresses.
+    # One block has all of them, because the blocks are the fewest with their addresses.
     place, answer = find_packed(blocks, index, row[:-1], len(row) - 1)[0], ctypes.c_uint8()
     block = blocks[place * len(row) :][: len(row)]
     family = "v4" if len(row) == 5 else "v6"

@@ -1,5 +1,5 @@
 # mypy: ignore-errors
-"""The addresses of the core over ``ctypes``, which are those of ``ipaddress``."""
+"""The addresses of the core over ``ctypes``, which are objects of ``ipaddress``."""
 
 from __future__ import annotations
 
@@ -20,7 +20,7 @@ def type_name(given: object) -> str:
 
 
 def read_address(text: str) -> Union[IPv4Address, IPv6Address]:
-    """The address of either family that a text names; AddressError of any other text."""
+    """The address of either family that a text names; AddressError for any other text."""
     if not isinstance(text, str):
         raise TypeError(f"the text of an address is str, not {type_name(text)}")
     given, held = text.encode("utf-8", "replace"), (ctypes.c_ubyte * ADDRESS)()
@@ -31,7 +31,7 @@ def read_address(text: str) -> Union[IPv4Address, IPv6Address]:
 
 
 def no_address(given: object) -> TypeError:
-    """The error of what is no address."""
+    """The error for an object that is not an address."""
     return TypeError(
         f"an address is IPv4Address or IPv6Address of ipaddress, not {type_name(given)}: "
         "read_address reads a text"
@@ -39,8 +39,7 @@ def no_address(given: object) -> TypeError:
 
 
 def unmapped(address: Union[IPv4Address, IPv6Address]) -> Union[IPv4Address, IPv6Address]:
-    """The IPv4 address that an IPv4-mapped one stands for; any other, and one with a zone, as it
-    is."""
+    """The IPv4 address in an IPv4-mapped one; any other address, and one with a zone, as it is."""
     if not isinstance(address, (IPv4Address, IPv6Address)):
         raise no_address(address)
     if address.version == 6 and address._scope_id is None:

@@ -1,8 +1,8 @@
 # mypy: ignore-errors
 """The shared library, loaded by ``ctypes``, and the structs of its header.
 
-It is looked for beside this file, as ``libipnetwork_c.so`` (``libipnetwork_c.dylib`` on macOS,
-``ipnetwork_c.dll`` on Windows), or at IPNETWORK_LIBRARY.
+The library is looked for next to this file, as ``libipnetwork_c.so`` (``libipnetwork_c.dylib`` on
+macOS, ``ipnetwork_c.dll`` on Windows), or at IPNETWORK_LIBRARY.
 """
 
 from __future__ import annotations
@@ -110,13 +110,14 @@ library = _load()
 
 
 def answered(fault: int) -> None:
-    """A question about a network has no fault, since its prefix length is one of its family."""
+    """Checks that there is no fault: a question about a network has none, because its prefix length
+    is one of its family."""
     if fault:
         raise RuntimeError(f"the library returned fault {fault} for a question about a network")
 
 
 def unmapped_octets(packed: bytes) -> Union[bytes, None]:
-    """The packed IPv4 address that a packed IPv6 address stands for; None if it stands for none."""
+    """The packed IPv4 address in a packed IPv6 address; None if that is not IPv4-mapped."""
     octets = (ctypes.c_ubyte * 4)()
     fault = library.ipnetwork_v6_unmapped(packed, ctypes.byref(octets))
     if fault == 6:
@@ -126,8 +127,8 @@ def unmapped_octets(packed: bytes) -> Union[bytes, None]:
 
 
 def flat(given: ReadableBuffer) -> memoryview:
-    """The bytes of a buffer; TypeError where its items are more than a byte long, since the bytes
-    of such numbers are in the order of the machine, and not in that of addresses."""
+    """The bytes of a buffer; TypeError if its items are longer than a byte, because the bytes of
+    such numbers are in the order of the machine, not in that of addresses."""
     view = memoryview(given)
     if view.itemsize != 1:
         raise TypeError(

@@ -1,5 +1,6 @@
 # mypy: ignore-errors
-"""Lists and columns of the core over ``ctypes``, each the bytes of structs, one after the other."""
+"""Lists and columns of the core over ``ctypes``: each is the bytes of structs, one after the
+other."""
 
 from __future__ import annotations
 
@@ -25,7 +26,7 @@ def _step(version: int) -> int:
 
 
 def aggregate(version: int, rows: bytes) -> bytes:
-    """The aggregate of the networks whose structs these bytes are."""
+    """The aggregate of the networks with these structs."""
     room, count = ctypes.create_string_buffer(rows, len(rows)), ctypes.c_size_t()
     call, step = getattr(library, f"ipnetwork_v{version}_aggregate"), _step(version)
     answered(call(room, len(rows) // step, ctypes.byref(count)))
@@ -35,8 +36,8 @@ def aggregate(version: int, rows: bytes) -> bytes:
 def _operated(
     operation: str, version: int, first: bytes, second: bytes, room: int
 ) -> tuple[int, ctypes.Array, int]:
-    """The fault of an operation on two sets, the blocks in room for so many, and how many they
-    are."""
+    """The fault of an operation on two sets, the blocks in room for ``room`` of them, and their
+    number."""
     step, count = _step(version), ctypes.c_size_t()
     call = getattr(library, f"ipnetwork_v{version}_{_OPERATIONS[operation]}")
     place = ctypes.create_string_buffer(room * step)
@@ -46,7 +47,7 @@ def _operated(
 
 
 def operate(operation: str, version: int, first: bytes, second: bytes) -> bytes:
-    """Of two sets, given by the bytes of their blocks, those of an operation."""
+    """The blocks of an operation on two sets, given by the bytes of their blocks."""
     room = (len(first) + len(second)) // _step(version)
     fault, place, count = _operated(operation, version, first, second, room)
     if fault == 4:  # a union has no more blocks than both sets; a difference may have more
@@ -56,7 +57,7 @@ def operate(operation: str, version: int, first: bytes, second: bytes) -> bytes:
 
 
 def is_empty(operation: str, version: int, first: bytes, second: bytes) -> bool:
-    """Whether there are no such blocks."""
+    """Whether the result of such an operation is empty."""
     fault, _, count = _operated(operation, version, first, second, 0)
     if fault != 4:
         answered(fault)
@@ -64,7 +65,7 @@ def is_empty(operation: str, version: int, first: bytes, second: bytes) -> bool:
 
 
 def range_rows(first: bytes, last: bytes) -> Union[bytes, None]:
-    """The blocks from one packed address to another; None if it comes after."""
+    """The blocks from one packed address to another; None if the first comes after the other."""
     version, step = (4, 5) if len(first) == 4 else (6, 17)
     room, count = ctypes.create_string_buffer(254 * step), ctypes.c_size_t()
     call = getattr(library, f"ipnetwork_v{version}_range_to_blocks")
@@ -76,8 +77,8 @@ def range_rows(first: bytes, last: bytes) -> Union[bytes, None]:
 
 
 def _column(addresses: ReadableBuffer) -> bytes:
-    """The bytes of a column of addresses, as ``read_rows`` leaves them; ValueError of what is
-    none."""
+    """The bytes of a column of addresses, as ``read_rows`` returns them; ValueError if they are not
+    one."""
     column = bytes(flat(addresses))
     if len(column) % ADDRESS:
         raise ValueError(f"{len(column)} bytes are no column of addresses of {ADDRESS} bytes")
@@ -92,7 +93,7 @@ def _column(addresses: ReadableBuffer) -> bytes:
 
 
 def unmapped_rows(addresses: ReadableBuffer) -> bytearray:
-    """The addresses of a column, each IPv4-mapped one as the IPv4 address."""
+    """The addresses of a column, with each IPv4-mapped one replaced by the IPv4 address."""
     rows = bytearray(_column(addresses))
     for at in range(0, len(rows), ADDRESS):
         if rows[at + 16] == 16:
@@ -103,13 +104,13 @@ def unmapped_rows(addresses: ReadableBuffer) -> bytearray:
 
 
 def _family(column: bytes, width: int) -> tuple[list[int], bytes]:
-    """The rows of a column that have addresses of so many bytes, and these, packed."""
+    """The rows of a column that have addresses of ``width`` bytes, and these addresses, packed."""
     rows = [row for row, length in enumerate(column[16::ADDRESS]) if length == width]
     return rows, b"".join([column[row * ADDRESS : row * ADDRESS + width] for row in rows])
 
 
 def index(version: int, blocks: bytes) -> bytes:
-    """The index of a list of blocks, by which it is searched: empty, if they are few."""
+    """The index by which a list of blocks is searched: empty if there are only few."""
     count, length = len(blocks) // _step(version), ctypes.c_size_t()
     if count < 8:
         return b""
@@ -120,7 +121,7 @@ def index(version: int, blocks: bytes) -> bytes:
 
 
 def contains_packed(blocks: bytes, index: bytes, packed: bytes, width: int) -> bytes:
-    """For each packed address of so many bytes whether it is in the set of these blocks."""
+    """For each packed address of ``width`` bytes, whether it is in the set of these blocks."""
     count = len(packed) // width
     answers, faults = (ctypes.c_ubyte * count)(), (ctypes.c_ubyte * count)()
     call = getattr(library, f"ipnetwork_v{4 if width == 4 else 6}_index_contains_column")
@@ -131,8 +132,8 @@ def contains_packed(blocks: bytes, index: bytes, packed: bytes, width: int) -> b
 
 
 def find_packed(structs: bytes, index: bytes, packed: bytes, width: int) -> list[int]:
-    """For each packed address of so many bytes the place of the longest of these structs that has
-    it, or -1."""
+    """For each packed address of ``width`` bytes, the place of the longest of these structs that
+    has it, or -1."""
     count = len(packed) // width
     places, faults = (ctypes.c_size_t * count)(), (ctypes.c_ubyte * count)()
     call = getattr(library, f"ipnetwork_v{4 if width == 4 else 6}_index_find_column")
@@ -144,8 +145,8 @@ def find_packed(structs: bytes, index: bytes, packed: bytes, width: int) -> list
 def numbers_packed(
     structs: bytes, numbers: bytes, index: bytes, packed: bytes, width: int
 ) -> list[int]:
-    """For each packed address of so many bytes the number beside the range that it lies in, or -1,
-    which stands beside a range as the place of no block."""
+    """For each packed address of ``width`` bytes, the number of the range that it is in, or -1,
+    which is also the number of a range without a block."""
     count, of = len(packed) // width, len(structs) // (width + 1)
     places, faults = (ctypes.c_size_t * count)(), (ctypes.c_ubyte * count)()
     call = getattr(library, f"ipnetwork_v{4 if width == 4 else 6}_ranges_find_column")
@@ -157,7 +158,7 @@ def numbers_packed(
 def set_contains_column(
     search: tuple[bytes, bytes, bytes, bytes, bool], addresses: ReadableBuffer
 ) -> bytearray:
-    """For each address of a column a byte: 1 if it is one of the set, else 0."""
+    """For each address of a column a byte: 1 if it is in the set, else 0."""
     column = bytes(unmapped_rows(addresses)) if search[4] else _column(addresses)
     answers = bytearray(len(column) // ADDRESS)
     for width, (blocks, index) in ((4, search[:2]), (16, search[2:4])):
@@ -168,8 +169,8 @@ def set_contains_column(
 
 
 def table_make(version: int, rows: bytes) -> tuple[bytes, bytes]:
-    """The blocks of the networks whose structs these bytes are, in the order of a table, and beside
-    each the place of its network, as a number of the size of a pointer."""
+    """The blocks of the networks with these structs, in the order of a table, and for each the
+    place of its network, as a number of the size of a pointer."""
     step = _step(version)
     count = len(rows) // step
     blocks, places = ctypes.create_string_buffer(count * step), (ctypes.c_size_t * count)()
@@ -180,7 +181,7 @@ def table_make(version: int, rows: bytes) -> tuple[bytes, bytes]:
 
 def ranges(version: int, blocks: bytes, numbers: bytes) -> tuple[bytes, bytes, bytes]:
     """The ranges of addresses that have the same longest block of a table, as structs of their
-    first addresses; the number beside that block, or -1; and an index of the ranges."""
+    first addresses; the number of that block or -1; and an index of the ranges."""
     step, made = _step(version), ctypes.c_size_t()
     count = len(blocks) // step
     if len(numbers) // 8 < count:
@@ -210,7 +211,7 @@ def table_find_column(
 
 
 class _OtherRow(Exception):
-    """A row that ``layout`` does not take."""
+    """A row that ``layout`` does not accept."""
 
 
 def _no_text(row: object, missing: object) -> bytes:
@@ -232,8 +233,8 @@ def _bytes_of(row: object, missing: object) -> bytes:
 
 
 def layout(rows: list[object], missing: object) -> Union[tuple[bytearray, bytearray], None]:
-    """The rows of a list in Arrow's layout, the bytes and the offsets; None where a row is neither
-    str, bytes, None, NaN nor ``missing``, or is a str that has no UTF-8."""
+    """The rows of a list in Arrow's layout: the bytes and the offsets. None if a row is neither
+    str, bytes, None, NaN nor ``missing``, or is a str that cannot be encoded in UTF-8."""
     try:
         each = [_bytes_of(row, missing) for row in rows]
     except (UnicodeEncodeError, _OtherRow):
@@ -265,8 +266,8 @@ def _offsets_of(given: ReadableBuffer) -> memoryview:
 
 
 def _parts(offsets: memoryview) -> Iterator[tuple[int, int]]:
-    """Where each part begins and ends: texts whose offsets, from the first on, have 32 bits, or one
-    text."""
+    """The rows at which each part begins and ends. A part is texts whose offsets, counted from the
+    first, have 32 bits, or a single text."""
     count, row = max(len(offsets) - 1, 0), 0
     while row < count:
         end = min(row + _PART, count)
@@ -279,7 +280,7 @@ def _parts(offsets: memoryview) -> Iterator[tuple[int, int]]:
 def _read_part(
     kind: int, texts: memoryview, offsets: list[int], rows: memoryview, faults: memoryview
 ) -> int:
-    """Reads texts into rows and faults, of which there are as many; the fault of it all."""
+    """Reads texts into as many rows and faults; returns the fault of the whole call."""
     starts, count = len(offsets), max(len(offsets) - 1, 0)
     text, step = bytes(texts), {4: 5, 6: 17, 0: ADDRESS}[kind]
     room, told = (ctypes.c_ubyte * (count * step))(), (ctypes.c_ubyte * count)()
@@ -299,8 +300,8 @@ def _read_part(
 def read_rows(
     kind: int, texts: ReadableBuffer, offsets: ReadableBuffer
 ) -> tuple[bytearray, bytearray]:
-    """A column of texts read: networks of the family 4 or 6, or addresses, if the kind is 0; and
-    the faults."""
+    """Reads a column of texts: networks of family 4 or 6, or addresses if ``kind`` is 0; and the
+    fault of each."""
     given, places = flat(texts), _offsets_of(offsets)
     step, count = {4: 5, 6: 17, 0: ADDRESS}[kind], max(len(places) - 1, 0)
     ends = zip(places, itertools.islice(places, 1, None))
@@ -317,8 +318,8 @@ def read_rows(
 
 
 def print_rows(kind: int, rows: ReadableBuffer, bits: int) -> tuple[bytearray, bytearray]:
-    """The texts of the networks of the family 4 or 6, or of the addresses, if the kind is 0, whose
-    structs these bytes are, and their offsets, of 32 or of 64 bits."""
+    """The texts of the networks of family 4 or 6, or of addresses if ``kind`` is 0, with these
+    structs, and their offsets, of 32 or 64 bits."""
     bits = operator.index(bits)
     if bits not in (32, 64):
         raise ValueError(f"offset_bits is 32 or 64, not {bits}")

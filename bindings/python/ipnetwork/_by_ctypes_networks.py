@@ -1,8 +1,8 @@
 # mypy: ignore-errors
 """The networks of the core over ``ctypes``.
 
-What a network has told once is kept. The bytes of a network are its address and its prefix length,
-so that networks are equal if these are.
+What a network has computed once is kept. The bytes of a network are its address and its prefix
+length, so networks are equal if these are.
 """
 
 from __future__ import annotations
@@ -44,23 +44,23 @@ def _bytes(given: str) -> bytes:
 
 
 def alone(given: object) -> object:
-    """The address of a network of one address; all else as it is."""
+    """The address of a network of one address; anything else as it is."""
     if isinstance(given, (Network, IPv4Network, IPv6Network)) and given.num_addresses == 1:
         return given.network_address
     return given
 
 
 def no_member(address: object) -> bool:
-    """The answer of ``in`` about what is no address of the family: an address of the other one and
-    a network are no members; else TypeError."""
+    """The result of ``in`` for an object that is not an address of the family: an address of the
+    other family or a network is no member; anything else is a TypeError."""
     if isinstance(address, (IPv4Address, IPv6Address, Network, IPv4Network, IPv6Network)):
         return False
     raise no_address(address)
 
 
 class Network(Generic[Address]):
-    """What the networks of both families have. Each is the bytes of its struct: the address, and
-    the prefix length."""
+    """What the networks of both families have. A network is the bytes of its struct: the address
+    and the prefix length."""
 
     _width: ClassVar[int]
     _family: ClassVar[str]
@@ -72,8 +72,8 @@ class Network(Generic[Address]):
     prefixlen: int
 
     def __init__(self, text: Union[str, bytes]) -> None:
-        """The network that a text names, or that of one address, given as its packed bytes.
-        FormatError, AddressError or PrefixError, the first that holds."""
+        """The network that a text names, or that of a single address, given as its packed bytes.
+        FormatError, AddressError or PrefixError, the first that applies."""
         if "_row" in self.__dict__:
             raise TypeError("a network is made once, and does not change")
         if isinstance(text, bytes):
@@ -93,7 +93,7 @@ class Network(Generic[Address]):
         self.prefixlen = row[-1]
 
     def _asked(self, call: ctypes._NamedFuncPointer) -> Address:
-        """The address that a call of the library about this network gives."""
+        """The address that a call of the library returns for this network."""
         octets = self._octets()
         answered(call(self._row, ctypes.byref(octets)))
         return self._address(bytes(octets))
@@ -136,7 +136,7 @@ class Network(Generic[Address]):
         return self._text
 
     def __getitem__(self, index: SupportsIndex) -> Address:
-        """The member of this number in order, counted from 0, or from the end where it is
+        """The member of this number in ascending order, counted from 0, or from the end if it is
         negative."""
         place = operator.index(index)
         if place < 0:
@@ -155,8 +155,8 @@ class Network(Generic[Address]):
         return map(self._address, range(int(self.network_address), int(self.broadcast_address) + 1))
 
     def __contains__(self, address: object) -> bool:
-        """Whether an address is a member, or that of a network of one address. None of the other
-        family is, none with a zone, and no network of more addresses."""
+        """Whether an address, or the address of a network of one address, is a member. An address
+        of the other family or with a zone is not, nor is a network of more than one address."""
         address = alone(address)
         if isinstance(address, self._address):
             if getattr(address, "_scope_id", None) is not None:
@@ -167,12 +167,11 @@ class Network(Generic[Address]):
         return no_member(address)
 
     def contains_column(self, packed: ReadableBuffer) -> bytearray:
-        """For each address of a column a byte: 1 if it is a member of the network, and 0 if it is
-        not.
+        """For each address of a column a byte: 1 if it is a member of the network, else 0.
 
         A column is packed addresses of the network's family, one after the other, in any contiguous
-        buffer: ``bytes``, ``bytearray``, ``memoryview``, an array of NumPy. ValueError if it has a
-        part of an address at its end."""
+        buffer: ``bytes``, ``bytearray``, ``memoryview``, a NumPy array. ValueError if it ends
+        within an address."""
         view = flat(packed)
         count, part = divmod(view.nbytes, self._width)
         if part:
@@ -194,8 +193,8 @@ class Network(Generic[Address]):
             )
 
     def subnet_of(self, other: Network[Address]) -> bool:
-        """Whether each member of this network is a member of ``other``. Host bits change
-        nothing."""
+        """Whether each member of this network is a member of ``other``. Host bits make no
+        difference."""
         if other.__class__ is not self.__class__:
             self._of_this(other)
         answer = ctypes.c_uint8()
@@ -203,14 +202,14 @@ class Network(Generic[Address]):
         return answer.value == 1
 
     def supernet_of(self, other: Network[Address]) -> bool:
-        """Whether each member of ``other`` is a member of this network. Host bits change
-        nothing."""
+        """Whether each member of ``other`` is a member of this network. Host bits make no
+        difference."""
         if other.__class__ is not self.__class__:
             self._of_this(other)
         return other.subnet_of(self)
 
     def overlaps(self, other: Union[Network[IPv4Address], Network[IPv6Address]]) -> bool:
-        """Whether some address is a member of both; ``False`` if the families differ."""
+        """Whether some address is a member of both networks; ``False`` if the families differ."""
         if not isinstance(other, Network):
             self._of_this(other)
         if self._width != other._width:
@@ -220,15 +219,15 @@ class Network(Generic[Address]):
         return answer.value == 1
 
     def _order(self, other: object) -> Union[int, None]:
-        """Negative, 0 or positive, as this network comes before another, is equal or comes after;
-        None if it is none of its family."""
+        """Negative if this network comes before another, 0 if they are equal, positive if it comes
+        after; None if the other is not a network of its family."""
         if not isinstance(other, Network) or other._width != self._width:
             return None
         order = ctypes.c_int32()
         answered(self._compare(self._row, other._row, ctypes.byref(order)))
         return order.value
 
-    # The bytes of networks of different families differ in length, so that these are not equal.
+    # The bytes of networks of different families differ in length, so such networks are not equal.
     def __eq__(self, other: object) -> bool:
         return self._row == other._row if isinstance(other, Network) else NotImplemented
 
@@ -302,7 +301,7 @@ _classes: tuple[type[V4], type[V6]] = (V4, V6)
 
 
 def register(four: type[V4], six: type[V6]) -> None:
-    """Says of which classes ``ip_network`` makes networks."""
+    """Sets the classes of the networks that ``ip_network`` makes."""
     global _classes
     _classes = four, six
 
@@ -336,7 +335,7 @@ def of_packed(kind: type[_Kind], packed: bytes, prefixlen: SupportsIndex) -> _Ki
 
 
 def of_rows(kind: type[_Kind], rows: bytes) -> list[_Kind]:
-    """The networks whose structs these bytes are."""
+    """The networks with these structs."""
     step = kind._width + 1
     networks = []
     for at in range(0, len(rows), step):
@@ -347,7 +346,7 @@ def of_rows(kind: type[_Kind], rows: bytes) -> list[_Kind]:
 
 
 def prefix_of_mask(packed: bytes) -> int:
-    """The prefix length of a packed mask; MaskError if it is none."""
+    """The prefix length of a packed mask; MaskError if it is not a mask."""
     prefix = ctypes.c_uint8()
     call = getattr(library, f"ipnetwork_v{4 if len(packed) == 4 else 6}_prefix_of_mask")
     fault = call(packed, ctypes.byref(prefix))

@@ -1,4 +1,4 @@
-"""By what the package calls the library: its extension, or ``ctypes``."""
+"""Chooses how the package calls the library: by its extension, or by ``ctypes``."""
 
 from __future__ import annotations
 
@@ -6,7 +6,7 @@ import os
 from importlib.util import find_spec
 from typing import TYPE_CHECKING
 
-#: Whether a path is named by which ctypes is asked for.
+#: Whether the environment names a library, which is then called by ctypes.
 ASKED = "IPNETWORK_LIBRARY" in os.environ
 
 if TYPE_CHECKING:

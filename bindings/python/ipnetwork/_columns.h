@@ -1,4 +1,4 @@
-/* The calls of the extension that ask about many addresses, or many networks, at once. */
+/* The calls of the extension for many addresses, or many networks, at once. */
 #ifndef IPNETWORK_COLUMNS_H
 #define IPNETWORK_COLUMNS_H
 
@@ -52,7 +52,7 @@ static PyObject *aggregate(PyObject *module, PyObject *arguments) {
 typedef ipnetwork_fault (*operation_v4)(const ipnetwork_v4 *, size_t, const ipnetwork_v4 *, size_t, ipnetwork_v4 *, size_t, size_t *);
 typedef ipnetwork_fault (*operation_v6)(const ipnetwork_v6 *, size_t, const ipnetwork_v6 *, size_t, ipnetwork_v6 *, size_t, size_t *);
 
-/* An operation on sets, by its sign, of one family. */
+/* The operation of one family with this sign. */
 static operation_v4 operation_of_v4(int sign) {
     return sign == '&'   ? ipnetwork_v4_intersection
            : sign == '-' ? ipnetwork_v4_difference
@@ -65,7 +65,7 @@ static operation_v6 operation_of_v6(int sign) {
                          : ipnetwork_v6_union;
 }
 
-/* Two sets of a family, given by the bytes of their blocks, and what is made of them. */
+/* Two sets of a family, given by the bytes of their blocks, and the operation on them. */
 typedef struct {
     int sign, version;
     const char *first, *second;
@@ -81,7 +81,7 @@ static size_t step_of(int version) {
     return version == 4 ? sizeof(ipnetwork_v4) : sizeof(ipnetwork_v6);
 }
 
-/* Puts the blocks into room for so many of them, and tells how many they are. */
+/* Writes the blocks of the result to memory with room for `room` blocks, and their number. */
 static ipnetwork_fault operated(const Operation *of, void *place, size_t room, size_t *count) {
     size_t step = step_of(of->version);
     size_t first = (size_t)of->first_length / step, second = (size_t)of->second_length / step;
@@ -95,8 +95,8 @@ static ipnetwork_fault operated(const Operation *of, void *place, size_t room, s
     return fault;
 }
 
-/* The blocks, if they fit into room for so many; NULL without an exception if they do not, and then
- * *count is how many they are. */
+/* The blocks, if there is room for them; NULL without an exception if not, and then *count is their
+ * number. */
 static PyObject *operated_in(const Operation *of, size_t room, size_t *count) {
     size_t step = step_of(of->version);
     PyObject *all = PyBytes_FromStringAndSize(NULL, (Py_ssize_t)(room * step)), *blocks = NULL;
@@ -111,8 +111,8 @@ static PyObject *operated_in(const Operation *of, size_t room, size_t *count) {
     return blocks;
 }
 
-/* operate(operation, version, first, second): of two sets, given by the bytes of their blocks,
- * those of `|`, `&` or `-`. A union has no more blocks than both sets; a difference may have more. */
+/* operate(operation, version, first, second): the blocks of `|`, `&` or `-` of two sets, given by the bytes
+ * of their blocks. A union has no more blocks than both sets; a difference may have more. */
 static PyObject *operate(PyObject *module, PyObject *arguments) {
     (void)module;
     Operation of;
@@ -122,8 +122,8 @@ static PyObject *operate(PyObject *module, PyObject *arguments) {
     return blocks == NULL && !PyErr_Occurred() ? operated_in(&of, count, &count) : blocks;
 }
 
-/* is_empty(operation, version, first, second): whether there are no such blocks, by a call that
- * takes no memory. */
+/* is_empty(operation, version, first, second): whether the result has no blocks, by a call that needs no
+ * memory. */
 static PyObject *is_empty(PyObject *module, PyObject *arguments) {
     (void)module;
     Operation of;
@@ -134,8 +134,8 @@ static PyObject *is_empty(PyObject *module, PyObject *arguments) {
     return PyBool_FromLong(count == 0);
 }
 
-/* range_rows(first, last): the blocks from one packed address to another; None if it comes
- * after. */
+/* range_rows(first, last): the blocks from one packed address to another; None if the first comes after the
+ * other. */
 static PyObject *range_rows(PyObject *module, PyObject *arguments) {
     (void)module;
     const char *first, *last;
@@ -203,7 +203,8 @@ static PyObject *index_of(PyObject *module, PyObject *arguments) {
     return list_index_object(width, blocks, (size_t)length / (width + 1));
 }
 
-/* Whether what stands at a place of a tuple is True, put where the last argument says; 0 with IndexError if nothing does. */
+/* Writes whether the element at this index of a tuple is True through the last argument; 0 with IndexError if
+ * there is none. */
 static int truth_at(PyObject *given, Py_ssize_t place, int *truth) {
     PyObject *item = PyTuple_GetItem(given, place);
     *truth = item == Py_True;
@@ -217,20 +218,19 @@ typedef struct {
     int mapped;
 } Set;
 
-/* The set that a tuple of bytes is; 0 with TypeError of another object. */
+/* The set in a tuple of bytes; 0 with TypeError for any other object. */
 static int parse_set(PyObject *given, Set *set) {
     return list_at(given, 0, 1, 4, &set->fours) && list_at(given, 2, 3, 16, &set->sixes) && truth_at(given, 4, &set->mapped);
 }
 
-/* Raises that a row of a column is no address as `read_rows` leaves it; of one without an address
- * the length is 0. */
+/* Raises an error for a row of a column that is not an address as `read_rows` leaves it; for a row without an
+ * address the length is 0. */
 static void no_such_row(Py_ssize_t row, uint8_t length) {
     PyErr_Format(PyExc_ValueError, "row %zd is no address of 17 bytes as read_address_column gives "
                  "it: its last byte is %d", row, (int)length);
 }
 
-/* A row without an address is no member. IPNETWORK_NO_FAMILY where there is neither an address of 4
- * or 16 octets nor none. */
+/* A row without an address is no member. IPNETWORK_NO_FAMILY if the length is neither 0, 4 nor 16. */
 static inline ipnetwork_fault set_has(const Set *set, const ipnetwork_address *address, uint8_t *answer) {
     uint8_t octets[16]; /* a call that is not made takes so many */
     *answer = 0;
@@ -241,7 +241,7 @@ static inline ipnetwork_fault set_has(const Set *set, const ipnetwork_address *a
     return list_contains(&set->sixes, address->octets, answer);
 }
 
-/* Whether the set has all members of a network: whether one of its blocks has, since they are the
+/* Whether the set has all members of a network, that is, whether one of its blocks has, because they are the
  * fewest with their addresses. */
 static ipnetwork_fault set_covers(const Set *set, const ipnetwork_ip *asked, uint8_t *answer) {
     const searched_list *list = asked->family == 4 ? &set->fours : &set->sixes;
@@ -304,7 +304,8 @@ static PyObject *set_contains_column(PyObject *module, PyObject *arguments) {
 
 /* ---- IPv4-mapped addresses ---- */
 
-/* unmapped(address): the IPv4 address that an IPv4-mapped one stands for; any other, and one with a zone, as it is. */
+/* unmapped(address): the IPv4 address in an IPv4-mapped one; any other address, and one with a zone, as it
+ * is. */
 static PyObject *unmapped(PyObject *module, PyObject *given) {
     State *state = PyModule_GetState(module);
     ipnetwork_address address;
@@ -317,7 +318,8 @@ static PyObject *unmapped(PyObject *module, PyObject *given) {
     return again(given);
 }
 
-/* Puts the addresses of a column unmapped; 0 with the first row that is none, and no row without an address. */
+/* Writes the addresses of a column unmapped; 0 at the first row that is neither an address nor without
+ * one. */
 static int unmap_rows(const ipnetwork_address *addresses, size_t count, ipnetwork_address *rows, size_t *row) {
     for (*row = 0; *row < count; ++*row) {
         rows[*row] = addresses[*row];
@@ -328,7 +330,7 @@ static int unmap_rows(const ipnetwork_address *addresses, size_t count, ipnetwor
     return 1;
 }
 
-/* unmapped_rows(addresses): the same of a column of addresses, which are as `read_rows` leaves them. */
+/* unmapped_rows(addresses): the same for a column of addresses, as `read_rows` leaves them. */
 static PyObject *unmapped_rows(PyObject *module, PyObject *given) {
     (void)module;
     PyObject *rows = NULL;

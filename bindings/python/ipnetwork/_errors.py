@@ -1,4 +1,4 @@
-"""What is raised where there is no network, or no answer."""
+"""The errors raised if there is no network, or no answer."""
 
 from __future__ import annotations
 
@@ -6,24 +6,24 @@ __all__ = ["AddressError", "FormatError", "MaskError", "NetworkError", "PrefixEr
 
 
 class NetworkError(ValueError):
-    """No network, or no answer. Its subclasses say why."""
+    """There is no network, or no answer. The subclasses say why."""
 
 
 class FormatError(NetworkError):
-    """The text holds two or more slashes."""
+    """The text has two or more slashes."""
 
 
 class AddressError(NetworkError):
-    """What stands before the slash, or the whole text where there is none, is no address of the
-    family; of ``ip_network``, of neither family."""
+    """The part before the slash, or the whole text if it has none, is not an address of the family;
+    for ``ip_network``, of either family."""
 
 
 class PrefixError(NetworkError):
-    """The prefix length is none of the family."""
+    """The prefix length is not one of the family."""
 
 
 class MaskError(NetworkError):
-    """The address is no mask."""
+    """The address is not a mask."""
 
 
 for _kind in (NetworkError, FormatError, AddressError, PrefixError, MaskError):
@@ -40,6 +40,6 @@ _FAULTS: dict[int, tuple[type[NetworkError], str]] = {
 
 
 def error(fault: int, given: object) -> NetworkError:
-    """The error of a fault of the library, with what was given to it."""
+    """The error for a fault of the library, with the object that was given to it."""
     kind, words = _FAULTS[fault]
     return kind(f"{words}: {given!r}")

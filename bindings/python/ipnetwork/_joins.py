@@ -1,4 +1,4 @@
-"""A column joined with the values of a table."""
+"""Joins of columns with the values of a table."""
 
 from __future__ import annotations
 
@@ -61,10 +61,10 @@ class Joins(Generic[Value]):
         missing: Missing = None,
     ) -> Any:
         """For each row of a column the value of the longest network that has its address, or the
-        default, if none has it or the row has no address: as a list; of a Series of pandas as a
-        Series with its index. The column is a list, an array or a Series of rows, with ``numbers``
-        one of numbers, as ``ipnetwork.columns`` takes it, or of the bytes that
-        ``read_address_column`` gives. ValueError of a ``Table`` that was made without values.
+        default if no network has it or the row has no address. The result is a list, or for a
+        Series of pandas a Series with its index. The column is a list, an array or a Series of
+        rows; with ``numbers``, one of numbers, as for ``ipnetwork.columns``; or the bytes that
+        ``read_address_column`` returns. ValueError for a ``Table`` that was made without values.
 
         >>> table = PrefixTable({ip_network("10.0.0.0/8"): "lab", ip_network("::/0"): "office"})
         >>> table.join(["10.1.2.3", "8.8.8.8", "no address", "2001:db8::1"])

@@ -1,17 +1,18 @@
-/* The rows of a list of Python in Arrow's layout. */
+/* The rows of a Python list in Arrow's layout. */
 #ifndef IPNETWORK_LAYOUT_H
 #define IPNETWORK_LAYOUT_H
 
 #include "_addresses.h"
 
-/* Whether bytes are as many as a packed address has, and no text of one: then they are not taken for a text. */
+/* Whether bytes have the length of a packed address and are not the text of one: then they are not taken as a
+ * text. */
 static int may_be_packed(const char *bytes, Py_ssize_t length) {
     ipnetwork_address address;
     return (length == 4 || length == 16) && ipnetwork_address_read(bytes, (size_t)length, &address) != IPNETWORK_OK;
 }
 
-/* The bytes of a row that is no str: of bytes their own, and none of None, of NaN and of what stands
- * for a missing row; NULL of any other. */
+/* The bytes of a row that is not a str: those of bytes, and none for None, NaN and the value for a missing
+ * row; NULL for any other. */
 static const char *other_bytes(PyObject *row, PyObject *missing, Py_ssize_t *length) {
     char *bytes;
     *length = 0;
@@ -25,22 +26,22 @@ static const char *other_bytes(PyObject *row, PyObject *missing, Py_ssize_t *len
     return number != number ? "" : NULL;
 }
 
-/* Takes back the exception of a str that has no UTF-8, since such a row is not refused. */
+/* Clears the exception for a str that cannot be encoded in UTF-8, because such a row is not refused. */
 static const char *no_utf_8(void) {
     if (PyErr_ExceptionMatches(PyExc_UnicodeEncodeError)) PyErr_Clear();
     return NULL;
 }
 
-/* The bytes of a row, of a str those of UTF-8; NULL of one that has none, and of a row that is neither
- * a str nor what `other_bytes` takes; with an exception only where memory is short. */
+/* The bytes of a row, for a str in UTF-8; NULL if it cannot be encoded, or is neither a str nor what
+ * `other_bytes` takes, with an exception only if memory runs out. */
 static inline const char *row_bytes(PyObject *row, PyObject *missing, Py_ssize_t *length) {
     if (!PyUnicode_Check(row)) return other_bytes(row, missing, length);
     const char *text = PyUnicode_AsUTF8AndSize(row, length);
     return text != NULL ? text : no_utf_8();
 }
 
-/* The offsets of the rows of a list, and how many bytes they have; NULL where a row is none that
- * `row_bytes` takes. */
+/* The offsets of the rows of a list, and the total length of the rows in bytes; NULL if `row_bytes` does not
+ * take a row. */
 static PyObject *row_offsets(PyObject *rows, PyObject *missing, size_t *whole) {
     Py_ssize_t count = PyList_Size(rows), length;
     Py_ssize_t size = (count + 1) * (Py_ssize_t)sizeof(uint32_t);
@@ -65,7 +66,7 @@ static PyObject *row_offsets(PyObject *rows, PyObject *missing, size_t *whole) {
     return offsets;
 }
 
-/* The bytes of the rows and their offsets; None where a row is none that `row_bytes` takes. */
+/* The bytes of the rows and their offsets; None if `row_bytes` does not take a row. */
 static PyObject *laid_out(PyObject *rows, PyObject *missing) {
     size_t whole;
     Py_ssize_t count = PyList_Size(rows), length;
@@ -85,8 +86,8 @@ static PyObject *laid_out(PyObject *rows, PyObject *missing) {
     return both;
 }
 
-/* layout(rows, missing): the rows of a list in Arrow's layout, the bytes and the offsets; None
- * where a row is neither str, bytes, None, NaN nor `missing`, or is a str that has no UTF-8. */
+/* layout(rows, missing): the rows of a list in Arrow's layout, the bytes and the offsets; None if a row is
+ * neither str, bytes, None, NaN nor `missing`, or is a str that cannot be encoded in UTF-8. */
 static PyObject *layout(PyObject *module, PyObject *arguments) {
     (void)module;
     PyObject *rows, *missing, *both;

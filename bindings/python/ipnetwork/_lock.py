@@ -1,4 +1,4 @@
-"""A lock for what several threads may change."""
+"""A lock for objects that several threads may change."""
 
 from __future__ import annotations
 
@@ -8,17 +8,17 @@ if TYPE_CHECKING:
     from threading import RLock
 else:
     # An interpreter that has imported `threading` waits at its end for the threads that it knows,
-    # and before Python 3.12 may wait for good if another thread of the process runs it.
+    # and before Python 3.12 may wait forever if it runs on another thread of the process.
     from _thread import RLock
 
 __all__ = ["RLock", "new_lock"]
 
 
 def new_lock() -> RLock:
-    """A lock; MemoryError where there is no memory for it, which Python itself says otherwise.
+    """A lock; MemoryError if there is no memory for it, which Python itself reports in another way.
 
-    Where it is held, ``acquire`` and ``release`` stand, and not ``with``, whose end asks for
-    memory: if that is refused, the lock is held for good.
+    It is held with ``acquire`` and ``release`` and not with ``with``, which needs memory at its
+    end: if it gets none, the lock is never released.
     """
     try:
         return RLock()

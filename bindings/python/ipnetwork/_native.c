@@ -11,7 +11,7 @@
 #include "_layout.h"
 #include "_tables.h"
 
-/* ip_network(text), of the classes that `register` was given. */
+/* ip_network(text), with the classes given to `register`. */
 static PyObject *either_network(PyObject *module, PyObject *text) {
     State *state = PyModule_GetState(module);
     char *bytes;
@@ -73,7 +73,8 @@ static PyObject *of_rows(PyObject *module, PyObject *arguments) {
     return list;
 }
 
-/* subnet_at(network, prefixlen, number): the block of this number, as a network of its class; None if there is none. */
+/* subnet_at(network, prefixlen, number): the block with this number, as a network of its class; None if there
+ * is none. */
 static PyObject *subnet_at(PyObject *module, PyObject *arguments) {
     State *state = PyModule_GetState(module);
     PyObject *object, *number;
@@ -118,7 +119,7 @@ static PyObject *register_classes(PyObject *module, PyObject *arguments) {
     return again(Py_None);
 }
 
-/* The line by which Python tells a signature, and what comes after it. */
+/* The line from which Python takes a signature, and the text after it. */
 #define TEXT(signature, text) signature "\n--\n\n" text
 #define OF_MODULE(name, arguments, text) TEXT(name "($module, " arguments ", /)", text)
 #define OF_NETWORK(name, arguments, text) TEXT(name "($self, " arguments ", /)", text)
@@ -126,29 +127,29 @@ static PyObject *register_classes(PyObject *module, PyObject *arguments) {
 static PyMethodDef calls[] = {
     {"ip_network", either_network, METH_O,
      OF_MODULE("ip_network", "text",
-               "The network of either family that a text names, or that of one address, given as its\n"
-               "4 or 16 packed bytes. FormatError of a text with two or more slashes; else\n"
-               "AddressError if what stands before the slash is an address of neither family; else\n"
+               "The network of either family that a text names, or that of a single address, given as its\n"
+               "4 or 16 packed bytes. FormatError if the text has two or more slashes; else\n"
+               "AddressError if the part before the slash is an address of neither family; else\n"
                "PrefixError.")},
     {"read_address", read_address, METH_O,
      OF_MODULE("read_address", "text",
                "The address of either family that a text names, as an IPv4Address or an IPv6Address of\n"
-               "``ipaddress``. AddressError of any other text, one with a zone too.")},
+               "``ipaddress``. AddressError for any other text, such as one with a zone.")},
     {"of_packed", of_packed, METH_VARARGS,
      OF_MODULE("of_packed", "kind, packed, prefixlen",
-               "The network of a packed address and a prefix length, in a class of networks.")},
+               "The network of a packed address and a prefix length, as an object of this class.")},
     {"of_rows", of_rows, METH_VARARGS,
      OF_MODULE("of_rows", "kind, rows",
-               "The networks whose structs these bytes are, in a class of networks.")},
+               "The networks with these structs, as objects of this class.")},
     {"prefix_of_mask", prefix_of_mask, METH_O,
      OF_MODULE("prefix_of_mask", "packed",
-               "The prefix length of a packed mask; MaskError if it is none.")},
+               "The prefix length of a packed mask; MaskError if it is not a mask.")},
     {"block_row", block_row, METH_O,
      OF_MODULE("block_row", "network",
                "The bytes of a network's struct, without host bits; None if it has a zone.")},
     {"read_rows", read_rows, METH_VARARGS,
      OF_MODULE("read_rows", "kind, texts, offsets",
-               "A column of texts read: networks of the family 4 or 6, or addresses, for the kind 0.")},
+               "Reads a column of texts: networks of family 4 or 6, or addresses if kind is 0.")},
     {"print_rows", print_rows, METH_VARARGS,
      OF_MODULE("print_rows", "kind, rows, bits",
                "The texts of such a column, and their offsets, of 32 or 64 bits.")},
@@ -160,21 +161,21 @@ static PyMethodDef calls[] = {
                "The fewest blocks that have the addresses of these networks.")},
     {"operate", operate, METH_VARARGS,
      OF_MODULE("operate", "operation, version, first, second",
-               "The blocks of |, & or - of two sets.")},
+               "The blocks of the union (|), intersection (&) or difference (-) of two sets.")},
     {"is_empty", is_empty, METH_VARARGS,
      OF_MODULE("is_empty", "operation, version, first, second",
-               "Whether there are no such blocks.")},
+               "Whether the result of such an operation is empty.")},
     {"range_rows", range_rows, METH_VARARGS,
      OF_MODULE("range_rows", "first, last",
-               "The blocks from one packed address to another; None if it comes after.")},
+               "The blocks from one packed address to another; None if the first comes after the other.")},
     {"index", index_of, METH_VARARGS,
      OF_MODULE("index", "version, blocks",
-               "The index of such blocks, by which they are searched: empty, if they are few.")},
+               "The index by which such blocks are searched: empty if there are only few.")},
     {"set_contains", set_contains, METH_VARARGS,
      OF_MODULE("set_contains", "search, asked",
-               "Whether a set has an address, or each address of a network. A search of a set is\n"
-               "the blocks of IPv4 and their index, those of IPv6, and whether an IPv4-mapped\n"
-               "address counts as the IPv4 address.")},
+               "Whether a set has an address, or each address of a network. ``search`` is the IPv4\n"
+               "blocks and their index, the same for IPv6, and whether an IPv4-mapped address\n"
+               "counts as the IPv4 address.")},
     {"set_contains_column", set_contains_column, METH_VARARGS,
      OF_MODULE("set_contains_column", "search, addresses",
                "For each address of a column a byte: 1 if a set has it, else 0.")},
@@ -184,30 +185,30 @@ static PyMethodDef calls[] = {
     {"ranges", ranges, METH_VARARGS,
      OF_MODULE("ranges", "version, blocks, numbers",
                "The ranges of addresses that have the same longest block of a table, the number\n"
-               "beside that block, or -1, and an index of the ranges.")},
+               "of that block or -1, and an index of the ranges.")},
     {"table_find", table_find, METH_VARARGS,
      OF_MODULE("table_find", "search, address",
-               "The number of the longest network that has an address, or -1. A search of a table\n"
-               "is what ``ranges`` gives of IPv4, and of IPv6, and whether an IPv4-mapped address\n"
+               "The number of the longest network that has an address, or -1. ``search`` is what\n"
+               "``ranges`` returns for IPv4 and for IPv6, and whether an IPv4-mapped address\n"
                "counts as the IPv4 address.")},
     {"table_find_column", table_find_column, METH_VARARGS,
      OF_MODULE("table_find_column", "search, addresses",
-               "The same of each address of a column.")},
+               "The same for each address of a column.")},
     {"unmapped", unmapped, METH_O,
      OF_MODULE("unmapped", "address",
-               "The IPv4 address that an IPv4-mapped IPv6 address, of ``::ffff:0:0/96``, stands for, and\n"
-               "any other address as it is, as is one with a zone.")},
+               "The IPv4 address in an IPv4-mapped IPv6 address, one of ``::ffff:0:0/96``. Any other\n"
+               "address, and one with a zone, is returned as it is.")},
     {"unmapped_rows", unmapped_rows, METH_O,
-     OF_MODULE("unmapped_rows", "addresses", "The same of each address of a column.")},
+     OF_MODULE("unmapped_rows", "addresses", "The same for each address of a column.")},
     {"longest_key", longest_key, METH_VARARGS,
      OF_MODULE("longest_key", "keys, fours, sixes, asked",
-               "Of the keys of a dict that of the longest network with all of what is asked about.")},
+               "The key in a dict of the longest network that has all that is asked about, or None.")},
     {"subnet_at", subnet_at, METH_VARARGS,
      OF_MODULE("subnet_at", "network, prefixlen, number",
                "The block of this number within a network; None if there is none.")},
     {"register", register_classes, METH_VARARGS,
      OF_MODULE("register", "four, six",
-               "Tells which classes networks of either family are made in.")},
+               "Sets the classes of the networks that ``ip_network`` makes.")},
     {NULL, NULL, 0, NULL},
 };
 
@@ -215,19 +216,19 @@ static PyMethodDef methods[] = {
     {"subnet_of", network_subnet_of, METH_O,
      OF_NETWORK("subnet_of", "other",
                 "Whether each member of this network is a member of ``other``, another of its family.\n"
-                "Host bits change nothing. TypeError of a network of the other family.")},
+                "Host bits make no difference. TypeError for a network of the other family.")},
     {"supernet_of", network_supernet_of, METH_O,
      OF_NETWORK("supernet_of", "other",
                 "Whether each member of ``other``, another network of the family, is a member of this\n"
-                "one. Host bits change nothing. TypeError of a network of the other family.")},
+                "one. Host bits make no difference. TypeError for a network of the other family.")},
     {"overlaps", network_overlaps, METH_O,
      OF_NETWORK("overlaps", "other",
-                "Whether some address is a member of both; False if the families differ.")},
+                "Whether some address is a member of both networks; False if the families differ.")},
     {"contains_column", network_column, METH_O,
      OF_NETWORK("contains_column", "packed",
                 "For each packed address of a column of the family a byte: 1 if it is a member, else 0.\n"
-                "A column is such addresses one after the other, in any contiguous buffer of bytes.\n"
-                "ValueError if it has a part of an address at its end.")},
+                "A column is such addresses, one after the other, in any contiguous buffer of bytes.\n"
+                "ValueError if it ends within an address.")},
     {NULL, NULL, 0, NULL},
 };
 
@@ -253,10 +254,10 @@ static PyType_Slot network_slots[] = {
     {Py_sq_contains, network_contains}, {Py_mp_subscript, network_nth},
     {Py_tp_doc, "What the networks of both families have."}, {0, NULL},
 };
-/* `state_of` tells the types of a module from classes of Python by their deallocator. */
+/* `state_of` distinguishes the types of a module from Python classes by their deallocator. */
 #define OF_TEXT \
-    "The network that a text names, or that of one address, given as its packed bytes.\n" \
-    "FormatError, AddressError or PrefixError of any other, the first that holds."
+    "The network that a text names, or that of a single address, given as its packed bytes.\n" \
+    "FormatError, AddressError or PrefixError, the first that applies."
 static PyType_Slot v4_slots[] = {
     {Py_tp_dealloc, network_dealloc}, {Py_tp_doc, TEXT("V4(text)", OF_TEXT)}, {0, NULL}};
 static PyType_Slot v6_slots[] = {
@@ -285,7 +286,7 @@ static PyTypeObject *derived(PyObject *module, PyType_Spec *spec, PyTypeObject *
     return (PyTypeObject *)made;
 }
 
-/* Takes what the calls need of Python; 0 with an exception if it cannot. */
+/* Imports what the calls need from Python; 0 with an exception on failure. */
 static int import_into(State *state) {
     return (state->v4_address = imported("ipaddress", "IPv4Address")) != NULL
            && (state->v6_address = imported("ipaddress", "IPv6Address")) != NULL
@@ -300,7 +301,7 @@ static int import_into(State *state) {
            && (state->one = PyLong_FromLong(1)) != NULL;
 }
 
-/* Fills a module that is empty. */
+/* Fills an empty module. */
 static int execute(PyObject *module) {
     State *state = PyModule_GetState(module);
     if (ipnetwork_abi_version() != IPNETWORK_ABI_VERSION) {
@@ -321,7 +322,7 @@ static int execute(PyObject *module) {
     return PyObject_SetAttrString(module, "V6", (PyObject *)state->v6_type);
 }
 
-/* What a module's state keeps, beside the masks. */
+/* The objects in a module's state, except the masks. */
 #define EACH_KEPT(DO)                                                                         \
     DO(network_type) DO(v4_type) DO(v6_type) DO(v4_class) DO(v6_class) DO(v4_address)         \
     DO(v6_address) DO(base_network) DO(make_error) DO(map_of) DO(range_of)                    \
@@ -351,7 +352,7 @@ static int clear(PyObject *module) {
 
 static void release(void *module) { clear(module); }
 
-/* Versions before 3.12 do not know of interpreters with a lock of their own, nor do their headers. */
+/* Versions before 3.12, and their headers, do not know interpreters with a lock of their own. */
 #ifndef Py_mod_multiple_interpreters
 #define Py_mod_multiple_interpreters 3
 #define Py_MOD_PER_INTERPRETER_GIL_SUPPORTED ((void *)2)
@@ -370,7 +371,7 @@ static PyModuleDef_Slot since_3_12[] = {
     {PyModuleDef_HEAD_INIT, "ipnetwork._native", NULL, sizeof(State), calls, slots, traverse, clear, release}
 static struct PyModuleDef of_3_11 = DEFINITION(before_3_12), of_3_12 = DEFINITION(since_3_12);
 
-/* The version that runs, which may be later than that of the headers. */
+/* The running version, which may be later than that of the headers. */
 static unsigned long running_version(void) {
 #if PY_VERSION_HEX >= 0x030B0000
     return Py_Version;

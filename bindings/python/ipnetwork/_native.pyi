@@ -35,21 +35,25 @@ class Network(Generic[Address]):
     @property
     def _row(self) -> bytes: ...
     def __init__(self, text: Union[str, bytes]) -> None:
-        """The network that a text names, or that of one address, given as its packed bytes. FormatError, AddressError or
-        PrefixError, the first that holds."""
+        """The network that a text names, or that of a single address, given as its packed bytes.
+        FormatError, AddressError or PrefixError, the first that applies."""
     def __getitem__(self, index: SupportsIndex) -> Address:
-        """The member of this number in order, counted from 0, or from the end where it is negative."""
+        """The member of this number in ascending order, counted from 0, or from the end if it is
+        negative."""
     def __iter__(self) -> Iterator[Address]:
         """The members, each once, in ascending order."""
     def __contains__(self, address: _Asked) -> bool:
-        """Whether an address is a member, or that of a network of one address. None of the other
-        family is, none with a zone, and no network of more addresses."""
+        """Whether an address, or the address of a network of one address, is a member. An address
+        of the other family or with a zone is not, nor is a network of more than one address."""
     def contains_column(self, packed: ReadableBuffer) -> bytearray:
-        """For each packed address of a column of the family a byte: 1 if it is a member of the network, else 0."""
+        """For each packed address of a column of the family a byte: 1 if it is a member of the
+        network, else 0."""
     def subnet_of(self, other: Network[Address]) -> bool:
-        """Whether each member of this network is a member of ``other``. Host bits change nothing."""
+        """Whether each member of this network is a member of ``other``. Host bits make no
+        difference."""
     def supernet_of(self, other: Network[Address]) -> bool:
-        """Whether each member of ``other`` is a member of this network. Host bits change nothing."""
+        """Whether each member of ``other`` is a member of this network. Host bits make no
+        difference."""
     def overlaps(self, other: Union[Network[IPv4Address], Network[IPv6Address]]) -> bool:
         """Whether some address is a member of both; ``False`` if the families differ."""
     def __eq__(self, other: object) -> bool: ...

@@ -1,4 +1,4 @@
-/* The networks of the extension: made, asked, printed, compared. */
+/* The networks of the extension: creation, questions, printing, comparison. */
 #ifndef IPNETWORK_NETWORKS_H
 #define IPNETWORK_NETWORKS_H
 
@@ -24,7 +24,8 @@ static State *state_of(PyTypeObject *type) {
 static PyObject *allocated(State *state, PyTypeObject *type) {
     PyObject *made = PyType_GenericAlloc(type, 0);
     if (made == NULL) return NULL;
-    /* Nothing that a network keeps leads back to it, so that the collector need not look at it; a subclass may keep more. */
+    /* Nothing that a network keeps refers to it, so the collector need not track it; a subclass may keep
+     * more. */
     if ((PyObject *)type == state->v4_class || (PyObject *)type == state->v6_class) PyObject_GC_UnTrack(made);
     ((Network *)made)->state = state;
     ((Network *)made)->held.family = PyType_IsSubtype(type, state->v6_type) ? 6 : 4;
@@ -46,7 +47,7 @@ static ipnetwork_fault put(ipnetwork_ip *held, const uint8_t *octets, uint8_t pr
     return held->family == 4 ? ipnetwork_v4_new(octets, prefix, &held->v4) : ipnetwork_v6_new(octets, prefix, &held->v6);
 }
 
-/* The bytes of a str, as they are read by the library: a new reference, or NULL with an exception. */
+/* The bytes of a str, as the library reads them: a new reference, or NULL with an exception. */
 static PyObject *bytes_of_text(PyObject *text) {
     if (PyUnicode_Check(text)) return PyUnicode_AsEncodedString(text, "utf-8", "surrogatepass");
 #define WORDS "a network is given as str, or as bytes of a packed address, not as %U"
@@ -65,7 +66,7 @@ static PyObject *told_end(const Network *self, ask_end ask) {
     return address_object(self->state, address.octets, address.length);
 }
 
-/* Tells what a network that was just made has at hand; 0 with an exception if it cannot. */
+/* Sets what a new network keeps from the start; 0 with an exception on failure. */
 static int tell(Network *self) {
     PyObject **place = &self->state->masks[self->held.family == 6][prefix_of(&self->held)];
     PyObject *mask = kept_at(place);
@@ -101,7 +102,7 @@ static int network_init(PyObject *object, PyObject *arguments, PyObject *names) 
     return tell(self) ? 0 : -1;
 }
 
-/* A network of a class, of the bytes of its struct. */
+/* A network of a class from the bytes of its struct. */
 static PyObject *network_of_row(State *state, PyObject *type, const uint8_t *row) {
     if (!PyType_Check(type) || !PyType_IsSubtype((PyTypeObject *)type, state->network_type)) {
         PyErr_SetString(PyExc_TypeError, "no class of networks");
@@ -205,7 +206,7 @@ static PyObject *network_iter(PyObject *object) {
     return made;
 }
 
-/* The member of a number, from the end where it is negative. */
+/* The member with this number, counted from the end if it is negative. */
 static PyObject *network_nth(PyObject *object, PyObject *index) {
     Network *self = (Network *)object;
     uint8_t n[16], address[16];
@@ -231,7 +232,7 @@ static PyObject *network_nth(PyObject *object, PyObject *index) {
     return answered(fault) ? address_object(self->state, address, width_of(&self->held)) : NULL;
 }
 
-/* Networks of one family are ordered; those of two are not equal, and not ordered. */
+/* Networks of one family are ordered; those of different families are not equal, and not ordered. */
 static PyObject *network_compare(PyObject *one_object, PyObject *other_object, int operation) {
     if (PyObject_TypeCheck(other_object, ((Network *)one_object)->state->network_type)) {
         const ipnetwork_ip *one_held = &((Network *)one_object)->held, *other_held = &((Network *)other_object)->held;
@@ -250,7 +251,7 @@ static PyObject *network_compare(PyObject *one_object, PyObject *other_object, i
     return again(Py_NotImplemented);
 }
 
-/* Of the octets and the prefix length, mixed so that networks in a row do not fall together. */
+/* The hash of the octets and the prefix length, mixed so that consecutive networks do not collide. */
 static Py_hash_t network_hash(PyObject *object) {
     const ipnetwork_ip *held = &((Network *)object)->held;
     const uint8_t *octets = octets_of(held);
@@ -264,7 +265,7 @@ static Py_hash_t network_hash(PyObject *object) {
     return (Py_hash_t)mixed == -1 ? -2 : (Py_hash_t)mixed;
 }
 
-/* Another network, of the same family where `same` is set; NULL with TypeError if it is none. */
+/* Another network, of the same family if `same` is set; NULL with TypeError if it is not one. */
 static Network *another(PyObject *self, PyObject *other, int same) {
     if (PyObject_TypeCheck(other, ((Network *)self)->state->network_type)
         && (!same || ((Network *)other)->held.family == ((Network *)self)->held.family))

@@ -1,4 +1,4 @@
-"""The networks of both families, and what makes them of others."""
+"""The networks of both families, and functions that make them from other objects."""
 
 from __future__ import annotations
 
@@ -24,7 +24,7 @@ _Asked = TypeVar("_Asked")
 
 
 def packed(kind: Union[type[EitherAddress], tuple[type, ...]], address: EitherAddress) -> bytes:
-    """The packed bytes of an address of a kind; AddressError if it has a zone."""
+    """The packed bytes of an address of this type; AddressError if it has a zone."""
     if not isinstance(address, kind):
         names = getattr(kind, "__name__", "IPv4Address or IPv6Address")
         raise TypeError(f"an address is {names}, not {type(address).__name__}")
@@ -41,7 +41,7 @@ def _subnets(network: _Kind, prefix: int, count: int) -> Iterator[_Kind]:
 
 
 class _Network(Generic[Address]):
-    """What the networks of both families have besides what the core gives them."""
+    """What the networks of both families have in addition to what the core provides."""
 
     __slots__ = ()
 
@@ -57,21 +57,21 @@ class _Network(Generic[Address]):
 
     @classmethod
     def of(cls, address: Address, prefixlen: SupportsIndex) -> Self:
-        """The network of this address, host bits kept, and this prefix length; PrefixError past the
-        width, and AddressError if the address has a zone."""
+        """The network of this address, host bits kept, and this prefix length. PrefixError if the
+        prefix length is greater than the width, and AddressError if the address has a zone."""
         return core.of_packed(cls, packed(cls._address, address), prefixlen)
 
     @classmethod
     def prefix_of_mask(cls, mask: Address) -> int:
-        """The prefix length of a mask; MaskError if the address is none."""
+        """The prefix length of a mask; MaskError if the address is not a mask."""
         return core.prefix_of_mask(packed(cls._address, mask))
 
     def subnets(
         self, prefixlen_diff: SupportsIndex = 1, new_prefix: Union[SupportsIndex, None] = None
     ) -> Iterator[Self]:
         """The blocks of one prefix length within the network, in ascending order: of a prefix
-        length that is ``prefixlen_diff`` longer, or of ``new_prefix``, if it is given. ValueError
-        if that is less than the network's, or past the width.
+        length that is greater by ``prefixlen_diff``, or of ``new_prefix`` if it is given.
+        ValueError if the prefix length is less than the network's, or greater than the width.
 
         >>> list(IPv4Network("10.0.0.0/8").subnets(new_prefix=9))
         [IPv4Network('10.0.0.0/9'), IPv4Network('10.128.0.0/9')]
@@ -92,14 +92,14 @@ class _Network(Generic[Address]):
     def read_column(
         cls, texts: ReadableBuffer, offsets: ReadableBuffer
     ) -> tuple[bytearray, bytearray]:
-        """The networks of a column of texts in Arrow's layout, and for each a byte that is 0 if its
-        text names one.
+        """The networks that a column of texts in Arrow's layout names, and for each text a byte
+        that is 0 if it names one.
 
-        ``texts`` has the bytes of all texts, one after the other, and ``offsets`` numbers of 32 or
-        of 64 bits: text i goes from offset i to the next. Each network is its packed address and
-        its prefix length; if there is none, zeros. A byte other than 0 is 1, 2 or 3, for
-        FormatError, AddressError or PrefixError. A text that names none stops nothing. ValueError
-        if the offsets fall, or pass the end.
+        ``texts`` has the bytes of all texts, one after the other, and ``offsets`` has numbers of 32
+        or 64 bits: text i goes from offset i to the next. Each network is its packed address and
+        its prefix length, or zeros if the text names none. A byte other than 0 is 1, 2 or 3, for
+        FormatError, AddressError or PrefixError. A text that names no network does not stop the
+        call. ValueError if the offsets decrease, or go past the end of the texts.
 
         >>> import array
         >>> offsets = array.array("I", [0, 10, 17])
@@ -114,8 +114,8 @@ class _Network(Generic[Address]):
         cls, networks: ReadableBuffer, offset_bits: int = 32
     ) -> tuple[bytearray, bytearray]:
         """The texts of a column of networks in Arrow's layout: their bytes, one after the other,
-        and the offsets at which each begins and the last ends, of 32 or of 64 bits. The column is
-        as ``read_column`` gives it. PrefixError if the prefix length of one is past the width;
+        and the offsets at which each begins and the last one ends, of 32 or 64 bits. The column is
+        as ``read_column`` returns it. PrefixError if a prefix length is greater than the width;
         ValueError if the texts have 2147483648 bytes or more and the offsets 32 bits.
 
         >>> column = bytes([10, 1, 9, 32, 16, 0, 0, 0, 0, 0])
@@ -126,15 +126,15 @@ class _Network(Generic[Address]):
         return core.print_rows(cls.version, networks, offset_bits)
 
     def __copy__(self) -> Self:
-        """The network itself, which does not change."""
+        """The network itself, because it does not change."""
         return self if type(self) in _UNCHANGED else copied(self)
 
     def __deepcopy__(self, memo: dict[int, Any]) -> Self:
-        """The same: so are its parts."""
+        """The network itself, because its parts do not change either."""
         return self if type(self) in _UNCHANGED else copied(self, memo)
 
     def __format__(self, spec: str) -> str:
-        """The canonical text, laid out as ``str`` is."""
+        """The canonical text, formatted as a ``str``."""
         return format(str(self), spec)
 
     def __repr__(self) -> str:
@@ -145,7 +145,7 @@ class _Network(Generic[Address]):
 
 
 class IPv4Network(_Network[IPv4Address], core.V4):
-    """An IPv4 network: an address, host bits included, and a prefix length of 0 to 32.
+    """An IPv4 network: an address, which may have host bits, and a prefix length from 0 to 32.
 
     ``address in network`` tells whether an address is a member, ``network[i]`` is the member of a
     number, and to go through a network gives its members, in ascending order.
@@ -167,7 +167,8 @@ class IPv4Network(_Network[IPv4Address], core.V4):
 
     @classmethod
     def from_ipaddress(cls, given: Union[TheirV4, IPv4Interface]) -> Self:
-        """The same address and prefix length as a network or an interface of ``ipaddress``."""
+        """The network with the address and prefix length of a network or an interface of
+        ``ipaddress``."""
         if isinstance(given, IPv4Interface):
             return cls.of(given.ip, given.network.prefixlen)
         if isinstance(given, TheirV4):
@@ -176,7 +177,7 @@ class IPv4Network(_Network[IPv4Address], core.V4):
 
 
 class IPv6Network(_Network[IPv6Address], core.V6):
-    """An IPv6 network: an address, host bits included, and a prefix length of 0 to 128.
+    """An IPv6 network: an address, which may have host bits, and a prefix length from 0 to 128.
 
     ``address in network`` tells whether an address is a member, ``network[i]`` is the member of a
     number, and to go through a network gives its members, in ascending order.
@@ -197,8 +198,8 @@ class IPv6Network(_Network[IPv6Address], core.V6):
 
     @classmethod
     def from_ipaddress(cls, given: Union[TheirV6, IPv6Interface]) -> Self:
-        """The same address and prefix length as a network or an interface of ``ipaddress``;
-        AddressError if it has a zone."""
+        """The network with the address and prefix length of a network or an interface of
+        ``ipaddress``; AddressError if it has a zone."""
         if isinstance(given, IPv6Interface):
             if given.scope_id is not None:
                 raise error(2, given)
@@ -209,8 +210,8 @@ class IPv6Network(_Network[IPv6Address], core.V6):
 
 
 def copied(given: _Kind, memo: Union[dict[int, Any], None] = None) -> _Kind:
-    """Another object of what a pickle keeps of one; a deep copy, if the objects that were copied
-    already are given."""
+    """Another object with what a pickle keeps of one. With the objects that were already copied, it
+    is a deep copy."""
     reduced: Any = given.__reduce__()
     make, arguments, *more = reduced
     made: _Kind = make(*arguments)
@@ -227,9 +228,9 @@ _Net = TypeVar("_Net", IPv4Network, IPv6Network)
 if TYPE_CHECKING:
 
     def ip_network(text: Union[str, bytes]) -> Either:
-        """The network of either family that a text names, or that of one address, given as its 4 or
-        16 packed bytes. FormatError of a text with two or more slashes; else AddressError if what
-        stands before the slash is an address of neither family; else PrefixError."""
+        """The network of either family that a text names, or that of a single address, given as its
+        4 or 16 packed bytes. FormatError if the text has two or more slashes; else AddressError if
+        the part before the slash is an address of neither family; else PrefixError."""
 
 else:
     ip_network = core.ip_network
@@ -238,8 +239,8 @@ else:
 if TYPE_CHECKING:
 
     def read_address(text: str) -> EitherAddress:
-        """The address of either family that a text names; AddressError of any other text, one with
-        a zone too."""
+        """The address of either family that a text names; AddressError for any other text, such as
+        one with a zone."""
 
     @overload
     def unmapped(address: IPv4Address) -> IPv4Address:
@@ -250,15 +251,16 @@ if TYPE_CHECKING:
         ...
 
     def unmapped(address: EitherAddress) -> EitherAddress:
-        """The IPv4 address that an IPv4-mapped IPv6 address, of ``::ffff:0:0/96``, stands for, and
-        any other address as it is, as is one with a zone."""
+        """The IPv4 address in an IPv4-mapped IPv6 address, one of ``::ffff:0:0/96``. Any other
+        address, and one with a zone, is returned as it is."""
 
 else:
     read_address, unmapped = core.read_address, core.unmapped
 
 
 def unmapped_network(asked: _Asked) -> Union[_Asked, IPv4Network]:
-    """The IPv4 network that a network of IPv4-mapped addresses stands for; all else as it is."""
+    """The IPv4 network that corresponds to a network of IPv4-mapped addresses; anything else is
+    returned as it is."""
     if isinstance(asked, (IPv6Network, TheirV6)) and asked.prefixlen >= 96:
         address = unmapped(asked.network_address)
         if isinstance(address, IPv4Address):
@@ -267,7 +269,7 @@ def unmapped_network(asked: _Asked) -> Union[_Asked, IPv4Network]:
 
 
 def no_network(given: object) -> TypeError:
-    """The error of what is no network of this package."""
+    """The error for an object that is not a network of this package."""
     kind = type(given)
     name = kind.__name__ if kind.__module__ == "builtins" else f"{kind.__module__}.{kind.__name__}"
     hint = ""
@@ -281,7 +283,7 @@ def no_network(given: object) -> TypeError:
 
 
 def family(network: _Net) -> type[_Net]:
-    """The class of the family of a network."""
+    """The class for the family of a network."""
     if isinstance(network, IPv4Network):
         return IPv4Network
     if isinstance(network, IPv6Network):
@@ -322,8 +324,8 @@ def from_ipaddress(given: Union[TheirV6, IPv6Interface]) -> IPv6Network:
 
 
 def from_ipaddress(given: Union[TheirV4, TheirV6, IPv4Interface, IPv6Interface]) -> Either:
-    """The same address and prefix length as a network or an interface of ``ipaddress``, of either
-    family; AddressError if it has a zone.
+    """The network with the address and prefix length of a network or an interface of ``ipaddress``,
+    of either family; AddressError if it has a zone.
 
     >>> from ipaddress import ip_interface
     >>> from_ipaddress(ip_interface("2001:db8::7/64"))
@@ -338,7 +340,7 @@ def from_ipaddress(given: Union[TheirV4, TheirV6, IPv4Interface, IPv6Interface])
 
 def collapse_addresses(networks: Iterable[_Net]) -> Iterator[_Net]:
     """The fewest networks with the same addresses, in ascending order: the aggregate of networks of
-    one family, host bits or not. TypeError if they are of both.
+    one family, with or without host bits. TypeError if they are of both families.
 
     >>> parts = map(IPv4Network, ("10.128.0.0/9", "10.0.0.0/9", "10.1.9.32/16"))
     >>> list(collapse_addresses(parts))
@@ -357,7 +359,7 @@ def collapse_addresses(networks: Iterable[_Net]) -> Iterator[_Net]:
 
 def range_rows(first: EitherAddress, last: EitherAddress) -> bytes:
     """The structs of the fewest networks with the addresses of a range; NetworkError if the first
-    comes after the last, and TypeError if they are of two families."""
+    address comes after the last, and TypeError if they are of different families."""
     both = IPv4Address, IPv6Address
     ends = packed(both, first), packed(both, last)
     if len(ends[0]) != len(ends[1]):
@@ -381,7 +383,7 @@ def summarize_address_range(first: IPv6Address, last: IPv6Address) -> Iterator[I
 def summarize_address_range(first: EitherAddress, last: EitherAddress) -> Iterator[Either]:
     """The fewest networks with the addresses from first to last, both included, in ascending order.
     NetworkError, which is a ValueError, if the first comes after the last; TypeError if they are of
-    two families.
+    different families.
 
     >>> list(summarize_address_range(IPv4Address("10.0.0.0"), IPv4Address("10.0.0.4")))
     [IPv4Network('10.0.0.0/30'), IPv4Network('10.0.0.4/32')]

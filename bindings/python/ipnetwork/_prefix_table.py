@@ -1,4 +1,4 @@
-"""A mapping from networks to values, asked for the longest network that has an address."""
+"""A mapping from networks to values, searched for the longest network that has an address."""
 
 from __future__ import annotations
 
@@ -38,32 +38,31 @@ _ALL_NETWORKS = (IPv4Network, IPv6Network, TheirV4, TheirV6)
 
 
 def _network(row: bytes) -> Either:
-    """The network whose struct these bytes are."""
+    """The network with this struct."""
     if len(row) == 5:
         return core.of_rows(IPv4Network, row)[0]
     return core.of_rows(IPv6Network, row)[0]
 
 
 class _Ready(NamedTuple):
-    """The search among the networks of a table that has not changed since, and its keys in
-    order."""
+    """The search in the networks of a table that has not changed since, and its keys in order."""
 
     search: Search
     keys: list[bytes]
 
 
 class PrefixTable(Joins[Value], MutableMapping[Either, Value]):
-    """A value for each of some networks of either family, asked for the longest that has an
-    address.
+    """A mapping from networks of either family to values, which finds the longest network that has
+    an address.
 
-    It is a mapping whose keys are networks without host bits: ``table[network]`` is the value of
-    that network, with or without its host bits, and ``table[address]`` that of the longest network
-    that has the address. To go through it gives the networks in the order in which they were put
-    in, as of a ``dict``. An address cannot be put in, nor taken out.
+    Its keys are networks without host bits: ``table[network]`` is the value of that network, given
+    with or without host bits, and ``table[address]`` that of the longest network that has the
+    address. Iteration gives the networks in the order in which they were inserted, as for a
+    ``dict``. An address cannot be inserted or removed.
 
-    With ``mapped``, an IPv4-mapped IPv6 address that is asked about counts as the IPv4 address:
-    without it, ``::ffff:10.1.2.3``, as a socket of both families tells an IPv4 peer, is found in no
-    IPv4 network.
+    With ``mapped``, an IPv4-mapped IPv6 address that is asked about counts as the IPv4 address.
+    Without it, ``::ffff:10.1.2.3``, as a socket for both families reports an IPv4 peer, is found in
+    no IPv4 network.
 
     >>> table = PrefixTable({ip_network("10.0.0.0/8"): "lab"})
     >>> table[ip_network("10.1.9.32/16")] = "cellar"
@@ -114,7 +113,7 @@ class PrefixTable(Joins[Value], MutableMapping[Either, Value]):
         raise no_network(network)
 
     def _know(self, prefix: int, version: int) -> None:
-        """Sees to it that a prefix length is among those of the keys of a family."""
+        """Adds a prefix length to those of the keys of a family."""
         known = self._fours if version == 4 else self._sixes
         if prefix in known:
             return
@@ -125,9 +124,9 @@ class PrefixTable(Joins[Value], MutableMapping[Either, Value]):
             self._sixes = lengths
 
     def _search_for(self, count: int) -> Union[_Ready, None]:
-        """The search, made ready if that is worth it: if there were an eighth as many questions,
-        with so many more, as there are keys, since one was made. None if it is not. The lock is
-        held."""
+        """The search, which is made if that is worthwhile: if the questions since the last search
+        was made, with ``count`` more, are at least an eighth as many as the keys. None if it is
+        not. The lock must be held."""
         self._asked += count
         if self._ready is None and self._asked * 8 >= len(self._values):
             keys = list(self._values)
@@ -135,7 +134,7 @@ class PrefixTable(Joins[Value], MutableMapping[Either, Value]):
         return self._ready
 
     def _found(self, asked: object) -> Union[tuple[bytes, Value], None]:
-        """The key of the longest network that has all of what is asked about, and its value."""
+        """The key and the value of the longest network that has all that is asked about."""
         if self._mapped and isinstance(asked, IPv6Address):
             asked = unmapped(asked)
         elif self._mapped:
@@ -176,7 +175,7 @@ class PrefixTable(Joins[Value], MutableMapping[Either, Value]):
         """Whether an IPv4-mapped address that is asked about counts as the IPv4 address."""
         return self._mapped
 
-    # What a mapping has.
+    # The methods of a mapping.
 
     def __getitem__(self, asked: Asked) -> Value:
         """The value of a network, or of the longest network that has an address; KeyError if there
@@ -187,8 +186,8 @@ class PrefixTable(Joins[Value], MutableMapping[Either, Value]):
         return value  # type: ignore[no-any-return]
 
     def __setitem__(self, network: Either, value: Value) -> None:
-        """Puts a value in for a network, in the place of the one that it had. TypeError of what is
-        no network of this package."""
+        """Sets the value of a network, and replaces the one that it had. TypeError if the key is
+        not a network of this package."""
         key = self._key(network)
         self._lock.acquire()
         try:
@@ -200,7 +199,7 @@ class PrefixTable(Joins[Value], MutableMapping[Either, Value]):
             self._lock.release()
 
     def __delitem__(self, network: Either) -> None:
-        """Takes a network out; KeyError if it is not there."""
+        """Removes a network; KeyError if it is not there."""
         self.pop(network)
 
     @overload
@@ -212,7 +211,7 @@ class PrefixTable(Joins[Value], MutableMapping[Either, Value]):
         ...
 
     def pop(self, network: Either, *default: object) -> Any:
-        """Takes a network out, and gives its value, or else the default; KeyError if there is
+        """Removes a network and returns its value, or else the default; KeyError if there is
         neither."""
         if len(default) > 1:
             raise TypeError("pop takes a network, and one default")
@@ -230,7 +229,7 @@ class PrefixTable(Joins[Value], MutableMapping[Either, Value]):
         raise KeyError(network)
 
     def popitem(self) -> tuple[Either, Value]:
-        """Takes the network out that was put in last, and gives it with its value; KeyError if
+        """Removes the network that was inserted last, and returns it with its value; KeyError if
         there is none."""
         self._lock.acquire()
         try:
@@ -243,7 +242,7 @@ class PrefixTable(Joins[Value], MutableMapping[Either, Value]):
             self._lock.release()
 
     def setdefault(self, network: Either, default: Any = None) -> Any:
-        """The value of a network, which is the default from here on if it had none."""
+        """The value of a network; if it had none, it is set to the default."""
         key = self._key(network)
         self._lock.acquire()
         try:
@@ -254,7 +253,7 @@ class PrefixTable(Joins[Value], MutableMapping[Either, Value]):
             self._lock.release()
 
     def clear(self) -> None:
-        """Takes all networks out."""
+        """Removes all networks."""
         self._lock.acquire()
         try:
             self._ready, self._fours, self._sixes = None, b"", b""
@@ -277,7 +276,7 @@ class PrefixTable(Joins[Value], MutableMapping[Either, Value]):
         return default if value is _NO_KEY else value
 
     def __contains__(self, asked: object) -> bool:
-        """Whether a network is there, or one that has an address."""
+        """Whether the table has a network, or one that has an address."""
         return self._value_of(asked) is not _NO_KEY
 
     def longest(self, asked: Asked) -> Union[tuple[Either, Value], None]:
@@ -308,7 +307,7 @@ class PrefixTable(Joins[Value], MutableMapping[Either, Value]):
             self._lock.release()
 
     def _each(self, addresses: ReadableBuffer) -> Iterator[Union[tuple[bytes, Value], None]]:
-        """What is found for each row of a column, as ``read_address_column`` gives it."""
+        """The result for each row of a column, as ``read_address_column`` returns it."""
         _NONE.find_column(addresses)  # ValueError of rows that are no addresses
         rows = bytes(addresses)
         for at in range(0, len(rows), 17):
@@ -316,16 +315,16 @@ class PrefixTable(Joins[Value], MutableMapping[Either, Value]):
             yield self._found(ip_address(packed)) if packed else None
 
     def __len__(self) -> int:
-        """How many networks there are."""
+        """The number of networks."""
         return len(self._values)
 
     def __iter__(self) -> Iterator[Either]:
-        """The networks, in the order in which they were put in. RuntimeError if one is put in or
-        taken out meanwhile."""
+        """The networks, in the order in which they were inserted. RuntimeError if one is inserted
+        or removed during the iteration."""
         return map(_network, self._values)
 
     def items(self) -> ItemsView[Either, Value]:
-        """The networks, each with its value."""
+        """The networks with their values."""
         return _Items(self)
 
     def values(self) -> ValuesView[Value]:
@@ -354,8 +353,8 @@ class PrefixTable(Joins[Value], MutableMapping[Either, Value]):
         return _empty, (type(self), self._mapped), state
 
     def __setstate__(self, state: Any) -> None:
-        """Puts what a pickle has into an empty table: the bytes of its networks, how many each has,
-        their values, and what a subclass has besides; a pickle of 0.1.0 has only that."""
+        """Fills an empty table from a pickle: the bytes of its networks, their lengths, their
+        values, and the attributes of a subclass. A pickle of 0.1.0 has only the last."""
         if isinstance(state, dict):
             self.__dict__.update(state)
             return
@@ -372,7 +371,7 @@ class PrefixTable(Joins[Value], MutableMapping[Either, Value]):
 
 
 def _empty(kind: type[PrefixTable[Value]], mapped: bool) -> PrefixTable[Value]:
-    """A table without networks, which a pickle fills."""
+    """A table without networks, to be filled from a pickle."""
     made = kind.__new__(kind)
     PrefixTable.__init__(made, mapped=mapped)
     return made

@@ -1,4 +1,4 @@
-"""What a row of a column may be, and the text that stands for it."""
+"""What a row of a column may be, and the text for it."""
 
 from __future__ import annotations
 
@@ -24,8 +24,8 @@ if TYPE_CHECKING:
     _Row = TypeVar("_Row", covariant=True, bound=Row)
 
     class Rows(Protocol[_Row]):
-        """A list, a tuple or an array of rows. A single str or bytes is none: whether it contains
-        something may not be asked of every object."""
+        """A list, a tuple or an array of rows. A single str or bytes is not one: whether it
+        contains something may not be asked of every object."""
 
         def __contains__(self, value: object, /) -> bool:
             ...
@@ -35,7 +35,7 @@ if TYPE_CHECKING:
 
     #: What a column may be.
     Column = Union[Rows[Row], Iterator[Row]]
-    #: The same, or addresses as ``read_address_column`` gives them.
+    #: The same, or addresses as ``read_address_column`` returns them.
     Given = Union[Column, bytes, bytearray, memoryview]
     #: Those addresses in any buffer, or a list or a tuple of rows.
     Packed = Union[ReadableBuffer, Rows[Row]]
@@ -64,8 +64,8 @@ _NETWORKS = (core.V4, core.V6, IPv4Network, IPv6Network)
 
 
 def rows_of(given: object) -> list[object]:
-    """The rows of a column, as a list. TypeError of what is none: a single text, a buffer, a
-    mapping, a table of columns."""
+    """The rows of a column, as a list. TypeError for an object that is not a column: a single text,
+    a buffer, a mapping, a table of columns."""
     kind = type(given).__name__
     if isinstance(given, (str, bytes, bytearray, memoryview, Mapping)):
         raise TypeError(f"a column is a list, an array or a Series of rows, not one {kind}")
@@ -114,16 +114,16 @@ def _text(number: int, row: object, missing: tuple[object, ...]) -> Union[str, b
 
 
 def texts_of(rows: list[object]) -> list[Union[str, bytes, None]]:
-    """Each row as a text, or as None where there is none. TypeError, with the number of the row
-    and its type, of a row that is not one of ``Row``."""
+    """Each row as a text, or as None if there is none. TypeError, with the number and the type of
+    the row, if a row is not a ``Row``."""
     pandas = sys.modules.get("pandas")
     missing = (None, getattr(pandas, "NA", None), getattr(pandas, "NaT", None))
     return [_text(number, row, missing) for number, row in enumerate(rows)]
 
 
 def laid_out(column: Column) -> tuple[bytearray, bytearray]:
-    """The rows of a column as texts in Arrow's layout, with offsets of 32 bits. ValueError if they
-    have 2147483648 bytes or more; TypeError if a row is none of a column."""
+    """The rows of a column as texts in Arrow's layout, with offsets of 32 bits. ValueError if the
+    texts have 2147483648 bytes or more; TypeError if a row is not a ``Row``."""
     rows = rows_of(column)
     missing = getattr(sys.modules.get("pandas"), "NA", None)
     laid = core.layout(rows, missing) or core.layout(list[object](texts_of(rows)), missing)
@@ -135,8 +135,8 @@ def laid_out(column: Column) -> tuple[bytearray, bytearray]:
 def addresses_of(
     column: Given, numbers: Numbers = None, missing: Missing = None
 ) -> Union[bytes, bytearray, memoryview]:
-    """The addresses of a column, each of 17 bytes, as ``read_address_column`` gives them. A buffer
-    of bytes has them already."""
+    """The addresses of a column, each of 17 bytes, as ``read_address_column`` returns them. A
+    buffer of bytes already has this form."""
     if numbers is not None or missing is not None:
         from .columns import read_addresses  # needs NumPy
 
@@ -149,7 +149,7 @@ def addresses_of(
 
 
 def like(column: object, values: list[Any]) -> Any:
-    """The values as a Series with the index of the column, if that is a Series of pandas; else as
+    """The values as a Series with the index of the column if that is a Series of pandas, else as
     they are."""
     pandas = sys.modules.get("pandas")
     if pandas is None or not isinstance(column, pandas.Series):
@@ -158,7 +158,7 @@ def like(column: object, values: list[Any]) -> Any:
 
 
 def packed(column: Packed) -> ReadableBuffer:
-    """The addresses of a list or a tuple of rows, or the buffer that has them already."""
+    """The addresses of a list or a tuple of rows, or the given buffer, which already has them."""
     if isinstance(column, (list, tuple)):
         return addresses_of(column)
     return cast("ReadableBuffer", column)

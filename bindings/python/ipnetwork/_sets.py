@@ -32,22 +32,22 @@ _ALL_MAPPED = bytes(10) + b"\xff\xff" + bytes(4) + b"\x60"  # ::ffff:0:0/96
 
 
 class AddressSet:
-    """The addresses of networks of either family, in any order, host bits or not. It does not
-    change.
+    """A set of addresses of either family, made from networks in any order and with or without host
+    bits. It does not change.
 
-    It holds the fewest networks that have them, so that sets of the same addresses are equal,
-    whatever networks they were made of. To go through a set gives these networks, and ``len`` is
-    how many they are. ``in`` takes an address, or a network of this package or of ``ipaddress``,
-    which is in the set if all of its addresses are. ``<=`` and ``<`` tell whether one set is part
-    of another. ``AddressSetBuilder`` makes a set by and by.
+    It holds the fewest networks that have these addresses, so sets with the same addresses are
+    equal, whatever networks they were made from. Iteration gives these networks, and ``len`` their
+    number. ``in`` takes an address, or a network of this package or of ``ipaddress``, which is in
+    the set if all of its addresses are. ``<=`` and ``<`` tell whether one set is part of another.
+    ``AddressSetBuilder`` makes a set step by step.
 
-    With ``mapped``, an IPv4-mapped IPv6 address that is asked about counts as the IPv4 address:
-    without it, ``::ffff:10.1.9.32``, as a socket of both families tells an IPv4 peer, is in no set
-    of IPv4 networks. It is a way of asking, which the sets made of this one keep, and no part of
-    the set: it changes neither its networks nor which sets are equal.
+    With ``mapped``, an IPv4-mapped IPv6 address that is asked about counts as the IPv4 address.
+    Without it, ``::ffff:10.1.9.32``, as a socket for both families reports an IPv4 peer, is in no
+    set of IPv4 networks. The option only affects questions, and the sets made from this one keep
+    it: it changes neither the networks of a set nor which sets are equal.
 
     The first question about an address or a network makes an index, which the set keeps: 16 bytes
-    for each network, and at most 4 MB for a family.
+    for each network, and at most 4 MB for each family.
 
     >>> one = AddressSet([ip_network("10.0.0.0/9")])
     >>> other = AddressSet([ip_network("10.128.0.0/9")])
@@ -72,7 +72,7 @@ class AddressSet:
     _fours: bytes
     _sixes: bytes
     _mapped: bool
-    #: The blocks of both families with their indexes, once they were asked for.
+    #: The blocks of both families with their indexes, after the first question.
     _search: Union[tuple[bytes, bytes, bytes, bytes, bool], None]
 
     def __init__(self, networks: Iterable[Either] = (), *, mapped: bool = False) -> None:
@@ -93,7 +93,7 @@ class AddressSet:
 
     @staticmethod
     def _of(fours: bytes, sixes: bytes, mapped: bool = False) -> AddressSet:
-        """The set of these blocks, which are the fewest with their addresses."""
+        """The set of these blocks, which must be the fewest with their addresses."""
         made = AddressSet.__new__(AddressSet)
         made._fours, made._sixes, made._mapped, made._search = fours, sixes, mapped, None
         return made
@@ -104,8 +104,8 @@ class AddressSet:
         return self._mapped
 
     def _indexed(self) -> tuple[bytes, bytes, bytes, bytes, bool]:
-        """The blocks with their indexes, which are made for the first question. Several threads may
-        make them, all alike."""
+        """The blocks with their indexes, which the first question makes. Several threads may make
+        them, with the same result."""
         search = self._search
         if search is None:
             fours, sixes = self._fours, self._sixes
@@ -114,7 +114,7 @@ class AddressSet:
         return search
 
     def _has(self, asked: object) -> bool:
-        """Whether an address is one of the set, or each address of a network."""
+        """Whether an address, or each address of a network, is in the set."""
         search = self._search or self._indexed()
         if not self._mapped or not isinstance(asked, (IPv6Network, TheirV6)):
             return core.set_contains(search, asked)
@@ -122,7 +122,8 @@ class AddressSet:
         row = core.block_row(asked)
         if row is None or core.is_empty("&", 6, row if len(row) == 17 else b"", _ALL_MAPPED):
             return core.set_contains(search, asked)
-        # Of a network with all IPv4-mapped addresses and others these are asked about as IPv4's.
+        # If a network has all IPv4-mapped addresses and others, the mapped ones are asked about as
+        # IPv4 addresses.
         rest = core.operate("-", 6, row, _ALL_MAPPED)
         return self._fours == _ALL_FOURS and core.is_empty("-", 6, rest, self._sixes)
 
@@ -130,9 +131,9 @@ class AddressSet:
     def of_ranges(
         ranges: Iterable[tuple[EitherAddress, EitherAddress]], *, mapped: bool = False
     ) -> AddressSet:
-        """The addresses of ranges, each given as its first and its last address. NetworkError,
-        which is a ValueError, if the first of one comes after its last; TypeError if they are of
-        two families.
+        """The set of the addresses of ranges, each given as its first and its last address.
+        NetworkError, which is a ValueError, if the first address of a range comes after its last;
+        TypeError if they are of different families.
 
         >>> AddressSet.of_ranges([(IPv4Address("10.0.0.1"), IPv4Address("10.0.0.3"))])
         AddressSet([IPv4Network('10.0.0.1/32'), IPv4Network('10.0.0.2/31')])
@@ -152,20 +153,21 @@ class AddressSet:
         )
 
     def _has_none(self, operation: str, other: AddressSet) -> bool:
-        """Whether an operation gives a set without addresses."""
+        """Whether the result of an operation has no addresses."""
         return core.is_empty(operation, 4, self._fours, other._fours) and core.is_empty(
             operation, 6, self._sixes, other._sixes
         )
 
     def __contains__(self, asked: Union[AnyAddress, TheirV4, TheirV6]) -> bool:
-        """Whether an address is one of the set, or each address of a network. None with a zone
-        is."""
+        """Whether an address, or each address of a network, is in the set. An address with a zone
+        is not."""
         if self._mapped:
             return self._has(asked)
         return core.set_contains(self._search or self._indexed(), asked)
 
     def covers(self, network: Union[Either, TheirV4, TheirV6]) -> bool:
-        """Whether each address of a network is one of the set; TypeError of what is no network.
+        """Whether each address of a network is in the set; TypeError for an object that is not a
+        network.
 
         >>> AddressSet([ip_network("10.0.0.0/9")]).covers(ip_network("10.0.0.0/8"))
         False
@@ -175,10 +177,10 @@ class AddressSet:
         return self._has(network)
 
     def contains_column(self, addresses: Packed) -> bytearray:
-        """For each address of a column a byte: 1 if it is one of the set, else 0. The column is a
-        list of rows, as ``ipnetwork.columns`` takes it, or has 17 bytes for each address, as
-        ``read_address_column`` gives it; a row without an address is none of the set. ValueError
-        of bytes that are no addresses.
+        """For each address of a column a byte: 1 if it is in the set, else 0. The column is a list
+        of rows, as for ``ipnetwork.columns``, or has 17 bytes for each address, as
+        ``read_address_column`` returns it. A row without an address is not in the set. ValueError
+        for bytes that are not addresses.
 
         >>> list(AddressSet([ip_network("8.0.0.0/8")]).contains_column(["8.8.8.8", "::1", None]))
         [1, 0, 0]
@@ -186,26 +188,26 @@ class AddressSet:
         return core.set_contains_column(self._search or self._indexed(), packed(addresses))
 
     def __or__(self, other: AddressSet) -> AddressSet:
-        """The addresses that one of the two has, or both."""
+        """The addresses that are in at least one of the two sets."""
         return self._operated("|", other) if isinstance(other, AddressSet) else NotImplemented
 
     def __and__(self, other: AddressSet) -> AddressSet:
-        """The addresses that both have."""
+        """The addresses that are in both sets."""
         return self._operated("&", other) if isinstance(other, AddressSet) else NotImplemented
 
     def __sub__(self, other: AddressSet) -> AddressSet:
-        """The addresses that this set has and the other has not."""
+        """The addresses that are in this set and not in the other."""
         return self._operated("-", other) if isinstance(other, AddressSet) else NotImplemented
 
     def __xor__(self, other: AddressSet) -> AddressSet:
-        """The addresses that one of the two has, and not both."""
+        """The addresses that are in exactly one of the two sets."""
         if not isinstance(other, AddressSet):
             return NotImplemented
         return (self - other) | (other - self)
 
     def complement(self, version: Union[Literal[4, 6], None] = None) -> AddressSet:
-        """The addresses that the set has not: those of one family, if ``version`` is 4 or 6, else
-        of both, which is ``~``.
+        """The addresses that are not in the set: those of one family if ``version`` is 4 or 6, else
+        those of both families, as for ``~``.
 
         >>> AddressSet([ip_network("128.0.0.0/1")]).complement(4)
         AddressSet([IPv4Network('0.0.0.0/1')])
@@ -217,11 +219,12 @@ class AddressSet:
         return AddressSet._of(fours, sixes, self._mapped)
 
     def __invert__(self) -> AddressSet:
-        """The addresses of both families that the set has not."""
+        """The addresses of both families that are not in the set."""
         return self.complement()
 
     def _is_in(self, other: AddressSet, proper: bool) -> bool:
-        """Whether another set has each address of this one; and more, if that is asked."""
+        """Whether another set has each address of this one and, if ``proper`` is true, also other
+        addresses."""
         return self._has_none("-", other) and not (
             proper and (self._fours, self._sixes) == (other._fours, other._sixes)
         )
@@ -231,7 +234,7 @@ class AddressSet:
         return self._is_in(other, False) if isinstance(other, AddressSet) else NotImplemented
 
     def __lt__(self, other: AddressSet) -> bool:
-        """Whether the other set has each address of this one, and more."""
+        """Whether the other set has each address of this one, and also others."""
         return self._is_in(other, True) if isinstance(other, AddressSet) else NotImplemented
 
     def __ge__(self, other: AddressSet) -> bool:
@@ -239,15 +242,15 @@ class AddressSet:
         return other._is_in(self, False) if isinstance(other, AddressSet) else NotImplemented
 
     def __gt__(self, other: AddressSet) -> bool:
-        """Whether this set has each address of the other, and more."""
+        """Whether this set has each address of the other, and also others."""
         return other._is_in(self, True) if isinstance(other, AddressSet) else NotImplemented
 
     def isdisjoint(self, other: Iterable[Either]) -> bool:
-        """Whether no address is one of this set and of another, or of networks."""
+        """Whether this set and another, or networks, have no address in common."""
         return self._has_none("&", _as_set(other))
 
     def issubset(self, other: Iterable[Either]) -> bool:
-        """Whether another set, or networks, have each address of this one."""
+        """Whether another set, or networks, have each address of this set."""
         return self._has_none("-", _as_set(other))
 
     def issuperset(self, other: Iterable[Either]) -> bool:
@@ -264,33 +267,32 @@ class AddressSet:
         )
 
     def intersection(self, *others: Iterable[Either]) -> AddressSet:
-        """The addresses that this set and each of the others have."""
+        """The addresses that are in this set and in each of the others."""
         common = self
         for other in others:
             common = common._operated("&", _as_set(other))
         return common._operated("|", _NONE)
 
     def difference(self, *others: Iterable[Either]) -> AddressSet:
-        """The addresses that this set has and none of the others."""
+        """The addresses that are in this set and in none of the others."""
         return self._operated("-", _NONE.union(*others))
 
     def symmetric_difference(self, other: Iterable[Either]) -> AddressSet:
-        """The addresses that this set has or another, and not both."""
+        """The addresses that are in exactly one of this set and another."""
         return self ^ _as_set(other)
 
     def __iter__(self) -> Iterator[Either]:
-        """The fewest networks that have these addresses: those of IPv4 first, in ascending
-        order."""
+        """The fewest networks that have these addresses, in ascending order, IPv4 first."""
         yield from of_rows(self._fours, 4)
         yield from of_rows(self._sixes, 6)
 
     def __len__(self) -> int:
-        """How many these networks are."""
+        """The number of these networks."""
         return len(self._fours) // len(_ALL_FOURS) + len(self._sixes) // len(_ALL_SIXES)
 
     def ranges(self) -> Iterator[tuple[EitherAddress, EitherAddress]]:
-        """The addresses as the fewest ranges, each its first and its last address: those of IPv4
-        first, in ascending order.
+        """The fewest ranges that have these addresses, each as its first and its last address, in
+        ascending order, IPv4 first.
 
         >>> list(AddressSet([ip_network("10.0.0.4/30"), ip_network("10.0.0.8/31")]).ranges())
         [(IPv4Address('10.0.0.4'), IPv4Address('10.0.0.9'))]
@@ -309,11 +311,11 @@ class AddressSet:
 
     @property
     def num_addresses(self) -> int:
-        """How many addresses there are."""
+        """The number of addresses."""
         return sum(network.num_addresses for network in self)
 
     def __bool__(self) -> bool:
-        """Whether there is an address."""
+        """Whether the set has any addresses."""
         return bool(self._fours or self._sixes)
 
     def __eq__(self, other: object) -> bool:
@@ -328,11 +330,11 @@ class AddressSet:
         return f"{type(self).__name__}({list(self)!r}{', mapped=True' * self._mapped})"
 
     def __copy__(self) -> AddressSet:
-        """The set itself, which does not change; of a subclass another object."""
+        """The set itself, because it does not change; for a subclass, another object."""
         return self if type(self) is AddressSet else copied(self)
 
     def __deepcopy__(self, memo: dict[int, Any]) -> AddressSet:
-        """The same: so are its networks."""
+        """The same, because its networks do not change either."""
         return self if type(self) is AddressSet else copied(self, memo)
 
     def __reduce__(self) -> tuple[Any, ...]:
@@ -341,7 +343,7 @@ class AddressSet:
 
 
 def _unpickled(kind: type[AddressSet], fours: bytes, sixes: bytes, mapped: bool) -> AddressSet:
-    """The set that a pickle has as the bytes of its blocks."""
+    """The set whose blocks a pickle has as bytes."""
     made = kind.__new__(kind)
     made._sixes = core.aggregate(6, checked(sixes, 6))
     made._mapped, made._search = bool(mapped), None
@@ -354,7 +356,7 @@ def _is_mapped(networks: Iterable[Either]) -> bool:
 
 
 def _follows(address: EitherAddress, last: EitherAddress) -> bool:
-    """Whether an address is the next one after another of its family."""
+    """Whether an address is the next one after another address of its family."""
     return address.version == last.version and int(address) == int(last) + 1
 
 

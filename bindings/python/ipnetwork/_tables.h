@@ -1,10 +1,11 @@
-/* The tables of the extension, each the bytes of structs, and of a number of 64 bits beside each. */
+/* The tables of the extension: each is the bytes of structs, with a number of 64 bits for each. */
 #ifndef IPNETWORK_TABLES_H
 #define IPNETWORK_TABLES_H
 
 #include "_columns.h"
 
-/* table_make(version, rows): the blocks of the networks, and beside each the place of its network, as a size_t. */
+/* table_make(version, rows): the blocks of the networks, and for each the place of its network, as a
+ * size_t. */
 static PyObject *table_make(PyObject *module, PyObject *arguments) {
     (void)module;
     int version;
@@ -52,8 +53,8 @@ static PyObject *ranges_in(const searched_list *table, const char *numbers, PyOb
     return all;
 }
 
-/* ranges(version, blocks, numbers): the ranges of a table, the number of the longest block of each, and their index. The
- * numbers are those beside the blocks, of 64 bits. */
+/* ranges(version, blocks, numbers): the ranges of a table, the number of the longest block of each, and their
+ * index. The numbers are those of the blocks, of 64 bits. */
 static PyObject *ranges(PyObject *module, PyObject *arguments) {
     (void)module;
     int version;
@@ -65,7 +66,7 @@ static PyObject *ranges(PyObject *module, PyObject *arguments) {
     if ((size_t)numbers_length / sizeof(int64_t) < table.count)
         return PyErr_SetString(PyExc_ValueError, "there is not a number beside each block"), NULL;
     PyObject *structs = PyByteArray_FromStringAndSize(NULL, (Py_ssize_t)(2 * table.count * step)), *all = NULL;
-    /* One more than there may be, since bytes of no length are anywhere, and these are numbers. */
+    /* One more than the maximum, because empty bytes may be at any address, and numbers must be aligned. */
     PyObject *beside = PyByteArray_FromStringAndSize(NULL, (Py_ssize_t)((2 * table.count + 1) * sizeof(int64_t)));
     PyObject *index = list_index_object(width, blocks, table.count);
     if (structs != NULL && beside != NULL && index != NULL) {
@@ -85,7 +86,7 @@ typedef struct {
     int mapped;
 } Table;
 
-/* The search that a tuple of bytes is; 0 with an exception of another object. */
+/* The search in a tuple of bytes; 0 with an exception for any other object. */
 static int parse_table(PyObject *given, Table *table) {
     const char *four_numbers, *six_numbers;
     Py_ssize_t lengths[2];
@@ -100,8 +101,8 @@ static int parse_table(PyObject *given, Table *table) {
     return 0;
 }
 
-/* The number of the longest network that has an address, or -1; a row without an address has
- * none. IPNETWORK_NO_FAMILY where there is neither an address of 4 or 16 octets nor none. */
+/* The number of the longest network that has an address, or -1, as for a row without an address.
+ * IPNETWORK_NO_FAMILY if the length is neither 0, 4 nor 16. */
 static inline ipnetwork_fault table_has(const Table *table, const ipnetwork_address *address, int64_t *number) {
     uint8_t octets[16]; /* a call that is not made takes so many */
     if (address->length == 4) *number = number_of(&table->fours, table->four_numbers, address->octets);
@@ -128,22 +129,22 @@ static PyObject *table_find(PyObject *module, PyObject *arguments) {
     return answered(table_has(&table, &address, &number)) ? PyLong_FromLongLong(number) : NULL;
 }
 
-/* How many rows of a column are asked in one call of the library. */
+/* The number of rows of a column in one call of the library. */
 enum { AT_ONCE = 128 };
 
-/* The addresses of one family among some rows, one after the other, and which rows these are. */
+/* The addresses of one family in some rows, one after the other, and the numbers of these rows. */
 typedef struct {
     size_t count, rows[AT_ONCE];
     uint8_t octets[AT_ONCE * 16];
 } Asked;
 
-/* Adds the address of a row, of `width` octets, which is known where it is compiled. */
+/* Adds the address of a row, of `width` octets, which is a compile-time constant. */
 static inline void ask(Asked *asked, size_t row, const uint8_t *octets, size_t width) {
     memcpy(asked->octets + asked->count * width, octets, width);
     asked->rows[asked->count++] = row;
 }
 
-/* Puts into these rows the numbers of the longest networks that have their addresses, or -1, which is
+/* Writes to these rows the numbers of the longest networks that have their addresses, or -1, which is
  * IPNETWORK_NO_PLACE as a place. */
 static ipnetwork_fault numbers_of(const searched_list *ranges, const int64_t *numbers, const Asked *asked,
                                   int64_t *told) {
@@ -163,9 +164,9 @@ static ipnetwork_fault numbers_of(const searched_list *ranges, const int64_t *nu
     return fault;
 }
 
-/* Puts the addresses of so many rows among those of their families, and -1 beside each; with `mapped`, which is known where
- * it is compiled, an IPv4-mapped one as the IPv4 address. IPNETWORK_NO_FAMILY where there is neither an address of 4 or 16
- * octets nor none, in the row that is told. */
+/* Adds the addresses of `count` rows to those of their families, and writes -1 for each row; with `mapped`, a
+ * compile-time constant, an IPv4-mapped one as the IPv4 address. IPNETWORK_NO_FAMILY, with the number of the
+ * row, if a length is neither 0, 4 nor 16. */
 __attribute__((always_inline)) static inline ipnetwork_fault by_family(const ipnetwork_address *addresses, size_t count,
                                                                        int mapped, Asked *fours, Asked *sixes,
                                                                        int64_t *told, size_t *row) {
@@ -182,7 +183,8 @@ __attribute__((always_inline)) static inline ipnetwork_fault by_family(const ipn
     return IPNETWORK_OK;
 }
 
-/* The number of the longest network of each of so many rows, at most AT_ONCE, or -1; a row without an address has none. */
+/* The number of the longest network of each row, for at most AT_ONCE rows, or -1, as for a row without an
+ * address. */
 static ipnetwork_fault table_has_rows(const Table *table, const ipnetwork_address *addresses, size_t count,
                                       int64_t *told, size_t *row) {
     Asked fours, sixes;

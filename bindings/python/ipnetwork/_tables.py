@@ -1,4 +1,4 @@
-"""Tables of networks that are made once, asked for the longest one that has an address."""
+"""Tables of networks that do not change, searched for the longest network that has an address."""
 
 from __future__ import annotations
 
@@ -23,7 +23,7 @@ _Default = TypeVar("_Default")
 
 
 class _Blocks(NamedTuple):
-    """The blocks of networks in the order of a table, and beside each the number of its network."""
+    """The blocks of networks in the order of a table, and the number of the network of each."""
 
     fours: bytes
     four_numbers: bytes
@@ -31,16 +31,15 @@ class _Blocks(NamedTuple):
     six_numbers: bytes
 
     def search(self, mapped: bool) -> Search:
-        """The search among these networks; with ``mapped``, an IPv4-mapped address counts as the
-        IPv4 address."""
+        """The search in these networks; with ``mapped``, an IPv4-mapped address counts as the IPv4
+        address."""
         fours = core.ranges(4, self.fours, self.four_numbers)
         return Search(*fours, *core.ranges(6, self.sixes, self.six_numbers), mapped)
 
 
 class Search(NamedTuple):
-    """The ranges of addresses that have the same longest network, the number of that network, or
-    -1, and an index of the ranges; and whether an IPv4-mapped address counts as the IPv4
-    address."""
+    """The ranges of addresses that have the same longest network, the number of that network or -1,
+    and an index of the ranges; and whether an IPv4-mapped address counts as the IPv4 address."""
 
     fours: bytes
     four_numbers: bytes
@@ -51,13 +50,13 @@ class Search(NamedTuple):
     mapped: bool
 
     def find_column(self, addresses: ReadableBuffer) -> bytearray:
-        """The number for each address of a column, as numbers of 64 bits."""
+        """The number for each address of a column, in 64 bits."""
         return core.table_find_column(self, addresses)
 
     def join(
         self, addresses: ReadableBuffer, values: Sequence[Value], default: _Default
     ) -> list[Union[Value, _Default]]:
-        """For each address of a column the value of the number that is found, or the default."""
+        """For each address of a column, the value with the number that is found, or the default."""
         numbers = memoryview(self.find_column(addresses)).cast("q")
         return [default if number < 0 else values[number] for number in numbers]
 
@@ -74,7 +73,7 @@ def blocks_of(rows: Iterable[bytes]) -> _Blocks:
 
 
 def _made(version: int, rows: list[bytes], numbers: array[int]) -> tuple[bytes, bytes]:
-    """The blocks of networks in the order of a table, and beside each the number of its network."""
+    """The blocks of networks in the order of a table, and the number of the network of each."""
     blocks, places = core.table_make(version, b"".join(rows))
     if not rows or numbers[-1] == len(rows) - 1:  # of one family, a place is a number
         return blocks, places
@@ -82,13 +81,13 @@ def _made(version: int, rows: list[bytes], numbers: array[int]) -> tuple[bytes, 
 
 
 def split(rows: bytes, step: int) -> list[bytes]:
-    """The structs that these bytes are."""
+    """The structs that these bytes consist of."""
     return [rows[at : at + step] for at in range(0, len(rows), step)]
 
 
 def lengths_of(keys: list[bytes], version: int) -> bytes:
-    """The prefix lengths of the keys of a family, in descending order; ValueError of keys that are
-    no networks without host bits."""
+    """The prefix lengths of the keys of a family, in descending order; ValueError if a key is not a
+    network without host bits."""
     step = 5 if version == 4 else 17
     those = sorted(key for key in keys if len(key) == step)
     blocks, _ = core.table_make(version, checked(b"".join(those), version))
@@ -104,20 +103,20 @@ def _row(network: Either) -> bytes:
 
 
 class Table(Joins[Value]):
-    """Networks of either family, in any order, host bits or not, asked for the longest one that has
-    an address, and values that belong to them, if they are given. It does not change;
-    ``PrefixTable`` does.
+    """Networks of either family, in any order and with or without host bits, and the values that
+    belong to them if they are given. It finds the longest network that has an address. A table does
+    not change; a ``PrefixTable`` does.
 
-    The result is the number of a network: 0 for the first that was given. Of networks with the same
-    addresses it is that of the last one. Host bits change nothing, and the table does not keep
-    them: a pickled table has only the blocks of the networks, and finds the same.
+    The result is the number of a network, counted from 0 in the order given. For networks with the
+    same addresses it is that of the last one. Host bits make no difference, and the table does not
+    keep them: a pickled table has only the blocks of the networks, and finds the same.
 
     The first question makes an index, which the table keeps: at most 58 bytes for each IPv4
-    network, and 82 for each IPv6.
+    network, and 82 for each IPv6 network.
 
-    With ``mapped``, an IPv4-mapped IPv6 address that is asked about counts as the IPv4 address:
-    without it, ``::ffff:10.1.2.3``, as a socket of both families tells an IPv4 peer, is found in no
-    IPv4 network.
+    With ``mapped``, an IPv4-mapped IPv6 address that is asked about counts as the IPv4 address.
+    Without it, ``::ffff:10.1.2.3``, as a socket for both families reports an IPv4 peer, is found in
+    no IPv4 network.
 
     >>> networks = [ip_network(text) for text in ("10.0.0.0/8", "2001:db8::/32", "10.1.9.32/16")]
     >>> table = Table(networks, ["lab", "office", "cellar"])
@@ -131,7 +130,7 @@ class Table(Joins[Value]):
 
     _blocks: _Blocks
     _mapped: bool
-    #: The search among the blocks, once it was asked for.
+    #: The search in the blocks, after the first question.
     _search: Union[Search, None]
     _values: Union[list[Value], None]
 
@@ -161,8 +160,8 @@ class Table(Joins[Value]):
         self._blocks = blocks_of(rows)
 
     def _made(self) -> Search:
-        """The search, which is made for the first question. Several threads may make it, all
-        alike."""
+        """The search, which the first question makes. Several threads may make it, with the same
+        result."""
         search = self._search
         if search is None:
             search = self._search = self._blocks.search(self._mapped)
@@ -174,17 +173,17 @@ class Table(Joins[Value]):
         return self._mapped
 
     def find(self, address: AnyAddress) -> Union[int, None]:
-        """The number of the longest network that has an address; None if none has it, as none has
-        one with a zone. A network of one address is that address, and any other a TypeError."""
+        """The number of the longest network that has an address; None if no network has it, as for
+        an address with a zone. A network of one address may be given as that address; any other
+        network is a TypeError."""
         number = core.table_find(self._search or self._made(), address)
         return None if number < 0 else number
 
     def find_column(self, addresses: Packed) -> bytearray:
         """For each address of a column the number of the longest network that has it, or -1 if none
-        has it, as numbers of 64 bits with a sign. The column is a list of rows, as
-        ``ipnetwork.columns`` takes it, or has 17 bytes for each address, as
-        ``read_address_column`` gives it; a row without an address has the number -1. ValueError of
-        bytes that are no addresses.
+        does, as signed numbers of 64 bits. The column is a list of rows, as for
+        ``ipnetwork.columns``, or has 17 bytes for each address, as ``read_address_column`` returns
+        it. A row without an address has the number -1. ValueError for bytes that are not addresses.
 
         >>> table = Table([ip_network("::/0"), ip_network("8.0.0.0/8")])
         >>> memoryview(table.find_column(["8.8.8.8", "::1", None])).cast("q").tolist()
@@ -198,11 +197,11 @@ class Table(Joins[Value]):
         return self._made().join(addresses, self._values, default)
 
     def __len__(self) -> int:
-        """How many networks there are."""
+        """The number of networks."""
         return (len(self._blocks.four_numbers) + len(self._blocks.six_numbers)) // 8
 
     def __copy__(self) -> Table[Value]:
-        """The table itself, which does not change; of a subclass another object."""
+        """The table itself, because it does not change; for a subclass, another object."""
         return self if type(self) is Table else copied(self)
 
     def __reduce__(self) -> tuple[Any, ...]:
@@ -213,7 +212,7 @@ class Table(Joins[Value]):
 
 
 def _little(numbers: bytes) -> bytes:
-    """Numbers of 64 bits with the lowest byte first, from the order of the machine or to it."""
+    """Converts numbers of 64 bits between the byte order of the machine and little-endian."""
     if sys.byteorder == "little":
         return numbers
     other = array("q", numbers)
@@ -227,7 +226,7 @@ def _unpickled(
     values: Union[list[Value], None],
     mapped: bool,
 ) -> Table[Value]:
-    """The table that a pickle has as the bytes of its blocks, and of the number of each."""
+    """The table whose blocks, with their numbers, a pickle has as bytes."""
     fours, four_numbers, sixes, six_numbers = blocks
     rows = split(checked(fours, 4), 5) + split(checked(sixes, 6), 17)
     numbers = array("q", _little(four_numbers) + _little(six_numbers))

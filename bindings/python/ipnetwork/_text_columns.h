@@ -1,12 +1,11 @@
-/* Columns of texts in Arrow's layout: read, and printed. */
+/* Columns of texts in Arrow's layout: reading and printing. */
 #ifndef IPNETWORK_TEXT_COLUMNS_H
 #define IPNETWORK_TEXT_COLUMNS_H
 
 #include "_networks.h"
 
-/* The bytes of a contiguous buffer, to be released; 0 with TypeError where its items are more than
- * a byte long, since the bytes of such numbers are in the order of the machine, and not in that of
- * addresses. */
+/* The bytes of a contiguous buffer, to be released; 0 with TypeError if its items are longer than a byte,
+ * because the bytes of such numbers are in the order of the machine, not in that of addresses. */
 static int bytes_of(PyObject *given, Py_buffer *column) {
     if (PyObject_GetBuffer(given, column, PyBUF_ND) < 0) return 0;
     if (column->itemsize == 1) return 1;
@@ -17,7 +16,7 @@ static int bytes_of(PyObject *given, Py_buffer *column) {
     return 0;
 }
 
-/* What the rows of a column are: networks of the family 4 or 6, or addresses of either. */
+/* The kind of the rows of a column: networks of family 4 or 6, or addresses of either family. */
 enum { OF_ADDRESSES = 0, OF_V4 = 4, OF_V6 = 6 };
 
 static size_t row_size(int kind) {
@@ -26,10 +25,10 @@ static size_t row_size(int kind) {
                            : sizeof(ipnetwork_address);
 }
 
-/* Offsets of 64 bits are handed to the library as those of 32 bits, for as many texts at once. */
+/* Offsets of 64 bits are passed to the library as 32-bit offsets, for this many texts at a time. */
 enum { PART = 65536 };
 
-/* Memory for the offsets of a part of so many texts, to be freed; NULL with MemoryError. */
+/* Memory for the offsets of a part with `count` texts, to be freed; NULL with MemoryError. */
 static uint32_t *part_of(size_t count) {
     uint32_t *part = PyMem_Malloc(((count < PART ? count : PART) + 1) * sizeof *part);
     if (part == NULL) PyErr_NoMemory();
@@ -44,7 +43,7 @@ static uint64_t offset_at(const char *offsets, size_t row) {
 
 /* ---- read ---- */
 
-/* Reads the texts of these offsets, of which there is one more than texts, or none. */
+/* Reads the texts with these offsets, one more than texts, or none. */
 static ipnetwork_fault read_part(int kind, const char *texts, size_t length,
                                  const uint32_t *offsets, size_t starts, void *rows,
                                  uint8_t *faults) {
@@ -57,14 +56,14 @@ static ipnetwork_fault read_part(int kind, const char *texts, size_t length,
                                          count);
 }
 
-/* Reads one text, of more bytes than an offset of 32 bits reaches. */
+/* Reads one text that is too long for an offset of 32 bits. */
 static ipnetwork_fault read_long(int kind, const char *text, size_t length, void *row) {
     return kind == OF_V4   ? ipnetwork_v4_read(text, length, row)
            : kind == OF_V6 ? ipnetwork_v6_read(text, length, row)
                            : ipnetwork_address_read(text, length, row);
 }
 
-/* Whether no offset of 64 bits is less than the one before, and none passes the end. */
+/* Whether no offset of 64 bits is less than the one before, and none is past the end. */
 static int ascend(const char *offsets, size_t starts, uint64_t end) {
     uint64_t before = 0;
     for (size_t row = 0; row < starts; row++) {
@@ -75,7 +74,8 @@ static int ascend(const char *offsets, size_t starts, uint64_t end) {
     return 1;
 }
 
-/* How many texts from a row on are a part, and their offsets: none if the first one is too long. */
+/* The number of texts from a row on that make a part, and their offsets; none if the first text is too
+ * long. */
 static size_t part_from(const char *offsets, size_t row, size_t count, uint32_t *part) {
     uint64_t base = offset_at(offsets, row), end;
     size_t taken = 0;
@@ -108,8 +108,8 @@ static ipnetwork_fault read_wide(int kind, const char *texts, size_t length, con
     return IPNETWORK_OK;
 }
 
-/* The buffer of offsets, to be released; 0 with an exception where they are not whole numbers of 32
- * or 64 bits in the order of the machine. */
+/* The buffer of offsets, to be released; 0 with an exception if they are not integers of 32 or 64 bits in the
+ * byte order of the machine. */
 static int offsets_of(PyObject *given, Py_buffer *offsets) {
     if (PyObject_GetBuffer(given, offsets, PyBUF_ND | PyBUF_FORMAT) < 0) return 0;
     const char *format = offsets->format == NULL ? "B" : offsets->format;
@@ -126,7 +126,7 @@ static int offsets_of(PyObject *given, Py_buffer *offsets) {
     return 0;
 }
 
-/* Reads a column into rows and faults, of which there are as many as texts; 0 with an exception. */
+/* Reads a column into as many rows and faults as texts; 0 with an exception. */
 static int read_into(int kind, const Py_buffer *texts, const Py_buffer *offsets, char *rows,
                      uint8_t *faults) {
     size_t starts = (size_t)(offsets->len / offsets->itemsize), length = (size_t)texts->len;
@@ -171,7 +171,7 @@ static PyObject *read_rows(PyObject *module, PyObject *arguments) {
 
 /* ---- printed ---- */
 
-/* The bytes of the longest text of a row. */
+/* The length in bytes of the longest text of a row. */
 static size_t text_size(int kind) {
     return kind == OF_V4   ? IPNETWORK_V4_TEXT - 1
            : kind == OF_V6 ? IPNETWORK_V6_TEXT - 1
@@ -228,9 +228,8 @@ static int print_into(State *state, int kind, PyObject *given, const Py_buffer *
     return fault == IPNETWORK_OK;
 }
 
-/* print_rows(kind, rows, bits): the texts of the networks of the family 4 or 6, or of the
- * addresses, if the kind is 0, whose structs these bytes are, and their offsets, of 32 or of 64
- * bits. */
+/* print_rows(kind, rows, bits): the texts of the networks of family 4 or 6, or of addresses if kind is 0,
+ * with these structs, and their offsets, of 32 or 64 bits. */
 static PyObject *print_rows(PyObject *module, PyObject *arguments) {
     State *state = PyModule_GetState(module);
     int kind, bits;

@@ -1,28 +1,29 @@
-"""Columns over NumPy: addresses read, and asked of a set or a table, in a few calls for all rows.
+"""Columns over NumPy: reads addresses and looks them up in a set or a table, in a few calls for all
+rows.
 
 >>> from ipnetwork import AddressSet, ip_network
 >>> tens = AddressSet([ip_network("10.0.0.0/8")])
 >>> is_member(["10.1.9.32", "8.8.8.8", "no address"], tens).tolist()
 [True, False, False]
 
-A column is a list, an array of NumPy or a Series of pandas, and each row of it one of these:
+A column is a list, a NumPy array or a Series of pandas, and each of its rows is one of these:
 
-- a text, as ``str``, or as ``bytes`` in ASCII; one that names no address is a row without one;
-- an address or an interface of ``ipaddress``; with a zone it is a row without an address;
-- a network of this package or of ``ipaddress`` that has one address, which is then the row;
-- None, NaN, pandas.NA or pandas.NaT: a row without a text, and so without an address.
+- a text, as ``str``, or as ``bytes`` in ASCII; a row whose text names no address has no address;
+- an address or an interface of ``ipaddress``; if it has a zone, the row has no address;
+- a network of this package or of ``ipaddress`` that has one address, which is then the row's;
+- None, NaN, pandas.NA or pandas.NaT: a row without a text, and thus without an address.
 
-Any other row is a TypeError that says its number and its type; a ``str`` or a table in place of a
-column is a TypeError too, as are ``bytes`` of the length of a packed address, 4 or 16, that are no
-text of one. A column in Arrow's layout needs none of this: its buffers go to
+Any other row is a TypeError that gives its number and its type. A ``str`` or a table instead of a
+column is a TypeError too, as are ``bytes`` of the length of a packed address, 4 or 16, that are not
+the text of an address. A column in Arrow's layout needs none of this: its buffers go to
 ``ipnetwork.read_address_column`` as they are.
 
-Numbers are taken only where ``numbers`` is given. With 4 the column is an array of whole numbers,
-each an IPv4 address as ``int`` has it; with 6 an array of two whole numbers of 64 bits in each row,
-an IPv6 address, its higher half first. A number that is none of an address is a ValueError. A row
-that is masked in a masked array, or missing in a Series of pandas, has no address, and so has one
-that ``missing`` names: as an array with a truth value for each row, or as the number, with 6 the
-pair of numbers, that stands for none.
+Numbers are accepted only if ``numbers`` is given. With 4, the column is an array of integers, each
+an IPv4 address as from ``int``. With 6, it is an array with two 64-bit integers in each row, the
+higher half of an IPv6 address first. A number that is not that of an address is a ValueError. A row
+that is masked in a masked array, or missing in a Series of pandas, has no address; neither has a
+row that ``missing`` names, as an array with a Boolean for each row, or as the number (with 6 the
+pair of numbers) that means no address.
 
 >>> from ipaddress import ip_address
 >>> is_member([ip_address("10.1.9.32"), b"10.0.0.1", None], tens).tolist()
@@ -54,8 +55,8 @@ _ROW = 17  # the bytes of an address of either family, as read_address_column gi
 
 
 def layout(texts: Column) -> tuple[bytearray, NDArray[numpy.uint32]]:
-    """The texts in Arrow's layout: their bytes, and the offsets, of which there is one more than
-    texts. ValueError if they have 2147483648 bytes or more; TypeError if a row is none of a column.
+    """The texts in Arrow's layout: their bytes, and the offsets, one more than texts. ValueError if
+    the texts have 2147483648 bytes or more; TypeError if a row is not one of those above.
 
     >>> texts, offsets = layout(["::1", None, "8.8.8.8"])
     >>> bytes(texts), offsets.tolist()
@@ -66,7 +67,7 @@ def layout(texts: Column) -> tuple[bytearray, NDArray[numpy.uint32]]:
 
 
 def _array_of(given: Any) -> tuple[NDArray[Any], NDArray[numpy.bool_]]:
-    """The numbers of a column, and which of them are masked, or are missing in pandas."""
+    """The numbers of a column, and which of them are masked or, in pandas, missing."""
     if isinstance(given, numpy.ma.MaskedArray):
         masked: Any = numpy.ma
         return masked.getdata(given), masked.getmaskarray(given)
@@ -78,13 +79,13 @@ def _array_of(given: Any) -> tuple[NDArray[Any], NDArray[numpy.bool_]]:
 
 
 def _of_each_row(truths: NDArray[numpy.bool_]) -> NDArray[numpy.bool_]:
-    """Whether one of the numbers of each row is true."""
+    """For each row, whether one of its values is true."""
     told: NDArray[numpy.bool_] = truths if truths.ndim == 1 else truths.any(axis=1)
     return told
 
 
 def _missing(array: NDArray[Any], missing: Missing, numbers: int) -> NDArray[numpy.bool_]:
-    """Which rows of an array of numbers have none, as ``missing`` says."""
+    """Which rows of an array of numbers have no address, as ``missing`` says."""
     wanted = numpy.asarray(missing)
     if wanted.dtype == numpy.bool_ and wanted.shape == array.shape[:1]:
         return wanted
@@ -100,7 +101,7 @@ def _missing(array: NDArray[Any], missing: Missing, numbers: int) -> NDArray[num
 def _of_numbers(
     given: object, numbers: int, missing: Missing
 ) -> tuple[NDArray[numpy.uint8], NDArray[numpy.bool_]]:
-    """The addresses whose numbers a column has, as ``read_addresses`` gives them."""
+    """The addresses whose numbers a column has, as ``read_addresses`` returns them."""
     if numbers not in (4, 6):
         raise ValueError(f"numbers is 4 or 6, for the family of the addresses, not {numbers!r}")
     array, hidden = _array_of(given)
@@ -133,9 +134,9 @@ def _of_numbers(
 def read_addresses(
     texts: Column, *, numbers: Numbers = None, missing: Missing = None, mapped: bool = False
 ) -> tuple[NDArray[numpy.uint8], NDArray[numpy.bool_]]:
-    """The addresses of a column, and whether there is one in each row. An address is 17 bytes, as
-    ``ipnetwork.read_address_column`` gives them. With ``mapped``, an IPv4-mapped address is the
-    IPv4 address.
+    """The addresses of a column, and for each row whether it has one. An address is 17 bytes, as
+    ``ipnetwork.read_address_column`` returns it. With ``mapped``, an IPv4-mapped address is read as
+    the IPv4 address.
 
     >>> addresses, present = read_addresses(["8.8.8.8", "8.8.8"])
     >>> addresses[0, :4].tolist(), present.tolist()
@@ -162,7 +163,7 @@ def _unmapped(rows: NDArray[numpy.uint8], mapped: bool) -> NDArray[numpy.uint8]:
 def _addresses(
     given: Column, numbers: Numbers, missing: Missing, mapped: bool
 ) -> NDArray[numpy.uint8]:
-    """The addresses of a column, or those that ``read_addresses`` gave."""
+    """The addresses of a column, or those that ``read_addresses`` returned."""
     if numbers is not None or missing is not None or not isinstance(given, numpy.ndarray):
         return read_addresses(given, numbers=numbers, missing=missing, mapped=mapped)[0]
     if given.dtype != numpy.uint8 or given.ndim != 2:
@@ -180,9 +181,9 @@ def is_member(
     missing: Missing = None,
     mapped: bool = False,
 ) -> NDArray[numpy.bool_]:
-    """Whether each row of a column is an address of a set, or of a network. The column is as the
-    module says, or of addresses as ``read_addresses`` gives them. With ``mapped``, or of a set with
-    it, an IPv4-mapped address counts as the IPv4 address.
+    """For each row of a column, whether its address is in a set or a network. The column is as
+    described above, or has addresses as ``read_addresses`` returns them. With ``mapped``, or for a
+    set that has this option, an IPv4-mapped address counts as the IPv4 address.
 
     >>> from ipnetwork import ip_network
     >>> tens = AddressSet([ip_network("10.0.0.0/8")])
@@ -204,7 +205,7 @@ def find(
     missing: Missing = None,
     mapped: bool = False,
 ) -> NDArray[numpy.int64]:
-    """Of each row of a column the number of the longest network of a table that has the address,
+    """For each row of a column, the number of the longest network of a table that has the address,
     or -1. The column is as for ``is_member``.
 
     >>> from ipnetwork import Table, ip_network

@@ -4,9 +4,9 @@ use Rattle.std.specs.Prelude.{codes, map, Some, None}
 use Rattle.lists.specs.KnownLists.{KnownLists}
 use Rattle.program.specs.Endings.{Ending, HasTold, HasWritten}
 use Rattle.program.specs.Logs.{IsFirstOf}
-use Rattle.cidr_filter.specs.Filters.{IsVerdict, output_of}
-use Rattle.cidr_filter.specs.Logs.{is_enough, GoesOn}
-use Rattle.cidr_filter.specs.Runs.{EndsLogs, StopsAtLog, most_of, shows_of, is_named, status_by, total_text}
+use Rattle.cidr_filter.specs.Filters.{IsVerdict, is_count, output_of}
+use Rattle.cidr_filter.specs.Logs.{is_enough, GoesOn, count_line}
+use Rattle.cidr_filter.specs.Runs.{EndsLogs, StopsAtLog, most_of, shows_of, is_named, status_by}
 use Rattle.cidr_filter.specs.declared.filter.Filter.{Filter}
 use Rattle.cidr_filter.specs.declared.filter.OutputMode.TheVariants as shows
 use Rattle.cidr_filter.specs.declared.filter.Verdict.TheVariants as verdicts
@@ -15,7 +15,7 @@ use Rattle.options.specs.declared.items.Item.{Item}
 use Rattle.options.specs.declared.items.Item.TheVariants as says
 use Rattle.cidr_filter.proofs.Examples.{ended, by}
 use Rattle.cidr_filter.proofs.Enough.{is_none}
-use Rattle.cidr_filter.proofs.RunExamples.{nothing_written}
+use Rattle.cidr_filter.proofs.RunExamples.{one_log}
 
 -- ---- the options
 
@@ -39,6 +39,13 @@ how_many = refl
 pub named_without_another_option : is_named asks_names ≡ true
 named_without_another_option = refl
 
+-- two logs with `-c`, one, standard input, and two with `-h`; and one with `-H`
+pub named_before_their_counts : map is_named
+    ((says.Flag 15 ∷ says.File (codes "a") ∷ says.File (codes "b") ∷ []) ∷ (says.Flag 15 ∷ says.File (codes "a") ∷ []) ∷ (says.Flag 15 ∷ [])
+    ∷ (says.Flag 18 ∷ says.File (codes "a") ∷ says.Flag 15 ∷ says.File (codes "b") ∷ []) ∷ (says.Flag 15 ∷ says.Flag 17 ∷ []) ∷ [])
+    ≡ true ∷ false ∷ false ∷ false ∷ true ∷ []
+named_before_their_counts = refl
+
 -- ---- what is printed
 
 abbrev naming : Filter
@@ -50,7 +57,7 @@ name_of_a_log = refl
 pub no_name_of_a_log : output_of naming 1 verdicts.Outside (ended (codes "10.0.0.1")) ≡ []
 no_name_of_a_log = refl
 
-pub no_number_beside_names : total_text false 2 ≡ []
+pub no_number_beside_names : count_line (is_count shows.Names) (codes "log") 2 ≡ []
 no_number_beside_names = refl
 
 -- ---- what is enough
@@ -75,14 +82,14 @@ module _ (known : KnownLists) (inside : IsVerdict silent (codes "10.0.0.1") (ver
   pub first_log_is_enough : known.may_open (codes "a") true → IsFirstOf known (codes "a") (codes "11.0.0.1\n10.0.0.1\nbad\n") → {W E : Type 0} (end : Ending W E)
       → HasWritten end [] → HasTold end [] → end.status ≡ 0 → EndsLogs silent known (codes "a" ∷ codes "b" ∷ []) end
   first_log_is_enough opened first end written told status =
-      nothing_written silent known (codes "a") (codes "b" ∷ []) [] 1 end (inr (
+      one_log silent known (codes "a") (codes "b" ∷ []) [] [] 1 end (inr (
         codes "11.0.0.1\n10.0.0.1\nbad\n",
         ended (codes "11.0.0.1") ∷ ended (codes "10.0.0.1") ∷ [],
         ended (codes "bad") ∷ [],
         opened,
         first,
         refl,
-        (verdicts.Outside, [], 1, outside, refl, (verdicts.Inside None, [], 0, inside, refl, (refl, refl), refl, refl), refl, refl),
+        ([], (verdicts.Outside, [], 1, outside, refl, (verdicts.Inside None, [], 0, inside, refl, (refl, refl), refl, refl), refl, refl), refl),
         record { most = refl; last = inr (ended (codes "11.0.0.1") ∷ [], ended (codes "10.0.0.1"), verdicts.Inside None, refl, inl refl, inside, refl) },
         refl,
         refl,

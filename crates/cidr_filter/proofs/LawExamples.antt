@@ -107,14 +107,14 @@ long_line_is_not_lost law filter read rest line e long judges none =
 -- the letters of options without and with a value, the long names, and those that a value may follow after `=`
 pub letters_and_names : (flags_of entries ≡ codes "awvcoHhnlq46") × (values_of entries ≡ codes "kdfem")
     × (names_of entries ≡ codes "--after" ∷ codes "--mapped" ∷ codes "--help" ∷ codes "--version" ∷ codes "--nth" ∷ codes "--longest" ∷ codes "--bad" ∷ codes "--skip-bad" ∷ codes "--networks" ∷ [])
-    × (joined_of entries ≡ codes "--nth" ∷ codes "--bad" ∷ [])
+    × (joined_of entries ≡ codes "--after" ∷ codes "--nth" ∷ codes "--bad" ∷ [])
 letters_and_names = (refl, refl, refl, refl)
 
 -- a long name with a wrong letter, an unknown letter, also after another, a name cut short, and a value after a name
 -- that does not allow it
 pub none_of_these : (rows : List options.Row) → map entry_of rows ≡ entries → ((word : List ℕ) → OthersAreNoOptions rows (is_option_word (map entry_of rows)) word)
-    → AllByRecursion (λ word. list_any is_unknown (free_items rows word) ≡ true) (codes "--longesu" ∷ codes "-x" ∷ codes "-vx" ∷ codes "--ba" ∷ codes "--after=x" ∷ [])
-none_of_these rows has law = no_options entries rows has law (codes "--longesu" ∷ codes "-x" ∷ codes "-vx" ∷ codes "--ba" ∷ codes "--after=x" ∷ []) refl
+    → AllByRecursion (λ word. list_any is_unknown (free_items rows word) ≡ true) (codes "--longesu" ∷ codes "-x" ∷ codes "-vx" ∷ codes "--ba" ∷ codes "--mapped=x" ∷ [])
+none_of_these rows has law = no_options entries rows has law (codes "--longesu" ∷ codes "-x" ∷ codes "-vx" ∷ codes "--ba" ∷ codes "--mapped=x" ∷ []) refl
 
 -- the law excludes the words of options, and no others
 pub words_of_options : list_all (is_option_word entries)
@@ -122,5 +122,5 @@ pub words_of_options : list_all (is_option_word entries)
 words_of_options = refl
 
 pub words_of_none : list_any (is_option_word entries)
-    ([] ∷ codes "--" ∷ codes "f" ∷ codes "-K" ∷ codes "-vxk1" ∷ codes "--bad-drop" ∷ codes "--longest=" ∷ codes "--map" ∷ codes "--after=x" ∷ codes "---" ∷ codes "-v-" ∷ []) ≡ false
+    ([] ∷ codes "--" ∷ codes "f" ∷ codes "-K" ∷ codes "-vxk1" ∷ codes "--bad-drop" ∷ codes "--longest=" ∷ codes "--map" ∷ codes "--mapped=x" ∷ codes "---" ∷ codes "-v-" ∷ []) ≡ false
 words_of_none = refl

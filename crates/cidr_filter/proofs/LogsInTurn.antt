@@ -1,10 +1,11 @@
 -- Logs that are filtered in turn.
-use Rattle.std.proofs.Common.{◌≡◌, ◌+◌, ◌++◌, ◌∷◌, ◌∙◌, ◌||◌, [], ℕ, Bool, List, true, false, inl, inr, refl, sym, ap, subst, arith, append_assoc, append-nil}
-use Rattle.std.specs.Prelude.{Option, Some}
+use Rattle.std.proofs.Common.{◌≡◌, ◌+◌, ◌-◌, ◌^◌, ◌++◌, ◌∷◌, ◌∙◌, ◌||◌, ◌⊎◌, [], ℕ, Bool, List, true, false, inl, inr, refl, sym, ap, subst, arith, min, append_assoc, append-nil, codes, decimal}
+use Rattle.std.specs.Prelude.{Option, None, Some, MatchOption}
 use Rattle.std.specs.Io.KnownBytes.{Consumes, IsAtEnd}
-use Rattle.lines.specs.Outputs.{Written}
-use Rattle.lines.proofs.Putting.{puts_nothing, puts_more}
+use Rattle.lines.specs.Outputs.{Written, Prints, FailsIn}
+use Rattle.lines.proofs.Putting.{puts_nothing, puts_more, begins_after_puts}
 use Rattle.lists.specs.KnownLists.{KnownLists}
+use Rattle.program.specs.Endings.{ending}
 use Rattle.program.specs.Messages.{Reports}
 use Rattle.program.proofs.Reported.{tells_more, tells_nothing, tells_same}
 use Rattle.cidr_filter.specs.Addressed.{seen_of, seen_by, ended_by, closed_text}
@@ -14,11 +15,13 @@ use Rattle.program.proofs.LogNames.{all_of, first_of}
 use Rattle.program.specs.LogLines.{LogLine, log_lines, IsWhole}
 use Rattle.program.specs.Logs.{IsAllOf}
 use Rattle.program.specs.declared.log_reader.LogReader.{LogReader}
-use Rattle.cidr_filter.specs.Filters.{is_silent, LastIsSelected}
-use Rattle.cidr_filter.specs.Logs.{FiltersLogs, is_enough, filter_for}
-use Rattle.cidr_filter.specs.Stands.{Stand, begun}
+use Rattle.cidr_filter.specs.Filters.{is_count, is_silent, name_head, LastIsSelected}
+use Rattle.cidr_filter.specs.Logs.{FiltersLogs, ReadsLog, LeavesLog, MissesLog, count_line, is_enough, filter_for, label_of}
+use Rattle.cidr_filter.specs.Runs.{StopsLogs}
+use Rattle.cidr_filter.specs.Stands.{Stand, stand, stand_at}
 use Rattle.cidr_filter.specs.Stops.{Ends, Leaves}
-use Rattle.cidr_filter.specs.Private.Runs.{FiltersNames}
+use Rattle.cidr_filter.specs.Private.Runs.{FiltersNames, WritesCount}
+use Rattle.cidr_filter.specs.declared.log.Tally.{Tally}
 use Rattle.cidr_filter.specs.declared.filter.Filter.{Filter}
 use Rattle.lists.specs.declared.opening.OpenFault.{OpenFault}
 use Rattle.cidr_filter.proofs.Enough.{few_first, few_second, enough_behind, not_enough, enough_same, goes_nowhere, went_on, goes_on, goes_so}
@@ -30,38 +33,76 @@ use Rattle.log_programs.proofs.Failing.{or_assoc, or_none}
 first_lines : (read pending : List ℕ) (first : List LogLine) → log_lines (read ++ []) ≡ first ++ log_lines (pending ++ []) → log_lines read ≡ first ++ log_lines pending
 first_lines read pending first e = sym (ap log_lines (append-nil read)) ∙ e ∙ ap (λ (p : List ℕ). first ++ log_lines p) (append-nil pending)
 
+-- the number of lines that is told
+count_same : (counts : Bool) (label : List ℕ) (told count : ℕ) → told ≡ min count (2 ^ 64 - 1) → count_line counts label told ≡ count_line counts label count
+count_same true label told count e =
+    let same : min told (2 ^ 64 - 1) ≡ min count (2 ^ 64 - 1) = omega (arith, e) in
+    ap (λ n. name_head label ++ (decimal n ++ codes "\n")) same
+count_same false label told count e = refl
+
 module _ (filter : Filter) (known : KnownLists) where
-  module _ (name : List ℕ) (remained remains : Option (List ℕ)) (has : (input : List ℕ) → known.bytes_of name ≡ Some input → remained ≡ Some input) (opened : known.may_open name true) where
+  one_log : (name output : List ℕ) (count : ℕ) (text : List ℕ) (missed : Bool)
+      → ReadsLog filter known name output count text missed ⊎ (LeavesLog filter known name output count text missed ⊎ MissesLog known name output count text missed)
+      → FiltersLogs filter known (name ∷ []) output count text missed
+  one_log name output count text missed h = (output, [], count, 0, text, [], missed, false, h, goes_nowhere (is_enough filter.shows count), sym (append-nil output), omega arith, sym (append-nil text), or_none missed missed refl)
+
+  -- the number of the lines of one was written, or could not be
+  module _ {W E : Type 0} (name added : List ℕ) (count : ℕ) (text : List ℕ) (missed : Bool) (output mid after : Written W) (was now told : ℕ) (errors before last : Written E)
+      (puts : Prints output mid added) (telling : told ≡ min count (2 ^ 64 - 1)) (sum : now ≡ min (was + told) (2 ^ 64 - 1)) (tells : Reports errors before text) where
+    abbrev number : List ℕ
+    number = count_line (is_count filter.shows) (label_of filter.named name) count
+
+    wrote_number : FailsIn mid after (count_line (is_count filter.shows) (label_of filter.named name) told) → FailsIn output after (added ++ number)
+    wrote_number h =
+        begins_after_puts _ _ _ _ _ added number puts
+        (subst (λ (t : List ℕ). FailsIn mid after t) (count_same (is_count filter.shows) (label_of filter.named name) told count telling) h)
+
+    counted_log : (result : Option Bool)
+        → FiltersLogs filter known (name ∷ []) (added ++ number) count text missed
+        → WritesCount result missed (is_count filter.shows) (label_of filter.named name) told (ending mid after before last 2)
+        → MatchOption result (StopsLogs filter known (name ∷ []) (ending output after errors last 2))
+        (λ is. FiltersNames filter known (name ∷ []) is (stand_at output was) (stand_at after now) errors last)
+    counted_log None all h = inr (record {
+      before = [];
+      name = name;
+      behind = [];
+      output = added ++ number;
+      selected = count;
+      texts = text;
+      missed = missed;
+      logs = refl;
+      filters = all;
+      counts = h.0;
+      wrote = (h.1.0, wrote_number h.1.1);
+      told = tells_more errors before last text (codes "write error\n") tells h.2;
+      status = refl;
+    })
+    counted_log (Some is) all h = record {
+      output = added ++ number;
+      count = count;
+      text = text;
+      filters = subst (λ (b : Bool). FiltersLogs filter known (name ∷ []) (added ++ number) count text b) (sym h.0) all;
+      tells = subst (λ (e : Written E). Reports errors e text) (sym h.2) tells;
+      puts = puts_more _ _ _ _ _ _ added number puts
+          (subst (λ (t : List ℕ). Prints mid after t) (count_same (is_count filter.shows) (label_of filter.named name) told count telling) h.1);
+      counted = λ within. omega (arith, within, telling, sum);
+    }
+
+  module _ {W E : Type 0} (name : List ℕ) (remained remains : Option (List ℕ)) (has : (input : List ℕ) → known.bytes_of name ≡ Some input → remained ≡ Some input) (opened : known.may_open name true)
+      (output mid after : Written W) (was now : ℕ) (tally : Tally) (errors before last : Written E) (missed : Bool) (result : Option Bool)
+      (misses : missed ≡ is_missed filter.bad tally.seen) (sum : now ≡ min (was + tally.selected) (2 ^ 64 - 1))
+      (wrote : WritesCount result missed (is_count filter.shows) (label_of filter.named name) tally.selected (ending mid after before last 2)) where
     -- a log that was filtered to its end
-    pub name_ended : {E : Type 0} (old new : Stand) (errors told : Written E) (missed : Bool) → Ends (filter_for filter name) remained remains (begun old) new
-        → Reports errors told (ended_by filter name new.seen) → missed ≡ is_missed filter.bad new.seen → FiltersNames filter known (name ∷ []) missed old new errors told
-    name_ended old new errors told missed ends tells misses =
-        let lines = log_lines ends.read in
-        let text = ended_by filter name (seen_of filter lines) in
-        record {
-          output = ends.is_done.added;
-          count = ends.is_done.count;
-          text = text;
-          filters = (
-            ends.is_done.added,
-            [],
-            ends.is_done.count,
-            0,
-            text,
-            [],
-            missed,
-            false,
-            inl (ends.read, all_of known name remained remains has opened ends.read ends.reads ends.end, ends.is_done.filters, refl, ends.is_done.below, misses ∙ ap (is_missed filter.bad) ends.is_done.seen),
-            goes_nowhere (is_enough filter.shows ends.is_done.count),
-            sym (append-nil ends.is_done.added),
-            omega arith,
-            sym (append-nil text),
-            or_none missed missed refl,
-          );
-          tells = tells_same errors told (ended_by filter name new.seen) text (ap (ended_by filter name) ends.is_done.seen) tells;
-          puts = ends.is_done.goes.0;
-          counted = ends.is_done.goes.1;
-        }
+    pub name_ended : Ends (filter_for filter name) remained remains (stand_at output 0) (stand mid tally) → Reports errors before (ended_by filter name tally.seen)
+        → MatchOption result (StopsLogs filter known (name ∷ []) (ending output after errors last 2))
+        (λ is. FiltersNames filter known (name ∷ []) is (stand_at output was) (stand_at after now) errors last)
+    name_ended ends tells =
+        let d = ends.is_done in
+        let text = ended_by filter name (seen_of filter (log_lines ends.read)) in
+        counted_log name d.added d.count text missed output mid after was now tally.selected errors before last d.goes.0 (counts_from_none 0 tally.selected d.count refl d.goes.1) sum
+        (tells_same errors before (ended_by filter name tally.seen) text (ap (ended_by filter name) d.seen) tells) result
+        (one_log name _ d.count text missed
+        (inl (ends.read, all_of known name remained remains has opened ends.read ends.reads ends.end, (d.added, d.filters, refl), refl, d.below, misses ∙ ap (is_missed filter.bad) d.seen))) wrote
 
     is_whole : (read : List ℕ) (line : LogLine) → Consumes remained remains read → IsWhole (IsAtEnd remains) line → IsWhole (IsAllOf known name read) line
     is_whole read line reads (inl ended) = inl ended
@@ -74,47 +115,27 @@ module _ (filter : Filter) (known : KnownLists) where
     last_whole lines read reads (inr h) = inr (h.0, h.1, h.2, h.3, is_whole read h.1 reads h.4, h.5, h.6)
 
     -- a log that was left
-    pub name_left : {E : Type 0} (old new : Stand) (errors told : Written E) (log : LogReader) (missed : Bool) → Leaves (filter_for filter name) log remained remains (begun old) new
-        → Reports errors told (seen_by filter name new.seen) → missed ≡ is_missed filter.bad new.seen → FiltersNames filter known (name ∷ []) missed old new errors told
-    name_left old new errors told log missed left tells misses =
+    pub name_left : (log : LogReader) → Leaves (filter_for filter name) log remained remains (stand_at output 0) (stand mid tally) → Reports errors before (seen_by filter name tally.seen)
+        → MatchOption result (StopsLogs filter known (name ∷ []) (ending output after errors last 2))
+        (λ is. FiltersNames filter known (name ∷ []) is (stand_at output was) (stand_at after now) errors last)
+    name_left log left tells =
         let text = seen_by filter name (seen_of filter left.first) in
-        record {
-          output = left.added;
-          count = left.count;
-          text = text;
-          filters = (
-            left.added,
-            [],
-            left.count,
-            0,
-            text,
-            [],
-            missed,
-            false,
-            inr (
-                inl (
-                  left.hands.read,
-                  left.first,
-                  log_lines left.hands.pending,
-                  opened,
-                  first_of known name remained remains has left.hands.read left.hands.reads,
-                  first_lines left.hands.read left.hands.pending left.first (left.hands.lines [] (λ e. refl)),
-                  left.filters,
-                  record { most = left.all.most; last = last_whole left.first left.hands.read left.hands.reads left.all.last },
-                  refl,
-                  misses ∙ ap (is_missed filter.bad) left.seen,
-                )
-                ),
-            goes_nowhere (is_enough filter.shows left.count),
-            sym (append-nil left.added),
-            omega arith,
-            sym (append-nil text),
-            or_none missed missed refl,
-          );
-          tells = tells_same errors told (seen_by filter name new.seen) text (ap (seen_by filter name) left.seen) tells;
-          puts = left.goes.0;
-          counted = left.goes.1;
-        }
+        counted_log name left.added left.count text missed output mid after was now tally.selected errors before last left.goes.0 (counts_from_none 0 tally.selected left.count refl left.goes.1) sum
+        (tells_same errors before (seen_by filter name tally.seen) text (ap (seen_by filter name) left.seen) tells) result
+        (one_log name _ left.count text missed
+        (inr
+        (inl (
+          left.hands.read,
+          left.first,
+          log_lines left.hands.pending,
+          opened,
+          first_of known name remained remains has left.hands.read left.hands.reads,
+          first_lines left.hands.read left.hands.pending left.first (left.hands.lines [] (λ e. refl)),
+          (left.added, left.filters, refl),
+          record { most = left.all.most; last = last_whole left.first left.hands.read left.hands.reads left.all.last },
+          refl,
+          misses ∙ ap (is_missed filter.bad) left.seen,
+        )))) wrote
 
   -- a log that was not opened
   pub name_missed : {E : Type 0} (name : List ℕ) (fault : OpenFault) (old : Stand) (errors told : Written E) → known.may_open name false → known.may_miss name fault → Reports errors told (closed_text name fault)
@@ -123,7 +144,7 @@ module _ (filter : Filter) (known : KnownLists) where
     output = [];
     count = 0;
     text = closed_text name fault;
-    filters = ([], [], 0, 0, closed_text name fault, [], true, false, inr (inr (fault, closed, missed, refl, refl, refl, refl)), goes_nowhere (is_enough filter.shows 0), refl, refl, sym (append-nil (closed_text name fault)), refl);
+    filters = one_log name [] 0 (closed_text name fault) true (inr (inr (fault, closed, missed, refl, refl, refl, refl)));
     tells = tells;
     puts = puts_nothing old.holds old.waits;
     counted = counts_none old.selected old.selected refl;

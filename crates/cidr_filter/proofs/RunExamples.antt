@@ -9,16 +9,16 @@ use Rattle.lists.specs.Lists.{ReadLists, at_list, TakesLines}
 use Rattle.lists.specs.KnownLists.{KnownLists}
 use Rattle.lists.specs.declared.entry.EntryFault.TheVariants.{Prefix}
 use Rattle.lists.specs.declared.fault.LineFault.TheVariants.{Entry}
-use Rattle.cidr_filter.specs.Filters.{IsVerdict, is_count}
-use Rattle.program.specs.LogFaults.{log_fault_text, Wrote}
+use Rattle.cidr_filter.specs.Filters.{IsVerdict}
+use Rattle.program.specs.LogFaults.{log_fault_text, FailsWriting, Wrote}
 use Rattle.program.specs.Logs.{HaltsBy, IsAllOf, IsFirstOf}
-use Rattle.cidr_filter.specs.Logs.{EndsRunBy, FiltersLogs, GoesOn, LeavesLog, ReadsLog, is_enough, is_short}
+use Rattle.cidr_filter.specs.Logs.{EndsRunBy, FiltersLogs, GoesOn, LeavesLog, ReadsLog, count_line, is_enough, is_short, label_of}
 use Rattle.cidr_filter.specs.Reading.{ReadsItems, HoldsRead, question_of}
 use Rattle.options.specs.Given.{inputs_of}
 use Rattle.options.specs.declared.items.Item.{Item}
 use Rattle.options.specs.declared.items.Item.TheVariants as says
 use Rattle.program.specs.Endings.{Ending, Refuses, HasTold, HasWritten}
-use Rattle.cidr_filter.specs.Runs.{total_text, EndsLogs, EndsFiltering, filter_of, is_stopped_by, status_by}
+use Rattle.cidr_filter.specs.Runs.{EndsLogs, EndsFiltering, filter_of, is_stopped_by, status_by}
 use Rattle.cidr_filter.specs.declared.filter.Filter.{Filter}
 use Rattle.log_programs.specs.declared.without_address.WithoutAddress.TheVariants as without
 use Rattle.cidr_filter.specs.declared.filter.Verdict.TheVariants as verdicts
@@ -30,12 +30,12 @@ use Rattle.cidr_filter.proofs.Examples.{ended, by, counting}
 
 -- ---- how a run ends
 
-pub the_number_of_lines : total_text true 12 ≡ codes "12\n"
+pub the_number_of_lines : map (λ label. count_line true label 12) ([] ∷ codes "log" ∷ []) ≡ codes "12\n" ∷ codes "log:12\n" ∷ []
 unfolding digits
 the_number_of_lines = refl
 
 -- up to what 64 bits count
-pub no_greater_number : total_text true 18446744073709551616 ≡ codes "18446744073709551615\n"
+pub no_greater_number : count_line true [] 18446744073709551616 ≡ codes "18446744073709551615\n"
 unfolding digits
 no_greater_number = refl
 
@@ -43,7 +43,7 @@ pub no_greater_line : log_fault_text (codes "log") 18446744073709551615 faults.A
 unfolding digits
 no_greater_line = refl
 
-pub no_number : total_text false 12 ≡ []
+pub no_number : count_line false (codes "log") 12 ≡ []
 no_number = refl
 
 -- a run that no refused line ends is not silent: memory runs out, or the logs are filtered
@@ -57,16 +57,16 @@ not_silent known items read end none (inr ends) = ends.1
 pub refused_or_skipped : map (λ items. is_stopped_by items (record { kept = record { list = 0; line = 7; fault = Entry Prefix } ∷ []; more = 0 })) ([] ∷ (says.Flag 22 ∷ []) ∷ []) ≡ true ∷ false ∷ []
 refused_or_skipped = refl
 
--- nothing was written of the first log, and nothing more comes of those behind it
-pub nothing_written : {W E : Type 0} (filter : Filter) (known : KnownLists) (name : List ℕ) (names : List (List ℕ)) (text : List ℕ) (selected : ℕ) (end : Ending W E)
-    → ReadsLog filter known name [] selected text false ⊎ LeavesLog filter known name [] selected text false → GoesOn (is_enough filter.shows selected) (FiltersLogs filter known names [] 0 [] false) [] 0 [] false
-    → HasWritten end (total_text (is_count filter.shows) selected) → HasTold end text → end.status ≡ status_by (is_enough filter.shows selected) false selected → EndsLogs filter known (name ∷ names) end
-nothing_written filter known name names text selected end one goes written told status = inl (record {
-  output = [];
+-- the first log was filtered, and nothing more comes of those behind it
+pub one_log : {W E : Type 0} (filter : Filter) (known : KnownLists) (name : List ℕ) (names : List (List ℕ)) (output text : List ℕ) (selected : ℕ) (end : Ending W E)
+    → ReadsLog filter known name output selected text false ⊎ LeavesLog filter known name output selected text false → GoesOn (is_enough filter.shows selected) (FiltersLogs filter known names [] 0 [] false) [] 0 [] false
+    → HasWritten end output → HasTold end text → end.status ≡ status_by (is_enough filter.shows selected) false selected → EndsLogs filter known (name ∷ names) end
+one_log filter known name names output text selected end one goes written told status = inl (record {
+  output = output;
   selected = selected;
   texts = text;
   missed = false;
-  filters = ([], [], selected, 0, text, [], false, false, elim one [ inl read ↦ inl read | inr left ↦ inr (inl left) ], goes, refl, omega arith, sym (append-nil text), refl);
+  filters = (output, [], selected, 0, text, [], false, false, elim one [ inl read ↦ inl read | inr left ↦ inr (inl left) ], goes, sym (append-nil output), omega arith, sym (append-nil text), refl);
   ends = inl (written, told, status);
 })
 
@@ -92,7 +92,7 @@ module _ (known : KnownLists) (inside : IsVerdict (by false without.Stop) (codes
     [],
     false,
     false,
-    inl (codes "11.0.0.1\n10.0.0.1\n", a, (verdicts.Outside, codes "10.0.0.1\n", 1, outside, refl, (verdicts.Inside None, [], 0, inside, refl, (refl, refl), refl, refl), refl, refl), refl, refl, refl),
+    inl (codes "11.0.0.1\n10.0.0.1\n", a, (codes "10.0.0.1\n", (verdicts.Outside, codes "10.0.0.1\n", 1, outside, refl, (verdicts.Inside None, [], 0, inside, refl, (refl, refl), refl, refl), refl, refl), refl), refl, refl, refl),
     (
       codes "10.0.0.1\n",
       [],
@@ -102,7 +102,7 @@ module _ (known : KnownLists) (inside : IsVerdict (by false without.Stop) (codes
       [],
       false,
       false,
-      inl (codes "10.0.0.1", b, (verdicts.Inside None, [], 0, inside, refl, (refl, refl), refl, refl), refl, refl, refl),
+      inl (codes "10.0.0.1", b, (codes "10.0.0.1\n", (verdicts.Inside None, [], 0, inside, refl, (refl, refl), refl, refl), refl), refl, refl, refl),
       (refl, refl, refl, refl),
       refl,
       refl,
@@ -115,26 +115,33 @@ module _ (known : KnownLists) (inside : IsVerdict (by false without.Stop) (codes
     refl,
   )
 
-  -- they are counted together
-  pub two_logs_counted : IsAllOf known (codes "a") (codes "10.0.0.1\n") → IsAllOf known (codes "b") (codes "10.0.0.1\n") → {W E : Type 0} (end : Ending W E) → HasWritten end (codes "2\n") → HasTold end [] → end.status ≡ 0
-      → EndsLogs (counting without.Stop) known (codes "a" ∷ codes "b" ∷ []) end
+  -- what is counted of each
+  abbrev counted : Filter
+  counted = record (counting without.Stop) { named = true }
+
+  one_counted : (name : List ℕ) → IsAllOf known name (codes "10.0.0.1\n") → ReadsLog counted known name (count_line true (label_of true name) 1) 1 [] false
+  unfolding address_of digits v6_of gap_below
+  one_counted name all = (codes "10.0.0.1\n", all, ([], (verdicts.Inside None, [], 0, inside, refl, (refl, refl), refl, refl), refl), refl, refl, refl)
+
+  pub two_logs_counted : IsAllOf known (codes "a") (codes "10.0.0.1\n") → IsAllOf known (codes "b") (codes "10.0.0.1\n") → {W E : Type 0} (end : Ending W E) → HasWritten end (codes "a:1\nb:1\n") → HasTold end [] → end.status ≡ 0
+      → EndsLogs counted known (codes "a" ∷ codes "b" ∷ []) end
   unfolding address_of digits v6_of gap_below
   two_logs_counted a b end written told status = inl (record {
-    output = [];
+    output = codes "a:1\nb:1\n";
     selected = 2;
     texts = [];
     missed = false;
     filters = (
-      [],
-      [],
+      codes "a:1\n",
+      codes "b:1\n",
       1,
       1,
       [],
       [],
       false,
       false,
-      inl (codes "10.0.0.1\n", a, (verdicts.Inside None, [], 0, inside, refl, (refl, refl), refl, refl), refl, refl, refl),
-      ([], [], 1, 0, [], [], false, false, inl (codes "10.0.0.1\n", b, (verdicts.Inside None, [], 0, inside, refl, (refl, refl), refl, refl), refl, refl, refl), (refl, refl, refl, refl), refl, refl, refl, refl),
+      inl (one_counted (codes "a") a),
+      (codes "b:1\n", [], 1, 0, [], [], false, false, inl (one_counted (codes "b") b), (refl, refl, refl, refl), refl, refl, refl, refl),
       refl,
       refl,
       refl,
@@ -142,6 +149,26 @@ module _ (known : KnownLists) (inside : IsVerdict (by false without.Stop) (codes
     );
     ends = inl (written, told, status);
   })
+
+  -- the number of the first could not be written: the second is not read
+  pub number_unwritten : IsAllOf known (codes "a") (codes "10.0.0.1\n") → {W E : Type 0} (end : Ending W E) → FailsWriting end (codes "a:1\n") → HasTold end (codes "write error\n") → end.status ≡ 2
+      → EndsLogs counted known (codes "a" ∷ codes "b" ∷ []) end
+  unfolding address_of digits v6_of gap_below
+  number_unwritten a end wrote told status = inr (inr (record {
+    before = [];
+    name = codes "a";
+    behind = codes "b" ∷ [];
+    output = codes "a:1\n";
+    selected = 1;
+    texts = [];
+    missed = false;
+    logs = refl;
+    filters = (codes "a:1\n", [], 1, 0, [], [], false, false, inl (one_counted (codes "a") a), (refl, refl, refl, refl), refl, refl, refl, refl);
+    counts = refl;
+    wrote = wrote;
+    told = told;
+    status = status;
+  }))
 
   -- a log that cannot be opened: the others are filtered, and the status is 2
   pub first_log_missed : known.may_open (codes "a") false → known.may_miss (codes "a") causes.Denied → IsAllOf known (codes "b") (codes "10.0.0.1\n") → {W E : Type 0} (end : Ending W E) → HasWritten end (codes "10.0.0.1\n")
@@ -162,7 +189,22 @@ module _ (known : KnownLists) (inside : IsVerdict (by false without.Stop) (codes
       true,
       false,
       inr (inr (causes.Denied, closed, denied, refl, refl, refl, refl)),
-      (codes "10.0.0.1\n", [], 1, 0, [], [], false, false, inl (codes "10.0.0.1\n", b, (verdicts.Inside None, [], 0, inside, refl, (refl, refl), refl, refl), refl, refl, refl), (refl, refl, refl, refl), refl, refl, refl, refl),
+      (
+        codes "10.0.0.1\n",
+        [],
+        1,
+        0,
+        [],
+        [],
+        false,
+        false,
+        inl (codes "10.0.0.1\n", b, (codes "10.0.0.1\n", (verdicts.Inside None, [], 0, inside, refl, (refl, refl), refl, refl), refl), refl, refl, refl),
+        (refl, refl, refl, refl),
+        refl,
+        refl,
+        refl,
+        refl,
+      ),
       refl,
       refl,
       refl,
@@ -174,7 +216,7 @@ module _ (known : KnownLists) (inside : IsVerdict (by false without.Stop) (codes
   -- a log that stops the run after its first line; another log is left
   stopped_behind_a_line : (fault : LogFault) → is_short fault None 1 ≡ true → HaltsBy (EndsRunBy (by false without.Stop)) known (codes "a") (ended (codes "10.0.0.1") ∷ []) fault → {W E : Type 0} (end : Ending W E)
       → Wrote fault end (codes "10.0.0.1\n") → HasTold end (log_fault_text (codes "a") 1 fault) → end.status ≡ 2 → EndsLogs (by false without.Stop) known (codes "a" ∷ codes "b" ∷ []) end
-  stopped_behind_a_line fault short halts end wrote told status = inr (record {
+  stopped_behind_a_line fault short halts end wrote told status = inr (inl (record {
     before = [];
     name = codes "a";
     behind = codes "b" ∷ [];
@@ -195,7 +237,7 @@ module _ (known : KnownLists) (inside : IsVerdict (by false without.Stop) (codes
     wrote = wrote;
     told = told;
     status = status;
-  })
+  }))
 
   -- a line ends the run: what comes before it is written
   pub stopped_at_the_second_line : known.may_open (codes "a") true → IsFirstOf known (codes "a") (codes "10.0.0.1\nbad\n10.0.0.1\n") → {W E : Type 0} (end : Ending W E) → HasWritten end (codes "10.0.0.1\n") → HasTold end (codes "a:2: refused address\n")
@@ -226,7 +268,7 @@ module _ (known : KnownLists) (inside : IsVerdict (by false without.Stop) (codes
       → EndsLogs (by false without.Stop) known (codes "-" ∷ []) end
   unfolding address_of digits v6_of gap_below
   nothing_selected a end written told status =
-      nothing_written (by false without.Stop) known (codes "-") [] [] 0 end (inl (codes "11.0.0.1\n", a, (verdicts.Outside, [], 0, outside, refl, (refl, refl), refl, refl), refl, refl, refl))
+      one_log (by false without.Stop) known (codes "-") [] [] [] 0 end (inl (codes "11.0.0.1\n", a, ([], (verdicts.Outside, [], 0, outside, refl, (refl, refl), refl, refl), refl), refl, refl, refl))
       (refl, refl, refl, refl) written told status
 
   -- no line of a log has an address
@@ -234,5 +276,5 @@ module _ (known : KnownLists) (inside : IsVerdict (by false without.Stop) (codes
       → HasTold end (codes "cidr_filter: a: no line has an address in field 1\n") → end.status ≡ 1 → EndsLogs (by false without.Drop) known (codes "a" ∷ []) end
   unfolding address_of digits v6_of gap_below
   nothing_found none a end written told status =
-      nothing_written (by false without.Drop) known (codes "a") [] (codes "cidr_filter: a: no line has an address in field 1\n") 0 end
-      (inl (codes "x\n", a, (verdicts.NoAddress, [], 0, none, refl, (refl, refl), refl, refl), refl, refl, refl)) (refl, refl, refl, refl) written told status
+      one_log (by false without.Drop) known (codes "a") [] [] (codes "cidr_filter: a: no line has an address in field 1\n") 0 end
+      (inl (codes "x\n", a, ([], (verdicts.NoAddress, [], 0, none, refl, (refl, refl), refl, refl), refl), refl, refl, refl)) (refl, refl, refl, refl) written told status

@@ -13,15 +13,15 @@ use Rattle.program.specs.Endings.{Ending, ending, Refuses, HasTold, HasWritten, 
 use Rattle.program.specs.Messages.{Reports}
 use Rattle.lists.specs.KnownLists.{KnownLists}
 use Rattle.cidr_filter.specs.Addressed.{seen_of, seen_by}
-use Rattle.cidr_filter.specs.Filters.{Filters, is_count, is_silent}
+use Rattle.cidr_filter.specs.Filters.{Filters, is_silent}
 use Rattle.program.specs.LogLines.{LogLine}
-use Rattle.cidr_filter.specs.Logs.{is_enough, EndsRunBy, is_short, filter_for}
+use Rattle.cidr_filter.specs.Logs.{FiltersLogs, is_enough, EndsRunBy, is_short, filter_for}
 use Rattle.program.specs.Counts.{Counts}
 use Rattle.program.specs.LogFaults.{log_fault_text, IfWrite, Wrote, HandsOn, StopsBy}
 use Rattle.program.specs.Logs.{HaltsBy}
 use Rattle.cidr_filter.specs.Reading.{StopsAtItems, HoldsRead, question_of}
-use Rattle.cidr_filter.specs.Runs.{StopsAtLog, total_text, status_by, EndsWith, FiltersAll, EndsLogs, filter_of, is_stopped_by, EndsReading}
-use Rattle.cidr_filter.specs.Stands.{Stand, stand, begun}
+use Rattle.cidr_filter.specs.Runs.{StopsAtLog, StopsAtCount, StopsLogs, status_by, EndsWith, FiltersAll, EndsLogs, filter_of, is_stopped_by, EndsReading}
+use Rattle.cidr_filter.specs.Stands.{Stand, stand, stand_at}
 use Rattle.cidr_filter.specs.Stops.{FiltersLines, WritesBeginning}
 use Rattle.program.specs.Reported.{fault_text, refusals_text}
 use Rattle.cidr_filter.specs.Reported.{in_option}
@@ -59,11 +59,11 @@ halts_same filter known name lines faults.Length h =
     (record { read = h.0.read; line = h.0.line; others = h.0.others; is_first = h.0.is_first; are = h.0.are; is_line = h.0.is_line; is_so = h.0.is_so }, h.1)
 halts_same filter known name lines faults.Endless h = h
 
-module _ {W E : Type 0} (filter : Filter) (known : KnownLists) (name : List ℕ) (end : Ending W E) (two : end.status ≡ 2) (mid : Written W) (between : Written E) (old new : Tally) (lines : List LogLine)
+module _ {W E : Type 0} (filter : Filter) (known : KnownLists) (name : List ℕ) (end : Ending W E) (two : end.status ≡ 2) (mid : Written W) (between : Written E) (new : Tally) (lines : List LogLine)
     (tells : Reports end.errors between (seen_by filter name new.seen)) where
   -- before the lines of the log
   abbrev start : Stand
-  start = begun (stand end.output old)
+  start = stand_at end.output 0
 
   -- the first lines of a log were filtered, and then it stopped
   at_log : (fault : LogFault) (added : List ℕ) (more : ℕ) → Filters (filter_for filter name) 0 lines added more → new.seen ≡ seen_of filter lines → is_short fault filter.most more ≡ true
@@ -124,36 +124,62 @@ module _ {W E : Type 0} (filter : Filter) (known : KnownLists) (name : List ℕ)
 
 -- ---- logs in turn
 
--- a log that stops behind others that were filtered
-pub stops_behind_names : {W E : Type 0} (filter : Filter) (known : KnownLists) (done more rest names : List (List ℕ)) (missed : Bool) (end : Ending W E) (mid : Written W) (between : Written E) (old now : Tally)
-    → names ≡ done ++ (more ++ rest)
-    → old.selected ≡ 0 → is_enough filter.shows now.selected ≡ false → FiltersNames filter known done missed (stand end.output old) (stand mid now) end.errors between
-    → StopsAtLog filter known more (record end { output = mid; errors = between }) → StopsAtLog filter known names end
-stops_behind_names filter known done more rest names missed end mid between old now e none few f s = record {
-  before = done ++ s.before;
-  name = s.name;
-  behind = s.behind ++ rest;
-  output = f.output ++ s.output;
-  selected = f.count + s.selected;
-  texts = f.text ++ s.texts;
-  missed = missed || s.missed;
-  lines = s.lines;
-  added = s.added;
-  more = s.more;
-  fault = s.fault;
-  logs = names_behind done more rest names s.before s.behind s.name e s.logs;
-  filters = logs_both filter known done s.before f.output s.output f.count s.selected f.text s.texts missed s.missed
-      (enough_by filter known done missed false (stand end.output old) (stand mid now) end.errors between f none few) f.filters s.filters;
-  few = few_both (is_silent filter.shows) f.count s.selected (enough_by filter known done missed false (stand end.output old) (stand mid now) end.errors between f none few) s.few;
-  first = s.first;
-  short = s.short;
-  halts = s.halts;
-  wrote = wrote_same s.fault end _ _ (sym (append_assoc f.output s.output s.added)) (wrote_behind s.fault end mid between f.output (s.output ++ s.added) f.puts s.wrote);
-  told =
-      let stop = seen_by filter s.name (seen_of filter s.lines) ++ log_fault_text s.name (length s.lines) s.fault in
-      tells_same end.errors end.errors_after _ _ (sym (append_assoc f.text s.texts stop)) (tells_more end.errors between end.errors_after f.text (s.texts ++ stop) f.tells s.told);
-  status = s.status;
-}
+-- a log that stops behind others that were filtered, or whose number of lines could not be written
+module _ {W E : Type 0} (filter : Filter) (known : KnownLists) (done more rest names : List (List ℕ)) (missed : Bool) (end : Ending W E) (mid : Written W) (between : Written E) (was now : ℕ)
+    (e : names ≡ done ++ (more ++ rest)) (none : was ≡ 0) (few : is_enough filter.shows now ≡ false)
+    (f : FiltersNames filter known done missed (stand_at end.output was) (stand_at mid now) end.errors between) where
+  few_done : is_enough filter.shows f.count ≡ false
+  few_done = enough_by filter known done missed false (stand_at end.output was) (stand_at mid now) end.errors between f none few
+
+  stops_behind : StopsAtLog filter known more (record end { output = mid; errors = between }) → StopsAtLog filter known names end
+  stops_behind s = record {
+    before = done ++ s.before;
+    name = s.name;
+    behind = s.behind ++ rest;
+    output = f.output ++ s.output;
+    selected = f.count + s.selected;
+    texts = f.text ++ s.texts;
+    missed = missed || s.missed;
+    lines = s.lines;
+    added = s.added;
+    more = s.more;
+    fault = s.fault;
+    logs = names_behind done more rest names s.before s.behind s.name e s.logs;
+    filters = logs_both filter known done s.before f.output s.output f.count s.selected f.text s.texts missed s.missed few_done f.filters s.filters;
+    few = few_both (is_silent filter.shows) f.count s.selected few_done s.few;
+    first = s.first;
+    short = s.short;
+    halts = s.halts;
+    wrote = wrote_same s.fault end _ _ (sym (append_assoc f.output s.output s.added)) (wrote_behind s.fault end mid between f.output (s.output ++ s.added) f.puts s.wrote);
+    told =
+        let stop = seen_by filter s.name (seen_of filter s.lines) ++ log_fault_text s.name (length s.lines) s.fault in
+        tells_same end.errors end.errors_after _ _ (sym (append_assoc f.text s.texts stop)) (tells_more end.errors between end.errors_after f.text (s.texts ++ stop) f.tells s.told);
+    status = s.status;
+  }
+
+  count_behind : StopsAtCount filter known more (record end { output = mid; errors = between }) → StopsAtCount filter known names end
+  count_behind s = record {
+    before = done ++ s.before;
+    name = s.name;
+    behind = s.behind ++ rest;
+    output = f.output ++ s.output;
+    selected = f.count + s.selected;
+    texts = f.text ++ s.texts;
+    missed = missed || s.missed;
+    logs = names_behind done more rest names s.before s.behind s.name e s.logs;
+    filters = subst (λ (n : List (List ℕ)). FiltersLogs filter known n (f.output ++ s.output) (f.count + s.selected) (f.text ++ s.texts) (missed || s.missed)) (sym (append_assoc done s.before (s.name ∷ [])))
+        (logs_both filter known done (s.before ++ s.name ∷ []) f.output s.output f.count s.selected f.text s.texts missed s.missed few_done f.filters s.filters);
+    counts = s.counts;
+    wrote = (s.wrote.0, begins_after_puts _ _ _ _ _ f.output s.output f.puts s.wrote.1);
+    told =
+        tells_same end.errors end.errors_after _ _ (sym (append_assoc f.text s.texts (codes "write error\n")))
+        (tells_more end.errors between end.errors_after f.text (s.texts ++ codes "write error\n") f.tells s.told);
+    status = s.status;
+  }
+
+  pub stops_behind_names : StopsLogs filter known more (record end { output = mid; errors = between }) → StopsLogs filter known names end
+  stops_behind_names (inl s) = inl (stops_behind s)
+  stops_behind_names (inr s) = inr (count_behind s)
 
 -- ---- one file more
 
@@ -183,100 +209,51 @@ module _ {Z : Type 0} (filter : Filter) (known : KnownLists) (files : List (Stri
       subst (λ (n : List (List ℕ)). FiltersNames filter known n missed old new errors told) (ap (map string_bytes) (take_all i files past)) h
 
   -- the one at a place stopped
-  pub one_stops : {W E : Type 0} (i : ℕ) (name : List ℕ) (missed : Bool) (output mid after : Written W) (errors between told : Written E) (old now : Tally)
+  pub one_stops : {W E : Type 0} (i : ℕ) (name : List ℕ) (missed : Bool) (output mid after : Written W) (errors between told : Written E) (was now : ℕ)
       → map string_bytes (take (i + 1) files) ≡ map string_bytes (take i files) ++ name ∷ []
-      → old.selected ≡ 0 → is_enough filter.shows now.selected ≡ false
-      → FiltersNames filter known (map string_bytes (take i files)) missed (stand output old) (stand mid now) errors between
-      → StopsAtLog filter known (name ∷ []) (ending mid after between told 2)
-      → StopsAtLog filter known (map string_bytes files) (ending output after errors told 2)
-  one_stops {W} {E} i name missed output mid after errors between told old now more none few f s =
+      → was ≡ 0 → is_enough filter.shows now ≡ false
+      → FiltersNames filter known (map string_bytes (take i files)) missed (stand_at output was) (stand_at mid now) errors between
+      → StopsLogs filter known (name ∷ []) (ending mid after between told 2)
+      → StopsLogs filter known (map string_bytes files) (ending output after errors told 2)
+  one_stops {W} {E} i name missed output mid after errors between told was now more none few f s =
       let end : Ending W E = ending output after errors told 2 in
-      stops_behind_names filter known (map string_bytes (take i files)) (name ∷ []) (map string_bytes (drop (i + 1) files)) (map string_bytes files) missed end mid between old now
+      stops_behind_names filter known (map string_bytes (take i files)) (name ∷ []) (map string_bytes (drop (i + 1) files)) (map string_bytes files) missed end mid between was now
       (names_apart files i name more) none few f s
 
 -- ---- all logs
 
-total_same : (counts : Bool) (told count : ℕ) → told ≡ min count (2 ^ 64 - 1) → total_text counts told ≡ total_text counts count
-total_same true told count e =
-    let same : min told (2 ^ 64 - 1) ≡ min count (2 ^ 64 - 1) = omega (arith, e) in
-    ap (λ n. decimal n ++ codes "\n") same
-total_same false told count e = refl
-
-module _ {W E T F : Type 0} (filter : Filter) (known : KnownLists) (names : List (List ℕ)) (missed : Bool) (end : Ending W E) (mid : Written W) (between : Written E) (told : ℕ) where
+module _ {W E T F : Type 0} (filter : Filter) (known : KnownLists) (names : List (List ℕ)) (missed : Bool) (end : Ending W E) (mid : Written W) (between : Written E) (told : ℕ)
+    (f : FiltersNames filter known names missed (stand_at end.output 0) (stand_at mid told) end.errors between) where
   -- what waits was written, or the writer failed
-  ended : (written : Result T F) (status : ℕ) (output : List ℕ) (count : ℕ) (texts : List ℕ) → told ≡ min count (2 ^ 64 - 1)
-      → Puts end.output.holds end.output.waits mid.holds mid.waits output → Reports end.errors between texts
-      → OnOk written (Writes mid end.output_after (total_text (is_count filter.shows) told))
-      → OnErr written (FailsIn mid end.output_after (total_text (is_count filter.shows) told))
+  ended : (written : Result T F) (status : ℕ) → OnOk written (Appends mid.holds end.output_after.holds mid.waits) → OnErr written (AppendsBeginning mid.holds end.output_after.holds mid.waits)
       → end.output_after.failed ≡ (mid.failed || is_err written) → status ≡ status_by (is_enough filter.shows told) missed told → end.status ≡ status_of written status
-      → Reports between end.errors_after (end_text written) → EndsWith filter output count texts missed end
-  ended (Ok done) status output count texts counted puts tells ok err failed st two last = inl (
-    puts_then_all _ _ _ _ _ output (total_text (is_count filter.shows) count) puts
-        (subst (λ t. Writes mid end.output_after t) (total_same (is_count filter.shows) told count counted) ok),
-    tells_same end.errors end.errors_after (texts ++ []) texts (append-nil texts) (tells_more end.errors between end.errors_after texts [] tells last),
-    two ∙ st ∙ ap (λ (b : Bool). if is_silent filter.shows && b then 0 else if missed then 2 else if b then 0 else 1) (same_test told count counted),
+      → Reports between end.errors_after (end_text written) → EndsWith filter f.output f.count f.text missed end
+  ended (Ok done) status ok err failed st two last = inl (
+    written_behind end mid f.output f.puts (subst (Appends mid.holds end.output_after.holds) (sym (append-nil mid.waits)) ok),
+    tells_same end.errors end.errors_after (f.text ++ []) f.text (append-nil f.text) (tells_more end.errors between end.errors_after f.text [] f.tells last),
+    two ∙ st
+        ∙ ap (λ (b : Bool). if is_silent filter.shows && b then 0 else if missed then 2 else if b then 0 else 1) (same_test told f.count (counts_from_none 0 told f.count refl f.counted)),
   )
-  ended (Err fault) status output count texts counted puts tells ok err failed st two last = inr (
-    (
+  ended (Err fault) status ok err failed st two last = inr (
+    failed_behind end mid f.output f.puts (
       failed_now end.output_after.failed mid.failed failed,
-      begins_after_puts _ _ _ _ _ output (total_text (is_count filter.shows) count) puts
-          (subst (λ t. FailsIn mid end.output_after t) (total_same (is_count filter.shows) told count counted) err),
+      subst (AppendsBeginning mid.holds end.output_after.holds) (sym (append-nil mid.waits)) err,
     ),
-    tells_more end.errors between end.errors_after texts (codes "write error\n") tells last,
+    tells_more end.errors between end.errors_after f.text (codes "write error\n") f.tells last,
     two,
   )
 
-  all_ended : (written : Result T F) (status : ℕ) (old now : Tally) → old.selected ≡ 0 → now.selected ≡ told
-      → FiltersNames filter known names missed (stand end.output old) (stand mid now) end.errors between
-      → OnOk written (Writes mid end.output_after (total_text (is_count filter.shows) told))
-      → OnErr written (FailsIn mid end.output_after (total_text (is_count filter.shows) told))
+  pub all_ended : (written : Result T F) (status : ℕ) → OnOk written (Appends mid.holds end.output_after.holds mid.waits) → OnErr written (AppendsBeginning mid.holds end.output_after.holds mid.waits)
       → end.output_after.failed ≡ (mid.failed || is_err written) → status ≡ status_by (is_enough filter.shows told) missed told → end.status ≡ status_of written status
       → Reports between end.errors_after (end_text written) → FiltersAll filter known names end
-  all_ended written status old now none same f ok err failed st two tells = record {
+  all_ended written status ok err failed st two tells = record {
     output = f.output;
     selected = f.count;
     texts = f.text;
     missed = missed;
     filters = f.filters;
-    ends = ended written status f.output f.count f.text (counts_from_none old.selected told f.count none (subst (λ n. Counts old.selected n f.count) same f.counted))
-        f.puts f.tells ok err failed st two tells;
+    ends = ended written status ok err failed st two tells;
   }
-
--- the number of selected lines was put, and then what waits was written
-pub number_then_ok : {T F : Type 0} (result : Result T F) (held mid holds : Option (List ℕ)) (waited between text other : List ℕ) → text ≡ other → Puts held waited mid between text
-    → OnOk result (Appends mid holds between) → OnOk result (Appends held holds (waited ++ other))
-number_then_ok (Ok done) held mid holds waited between text other e p h =
-    subst (λ t. Appends held holds (waited ++ t)) e
-    (subst (Appends held holds) (ap (λ t. waited ++ t) (append-nil text))
-    (puts_then_all held mid holds waited between text [] p (subst (Appends mid holds) (sym (append-nil between)) h)))
-number_then_ok (Err fault) held mid holds waited between text other e p h = tt
-
-pub number_then_err : {T F : Type 0} (result : Result T F) (held mid holds : Option (List ℕ)) (waited between text other : List ℕ) → text ≡ other → Puts held waited mid between text
-    → OnErr result (AppendsBeginning mid holds between) → OnErr result (AppendsBeginning held holds (waited ++ other))
-number_then_err (Ok done) held mid holds waited between text other e p h = tt
-number_then_err (Err fault) held mid holds waited between text other e p h =
-    subst (λ t. AppendsBeginning held holds (waited ++ t)) e
-    (subst (AppendsBeginning held holds) (ap (λ t. waited ++ t) (append-nil text))
-    (begins_after_puts held mid holds waited between text [] p (subst (AppendsBeginning mid holds) (sym (append-nil between)) h)))
-
-pub none_then_ok : {T F : Type 0} (result : Result T F) (held holds : Option (List ℕ)) (waited text : List ℕ) → text ≡ [] → OnOk result (Appends held holds waited) → OnOk result (Appends held holds (waited ++ text))
-none_then_ok result held holds waited text e h =
-    subst (λ (t : List ℕ). OnOk result (Appends held holds (waited ++ t))) (sym e) (subst (λ (t : List ℕ). OnOk result (Appends held holds t)) (sym (append-nil waited)) h)
-
-pub none_then_err : {T F : Type 0} (result : Result T F) (held holds : Option (List ℕ)) (waited text : List ℕ) → text ≡ [] → OnErr result (AppendsBeginning held holds waited)
-    → OnErr result (AppendsBeginning held holds (waited ++ text))
-none_then_err result held holds waited text e h =
-    subst (λ (t : List ℕ). OnErr result (AppendsBeginning held holds (waited ++ t))) (sym e)
-    (subst (λ (t : List ℕ). OnErr result (AppendsBeginning held holds t)) (sym (append-nil waited)) h)
-
--- the line of the number, which fits 64 bits
-pub number_told : (counts : Bool) (number : ℕ) → counts ≡ true → number < 2 ^ 64 → decimal number ++ 10 ∷ [] ≡ total_text counts number
-number_told counts number e fits =
-    let same : number ≡ min number (2 ^ 64 - 1) = omega (arith, fits) in
-    ap (λ n. decimal n ++ codes "\n") same ∙ sym (ap (λ b. if b then decimal (min number (2 ^ 64 - 1)) ++ codes "\n" else []) e)
-
-pub nothing_told : (counts : Bool) (number : ℕ) → counts ≡ false → total_text counts number ≡ []
-nothing_told counts number e = ap (λ b. if b then decimal (min number (2 ^ 64 - 1)) ++ codes "\n" else []) e
 
 -- ---- the run
 
@@ -312,18 +289,3 @@ module _ {Z W E : Type 0} (known : KnownLists) (items : List Item) (names : List
       pub logs_filtered : (held : Matcher) → listed ≡ Ok held → EndsLogs (filter_of items held) known (inputs_of items) (record end { errors = told })
           → EndsReading known items names end
       logs_filtered held has h = goes_on (inr (held, subst (λ (l : Result Matcher X). IfOk l (HoldsRead (question_of items) was_read.read)) has was_read.holds, h))
-
--- how all logs ended
-pub all_by : {W E T F : Type 0} (filter : Filter) (known : KnownLists) (names : List (List ℕ)) (missed : Bool)
-    (output mid after : Written W) (errors between told_errors : Written E) (status told : ℕ) (counts : Bool) (written : Result T F) (wanted : ℕ) (old now : Tally) → old.selected ≡ 0 → now.selected ≡ told
-    → FiltersNames filter known names missed (stand output old) (stand mid now) errors between
-    → counts ≡ is_count filter.shows
-    → OnOk written (Writes mid after (total_text counts told))
-    → OnErr written (FailsIn mid after (total_text counts told))
-    → after.failed ≡ (mid.failed || is_err written) → wanted ≡ status_by (is_enough filter.shows told) missed told → status ≡ status_of written wanted
-    → Reports between told_errors (end_text written)
-    → FiltersAll filter known names (ending output after errors told_errors status)
-all_by filter known names missed output mid after errors between told_errors status told counts written wanted old now none is f e ok err failed st two text =
-    all_ended filter known names missed (ending output after errors told_errors status) mid between told written wanted old now none is f
-    (subst (λ (b : Bool). OnOk written (Writes mid after (total_text b told))) e ok)
-    (subst (λ (b : Bool). OnErr written (FailsIn mid after (total_text b told))) e err) failed st two text

@@ -61,7 +61,7 @@ pub pairs_told : map fault
     ((says.Flag 12 ∷ says.Flag 14 ∷ []) ∷ (says.Flag 1 ∷ says.Value 3 (codes ",") ∷ []) ∷ (says.Flag 16 ∷ says.Flag 14 ∷ [])
     ∷ (says.Value 4 (codes "x") ∷ says.Flag 0 ∷ []) ∷ (says.Flag 17 ∷ says.Flag 18 ∷ []) ∷ (says.Flag 16 ∷ says.Flag 14 ∷ says.Flag 12 ∷ []) ∷ [])
     ≡ map together (codes "--longest goes with neither -v nor -c" ∷ codes "-w does not go with -d"
-    ∷ codes "-o goes with neither -v nor --longest" ∷ codes "--after goes with none of -a, -k, -d and -w" ∷ codes "-H goes with neither -c nor -h"
+    ∷ codes "-o goes with neither -v nor --longest" ∷ codes "--after goes with none of -a, -k, -d and -w" ∷ codes "-H does not go with -h"
     ∷ codes "--longest goes with neither -v nor -c" ∷ [])
 pairs_told = refl
 

@@ -1,9 +1,10 @@
 -- Logs that are filtered in turn.
-use Rattle.std.specs.Prelude.{◌≡◌, ℕ, ◌+◌, ◌||◌, ◌&&◌, ◌⊎◌, Bool, true, false, Option, List, [], ◌∷◌, ◌++◌}
-use Rattle.std.specs.Prelude.{if◌then◌else◌, nat_lt, codes, bytes_eq}
+use Rattle.std.specs.Prelude.{◌≡◌, ℕ, ◌+◌, ◌-◌, ◌^◌, ◌||◌, ◌&&◌, ◌⊎◌, Bool, true, false, Option, List, [], ◌∷◌, ◌++◌}
+use Rattle.std.specs.Prelude.{if◌then◌else◌, nat_lt, codes, bytes_eq, decimal, min}
 use Rattle.lists.specs.KnownLists.{KnownLists}
 use Rattle.cidr_filter.specs.Addressed.{seen_of, seen_by, ended_by, closed_text}
-use Rattle.cidr_filter.specs.Filters.{IsVerdict, is_refused, is_silent, is_below, is_within, Filters, AreAll}
+use Rattle.cidr_filter.specs.Filters.{IsVerdict, is_count, is_refused, is_silent, is_below, is_within, name_head}
+use Rattle.cidr_filter.specs.Filters.{Filters, AreAll}
 use Rattle.log_programs.specs.Seen.{is_missed}
 use Rattle.program.specs.LogLines.{LogLine, log_lines}
 use Rattle.program.specs.Logs.{IsAllOf, IsFirstOf}
@@ -14,8 +15,8 @@ use Rattle.program.specs.declared.log_fault.LogFault.{LogFault}
 use Rattle.program.specs.declared.log_fault.LogFault.TheVariants as faults
 use Rattle.lists.specs.declared.opening.OpenFault.{OpenFault}
 
--- a log as it is called before its lines, or in place of them: standard input `(standard input)`, and others by their
--- name; not at all without `-H` and `-l`
+-- a log as it is called before its lines or their count, or in place of them: standard input `(standard input)`, and
+-- others by their name; not at all if it is not named
 abbrev pub label_of : Bool → List ℕ → List ℕ
 label_of named name = if named then if bytes_eq name (codes "-") then codes "(standard input)" else name else []
 
@@ -23,11 +24,24 @@ label_of named name = if named then if bytes_eq name (codes "-") then codes "(st
 abbrev pub filter_for : Filter → List ℕ → Filter
 filter_for filter name = record filter { name = label_of filter.named name }
 
+-- what a log of this label, of which so many lines are selected, ends with if lines are counted: the label and a colon,
+-- if it has one, and the number of these lines, up to the greatest of 64 bits
+abbrev pub count_line : Bool → List ℕ → ℕ → List ℕ
+count_line counts label selected =
+    if counts then name_head label ++ (decimal (min selected (2 ^ 64 - 1)) ++ codes "\n") else []
+
+-- this is the output of these lines of the log of this name, and of their number if lines are counted, and this many of
+-- them are selected
+abbrev pub FiltersAs : Filter → List ℕ → List LogLine → List ℕ → ℕ → Type 0
+FiltersAs filter name lines output selected = (added : List ℕ)
+    × Filters (filter_for filter name) 0 lines added selected
+    × (output ≡ added ++ count_line (is_count filter.shows) (label_of filter.named name) selected)
+
 -- the log of this name was read to its end: this is the output of its lines, this many of them were selected, what was
 -- seen of them is reported, and whether one is missed
 abbrev pub ReadsLog : Filter → KnownLists → List ℕ → List ℕ → ℕ → List ℕ → Bool → Type 0
 ReadsLog filter known name output selected told missed = (read : List ℕ) × IsAllOf known name read
-    × Filters (filter_for filter name) 0 (log_lines read) output selected
+    × FiltersAs filter name (log_lines read) output selected
     × (told ≡ ended_by filter name (seen_of filter (log_lines read))) × (is_below filter.most selected ≡ true)
     × (missed ≡ is_missed filter.bad (seen_of filter (log_lines read)))
 
@@ -36,7 +50,7 @@ ReadsLog filter known name output selected told missed = (read : List ℕ) × Is
 abbrev pub LeavesLog : Filter → KnownLists → List ℕ → List ℕ → ℕ → List ℕ → Bool → Type 0
 LeavesLog filter known name output selected told missed = (read : List ℕ) × (lines : List LogLine)
     × (others : List LogLine) × known.may_open name true × IsFirstOf known name read
-    × (log_lines read ≡ lines ++ others) × Filters (filter_for filter name) 0 lines output selected
+    × (log_lines read ≡ lines ++ others) × FiltersAs filter name lines output selected
     × AreAll (filter_for filter name) (IsAllOf known name read) lines selected
     × (told ≡ seen_by filter name (seen_of filter lines)) × (missed ≡ is_missed filter.bad (seen_of filter lines))
 

@@ -66,15 +66,15 @@ entries = rows.shared
     ∷ long_flag (codes "--networks") ∷ flag (codes "4") ∷ flag (codes "6") ∷ []
 
 -- which of them do not go together: `--longest` with `-v` or `-c`, those that say where addresses are looked for, `-o`
--- with `-v` or `--longest`, `-H` with `-c` or `-h`, `--networks` with `--longest`, and `-4` and `-6` with one another,
--- with `--nth` or `--after`. Of several such pairs the first is told
+-- with `-v` or `--longest`, `-H` with `-h`, `--networks` with `--longest`, and `-4` and `-6` with one another, with
+-- `--nth` or `--after`. Of several such pairs the first is told
 abbrev pub pairs : List (ℕ × ℕ × List ℕ)
 pairs =
     (longest, inverts, codes "--longest goes with neither -v nor -c")
     ∷ (longest, counts, codes "--longest goes with neither -v nor -c") ∷ rows.together
     ++ (only, inverts, codes "-o goes with neither -v nor --longest")
     ∷ (only, longest, codes "-o goes with neither -v nor --longest")
-    ∷ (named, counts, codes "-H goes with neither -c nor -h") ∷ (named, unnamed, codes "-H goes with neither -c nor -h")
+    ∷ (named, unnamed, codes "-H does not go with -h")
     ∷ (networks, longest, codes "--networks does not go with --longest")
     ∷ (only_v4, only_v6, codes "-4 goes with none of -6, --nth and --after")
     ∷ (only_v4, rows.nth, codes "-4 goes with none of -6, --nth and --after")

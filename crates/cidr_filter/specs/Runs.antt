@@ -1,6 +1,6 @@
 -- How a run ends: its exit status, what was written, and what was reported.
-use Rattle.std.specs.Prelude.{◌≡◌, ℕ, ◌-◌, ◌^◌, min, List, [], ◌∷◌, ◌++◌, Bool, true, false, not, ◌&&◌, ◌||◌, ◌⊎◌}
-use Rattle.std.specs.Prelude.{Option, None, Some, if◌then◌else◌, length, nat_lt, map, codes, decimal, String}
+use Rattle.std.specs.Prelude.{◌≡◌, ℕ, min, List, [], ◌∷◌, ◌++◌, Bool, true, false, not, ◌&&◌, ◌||◌, ◌⊎◌}
+use Rattle.std.specs.Prelude.{Option, None, Some, if◌then◌else◌, length, nat_lt, map, codes, String}
 use Rattle.std.specs.String.{string_bytes}
 use Rattle.std.specs.declared.alloc.Global.{Global}
 use Rattle.lists.specs.Lists.{ReadLists, nothing_read}
@@ -64,23 +64,40 @@ pub record StopsAtLog {W E : Type 0} (filter : Filter) (known : KnownLists) (nam
       ++ log_fault_text name (length lines) fault))
   pub status : end.status ≡ 2
 
--- if lines are counted, one line says how many lines of all logs were selected, up to the greatest number of 64 bits
-abbrev pub total_text : Bool → ℕ → List ℕ
-total_text counts selected = if counts then decimal (min selected (2 ^ 64 - 1)) ++ codes "\n" else []
+-- the number of lines could not be written that the log of this name ends with: this log and those before it were
+-- filtered, the writer took a beginning of their outputs, a write error was reported after what there is to report of
+-- them, and the status is 2
+pub record StopsAtCount {W E : Type 0} (filter : Filter) (known : KnownLists) (names : List (List ℕ))
+    (end : Ending W E) : Type 0 where
+  pub before : List (List ℕ)
+  pub name : List ℕ
+  pub behind : List (List ℕ)
+  pub output : List ℕ
+  pub selected : ℕ
+  pub texts : List ℕ
+  pub missed : Bool
+  pub logs : names ≡ before ++ name ∷ behind
+  pub filters : FiltersLogs filter known (before ++ name ∷ []) output selected texts missed
+  pub counts : is_count filter.shows ≡ true
+  pub wrote : FailsWriting end output
+  pub told : HasTold end (texts ++ codes "write error\n")
+  pub status : end.status ≡ 2
+
+-- a log, or the number of its selected lines, ended the run
+abbrev pub StopsLogs : {W E : Type 0} → Filter → KnownLists → List (List ℕ) → Ending W E → Type 0
+StopsLogs filter known names end = StopsAtLog filter known names end ⊎ StopsAtCount filter known names end
 
 -- the exit status: 0 if `-q` ended the run at a selected line; else 2 if a log could not be opened or a line is missed;
 -- else 0 if a line was selected, and 1 if none was
 abbrev pub status_by : Bool → Bool → ℕ → ℕ
 status_by enough missed selected = if enough then 0 else if missed then 2 else if nat_lt 0 selected then 0 else 1
 
--- the output was written, with their number where lines are counted, and what there is to report was reported; or the
--- writer failed, and that was reported after it
+-- the output was written, and what there is to report was reported; or the writer failed, which was reported after that
 abbrev pub EndsWith : {W E : Type 0} → Filter → List ℕ → ℕ → List ℕ → Bool → Ending W E → Type 0
 EndsWith filter output selected texts missed end =
-    (HasWritten end (output ++ total_text (is_count filter.shows) selected) × HasTold end texts
+    (HasWritten end output × HasTold end texts
     × (end.status ≡ status_by (is_enough filter.shows selected) missed selected))
-    ⊎ (FailsWriting end (output ++ total_text (is_count filter.shows) selected)
-    × HasTold end (texts ++ codes "write error\n") × (end.status ≡ 2))
+    ⊎ (FailsWriting end output × HasTold end (texts ++ codes "write error\n") × (end.status ≡ 2))
 
 -- each log was filtered to its end, or left, or could not be opened
 pub record FiltersAll {W E : Type 0} (filter : Filter) (known : KnownLists) (names : List (List ℕ))
@@ -94,7 +111,7 @@ pub record FiltersAll {W E : Type 0} (filter : Filter) (known : KnownLists) (nam
 
 -- the logs were filtered, in turn
 abbrev pub EndsLogs : {W E : Type 0} → Filter → KnownLists → List (List ℕ) → Ending W E → Type 0
-EndsLogs filter known names end = FiltersAll filter known names end ⊎ StopsAtLog filter known names end
+EndsLogs filter known names end = FiltersAll filter known names end ⊎ StopsLogs filter known names end
 
 -- the family whose addresses count: one with `-4` or `-6`, else either
 abbrev pub family_of : List Item → Family
@@ -120,9 +137,11 @@ shows_of items =
     else if is_given items own.only then shows.Addresses
     else shows.Lines
 
--- the name of its log is printed of a line
+-- the name of its log is printed of a line, or before the number of its lines if there are several logs, unless `-h` is
+-- given
 abbrev pub is_named : List Item → Bool
-is_named items = is_given items own.named || is_given items own.names
+is_named items = is_given items own.named || (is_given items own.names
+    || is_given items own.counts && nat_lt 1 (length (inputs_of items)) && not (is_given items own.unnamed))
 
 -- the filter that is asked for
 abbrev pub filter_of : List Item → Matcher → Filter

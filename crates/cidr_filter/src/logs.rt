@@ -1,21 +1,17 @@
 //! Filters the logs of a run in turn.
-ghost use Rattle.std.specs.Prelude.{◌≡◌, ◌≤◌, ◌++◌, ◌||◌, ◌&&◌, ◌∷◌, [], false, ℕ, List, Some, decimal, length, map, nat_lt, is_err, is_ok, IfOk, IfErr, OnOk, OnErr, MatchOption};
+ghost use Rattle.std.specs.Prelude.{◌≡◌, ◌≤◌, ◌||◌, ◌&&◌, ◌∷◌, [], false, ℕ, List, Some, length, map, nat_lt, is_ok, IfOk, IfErr, MatchOption};
 ghost use Rattle.lines.specs.Watched.{device_of, has_failed};
-ghost use Rattle.std.specs.Io.KnownBytes.{Appends};
-ghost use Rattle.lines.specs.Outputs.{Writes, FailsIn};
 ghost use Rattle.program.specs.Endings.{ending};
 ghost use Rattle.std.specs.String.{string_bytes};
-ghost use Rattle.cidr_filter.specs.Runs.{EndsLogs, StopsAtLog, total_text, status_by};
-ghost use Rattle.cidr_filter.specs.Stands.{stand};
-ghost use Rattle.cidr_filter.specs.Private.Runs.{FiltersNames};
-ghost use Rattle.program.specs.Putting.{PutsOrFails};
+ghost use Rattle.cidr_filter.specs.Runs.{EndsLogs, StopsLogs, status_by};
+ghost use Rattle.cidr_filter.specs.Stands.{stand_at};
+ghost use Rattle.cidr_filter.specs.Private.Runs.{FiltersNames, WritesCount};
 
 use crate::filter::{Filter, OutputMode, Verdict};
 use crate::help::PROGRAM;
 use crate::log::{Reached, Tally, filter_log};
-use crate::naming::label_of;
+use crate::naming::{label_of, put_count};
 use line_addresses::Text;
-use lines::fault::RunFault;
 use lines::output::Output;
 use lines::watched::Watched;
 use lists::{OpenFault, OpenLists, open_input, open_list};
@@ -24,8 +20,7 @@ use log_programs::telling::{is_missed, tell_closed, tell_lacking, tell_seen};
 use program::ending::{FAILED, end};
 use program::log_fault::stop;
 use program::log_reader::LogReader;
-use program::messages::number_text;
-use program::putting::put_both;
+use program::messages::tell;
 use std::io::Write;
 use std::mem::replace;
 
@@ -48,28 +43,25 @@ pub(crate) fn filter_logs<'a, L: OpenLists, W: Write, E: Write>(
     ensures { EndsLogs filter.old (L.known lists.now) (map string_bytes files.now)
         (ending output.old output.new errors.old errors.new result) }
 {
-    let mut tally = Tally {
-        selected: 0,
-        seen: LogStats::new(),
-    };
-    let counts = filter.counts();
+    let mut selected = 0;
     let is_silent = filter.is_silent();
-    match filter_each(filter, &mut tally, lists, files, buffer, output, errors) {
+    match filter_each(filter, &mut selected, lists, files, buffer, output, errors) {
         Some(missed) => {
-            let written = write_end(counts, tally.selected, output);
-            let is_enough = is_enough(is_silent, tally.selected);
-            end(written, status(is_enough, missed, tally.selected), errors)
+            let written = output.finish();
+            let is_enough = is_enough(is_silent, selected);
+            end(written, status(is_enough, missed, selected), errors)
         }
         None => FAILED,
     }
 }
 
-// Filters the logs of these names up to the first that is enough, and returns whether one of them could not be opened, or
-// a line of one is missed, which is reported. If a fault ends the filtering of one that was opened, it is reported, and
-// there is no answer.
+// Filters the logs of these names up to the first that is enough, adds how many of their lines are
+// selected, and returns whether one of the logs could not be opened, or a line of one is missed,
+// which is reported. If a fault ends the filtering of one that was opened, or the number of its
+// lines cannot be written, that is reported, and `None` is returned.
 fn filter_each<'a, L: OpenLists, W: Write, E: Write>(
     filter: &mut Filter<'a>,
-    tally: &mut Tally,
+    selected: &mut u64,
     lists: &L,
     files: &'a [String],
     buffer: &mut [u8],
@@ -77,23 +69,23 @@ fn filter_each<'a, L: OpenLists, W: Write, E: Write>(
     errors: &mut Output<'_, E>,
 ) -> Option<bool>
     requires room { 1048578 ≤ length buffer.old }
-    requires none { tally.old.selected ≡ 0 }
+    requires none { selected.old ≡ 0 }
     ensures logs { MatchOption result
-        (StopsAtLog filter.old (L.known lists.now) (map string_bytes files.now)
+        (StopsLogs filter.old (L.known lists.now) (map string_bytes files.now)
         (ending output.old output.new errors.old errors.new 2))
         (λ missed. FiltersNames filter.old (L.known lists.now) (map string_bytes files.now) missed
-        (stand output.old tally.old) (stand output.new tally.new) errors.old errors.new) }
+        (stand_at output.old selected.old) (stand_at output.new selected.new) errors.old errors.new) }
     ensures filter { filter.new ≡ filter.old }
 {
     let is_silent = filter.is_silent();
     let mut missed = false;
     for file in files {
         let name = file.as_str();
-        let Some(more) = filter_one(filter, tally, lists, name, buffer, output, errors) else {
+        let Some(more) = filter_one(filter, selected, lists, name, buffer, output, errors) else {
             return None;
         };
         missed = either(missed, more);
-        if is_enough(is_silent, tally.selected) {
+        if is_enough(is_silent, *selected) {
             return Some(missed);
         }
     }
@@ -114,7 +106,8 @@ fn either(first: bool, second: bool) -> bool
     first || second
 }
 
-// Opens the log of this name. If lines or their addresses are printed, it is not the file that they are written to.
+// Opens the log of this name. If lines or their addresses are printed, it is not the file that they
+// are written to.
 fn open_log<L: OpenLists>(
     shows: OutputMode,
     lists: &L,
@@ -133,11 +126,11 @@ fn open_log<L: OpenLists>(
     }
 }
 
-// Opens the log of this name and filters it, and returns whether it could not be opened, or a line of it is missed, as
-// `filter_each` does.
+// Opens the log of this name and filters it, adds how many of its lines are selected, and returns
+// whether it could not be opened, or a line of it is missed, as `filter_each` does.
 fn filter_one<'a, L: OpenLists, W: Write, E: Write>(
     filter: &mut Filter<'a>,
-    tally: &mut Tally,
+    selected: &mut u64,
     lists: &L,
     name: &'a str,
     buffer: &mut [u8],
@@ -146,10 +139,10 @@ fn filter_one<'a, L: OpenLists, W: Write, E: Write>(
 ) -> Option<bool>
     requires { 1048578 ≤ length buffer.old }
     ensures logs { MatchOption result
-        (StopsAtLog filter.old (L.known lists.now) (name.now ∷ [])
+        (StopsLogs filter.old (L.known lists.now) (name.now ∷ [])
         (ending output.old output.new errors.old errors.new 2))
         (λ missed. FiltersNames filter.old (L.known lists.now) (name.now ∷ []) missed
-        (stand output.old tally.old) (stand output.new tally.new) errors.old errors.new) }
+        (stand_at output.old selected.old) (stand_at output.new selected.new) errors.old errors.new) }
     ensures filter { filter.new ≡ filter.old }
 {
     let mut log = match open_log(filter.shows, lists, name) {
@@ -161,19 +154,28 @@ fn filter_one<'a, L: OpenLists, W: Write, E: Write>(
     };
     let label = label_of(filter.named, name);
     let before = replace(&mut filter.name, Text::new(label));
+    let mut tally = Tally {
+        selected: 0,
+        seen: LogStats::new(),
+    };
     let mut lines = LogReader::new(buffer, filter.refuses(&Verdict::TooLong));
-    let end = filter_log(filter, &mut lines, &mut log, output, tally);
+    let end = filter_log(filter, &mut lines, &mut log, output, &mut tally);
     filter.name = before;
     lists.close(name, log);
+    *selected = selected.saturating_add(tally.selected);
     let seen = tally.seen;
     tell_seen(PROGRAM, name, filter.bad, &seen, errors);
+    let counts = filter.counts();
+    let is_missed = is_missed(filter.bad, &seen);
     match end {
         Ok(Reached::End) => {
             let (lines, is_addressed) = (seen.lines, seen.is_addressed);
             tell_lacking(PROGRAM, &filter.area, name, lines, is_addressed, errors);
-            Some(is_missed(filter.bad, &seen))
+            write_count(counts, label, tally.selected, is_missed, output, errors)
         }
-        Ok(Reached::Last) => Some(is_missed(filter.bad, &seen)),
+        Ok(Reached::Last) => {
+            write_count(counts, label, tally.selected, is_missed, output, errors)
+        }
         Err(fault) => {
             stop(name, fault, seen.lines, output, errors);
             None
@@ -181,32 +183,30 @@ fn filter_one<'a, L: OpenLists, W: Write, E: Write>(
     }
 }
 
-// Writes how many lines were selected, if they are counted, and what waits.
-fn write_end<W: Write>(
+// Writes how many lines of a log were selected, if lines are counted, and returns `is_missed`. If a
+// write fails, it is reported, and `None` is returned.
+fn write_count<W: Write, E: Write>(
     counts: bool,
+    label: &[u8],
     selected: u64,
+    is_missed: bool,
     output: &mut Output<'_, W>,
-) -> Result<(), RunFault>
-    ensures ok { OnOk result (Writes output.old output.new (total_text counts selected)) }
-    ensures err { OnErr result (FailsIn output.old output.new (total_text counts selected)) }
-    ensures failed { output.new.failed ≡ (output.old.failed || is_err result) }
+    errors: &mut Output<'_, E>,
+) -> Option<bool>
+    ensures { WritesCount result is_missed counts label.now selected
+        (ending output.old output.new errors.old errors.new 2) }
 {
-    if !counts {
-        return output.finish();
+    match put_count(counts, label, selected, output) {
+        Ok(()) => Some(is_missed),
+        Err(_) => {
+            tell("write error\n", errors);
+            None
+        }
     }
-    write_number(selected, output)?;
-    output.finish()
 }
 
-// Writes a number and a line feed.
-fn write_number<W: Write>(number: u64, output: &mut Output<'_, W>) -> Result<(), RunFault>
-    ensures { PutsOrFails result output.old output.new (decimal number ++ 10 ∷ []) }
-{
-    put_both(number_text(number).as_str().as_bytes(), b"\n", output)
-}
-
-// The exit status by whether the selected lines end the run, whether a log or a line was missed, and how many lines were
-// selected.
+// The exit status by whether the selected lines end the run, whether a log or a line was missed, and
+// how many lines were selected.
 fn status(is_enough: bool, missed: bool, selected: u64) -> u8
     ensures { result ≡ status_by is_enough missed selected }
 {

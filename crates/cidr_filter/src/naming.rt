@@ -1,7 +1,8 @@
-//! What stands before what is printed of a line: the name of its log, and its number.
-ghost use Rattle.std.specs.Prelude.{◌≡◌, ◌++◌, ◌∷◌, [], decimal};
+//! What stands before what is printed of a line: the name of its log, and its number; and the count
+//! of the selected lines of a log.
+ghost use Rattle.std.specs.Prelude.{◌≡◌, ◌++◌, ◌∷◌, [], true, OnErr, decimal};
 ghost use Rattle.cidr_filter.specs.Filters.{head_of, name_head, number_head};
-ghost use Rattle.cidr_filter.specs.Logs.{label_of};
+ghost use Rattle.cidr_filter.specs.Logs.{count_line, label_of};
 ghost use Rattle.program.specs.Putting.{PutsOrFails};
 
 use crate::filter::Filter;
@@ -11,7 +12,8 @@ use program::messages::number_text;
 use program::putting::put_both;
 use std::io::Write;
 
-/// What the log of this name is called before its lines; nothing, if it is not named there.
+/// What the log of this name is called before its lines or their count; nothing, if it is not named
+/// there.
 pub(crate) fn label_of(named: bool, name: &str) -> &[u8]
     ensures { result.now ≡ label_of named name.now }
 {
@@ -33,16 +35,40 @@ pub(crate) fn put_head<W: Write>(
 ) -> Result<(), RunFault>
     ensures { PutsOrFails result output.old output.new (head_of filter.now number) }
 {
-    put_name(filter, output)?;
+    put_name(filter.name.bytes(), output)?;
     put_number(filter.numbered, number, output)
+}
+
+/// If lines are counted, writes how many lines of a log were selected, after what the log is called
+/// and a colon.
+pub(crate) fn put_count<W: Write>(
+    counts: bool,
+    label: &[u8],
+    selected: u64,
+    output: &mut Output<'_, W>,
+) -> Result<(), RunFault>
+    ensures puts { PutsOrFails result output.old output.new (count_line counts label.now selected) }
+    ensures counts { OnErr result (counts ≡ true) }
+{
+    if !counts {
+        return Ok(());
+    }
+    put_name(label, output)?;
+    put_total(selected, output)
+}
+
+// Writes a number and a line feed.
+fn put_total<W: Write>(number: u64, output: &mut Output<'_, W>) -> Result<(), RunFault>
+    ensures { PutsOrFails result output.old output.new (decimal number ++ 10 ∷ []) }
+{
+    put_both(number_text(number).as_str().as_bytes(), b"\n", output)
 }
 
 // Writes what the log is called, and a colon, or nothing if it is not named.
 #[inline(always)]
-fn put_name<W: Write>(filter: &Filter, output: &mut Output<'_, W>) -> Result<(), RunFault>
-    ensures { PutsOrFails result output.old output.new (name_head filter.now.name) }
+fn put_name<W: Write>(name: &[u8], output: &mut Output<'_, W>) -> Result<(), RunFault>
+    ensures { PutsOrFails result output.old output.new (name_head name.now) }
 {
-    let name = filter.name.bytes();
     if name.is_empty() {
         return Ok(());
     }

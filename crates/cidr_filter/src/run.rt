@@ -13,7 +13,7 @@ use crate::matcher::Matcher;
 use crate::reading::{question_of, read_listed};
 use crate::rows::{
     BAD, COUNTS, INVERTS, MOST, NAMED, NAMES, NUMBERED, ONLY, ONLY_V4, ONLY_V6, QUIET, SKIPS_BAD,
-    table,
+    UNNAMED, table,
 };
 use crate::telling::{InOptions, names_of};
 use line_addresses::Text;
@@ -116,7 +116,7 @@ fn filter_files<L: OpenLists, W: Write, E: Write>(
     let Ok(mut buffer) = vec![in alloc; 0u8; BUFFER_LEN] else {
         return refuse_memory(errors);
     };
-    let mut filter = filter_of(items, listed);
+    let mut filter = filter_of(items, files, listed);
     filter_logs(
         &mut filter,
         lists,
@@ -134,8 +134,9 @@ fn is_stopped_by(items: &[Item<'_>], refusals: &Refusals) -> bool
     !refusals.is_empty() && !is_given(items, SKIPS_BAD)
 }
 
-// The filter that is asked for.
-fn filter_of<'a>(items: &[Item<'a>], listed: Matcher) -> Filter<'a>
+// The filter that is asked for, of logs of these names.
+fn filter_of<'a>(items: &[Item<'a>], files: &[String], listed: Matcher) -> Filter<'a>
+    requires { map string_bytes files.now ≡ inputs_of items.now }
     ensures { result ≡ filter_of items.now listed }
 {
     Filter {
@@ -147,7 +148,7 @@ fn filter_of<'a>(items: &[Item<'a>], listed: Matcher) -> Filter<'a>
         bad: bad_in(value_of(items, BAD)),
         most: most_of(items),
         shows: shows_of(items),
-        named: is_named(items),
+        named: is_named(items, files),
         numbered: is_given(items, NUMBERED),
         name: no_name(),
     }
@@ -205,11 +206,15 @@ fn shows_of(items: &[Item<'_>]) -> OutputMode
     }
 }
 
-// Whether the name of its log is printed of a line.
-fn is_named(items: &[Item<'_>]) -> bool
+// Whether the name of its log is printed of a line, or before the number of its lines.
+fn is_named(items: &[Item<'_>], files: &[String]) -> bool
+    requires { map string_bytes files.now ≡ inputs_of items.now }
     ensures { result ≡ is_named items.now }
 {
-    is_given(items, NAMED) || is_given(items, NAMES)
+    if is_given(items, NAMED) || is_given(items, NAMES) {
+        return true;
+    }
+    is_given(items, COUNTS) && files.len() > 1 && !is_given(items, UNNAMED)
 }
 
 // No name before lines.

@@ -33,7 +33,7 @@ abbrev pub shared : List Entry
 shared =
     flag (codes "a") ∷ flag (codes "w") ∷ valued (codes "k") kinds.Field (codes "not a field number")
     ∷ valued (codes "d") kinds.Separator (codes "not one ASCII byte other than LF, CR and NUL")
-    ∷ long (codes "--after") kinds.Text false (codes "empty") ∷ long_flag (codes "--mapped")
+    ∷ long (codes "--after") kinds.Text true (codes "empty") ∷ long_flag (codes "--mapped")
     ∷ valued (codes "f") kinds.File (codes "not a file name")
     ∷ alone (codes "--help") (codes "not the only argument")
     ∷ alone (codes "--version") (codes "not the only argument")

@@ -47,7 +47,7 @@ macro_rules! log_rows {
             letter!(b'w', Flag, ""),
             letter!(b'k', Field, "not a field number"),
             letter!(b'd', Separator, "not one ASCII byte other than LF, CR and NUL"),
-            long!("--after", Text, false, "empty"),
+            long!("--after", Text, true, "empty"),
             long!("--mapped", Flag, false, ""),
             letter!(b'f', File, "not a file name"),
             long!("--help", Alone, false, "not the only argument"),

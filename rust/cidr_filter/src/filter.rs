@@ -1,6 +1,6 @@
 // Written by scripts/plain out of crates/cidr_filter/src/filter.rt
 
-//! What a line is to the lists, and whether it is selected.
+//! The verdict on a line, and whether the line is selected.
 
 use crate::matcher::Matcher;
 use crate::networks::covers;
@@ -10,13 +10,13 @@ use cidr_programs::log_programs::finding::found_in;
 use cidr_programs::log_programs::without_address::WithoutAddress;
 use cidr_programs::program::log_reader::LINE_MAX;
 
-/// What a line is to a list.
+/// The verdict on a line: whether its addresses are in the lists.
 #[derive(Clone, Copy, Debug, PartialEq, Eq)]
 pub enum Verdict {
-    /// An address of it is one of the lists. With `--longest`, this is the longest block that holds
-    /// the first of these.
+    /// An address of the line is in the lists. With `--longest`, this is the longest block that
+    /// contains the first such address.
     Inside(Option<IpNetwork>),
-    /// It has addresses, and none is one of the lists.
+    /// It has addresses, and none is in the lists.
     Outside,
     /// It has no address.
     NoAddress,
@@ -25,7 +25,8 @@ pub enum Verdict {
 }
 
 impl Verdict {
-    /// Whether a line of this verdict has an address where it is looked for. A line that is too long has none.
+    /// Returns whether a line with this verdict has an address where one is looked for. A line that
+    /// is too long has none.
     #[inline(always)]
     pub(crate) fn is_addressed(&self) -> bool {
         match *self {
@@ -37,14 +38,14 @@ impl Verdict {
     }
 }
 
-/// Of which family the addresses of a line count. Another is as none.
+/// The family whose addresses count. Others are ignored.
 #[derive(Clone, Copy, Debug, PartialEq, Eq)]
 pub enum Family {
-    /// Of either.
+    /// Either family.
     Either,
-    /// Of IPv4.
+    /// IPv4.
     V4,
-    /// Of IPv6.
+    /// IPv6.
     V6,
 }
 
@@ -53,7 +54,7 @@ pub enum Family {
 pub enum OutputMode {
     /// The selected lines.
     Lines,
-    /// Their addresses that are in the list, in place of them.
+    /// The addresses of the selected lines that are in the list, in place of the lines.
     Addresses,
     /// How many lines are selected.
     Count,
@@ -63,31 +64,31 @@ pub enum OutputMode {
     Nothing,
 }
 
-/// What decides which lines are selected, and what is printed of them.
+/// What decides which lines are selected, and what is printed for them.
 pub struct Filter<'a> {
     pub(crate) listed: Matcher,
     pub(crate) area: Area<'a>,
     /// Whether an IPv4-mapped address of a line counts as its IPv4 one.
     pub(crate) mapped: bool,
-    /// Of which family its addresses count.
+    /// The family whose addresses count.
     pub(crate) family: Family,
     pub(crate) inverts: bool,
     pub(crate) bad: WithoutAddress,
-    /// How many lines of a log are selected at the most, if that is said: the log ends at the last
+    /// How many lines of a log may be selected, if that is limited: the log ends at the last
     /// of them.
     pub(crate) most: Option<u64>,
     /// What is printed.
     pub(crate) shows: OutputMode,
-    /// Whether the name of its log is printed of a line.
+    /// Whether the name of its log is printed for a line.
     pub(crate) named: bool,
-    /// Whether the number of a line stands before what is printed of it.
+    /// Whether the number of a line is printed before it.
     pub(crate) numbered: bool,
-    /// The name of its log, if it is printed. It is empty if it is not.
+    /// The name of the log if it is printed, else empty.
     pub(crate) name: Text<'a>,
 }
 
 impl Filter<'_> {
-    /// What a line is to the list. It is given without its end. Does not allocate.
+    /// Returns the verdict on a line, given without its end. Does not allocate.
     #[inline(always)]
     pub(crate) fn judge(&self, line: &[u8]) -> Verdict {
         if line.len() > LINE_MAX {
@@ -96,9 +97,9 @@ impl Filter<'_> {
         self.judge_within(line)
     }
 
-    /// Whether a line is selected, if it is not too long and has the one address that is looked for.
-    /// No branch is taken on that, so that the processor guesses nothing wrong. Of another line, and
-    /// with `--longest`, nothing is told.
+    /// Returns whether a line is selected, if it is not too long and has the one address that is
+    /// looked for. The code does not branch on the result, so the processor cannot mispredict it.
+    /// Returns `None` for any other line, and with `--networks` or `--longest`.
     #[inline(always)]
     pub(crate) fn selects_by_address(&self, line: &[u8]) -> Option<bool> {
         if line.len() > LINE_MAX {
@@ -113,7 +114,7 @@ impl Filter<'_> {
         }
     }
 
-    // The address that the part of a line is in which it is looked for, if it counts.
+    // Returns the address that is looked for, if it is the whole part searched and it counts.
     #[inline(always)]
     fn only_address(&self, line: &[u8]) -> Option<IpAddr> {
         match self.area.pick {
@@ -135,7 +136,7 @@ impl Filter<'_> {
         }
     }
 
-    // What a line that is not too long is to the list.
+    // Returns the verdict on a line that is not too long.
     #[inline(always)]
     fn judge_within(&self, line: &[u8]) -> Verdict {
         match part_of(&self.area.part, line) {
@@ -144,7 +145,7 @@ impl Filter<'_> {
         }
     }
 
-    // What a line is to the list of which this part is looked at.
+    // Returns the verdict on a line, given the part that is searched.
     #[inline(always)]
     fn judge_part(&self, part: &[u8]) -> Verdict {
         match self.area.pick {
@@ -153,7 +154,8 @@ impl Filter<'_> {
         }
     }
 
-    // What a line is to the list of which this address of a part is looked at.
+    // Returns the verdict on a line, given the part that is searched; only the address that `pick`
+    // selects is looked at.
     #[inline(always)]
     fn judge_picked(&self, part: &[u8], pick: Pick) -> Verdict {
         match picked(part, pick, self.listed.reads_networks()) {
@@ -162,7 +164,7 @@ impl Filter<'_> {
         }
     }
 
-    // What a line is to the list of which only this is looked at.
+    // Returns the verdict on a line in which only `found` is looked at.
     #[inline(always)]
     fn judge_found(&self, part: &[u8], found: &Found) -> Verdict {
         if !self.is_of_family(&found.address) {
@@ -184,7 +186,7 @@ impl Filter<'_> {
         }
     }
 
-    // What a line is to the list of which all addresses of this part are looked at.
+    // Returns the verdict on a line, given the part that is searched for all its addresses.
     fn judge_each(&self, line: &[u8]) -> Verdict {
         let mut at = 0;
         let mut is_seen = false;
@@ -207,7 +209,7 @@ impl Filter<'_> {
         }
     }
 
-    // If an address or network of a line is one of the list, what is told of it.
+    // Returns what is told about an address or network of a line, if it is in the list.
     #[inline(always)]
     fn told_of(&self, line: &[u8], found: &Found) -> Option<Option<IpNetwork>> {
         match &self.listed {
@@ -232,13 +234,13 @@ impl Filter<'_> {
         }
     }
 
-    /// Whether an address or network of a line is printed in place of it: whether it counts and is in
-    /// the list. Of blocks none is, since `-o` is not given together with `--longest`.
+    /// Returns whether `-o` prints an address or network of a line: whether it counts and is in the
+    /// list. With blocks it prints none, since `-o` is not given together with `--longest`.
     pub(crate) fn prints(&self, line: &[u8], found: &Found) -> bool {
         self.is_of_family(&found.address) && self.is_listed(line, found)
     }
 
-    // Whether it is in the list.
+    // Returns whether an address or network of a line is in the list.
     fn is_listed(&self, line: &[u8], found: &Found) -> bool {
         match &self.listed {
             Matcher::Addresses(sets) => sets.has(self.asked(found.address)),
@@ -247,7 +249,7 @@ impl Filter<'_> {
         }
     }
 
-    // The address for which the list is asked.
+    // Returns the address that is looked up in the list.
     #[inline(always)]
     fn asked(&self, address: IpAddr) -> IpAddr {
         if self.mapped {
@@ -296,7 +298,7 @@ impl Filter<'_> {
     }
 }
 
-// Whether an address is one of IPv4.
+// Returns whether an address is an IPv4 address.
 #[inline(always)]
 fn is_v4(address: IpAddr) -> bool {
     match address {

@@ -36,18 +36,19 @@ Prints the lines of logs whose address is in a list of IP networks.
                     --longest
     -v              print the lines whose address is in no network; with -a, those that have
                     addresses, none of which is
-    -c              print only the number of selected lines, over all FILEs
+    -c              print only the number of selected lines of each FILE, after the name of the FILE
+                    and a colon if there are several FILEs
     -l              print only the name of each FILE that has a selected line, or (standard input);
                     reading a FILE stops at its first selected line
     -q              print nothing, and stop at the first selected line, with status 0 even if an
                     earlier FILE could not be opened. Of -q, -l, -c and -o the first in this order
                     applies
     -m N            stop reading a FILE after N selected lines
-    -H              begin each line with the name of its FILE, or (standard input), and a colon. Not
-                    with -c or -h
+    -H              begin each line, and each number of -c, with the name of its FILE, or (standard
+                    input), and a colon. Not with -h
     -n              begin each line with its number in its FILE and a colon, after the name that -H
                     prints; with -o, each address
-    -h              print no names (the default, even with several FILEs)
+    -h              print no names (the default, except for -c with several FILEs)
     --longest       begin each line with the longest network that has its address (with -a, the
                     first of its addresses that is in one), and a tab; a range counts as the fewest
                     networks that make it up. Not with -v or -c
@@ -88,7 +89,7 @@ pub(crate) const PROGRAM: &str = "cidr_filter";
 
 /// How the program is used: what is reported for arguments that are not a command, after what is
 /// wrong with them.
-pub(crate) const USAGE: &str = "usage: cidr_filter [-v] [-c | -H] [-h] [-n] [-l] [-q] [-o] [-m N] \
-     [--after TEXT | [-a] [-k N] [-d CHAR | -w]] [--nth first|last|N] [-4 | -6] [--mapped] [--networks] \
-     [--bad drop|keep|stop|report] [--longest] [--skip-bad] (-f LIST | -e TEXT).. [FILE..]; \
-     try --help\n";
+pub(crate) const USAGE: &str = "usage: cidr_filter [-v] [-c] [-H | -h] [-n] [-l] [-q] [-o] [-m N] \
+     [--after TEXT | [-a] [-k N] [-d CHAR | -w]] [--nth first|last|N] [-4 | -6] [--mapped] \
+     [--networks] [--bad drop|keep|stop|report] [--longest] [--skip-bad] \
+     (-f LIST | -e TEXT).. [FILE..]; try --help\n";

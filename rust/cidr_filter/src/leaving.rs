@@ -1,13 +1,13 @@
 // Written by scripts/plain out of crates/cidr_filter/src/leaving.rt
 
-//! The end of a log that is not read any more: as many of its lines are selected as may be.
+//! Leaving a log after the last of its lines that may be selected.
 
 use crate::log::Reached;
 use cidr_programs::lines::output::Output;
 use cidr_programs::program::log_fault::LogFault;
 use fosibegan::plain_std::io::Write;
 
-/// How many more lines may be selected behind a line, if so many might at it.
+/// Returns how many lines may still be selected after a line, given how many might before it.
 #[inline(always)]
 pub(crate) fn fewer(left: Option<u64>, is_selected: bool) -> Option<u64> {
     match left {
@@ -16,7 +16,7 @@ pub(crate) fn fewer(left: Option<u64>, is_selected: bool) -> Option<u64> {
     }
 }
 
-/// Whether no more lines may be selected.
+/// Returns whether no more lines may be selected.
 #[inline(always)]
 pub(crate) fn is_spent(left: Option<u64>) -> bool {
     match left {
@@ -25,7 +25,7 @@ pub(crate) fn is_spent(left: Option<u64>) -> bool {
     }
 }
 
-/// Writes what waits, and says that the last line was reached.
+/// Writes what waits, and returns `Reached::Last`.
 pub(crate) fn leave<W: Write>(output: &mut Output<'_, W>) -> Result<Reached, LogFault> {
     match output.hand_on() {
         Ok(()) => Ok(Reached::Last),

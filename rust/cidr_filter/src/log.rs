@@ -14,30 +14,30 @@ use cidr_programs::program::log_fault::LogFault;
 use cidr_programs::program::log_reader::{LogReader, NextLogLine};
 use fosibegan::plain_std::io::{Read, Write};
 
-/// Where the filtering of a log ends that nothing stops.
+/// Where the filtering of a log ends without a fault.
 #[derive(Clone, Copy, Debug, PartialEq, Eq)]
 pub enum Reached {
     /// The end of the log.
     End,
-    /// The last line that may be selected. Nothing is read behind it.
+    /// The last line that may be selected. Nothing is read after it.
     Last,
 }
 
-/// How many lines were selected, and what was seen of those of a log.
+/// The number of selected lines, and the counts of the lines of a log.
 #[derive(Clone, Copy, Debug, PartialEq, Eq)]
 pub struct Tally {
-    /// How many lines of all logs were selected.
+    /// How many lines were selected.
     pub selected: u64,
-    /// What was seen of the lines of this log.
+    /// The counts of the lines of this log.
     pub seen: LogStats,
 }
 
-/// Filters the lines of a log, up to the last that may be selected: those that are selected are
-/// written, or only counted. No line behind that is asked for, so that no read is made for it.
+/// Filters the lines of a log, up to the last that may be selected, and writes or only counts the
+/// selected ones. No line after that is asked for, so none is waited for.
 ///
-/// What is selected of the lines that a read completes is written before the next read. After a
-/// failed read nothing is written. If a line that is too long ends the run, it does so even if its
-/// end was not read. What is seen of the lines is counted from the first on.
+/// What is printed for the lines that a read completes is written before the next read. After a
+/// failed read nothing is written. If lines that are too long end the run, one does so even before
+/// its end was read. The counts of the lines in `tally` start anew.
 pub(crate) fn filter_log<R: Read, W: Write>(
     filter: &Filter,
     log: &mut LogReader<'_>,
@@ -82,8 +82,8 @@ pub(crate) fn filter_log<R: Read, W: Write>(
     }
 }
 
-// Filters a line within the limit, and returns whether it is selected. `whole` is the line as it
-// was read, with its end. If it `is_copied`, it is so before it is known whether it is selected.
+// Filters a line within the limit, and returns whether it is selected. `whole` is the line with
+// its end. If `is_copied`, the line may be copied before it is known whether it is selected.
 fn filter_line<W: Write>(
     filter: &Filter,
     line: &[u8],
@@ -117,7 +117,7 @@ fn pass_line<W: Write>(
     }
 }
 
-// Whether no line feed is written behind a line that ended so.
+// Returns whether a line with this end has a line feed, so that none is added to it.
 #[inline(always)]
 fn has_feed(end: LineEnd) -> bool {
     match end {
@@ -150,7 +150,7 @@ fn filter_judged<W: Write>(
     }
 }
 
-// Why a line of this verdict is refused.
+// Returns the fault of a line with this verdict that ends the run.
 fn refusal_of(verdict: &Verdict) -> LogFault {
     match *verdict {
         Verdict::TooLong => LogFault::Length,

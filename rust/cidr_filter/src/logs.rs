@@ -6,9 +6,8 @@ use fosibegan::plain_std::string::String;
 use crate::filter::{Filter, OutputMode, Verdict};
 use crate::help::PROGRAM;
 use crate::log::{Reached, Tally, filter_log};
-use crate::naming::label_of;
+use crate::naming::{label_of, put_count};
 use cidr_programs::line_addresses::Text;
-use cidr_programs::lines::fault::RunFault;
 use cidr_programs::lines::output::Output;
 use cidr_programs::lines::watched::Watched;
 use cidr_programs::lists::{OpenFault, OpenLists, open_input, open_list};
@@ -17,8 +16,7 @@ use cidr_programs::log_programs::telling::{is_missed, tell_closed, tell_lacking,
 use cidr_programs::program::ending::{FAILED, end};
 use cidr_programs::program::log_fault::stop;
 use cidr_programs::program::log_reader::LogReader;
-use cidr_programs::program::messages::number_text;
-use cidr_programs::program::putting::put_both;
+use cidr_programs::program::messages::tell;
 use fosibegan::plain_std::io::Write;
 use std::mem::replace;
 
@@ -37,28 +35,25 @@ pub(crate) fn filter_logs<'a, L: OpenLists, W: Write, E: Write>(
     output: &mut Output<'_, W>,
     errors: &mut Output<'_, E>,
 ) -> u8 {
-    let mut tally = Tally {
-        selected: 0,
-        seen: LogStats::new(),
-    };
-    let counts = filter.counts();
+    let mut selected = 0;
     let is_silent = filter.is_silent();
-    match filter_each(filter, &mut tally, lists, files, buffer, output, errors) {
+    match filter_each(filter, &mut selected, lists, files, buffer, output, errors) {
         Some(missed) => {
-            let written = write_end(counts, tally.selected, output);
-            let is_enough = is_enough(is_silent, tally.selected);
-            end(written, status(is_enough, missed, tally.selected), errors)
+            let written = output.finish();
+            let is_enough = is_enough(is_silent, selected);
+            end(written, status(is_enough, missed, selected), errors)
         }
         None => FAILED,
     }
 }
 
-// Filters the logs of these names up to the first that is enough, and returns whether one of them could not be opened, or
-// a line of one is missed, which is reported. If a fault ends the filtering of one that was opened, it is reported, and
-// there is no answer.
+// Filters the logs of these names up to the first that is enough, adds how many of their lines are
+// selected, and returns whether one of the logs could not be opened, or a line of one is missed,
+// which is reported. If a fault ends the filtering of one that was opened, or the number of its
+// lines cannot be written, that is reported, and `None` is returned.
 fn filter_each<'a, L: OpenLists, W: Write, E: Write>(
     filter: &mut Filter<'a>,
-    tally: &mut Tally,
+    selected: &mut u64,
     lists: &L,
     files: &'a [String],
     buffer: &mut [u8],
@@ -69,28 +64,29 @@ fn filter_each<'a, L: OpenLists, W: Write, E: Write>(
     let mut missed = false;
     for file in files {
         let name = file.as_str();
-        let Some(more) = filter_one(filter, tally, lists, name, buffer, output, errors) else {
+        let Some(more) = filter_one(filter, selected, lists, name, buffer, output, errors) else {
             return None;
         };
         missed = either(missed, more);
-        if is_enough(is_silent, tally.selected) {
+        if is_enough(is_silent, *selected) {
             return Some(missed);
         }
     }
     Some(missed)
 }
 
-// Whether the run ends behind logs of which so many lines are selected.
+// Returns whether the run ends after logs with this number of selected lines.
 fn is_enough(is_silent: bool, selected: u64) -> bool {
     is_silent && selected > 0
 }
 
-// Whether one of two is so.
+// Returns whether one of the two is true.
 fn either(first: bool, second: bool) -> bool {
     first || second
 }
 
-// Opens the log of this name. If lines or their addresses are printed, it is not the file that they are written to.
+// Opens the log of this name. If lines or their addresses are printed, it is not the file that they
+// are written to.
 fn open_log<L: OpenLists>(
     shows: OutputMode,
     lists: &L,
@@ -102,11 +98,11 @@ fn open_log<L: OpenLists>(
     }
 }
 
-// Opens the log of this name and filters it, and returns whether it could not be opened, or a line of it is missed, as
-// `filter_each` does.
+// Opens the log of this name and filters it, adds how many of its lines are selected, and returns
+// whether it could not be opened, or a line of it is missed, as `filter_each` does.
 fn filter_one<'a, L: OpenLists, W: Write, E: Write>(
     filter: &mut Filter<'a>,
-    tally: &mut Tally,
+    selected: &mut u64,
     lists: &L,
     name: &'a str,
     buffer: &mut [u8],
@@ -122,19 +118,28 @@ fn filter_one<'a, L: OpenLists, W: Write, E: Write>(
     };
     let label = label_of(filter.named, name);
     let before = replace(&mut filter.name, Text::new(label));
+    let mut tally = Tally {
+        selected: 0,
+        seen: LogStats::new(),
+    };
     let mut lines = LogReader::new(buffer, filter.refuses(&Verdict::TooLong));
-    let end = filter_log(filter, &mut lines, &mut log, output, tally);
+    let end = filter_log(filter, &mut lines, &mut log, output, &mut tally);
     filter.name = before;
     lists.close(name, log);
+    *selected = selected.saturating_add(tally.selected);
     let seen = tally.seen;
     tell_seen(PROGRAM, name, filter.bad, &seen, errors);
+    let counts = filter.counts();
+    let is_missed = is_missed(filter.bad, &seen);
     match end {
         Ok(Reached::End) => {
             let (lines, is_addressed) = (seen.lines, seen.is_addressed);
             tell_lacking(PROGRAM, &filter.area, name, lines, is_addressed, errors);
-            Some(is_missed(filter.bad, &seen))
+            write_count(counts, label, tally.selected, is_missed, output, errors)
         }
-        Ok(Reached::Last) => Some(is_missed(filter.bad, &seen)),
+        Ok(Reached::Last) => {
+            write_count(counts, label, tally.selected, is_missed, output, errors)
+        }
         Err(fault) => {
             stop(name, fault, seen.lines, output, errors);
             None
@@ -142,26 +147,27 @@ fn filter_one<'a, L: OpenLists, W: Write, E: Write>(
     }
 }
 
-// Writes how many lines were selected, if they are counted, and what waits.
-fn write_end<W: Write>(
+// Writes how many lines of a log were selected, if lines are counted, and returns `is_missed`. If a
+// write fails, it is reported, and `None` is returned.
+fn write_count<W: Write, E: Write>(
     counts: bool,
+    label: &[u8],
     selected: u64,
+    is_missed: bool,
     output: &mut Output<'_, W>,
-) -> Result<(), RunFault> {
-    if !counts {
-        return output.finish();
+    errors: &mut Output<'_, E>,
+) -> Option<bool> {
+    match put_count(counts, label, selected, output) {
+        Ok(()) => Some(is_missed),
+        Err(_) => {
+            tell("write error\n", errors);
+            None
+        }
     }
-    write_number(selected, output)?;
-    output.finish()
 }
 
-// Writes a number and a line feed.
-fn write_number<W: Write>(number: u64, output: &mut Output<'_, W>) -> Result<(), RunFault> {
-    put_both(number_text(number).as_bytes(), b"\n", output)
-}
-
-// The exit status by whether the selected lines end the run, whether a log or a line was missed, and how many lines were
-// selected.
+// The exit status by whether the selected lines end the run, whether a log or a line was missed, and
+// how many lines were selected.
 fn status(is_enough: bool, missed: bool, selected: u64) -> u8 {
     if is_enough {
         SELECTED

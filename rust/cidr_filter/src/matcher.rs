@@ -1,24 +1,24 @@
 // Written by scripts/plain out of crates/cidr_filter/src/matcher.rt
 
-//! The networks of the lists, and what they say about an address.
+//! The networks of the lists, and how addresses and networks are looked up in them.
 
 use fosibegan::ipnetwork::{IpAddr, IpNetwork, Ipv4Network, Ipv6Network};
 use fosibegan::ipnetwork_index::{AddressIndex, BlockIndex};
 use fosibegan::ipnetwork_sets::{AddressSet, IpAddressSet};
 use fosibegan::plain_std::alloc::{AllocError, Global};
 
-/// The networks of lists.
+/// The networks of the lists, stored for one kind of question.
 pub enum Matcher {
-    /// Their addresses.
+    /// Sets of addresses, for the question whether an address is in the lists.
     Addresses(Sets),
-    /// Their addresses, of which networks are asked.
+    /// A set of addresses, for the question whether it covers a network.
     Networks(IpAddressSet),
-    /// Their blocks.
+    /// Tables of blocks, for the longest block that contains an address.
     Blocks(Tables),
 }
 
 impl Matcher {
-    /// Whether networks of lines are looked for, beside addresses.
+    /// Returns whether lines are searched for networks as well as addresses.
     #[inline(always)]
     pub(crate) fn reads_networks(&self) -> bool {
         match self {
@@ -41,7 +41,7 @@ pub struct Tables {
 }
 
 impl Sets {
-    /// The addresses of these sets.
+    /// Builds the indexes of these sets. Returns `AllocError` if memory runs out.
     pub fn of(
         alloc: Global,
         v4: &AddressSet<Ipv4Network>,
@@ -53,7 +53,7 @@ impl Sets {
         })
     }
 
-    /// Whether the address is one of them.
+    /// Returns whether the address is in one of the sets.
     #[inline(always)]
     pub(crate) fn contains(&self, address: IpAddr) -> bool {
         match address {
@@ -64,14 +64,14 @@ impl Sets {
 }
 
 impl Sets {
-    /// The same, as a test.
+    /// The same as `contains`, with a contract that states the result as a test.
     pub(crate) fn has(&self, address: IpAddr) -> bool {
         self.contains(address)
     }
 }
 
 impl Tables {
-    /// The blocks of these networks.
+    /// Builds the tables of the blocks of these networks. Returns `AllocError` if memory runs out.
     pub(crate) fn of(
         alloc: Global,
         v4: &[Ipv4Network],
@@ -83,7 +83,7 @@ impl Tables {
         })
     }
 
-    /// The block of greatest prefix length that holds the address.
+    /// Returns the longest block that contains the address, or `None` if none does.
     pub(crate) fn longest(&self, address: IpAddr) -> Option<IpNetwork> {
         match address {
             IpAddr::V4(address) => match self.v4.lookup(address) {

@@ -1,6 +1,7 @@
 // Written by scripts/plain out of crates/cidr_filter/src/naming.rt
 
-//! What stands before what is printed of a line: the name of its log, and its number.
+//! What stands before what is printed of a line: the name of its log, and its number; and the count
+//! of the selected lines of a log.
 
 use crate::filter::Filter;
 use cidr_programs::lines::fault::RunFault;
@@ -9,7 +10,8 @@ use cidr_programs::program::messages::number_text;
 use cidr_programs::program::putting::put_both;
 use fosibegan::plain_std::io::Write;
 
-/// What the log of this name is called before its lines; nothing, if it is not named there.
+/// What the log of this name is called before its lines or their count; nothing, if it is not named
+/// there.
 pub(crate) fn label_of(named: bool, name: &str) -> &[u8] {
     if !named {
         return b"".as_slice();
@@ -20,21 +22,40 @@ pub(crate) fn label_of(named: bool, name: &str) -> &[u8] {
     name.as_bytes()
 }
 
-/// Writes what stands first before a line of this number.
+/// Writes what is printed first for the line with this number.
 #[inline(always)]
 pub(crate) fn put_head<W: Write>(
     filter: &Filter,
     number: u64,
     output: &mut Output<'_, W>,
 ) -> Result<(), RunFault> {
-    put_name(filter, output)?;
+    put_name(filter.name.bytes(), output)?;
     put_number(filter.numbered, number, output)
+}
+
+/// If lines are counted, writes how many lines of a log were selected, after what the log is called
+/// and a colon.
+pub(crate) fn put_count<W: Write>(
+    counts: bool,
+    label: &[u8],
+    selected: u64,
+    output: &mut Output<'_, W>,
+) -> Result<(), RunFault> {
+    if !counts {
+        return Ok(());
+    }
+    put_name(label, output)?;
+    put_total(selected, output)
+}
+
+// Writes a number and a line feed.
+fn put_total<W: Write>(number: u64, output: &mut Output<'_, W>) -> Result<(), RunFault> {
+    put_both(number_text(number).as_bytes(), b"\n", output)
 }
 
 // Writes what the log is called, and a colon, or nothing if it is not named.
 #[inline(always)]
-fn put_name<W: Write>(filter: &Filter, output: &mut Output<'_, W>) -> Result<(), RunFault> {
-    let name = filter.name.bytes();
+fn put_name<W: Write>(name: &[u8], output: &mut Output<'_, W>) -> Result<(), RunFault> {
     if name.is_empty() {
         return Ok(());
     }

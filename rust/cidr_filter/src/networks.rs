@@ -1,12 +1,12 @@
 // Written by scripts/plain out of crates/cidr_filter/src/networks.rt
 
-//! What the lists say about a network.
+//! Whether the lists cover a network.
 
 use fosibegan::ipnetwork::{IpAddr, IpNetwork};
 use fosibegan::ipnetwork_sets::IpAddressSet;
 
-/// Whether a text names a network of which each address is in the set. If `mapped`, it is asked of an IPv4-mapped
-/// network as its IPv4 one.
+/// Returns whether the text names a network whose addresses are all in the set. If `mapped`, a
+/// network whose addresses are all IPv4-mapped counts as the network of their IPv4 addresses.
 pub(crate) fn covers(set: &IpAddressSet, mapped: bool, text: &[u8]) -> bool {
     match IpNetwork::read_bytes(text) {
         Ok(network) => covers_network(set, asked_network(mapped, network)),
@@ -14,15 +14,15 @@ pub(crate) fn covers(set: &IpAddressSet, mapped: bool, text: &[u8]) -> bool {
     }
 }
 
-// Whether each address of a network is in the set.
+// Returns whether every address of the network is in the set.
 fn covers_network(set: &IpAddressSet, network: IpNetwork) -> bool {
-    // The clauses of these calls say that it is a set, and a network.
+    // The contracts of these calls state the invariants of the set and of the network.
     let _ = set.iter();
     let _ = network.ip();
     set.covers(network)
 }
 
-// The network for which the set is asked.
+// Returns the network that is looked up in the set.
 fn asked_network(mapped: bool, network: IpNetwork) -> IpNetwork {
     if mapped {
         unmapped_network(network)
@@ -31,7 +31,7 @@ fn asked_network(mapped: bool, network: IpNetwork) -> IpNetwork {
     }
 }
 
-// The IPv4 network of an IPv4-mapped one, or another as it is.
+// Returns the IPv4 network of a network whose addresses are all IPv4-mapped, or any other as is.
 fn unmapped_network(network: IpNetwork) -> IpNetwork {
     let prefix = network.prefix();
     if prefix < 96 {

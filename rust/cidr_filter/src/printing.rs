@@ -14,8 +14,8 @@ use cidr_programs::program::log_reader::put_feed;
 use cidr_programs::program::putting::put_both;
 use fosibegan::plain_std::io::Write;
 
-/// Writes what is printed of the line of this number and verdict, which is given without its end
-/// too.
+/// Writes what is printed for the selected line with this number and verdict. `line` is the line
+/// without its end, `whole` with it.
 pub(crate) fn print_selected<W: Write>(
     filter: &Filter,
     number: u64,
@@ -33,7 +33,7 @@ pub(crate) fn print_selected<W: Write>(
     }
 }
 
-/// Whether of a selected line the line is printed, and nothing else.
+/// Returns whether selected lines are printed as they are, and nothing else.
 pub(crate) fn prints_as_read(filter: &Filter) -> bool {
     match (filter.shows, &filter.listed) {
         (OutputMode::Lines, Matcher::Addresses(_)) => !filter.numbered
@@ -42,8 +42,8 @@ pub(crate) fn prints_as_read(filter: &Filter) -> bool {
     }
 }
 
-// Writes what stands first, with `--longest` the block that holds the address, and then a line of this verdict. `whole`
-// is the line as it was read, with its end; if that is no line feed, one is written.
+// Writes the name and number that come first, with `--longest` the block that contains the
+// address, and then the line. `whole` is the line with its end; a missing line feed is added.
 fn print_named<W: Write>(
     filter: &Filter,
     number: u64,
@@ -67,7 +67,7 @@ fn put_line<W: Write>(
     put_feed(end, output)
 }
 
-// Writes what stands before a line of this verdict.
+// Writes what `--longest` prints before a line with this verdict.
 fn put_mark<W: Write>(
     listed: &Matcher,
     verdict: &Verdict,
@@ -87,7 +87,7 @@ fn put_block<W: Write>(block: Option<IpNetwork>, output: &mut Output<'_, W>) -> 
     }
 }
 
-// The block that is printed before a line of this verdict.
+// Returns the block that is printed before a line with this verdict.
 fn block_in(verdict: &Verdict) -> Option<IpNetwork> {
     match *verdict {
         Verdict::Inside(block) => block,

@@ -10,8 +10,8 @@ use cidr_programs::lines::output::Output;
 use cidr_programs::program::putting::put_both;
 use fosibegan::plain_std::io::Write;
 
-/// Writes the addresses of the line of this number that are in the list, one a line, as they are
-/// spelled.
+/// Writes the addresses of the line with this number that are in the list, as they are spelled,
+/// each on a line.
 pub(crate) fn print_addresses<W: Write>(
     filter: &Filter,
     line_number: u64,
@@ -28,7 +28,7 @@ pub(crate) fn print_addresses<W: Write>(
     }
 }
 
-// What prints the addresses of the line of a number.
+// Prints the addresses of the line with this number.
 #[derive(Clone, Copy)]
 struct OfLine<'f> {
     filter: &'f Filter<'f>,
@@ -44,7 +44,7 @@ impl OfLine<'_> {
         }
     }
 
-    // Writes this address of a part of a line, if it is in the list.
+    // Writes the address of a part of a line that `pick` selects, if it is in the list.
     fn print_picked<W: Write>(
         &self,
         part: &[u8],
@@ -57,7 +57,7 @@ impl OfLine<'_> {
         }
     }
 
-    // Writes the addresses of a part that are in the list.
+    // Writes all addresses of a part of a line that are in the list.
     fn print_each<W: Write>(&self, line: &[u8], output: &mut Output<'_, W>) -> Result<(), RunFault> {
         let mut at = 0;
         let networks = self.filter.listed.reads_networks();
@@ -81,7 +81,7 @@ impl OfLine<'_> {
         self.print_text(&line[found.start..found.end], output)
     }
 
-    // Writes what stands first, and then a text and a line feed.
+    // Writes the name and number that come first, and then the text and a line feed.
     fn print_text<W: Write>(&self, text: &[u8], output: &mut Output<'_, W>) -> Result<(), RunFault> {
         put_head(self.filter, self.number, output)?;
         put_both(text, b"\n", output)

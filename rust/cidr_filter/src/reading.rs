@@ -13,10 +13,10 @@ use cidr_programs::options::given::is_given;
 use cidr_programs::options::items::{Item, Text};
 use fosibegan::plain_std::alloc::{AllocError, Global};
 
-/// What an option reads.
+/// What an option tells the program to read.
 #[derive(Debug)]
 pub enum Source<'a> {
-    /// The list of this name.
+    /// The list with this name.
     List(Text<'a>),
     /// This text.
     Text(Text<'a>),
@@ -24,18 +24,18 @@ pub enum Source<'a> {
     Nothing,
 }
 
-/// What the lists are asked.
+/// What the options ask of the lists.
 #[derive(Clone, Copy, Debug, PartialEq, Eq)]
 pub enum Question {
-    /// Whether an address is in them.
+    /// Whether they contain an address.
     Address,
-    /// Whether each address of a network is.
+    /// Whether they contain every address of a network.
     Network,
-    /// Which is the longest block that holds an address.
+    /// Which is the longest of their blocks that contains an address.
     Block,
 }
 
-/// What the options say that the lists are asked.
+/// Returns what the options ask of the lists.
 pub(crate) fn question_of(items: &[Item<'_>]) -> Question {
     if is_given(items, LONGEST) {
         Question::Block
@@ -46,8 +46,8 @@ pub(crate) fn question_of(items: &[Item<'_>]) -> Question {
     }
 }
 
-/// Reads the lists that the options name, in their order. Returns the networks, as they are asked, the refused lines,
-/// and whether all lists were read to the end.
+/// Reads the lists that the options name, in their order. Returns their networks, or `AllocError`
+/// if memory runs out; the refused lines; and why a list was not read to the end, if one was not.
 pub(crate) fn read_listed<L: OpenLists>(
     alloc: Global,
     lists: &L,
@@ -60,7 +60,7 @@ pub(crate) fn read_listed<L: OpenLists>(
     (listed, refusals, end)
 }
 
-// The networks that were read, as they are asked, and the refused lines.
+// Returns the networks that were read, stored for the question, and the refused lines.
 fn listed_by(
     alloc: Global,
     question: Question,
@@ -111,7 +111,7 @@ fn read_item<L: OpenLists>(
     }
 }
 
-/// What an option reads.
+/// Returns what an option tells the program to read.
 pub(crate) fn source_of<'a>(item: &Item<'a>) -> Source<'a> {
     match item {
         Item::Value(row, value) | Item::Joined(row, value, _) => source_by(*row, value.as_str()),
@@ -119,7 +119,7 @@ pub(crate) fn source_of<'a>(item: &Item<'a>) -> Source<'a> {
     }
 }
 
-// What the option of a row and value reads.
+// Returns what the option of this row, with this value, tells the program to read.
 fn source_by(row: usize, value: &str) -> Source<'_> {
     if row == LIST {
         Source::List(Text::new(value))
@@ -130,7 +130,7 @@ fn source_by(row: usize, value: &str) -> Source<'_> {
     }
 }
 
-// The addresses of sets.
+// Returns a matcher with the addresses of these sets.
 fn addresses_of(
     alloc: Global,
     v4: &AddressSet<Ipv4Network>,
@@ -139,7 +139,7 @@ fn addresses_of(
     Ok(Matcher::Addresses(Sets::of(alloc, v4, v6)?))
 }
 
-// The blocks of networks.
+// Returns a matcher with the blocks of these networks.
 fn blocks_of(
     alloc: Global,
     v4: Vec<Ipv4Network>,

@@ -2,18 +2,18 @@
 
 //! Whether many of the last lines were selected.
 
-/// How often a line was selected of late, which is looked at after every 64th line.
+/// How many of the last lines were selected, updated after every 64th line.
 #[derive(Clone, Copy, Debug, PartialEq, Eq)]
 pub(crate) struct Recent {
-    /// Whether 16 of the 64 lines before were selected. If fewer were, the processor guesses most
-    /// lines right, and to copy each would cost more than its wrong guesses.
+    /// Whether at least 16 of the last 64 lines were selected. If fewer were, the processor
+    /// predicts most lines right, and copying each would cost more than its wrong predictions.
     pub(crate) are_many: bool,
-    // How many had been selected then.
+    // How many lines of all logs had been selected at the last update.
     selected: u64,
 }
 
 impl Recent {
-    /// No line was looked at.
+    /// Creates the state before the first line of a log; `selected` lines were selected before it.
     pub(crate) fn new(selected: u64) -> Recent {
         Recent {
             are_many: false,
@@ -21,8 +21,8 @@ impl Recent {
         }
     }
 
-    /// Looks at the last lines, if the 64th of them was filtered. So many lines of the log were
-    /// filtered, and so many selected.
+    /// Updates the state after a line, if it is a 64th one. `lines` of the log were filtered, and
+    /// `selected` lines of all logs were selected.
     #[inline(always)]
     pub(crate) fn note(&mut self, lines: u64, selected: u64) {
         if lines % 64 == 0 {
@@ -30,7 +30,7 @@ impl Recent {
         }
     }
 
-    // Not inlined, so that nothing of it is done at other lines.
+    // Not inlined, so that it costs nothing at other lines.
     #[inline(never)]
     fn look(&mut self, selected: u64) {
         self.are_many = selected.saturating_sub(self.selected) >= 16;

@@ -76,7 +76,7 @@ const ROWS: [Row; 26] = log_rows![
 ];
 
 // Which do not go together.
-const PAIRS: [Pair; 17] = log_pairs![
+const PAIRS: [Pair; 16] = log_pairs![
     [
         pair!(LONGEST, INVERTS, "--longest goes with neither -v nor -c"),
         pair!(LONGEST, COUNTS, "--longest goes with neither -v nor -c"),
@@ -84,8 +84,7 @@ const PAIRS: [Pair; 17] = log_pairs![
     [
         pair!(ONLY, INVERTS, "-o goes with neither -v nor --longest"),
         pair!(ONLY, LONGEST, "-o goes with neither -v nor --longest"),
-        pair!(NAMED, COUNTS, "-H goes with neither -c nor -h"),
-        pair!(NAMED, UNNAMED, "-H goes with neither -c nor -h"),
+        pair!(NAMED, UNNAMED, "-H does not go with -h"),
         pair!(NETWORKS, LONGEST, "--networks does not go with --longest"),
         pair!(
             ONLY_V4,
@@ -99,7 +98,7 @@ const PAIRS: [Pair; 17] = log_pairs![
     ],
 ];
 
-/// The options, of which one that names a list has to be given.
+/// Returns the table of the options; it requires `-f` or `-e`.
 pub(crate) fn table() -> Table<'static> {
     Table {
         rows: &ROWS,

@@ -11,7 +11,7 @@ use crate::matcher::Matcher;
 use crate::reading::{question_of, read_listed};
 use crate::rows::{
     BAD, COUNTS, INVERTS, MOST, NAMED, NAMES, NUMBERED, ONLY, ONLY_V4, ONLY_V6, QUIET, SKIPS_BAD,
-    table,
+    UNNAMED, table,
 };
 use crate::telling::{InOptions, names_of};
 use cidr_programs::line_addresses::Text;
@@ -76,8 +76,8 @@ fn filter<L: OpenLists, W: Write, E: Write>(
     )
 }
 
-// Reads the lists, reports the refused lines, by these names of lists, and then filters these logs by what was read,
-// unless memory ran out.
+// Reads the lists, reports the refused lines by these names of the lists, and then filters these
+// logs, unless refused lines end the run or memory runs out.
 fn filter_files<L: OpenLists, W: Write, E: Write>(
     alloc: Global,
     items: &[Item<'_>],
@@ -103,7 +103,7 @@ fn filter_files<L: OpenLists, W: Write, E: Write>(
     let Ok(mut buffer) = vec![in alloc; 0u8; BUFFER_LEN] else {
         return refuse_memory(errors);
     };
-    let mut filter = filter_of(items, listed);
+    let mut filter = filter_of(items, files, listed);
     filter_logs(
         &mut filter,
         lists,
@@ -114,13 +114,13 @@ fn filter_files<L: OpenLists, W: Write, E: Write>(
     )
 }
 
-// Whether refused lines of lists end the run: unless they are skipped, one does.
+// Returns whether refused lines of lists end the run: if there is one, unless they are skipped.
 fn is_stopped_by(items: &[Item<'_>], refusals: &Refusals) -> bool {
     !refusals.is_empty() && !is_given(items, SKIPS_BAD)
 }
 
-// The filter that is asked for.
-fn filter_of<'a>(items: &[Item<'a>], listed: Matcher) -> Filter<'a> {
+// The filter that is asked for, of logs of these names.
+fn filter_of<'a>(items: &[Item<'a>], files: &[String], listed: Matcher) -> Filter<'a> {
     Filter {
         listed,
         area: area_of(items),
@@ -130,13 +130,13 @@ fn filter_of<'a>(items: &[Item<'a>], listed: Matcher) -> Filter<'a> {
         bad: bad_in(value_of(items, BAD)),
         most: most_of(items),
         shows: shows_of(items),
-        named: is_named(items),
+        named: is_named(items, files),
         numbered: is_given(items, NUMBERED),
         name: no_name(),
     }
 }
 
-// Of which family addresses count.
+// Returns the family whose addresses count.
 fn family_of(items: &[Item<'_>]) -> Family {
     if is_given(items, ONLY_V4) {
         Family::V4
@@ -147,7 +147,7 @@ fn family_of(items: &[Item<'_>]) -> Family {
     }
 }
 
-// How many lines of a log are selected at the most.
+// Returns how many lines of a log may be selected at most.
 fn most_of(items: &[Item<'_>]) -> Option<u64> {
     let most = number_in(value_of(items, MOST));
     if is_given(items, QUIET) || is_given(items, NAMES) {
@@ -157,7 +157,7 @@ fn most_of(items: &[Item<'_>]) -> Option<u64> {
     }
 }
 
-// One line, or none if no line may be selected.
+// Returns at most one: none if no line may be selected.
 fn up_to_one(most: Option<u64>) -> Option<u64> {
     match most {
         Some(most) => Some(most.min(1)),
@@ -180,9 +180,12 @@ fn shows_of(items: &[Item<'_>]) -> OutputMode {
     }
 }
 
-// Whether the name of its log is printed of a line.
-fn is_named(items: &[Item<'_>]) -> bool {
-    is_given(items, NAMED) || is_given(items, NAMES)
+// Whether the name of its log is printed of a line, or before the number of its lines.
+fn is_named(items: &[Item<'_>], files: &[String]) -> bool {
+    if is_given(items, NAMED) || is_given(items, NAMES) {
+        return true;
+    }
+    is_given(items, COUNTS) && files.len() > 1 && !is_given(items, UNNAMED)
 }
 
 // No name before lines.

@@ -1,6 +1,6 @@
 // Written by scripts/plain out of crates/cidr_filter/src/telling.rt
 
-//! By which names and numbers refused lines are told.
+//! The names and numbers by which refused lines are reported.
 
 use fosibegan::plain_std::vec::Vec;
 use fosibegan::plain_std::string::String;
@@ -10,7 +10,7 @@ use cidr_programs::options::items::Item;
 use cidr_programs::program::telling::Places;
 use fosibegan::plain_std::alloc::{AllocError, Global};
 
-/// Where refused lines stand, by the items of a command line: in a list, or in the text of an `-e`.
+/// The places of refused lines: in a list or in the text of an `-e`, by the items that name them.
 #[derive(Clone, Copy)]
 pub(crate) struct InOptions<'a, 'b> {
     pub(crate) items: &'a [Item<'b>],
@@ -26,7 +26,7 @@ impl Places for InOptions<'_, '_> {
     }
 }
 
-// Whether the item at a place is an `-e`.
+// Returns whether the item at this index is an `-e`.
 fn is_text_at(items: &[Item<'_>], place: usize) -> bool {
     match items.get(place) {
         Some(item) => is_text(item),
@@ -34,22 +34,23 @@ fn is_text_at(items: &[Item<'_>], place: usize) -> bool {
     }
 }
 
-// Whether an item is an `-e`.
+// Returns whether an item is an `-e`.
 fn is_text(item: &Item<'_>) -> bool {
     matches!(source_of(item), Source::Text(_))
 }
 
-// How many of the items up to a place are an `-e`.
+// Returns how many of the items up to this index are an `-e`.
 fn texts_up_to(items: &[Item<'_>], place: usize) -> u64 {
     texts_in(&items[..items.len().min(place.saturating_add(1))]) as u64
 }
 
-// How many of the items are an `-e`.
+// Returns how many of the items are an `-e`.
 fn texts_in(items: &[Item<'_>]) -> usize {
     items.iter().filter(|item| is_text(item)).count()
 }
 
-/// The names by which refused lines are told, of the list that each item names: its own, or `-e`.
+/// Returns for each item the name by which refused lines of its list are reported: the list's own,
+/// or `-e`; empty for an item that names no list. Returns `AllocError` if memory runs out.
 pub(crate) fn names_of(alloc: Global, items: &[Item<'_>]) -> Result<Vec<String>, AllocError> {
     let mut names = Vec::new(alloc);
     let mut at = 0;
@@ -60,7 +61,7 @@ pub(crate) fn names_of(alloc: Global, items: &[Item<'_>]) -> Result<Vec<String>,
     Ok(names)
 }
 
-// The name by which refused lines are told of the list that an item names.
+// Returns the name by which refused lines of the list that an item names are reported.
 fn told_name(alloc: Global, item: &Item<'_>) -> Result<String, AllocError> {
     match source_of(item) {
         Source::List(name) => String::from_str(alloc, name.as_str()),

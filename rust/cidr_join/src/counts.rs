@@ -1,6 +1,6 @@
 // Written by scripts/plain out of crates/cidr_join/src/counts.rt
 
-//! How often the texts of lines were counted.
+//! Counts of the texts that are printed for lines.
 
 use fosibegan::plain_std::vec::Vec;
 use fosibegan::plain_std::vec;
@@ -12,19 +12,19 @@ use fosibegan::plain_std::alloc::{AllocError, Global};
 pub struct Counts {
     // How often each number was counted.
     pub(crate) numbers: Vec<u64>,
-    // How often each other text was.
+    // How often each other text was counted.
     pub(crate) tally: Tally,
 }
 
 impl Counts {
-    /// Nothing was counted. There are so many numbers.
+    /// Creates counts of nothing, with `count` numbers. Returns `AllocError` if memory runs out.
     pub(crate) fn new(alloc: Global, count: usize) -> Result<Counts, AllocError> {
         let numbers = vec![in alloc; 0u64; count]?;
         let tally = Tally::new(alloc);
         Ok(Counts { numbers, tally })
     }
 
-    /// Counts what a number stands for.
+    /// Counts the text that a number stands for.
     pub(crate) fn count_number(&mut self, number: usize) {
         if number >= self.numbers.len() {
             return;
@@ -32,14 +32,15 @@ impl Counts {
         add_one(self.numbers.as_mut_slice(), number);
     }
 
-    /// Counts a text by its bytes. Allocates only if these were not counted before.
+    /// Counts a text by its bytes. Allocates only if it was not counted before, and returns
+    /// `AllocError` if memory runs out.
     pub(crate) fn count_text(&mut self, alloc: Global, text: &[u8]) -> Result<(), AllocError> {
         self.tally.count(alloc, text, 1, false)
     }
 
-    /// The counts and their texts, most first, and those of one count by the bytes of the texts, if
-    /// these are what the numbers stand for. If `zeros`, what a number stands for that was not
-    /// counted has the count 0.
+    /// Returns the counts and their texts, the greatest count first, equal counts in the order of
+    /// the bytes of the texts. `founds` is what the numbers stand for. If `zeros`, its networks and
+    /// values that were not counted have the count 0. Returns `AllocError` if memory runs out.
     pub(crate) fn into_rows(
         self,
         alloc: Global,
@@ -57,7 +58,7 @@ fn add_one(numbers: &mut [u64], number: usize) {
     numbers[number] = numbers[number].saturating_add(1);
 }
 
-// Counts what each number stands for as often as the number was counted.
+// Counts the text that each number stands for as often as the number was counted.
 fn count_each(
     alloc: Global,
     founds: &[Found<'_>],
@@ -71,8 +72,8 @@ fn count_each(
     Ok(())
 }
 
-// Counts what is printed of an address so often. If `zeros`, it keeps what is of a network and was
-// counted never.
+// Counts the text for what was found `count` times. If `zeros`, a network or value is kept even if
+// `count` is 0.
 fn count_found(
     alloc: Global,
     found: &Found<'_>,

@@ -10,8 +10,8 @@ use fosibegan::ipnetwork::IpNetwork;
 pub enum Found<'a> {
     /// The network or the block that has it.
     Network(IpNetwork),
-    /// The value of the network that has it.
+    /// The value of the network that contains it.
     Value(Value<'a>),
-    /// A minus sign: no network has it, or the line has no address.
+    /// Nothing, printed as a minus sign: no network contains it, or the line has no address.
     Nothing,
 }

@@ -1,6 +1,6 @@
 // Written by scripts/plain out of crates/cidr_join/src/join.rt
 
-//! What a line is to the list.
+//! What is printed for a line.
 
 use crate::answers::Answers;
 use crate::found::Found;
@@ -9,17 +9,17 @@ use cidr_programs::line_addresses::Area;
 use cidr_programs::log_programs::finding::found_in;
 use cidr_programs::log_programs::without_address::WithoutAddress;
 
-/// What decides what is printed of a line.
+/// What decides what is printed for a line.
 pub struct Join<'a> {
     /// What is printed of its address.
     pub(crate) answers: Answers<'a>,
     pub(crate) area: Area<'a>,
     /// Whether an IPv4-mapped address of a line counts as its IPv4 one.
     pub(crate) mapped: bool,
-    /// Whether that stands behind the line, and not before it.
+    /// Whether that is printed after the line instead of before it.
     pub(crate) last: bool,
     pub(crate) bad: WithoutAddress,
-    /// Whether a tally has what the list gives addresses of which no line has one.
+    /// Whether a tally includes the networks or values of the list that no line has.
     pub(crate) zeros: bool,
 }
 

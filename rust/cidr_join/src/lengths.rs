@@ -7,9 +7,9 @@ use fosibegan::ipnetwork::{IpAddr, IpNetwork, Ipv4Network, Ipv6Network};
 /// The lengths of the blocks in which lines are grouped.
 #[derive(Clone, Copy, Debug, PartialEq, Eq)]
 pub struct Lengths {
-    /// That of the blocks of IPv4, of which one above 32 counts as that.
+    /// The length of IPv4 blocks. A length above 32 counts as 32.
     pub v4: u8,
-    /// That of the blocks of IPv6, of which one above 128 counts as that.
+    /// The length of IPv6 blocks. A length above 128 counts as 128.
     pub v6: u8,
 }
 

@@ -8,18 +8,18 @@ use cidr_programs::lists::{ByteKind, Entry, EntryFault, LINE_MAX, front_len, rea
 /// Why a line of a list is refused.
 #[derive(Clone, Copy, Debug, PartialEq, Eq)]
 pub enum Cause {
-    /// It begins with no network and no range.
+    /// It does not begin with a network or range.
     Entry(EntryFault),
-    /// No value stands behind its network or range.
+    /// No value follows its network or range.
     Value,
-    /// Its network, or one of the blocks of its range, has a value.
+    /// Its network, or one of the blocks of its range, already has a value.
     Twice,
     /// It has more than 1,024 bytes.
     Length,
 }
 
 impl Cause {
-    /// The cause in a few words.
+    /// Returns the cause in a few words.
     pub(crate) fn text(self) -> &'static str {
         match self {
             Cause::Entry(fault) => fault.text(),
@@ -30,16 +30,17 @@ impl Cause {
     }
 }
 
-/// A network or a range, and what stands behind it.
+/// A network or a range, and its value.
 #[derive(Clone, Copy, Debug)]
 pub struct RouteEntry<'a> {
     /// The network or the range.
     pub entry: Entry,
-    /// What stands behind it. Empty only where it may be missing.
+    /// Its value. Empty only if it may be missing.
     pub value: Value<'a>,
 }
 
-/// What a line says: nothing if it is blank or begins with `#` or `;`. If `bare`, its value may be missing.
+/// Returns what a line says: nothing if it is blank or begins with `#` or `;`. If `bare`, the value
+/// may be missing. Returns the cause if the line is refused.
 pub(crate) fn read_route(line: &[u8], bare: bool) -> Result<Option<RouteEntry<'_>>, Cause> {
     if line.len() > LINE_MAX {
         return Err(Cause::Length);
@@ -61,7 +62,8 @@ pub(crate) fn read_route(line: &[u8], bare: bool) -> Result<Option<RouteEntry<'_
     Ok(Some(RouteEntry { entry, value }))
 }
 
-// The network or range that a text is, read as a line of a list of networks. One with nothing in it is no address.
+// Returns the network or range that a text is, read as a line of a list of networks. An empty text
+// has the fault of an address.
 fn entry_of(text: &[u8]) -> Result<Entry, EntryFault> {
     match read_entry(text) {
         Ok(Some(entry)) => Ok(entry),
@@ -78,8 +80,8 @@ fn is_skipped(text: &[u8]) -> bool {
     }
 }
 
-// The length of the network or range that a text begins with: of its first word, or, if spaces and a `-` follow that,
-// up to the end of the word behind the `-`.
+// Returns the length of the network or range that a text begins with: up to the end of its first
+// word, or, if a `-` follows that word, with or without spaces, of the word after the `-`.
 fn entry_len(text: &[u8]) -> usize {
     let word = front_len::<OfWord>(text);
     word + tail_len(&text[word..])
@@ -106,12 +108,12 @@ fn dash_len(text: &[u8]) -> usize {
     }
 }
 
-// What stands behind blanks and one comma.
+// Returns what follows blanks and at most one comma, without the blanks around it.
 fn value_part(text: &[u8]) -> &[u8] {
     trim::<Blank>(behind_comma(trim::<Blank>(text)))
 }
 
-// The text behind a comma that it begins with, or the whole text.
+// Returns the text after the comma that it begins with, or the whole text if it begins with none.
 fn behind_comma(text: &[u8]) -> &[u8] {
     match text.split_first() {
         Some((byte, rest)) if *byte == b',' => rest,

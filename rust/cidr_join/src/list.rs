@@ -17,25 +17,25 @@ use fosibegan::plain_std::io::Write;
 /// How the lines of a list are taken.
 #[derive(Clone, Copy, Debug, PartialEq, Eq)]
 pub struct ListRules {
-    /// A network that stands twice has its last value, and is not refused.
+    /// A network that is listed twice gets its last value, and is not refused.
     pub last_wins: bool,
     /// A line may have no value.
     pub bare: bool,
-    /// A refused line is reported and left out, and is no fault.
+    /// A refused line is reported and left out, and is not a fault.
     pub skips: bool,
 }
 
-/// Why a list is not taken to its end: a fault of the line after these.
+/// Why a list is not taken to its end: a fault of one of its lines.
 #[derive(Clone, Copy, Debug, PartialEq, Eq)]
 pub struct TakeFault {
-    /// How many lines came before it.
+    /// How many lines come before that line.
     pub lines: usize,
     /// The fault.
     pub fault: RouteFault,
 }
 
-/// How many of the refused lines that are left out are reported; of the others it is told how many
-/// they are.
+/// How many of the refused lines that are left out are reported; of the others only their number
+/// is.
 const TOLD_MAX: usize = 100;
 
 /// What was taken of the lines of a list.
@@ -47,7 +47,7 @@ pub struct Listing<'a> {
     pub(crate) skipped: usize,
 }
 
-/// The networks and values of the lines of the list of this name, taken by these rules.
+/// Takes the lines of the list with this name by these rules, and returns its networks and values.
 pub(crate) fn networks_of<'a, E: Write>(
     alloc: Global,
     name: &str,
@@ -68,7 +68,7 @@ pub(crate) fn networks_of<'a, E: Write>(
     }
 }
 
-// Takes the lines of a list of this name.
+// Takes the lines of the list with this name.
 fn take_lines<'a, E: Write>(
     listing: &mut Listing<'a>,
     name: &str,
@@ -108,7 +108,7 @@ fn take_next<'a, E: Write>(
     }
 }
 
-// Why a line of this fault is left out, if it is.
+// Returns why a line with this fault is left out, if it is.
 fn left_out(rules: ListRules, fault: RouteFault) -> Option<Cause> {
     match fault {
         RouteFault::Refused(cause) if rules.skips => Some(cause),
@@ -116,8 +116,8 @@ fn left_out(rules: ListRules, fault: RouteFault) -> Option<Cause> {
     }
 }
 
-// Counts a line that is left out, the one after this many, and reports it, if it is one of the
-// first.
+// Counts a line that is left out, and reports it if it is one of the first; `lines` come before
+// it.
 fn skip<E: Write>(
     skipped: &mut usize,
     name: &str,

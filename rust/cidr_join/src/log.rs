@@ -14,8 +14,9 @@ use fosibegan::plain_std::io::{Read, Write};
 
 /// Writes each line of a log with the value of its address, and counts what is seen of them, from the first on.
 ///
-/// What is written for the lines that a read completes is written before the next read. After a failed read nothing is
-/// written. If a line that is too long ends the run, it does so even if its end was not read.
+/// What is printed for the lines that a read completes is written before the next read. After a
+/// failed read nothing is written. If lines that are too long end the run, one does so even before
+/// its end was read.
 pub(crate) fn join_log<R: Read, W: Write>(
     join: &Join<'_>,
     buffer: &mut [u8],

@@ -15,9 +15,9 @@ use cidr_programs::log_programs::telling::{is_missed, tell_closed, tell_seen};
 use cidr_programs::program::log_fault::stop;
 use fosibegan::plain_std::io::Write;
 
-/// Joins the logs of these names in their order, and returns whether one could not be opened or a line of one is missed. If
-/// one that was opened does not come to its end, the cause is reported, and there is no answer. What was seen of the lines
-/// is reported of each.
+/// Joins the logs with these names in turn, and returns whether one could not be opened or a line
+/// of one is missed. If one that was opened is not joined to its end, the cause is reported and
+/// `None` is returned. The reports about the lines of each log are written after it.
 pub(crate) fn join_logs<L: OpenLists, W: Write, E: Write>(
     join: &Join<'_>,
     lists: &L,
@@ -37,8 +37,8 @@ pub(crate) fn join_logs<L: OpenLists, W: Write, E: Write>(
     Some(missed)
 }
 
-// Opens the log of this name and joins its lines, and returns whether it could not be opened or one is missed, as
-// `join_logs` does.
+// Opens the log with this name and joins its lines, and returns whether it could not be opened or
+// a line is missed, as `join_logs` does.
 fn join_one<L: OpenLists, W: Write, E: Write>(
     join: &Join<'_>,
     lists: &L,

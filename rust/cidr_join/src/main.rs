@@ -1,6 +1,6 @@
 // Written by scripts/plain out of crates/cidr_join/src/main.rt
 
-//! The lines of logs, each with the value that a list gives its address.
+//! Prints the lines of logs, each with the value that a list gives its address.
 #![allow(unused_imports, unused_labels, unused_variables, dead_code)]
 #![allow(clippy::complexity, clippy::style, clippy::large_enum_variant, clippy::manual_contains,
     clippy::non_canonical_clone_impl)]

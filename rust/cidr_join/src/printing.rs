@@ -11,8 +11,9 @@ use cidr_programs::program::log_reader::put_feed;
 use cidr_programs::program::putting::put_both;
 use fosibegan::plain_std::io::Write;
 
-/// Writes a line, and before it or behind it what was found for its address: the value, or the network, or a minus sign
-/// for none. `line` is the line without its end, and `whole` as it was read; if no line feed ends it, one is written.
+/// Writes a line and, before or after it, what was found for its address: the value, the network,
+/// or a minus sign for nothing. `line` is the line without its end, `whole` with it; a missing line
+/// feed is added.
 pub(crate) fn print_line<W: Write>(
     join: &Join<'_>,
     found: &Found<'_>,
@@ -32,7 +33,7 @@ pub(crate) fn print_line<W: Write>(
     }
 }
 
-// Writes a line, and this before it, or behind it if `last`.
+// Writes a line with the mark before it or, if `last`, after it.
 fn print_with<W: Write>(
     line: &[u8],
     whole: &[u8],

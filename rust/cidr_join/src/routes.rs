@@ -10,19 +10,20 @@ use fosibegan::ipnetwork_index::RouteIndex;
 use fosibegan::ipnetwork_table::PrefixTable;
 use fosibegan::plain_std::alloc::{AllocError, Global};
 
-/// The networks of a list that were read so far, by family. A network stands for its block: its host bits are cleared.
+/// The networks of a list that were read so far, by family, with their values. Each is stored as
+/// its block, with its host bits set to zero.
 pub struct Networks<'a> {
     pub(crate) v4: PrefixTable<Ipv4Network, Value<'a>>,
     pub(crate) v6: PrefixTable<Ipv6Network, Value<'a>>,
 }
 
-/// The networks of a list, to be asked.
+/// The networks of a list, indexed for lookups.
 pub struct Routes<'a> {
     pub(crate) v4: RouteIndex<Ipv4Network, Value<'a>>,
     pub(crate) v6: RouteIndex<Ipv6Network, Value<'a>>,
 }
 
-/// Why a network has no value now.
+/// Why a line does not give its network a value.
 #[derive(Clone, Copy, Debug, PartialEq, Eq)]
 pub enum RouteFault {
     /// Out of memory.
@@ -32,7 +33,7 @@ pub enum RouteFault {
 }
 
 impl<'a> Networks<'a> {
-    /// No networks.
+    /// Creates an empty set of networks.
     pub(crate) fn new(alloc: Global) -> Networks<'a> {
         Networks {
             v4: PrefixTable::new(alloc),
@@ -42,7 +43,7 @@ impl<'a> Networks<'a> {
 }
 
 impl<'a> Routes<'a> {
-    /// These networks, to be asked.
+    /// Indexes these networks for lookups. Returns `AllocError` if memory runs out.
     pub(crate) fn of(alloc: Global, networks: Networks<'a>) -> Result<Routes<'a>, AllocError> {
         Ok(Routes {
             v4: RouteIndex::from_table(alloc, networks.v4)?,
@@ -65,8 +66,8 @@ impl<'a> Routes<'a> {
     }
 }
 
-/// Gives a network a value. One that has a value gets this one if `last_wins`, and if not, it keeps
-/// its own, and this one is refused.
+/// Gives a network a value. If it already has one, it gets the new one if `last_wins`; if not, it
+/// keeps its own and `Cause::Twice` is returned. Returns `OutOfMemory` if memory runs out.
 pub(crate) fn set_one<'a, N: AddressSpace>(
     table: &mut PrefixTable<N, Value<'a>>,
     network: N,
@@ -82,8 +83,9 @@ pub(crate) fn set_one<'a, N: AddressSpace>(
     }
 }
 
-/// Gives a value to each of the fewest blocks that have the addresses from `first` to `last`, or to
-/// none of them.
+/// Gives a value to each block of the shortest list that makes up the range from `first` to `last`.
+/// Returns `Cause::Twice` and changes nothing if a block has one, unless `last_wins`. If memory
+/// runs out, returns `OutOfMemory`, and only some of the blocks may have the value.
 pub(crate) fn set_range<'a, N: AddressSpace>(
     table: &mut PrefixTable<N, Value<'a>>,
     first: N::Addr,
@@ -101,8 +103,8 @@ pub(crate) fn set_range<'a, N: AddressSpace>(
     Ok(())
 }
 
-// Whether a range is refused: one of the fewest blocks that have its addresses has a value, unless
-// `last_wins`.
+// Returns whether a range is refused: a block of the shortest list that makes it up has a value,
+// and not `last_wins`.
 fn refuses_range<N: AddressSpace>(
     table: &PrefixTable<N, Value<'_>>,
     first: N::Addr,
@@ -121,9 +123,9 @@ fn refuses_range<N: AddressSpace>(
     false
 }
 
-// The fewest blocks that have the addresses from `first` to `last`.
+// Returns the shortest list of blocks that makes up the range from `first` to `last`.
 fn blocks_of<N: AddressSpace>(first: N::Addr, last: N::Addr) -> RangeBlocks<N> {
-    // The clause `address` of this call says that `last` is an address of the family.
+    // The clause `address` of this call states that `last` is an address of the family.
     let _ = N::block(last, N::WIDTH);
     let Some(blocks) = range_to_blocks::<N>(first, last) else {
         unreachable!()

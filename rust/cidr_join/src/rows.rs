@@ -48,7 +48,7 @@ const ROWS: [Row; 18] = log_rows![
     long!("--skip-bad", Flag, false, ""),
 ];
 
-// Which do not go together, and that `-f` is given once at the most.
+// The options that may not be given together; `-f` may be given only once.
 const PAIRS: [Pair; 12] = log_pairs![
     [],
     [
@@ -82,7 +82,7 @@ const PAIRS: [Pair; 12] = log_pairs![
     ],
 ];
 
-/// The options, of which a list or lengths of blocks have to be given.
+/// Returns the table of the options; it requires `-f` or `--group`.
 pub(crate) fn table() -> Table<'static> {
     Table {
         rows: &ROWS,

@@ -78,7 +78,7 @@ fn lacks_tally(items: &[Item<'_>]) -> bool {
     is_given(items, ZERO) && !is_given(items, TALLY)
 }
 
-// Reads the list, and then joins these logs to it, if their lines are not grouped in blocks.
+// Reads the list and joins these logs to it, or, with `--group`, groups their lines in blocks.
 fn join_files<L: OpenLists, W: Write, E: Write>(
     alloc: Global,
     items: &[Item<'_>],
@@ -118,7 +118,7 @@ fn lengths_of(items: &[Item<'_>]) -> Option<Lengths> {
     }
 }
 
-// Joins the logs to the list of this name, which has these bytes, or counts their lines by it.
+// Joins the logs to the list with this name and these bytes, or counts their lines by it.
 fn join_to<L: OpenLists, W: Write, E: Write>(
     alloc: Global,
     items: &[Item<'_>],
@@ -144,7 +144,7 @@ fn join_to<L: OpenLists, W: Write, E: Write>(
     join_by(alloc, items, files, answers, lists, output, errors)
 }
 
-// How the lines of its list are taken.
+// Returns how the lines of the list are taken.
 fn rules_of(items: &[Item<'_>]) -> ListRules {
     ListRules {
         last_wins: is_given(items, LAST_WINS),
@@ -153,7 +153,7 @@ fn rules_of(items: &[Item<'_>]) -> ListRules {
     }
 }
 
-// What is printed of addresses by the routes of a list: networks or values.
+// Returns what is printed for addresses by the routes of a list: networks or values.
 fn answers_by(network: bool, routes: Routes<'_>) -> Answers<'_> {
     if network {
         Answers::Networks(routes)
@@ -162,7 +162,7 @@ fn answers_by(network: bool, routes: Routes<'_>) -> Answers<'_> {
     }
 }
 
-// Joins the logs, or counts their lines, where this is printed of addresses.
+// Joins the logs or counts their lines; `answers` decides what is printed for addresses.
 fn join_by<'a, L: OpenLists, W: Write, E: Write>(
     alloc: Global,
     items: &[Item<'a>],
@@ -187,7 +187,7 @@ fn join_by<'a, L: OpenLists, W: Write, E: Write>(
     end(written, status(missed), errors)
 }
 
-// What is asked for of lines, where this is printed of addresses.
+// Returns what decides what is printed for a line.
 fn join_of<'a>(items: &[Item<'a>], answers: Answers<'a>) -> Join<'a> {
     Join {
         answers,

@@ -1,13 +1,13 @@
 // Written by scripts/plain out of crates/cidr_join/src/tally.rt
 
-//! How often texts were counted.
+//! The counts of texts.
 
 use fosibegan::plain_std::vec::Vec;
 use fosibegan::plain_std::alloc::{AllocError, Global};
 use std::cmp::Reverse;
 use fosibegan::plain_std::collections::HashMap;
 
-/// A count, which is greater the earlier it stands, and the text that it is of.
+/// A count and its text. The count is reversed, so that greater ones are sorted first.
 pub(crate) type Row = (Reverse<u64>, Vec<u8>);
 
 /// How often each text was counted. It keeps a copy of each text that was counted.
@@ -16,15 +16,15 @@ pub struct Tally {
 }
 
 impl Tally {
-    /// Nothing was counted.
+    /// Creates a tally of nothing.
     pub(crate) fn new(alloc: Global) -> Tally {
         Tally {
             counts: HashMap::new(alloc),
         }
     }
 
-    /// Counts a text so often, of which it keeps that it was counted never, if `named`. Allocates
-    /// only if it does not have the text.
+    /// Counts a text `count` times. If `named`, the text is kept even if that is 0. Allocates only
+    /// if it does not have the text, and returns `AllocError` if memory runs out.
     pub(crate) fn count(
         &mut self,
         alloc: Global,
@@ -44,7 +44,8 @@ impl Tally {
         Ok(())
     }
 
-    /// The counts and their texts, most first, and those of one count by the bytes of the texts.
+    /// Returns the counts and their texts, the greatest count first, equal counts in the order of
+    /// the bytes of the texts. Returns `AllocError` if memory runs out.
     pub(crate) fn into_rows(self, alloc: Global) -> Result<Vec<Row>, AllocError> {
         let mut rows = Vec::with_capacity(alloc, self.counts.len())?;
         for (text, count) in self.counts {

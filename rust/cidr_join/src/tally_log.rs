@@ -1,6 +1,6 @@
 // Written by scripts/plain out of crates/cidr_join/src/tally_log.rt
 
-//! Counts what a list gives the lines of a log.
+//! Counts what is found for the lines of a log.
 
 use fosibegan::plain_std::vec::Vec;
 use crate::counts::Counts;
@@ -27,8 +27,8 @@ pub enum TallyFault {
 
 /// Counts for each line of a log what the list gives its address, and the line.
 ///
-/// A line that is too long is counted as one without an address. If it ends the run, it does so even if its end was not
-/// read. What is seen of the lines is counted from the first on.
+/// A line that is too long counts as one without an address. If such lines end the run, one does so
+/// even before its end was read. The counts in `seen` start anew.
 pub(crate) fn tally_log<R: Read>(
     alloc: Global,
     join: &Join<'_>,
@@ -38,7 +38,7 @@ pub(crate) fn tally_log<R: Read>(
     counts: &mut Counts,
     seen: &mut LogStats,
 ) -> Result<(), TallyFault> {
-    // Nothing is put into it, so that nothing is written before a read.
+    // Nothing is put into it, so nothing is written before a read.
     let mut slice = [0; 1];
     let mut nothing = Output::new(Vec::new(alloc), &mut slice);
     *seen = LogStats::new();
@@ -67,7 +67,8 @@ pub(crate) fn tally_log<R: Read>(
     }
 }
 
-// The fault of a log of whose lines nothing is written but to memory.
+// Returns the fault of a log as a fault of counting: a write to memory fails only if memory runs
+// out.
 fn tally_fault(fault: LogFault) -> TallyFault {
     match fault {
         LogFault::Open(cause) => TallyFault::Log(LogFault::Open(cause)),
@@ -123,7 +124,7 @@ fn count_address(
     }
 }
 
-// Whether a line is left out, which has an address or has none.
+// Returns whether a line is left out, by whether it has an address.
 #[inline(always)]
 fn is_left_out(join: &Join<'_>, is_addressed: bool) -> bool {
     !is_addressed && join.bad.is_dropped()

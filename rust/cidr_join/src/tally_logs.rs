@@ -1,6 +1,6 @@
 // Written by scripts/plain out of crates/cidr_join/src/tally_logs.rt
 
-//! Counts what a list gives the lines of the logs of a run, and prints the counts.
+//! Counts what is found for the lines of the logs of a run, and prints the counts.
 
 use fosibegan::plain_std::string::String;
 use crate::counts::Counts;
@@ -25,7 +25,8 @@ use cidr_programs::program::putting::put_both;
 use fosibegan::plain_std::alloc::Global;
 use fosibegan::plain_std::io::Write;
 
-/// Counts what the list gives the lines of the logs of these names, prints the counts, and returns the exit status.
+/// Counts what is found for the lines of the logs with these names, prints the counts, and returns
+/// the exit status.
 pub(crate) fn tally_logs<L: OpenLists, W: Write, E: Write>(
     alloc: Global,
     join: &Join<'_>,
@@ -61,9 +62,9 @@ pub(crate) fn tally_logs<L: OpenLists, W: Write, E: Write>(
     end(written, status(missed), errors)
 }
 
-// Counts the lines of the logs of these names, and returns whether one could not be opened or a line is missed. If a log
-// that was opened does not come to its end, the cause is reported, and there is no answer. What was seen of the lines is
-// reported of each.
+// Counts the lines of the logs with these names, and returns whether one could not be opened or a
+// line is missed. If one that was opened is not read to its end, the cause is reported and `None`
+// is returned. The reports about the lines of each log are written after it.
 fn tally_each<L: OpenLists, E: Write>(
     alloc: Global,
     join: &Join<'_>,
@@ -86,8 +87,8 @@ fn tally_each<L: OpenLists, E: Write>(
     Some(missed)
 }
 
-// Opens the log of this name and counts its lines, and returns whether it could not be opened or one is missed, as
-// `tally_each` does.
+// Opens the log with this name and counts its lines, and returns whether it could not be opened or
+// a line is missed, as `tally_each` does.
 fn tally_one<L: OpenLists, E: Write>(
     alloc: Global,
     join: &Join<'_>,
@@ -121,7 +122,7 @@ fn tally_one<L: OpenLists, E: Write>(
     }
 }
 
-// Reports why the lines of a log were not counted to its end, after what there is to report of those that were.
+// Reports why a log was not counted to its end, after the reports about the lines that were.
 fn tell_stop<E: Write>(
     bad: WithoutAddress,
     name: &str,

@@ -1,6 +1,6 @@
 // Written by scripts/plain out of crates/cidr_join/src/telling.rt
 
-//! Messages on the error writer. If a write of one fails, nothing else changes.
+//! Messages on the error writer. If writing one fails, nothing else changes.
 
 use crate::help::PROGRAM;
 use crate::join::Join;
@@ -14,7 +14,7 @@ use cidr_programs::program::log_fault::{tell_line, tell_of};
 use cidr_programs::program::messages::tell;
 use fosibegan::plain_std::io::Write;
 
-/// Reports why the list of this name was not read.
+/// Reports why the list with this name was not read.
 pub(crate) fn tell_bytes_fault<E: Write>(name: &str, fault: BytesFault, errors: &mut Output<'_, E>) {
     match fault {
         BytesFault::Open(cause) => tell_of(name, cause.text(), errors),
@@ -24,7 +24,8 @@ pub(crate) fn tell_bytes_fault<E: Write>(name: &str, fault: BytesFault, errors: 
     }
 }
 
-/// Reports that the log of this name has lines, and none of them an address where it is looked for, if that is so.
+/// Reports that no line of the log with this name has an address where one is looked for, if it has
+/// lines and that is so.
 pub(crate) fn tell_unaddressed<E: Write>(
     join: &Join<'_>,
     name: &str,
@@ -35,7 +36,7 @@ pub(crate) fn tell_unaddressed<E: Write>(
     tell_lacking(PROGRAM, &join.area, name, lines, is_addressed, errors);
 }
 
-/// Reports why the lines of the list of this name were not taken to its end.
+/// Reports why the list with this name was not taken to its end.
 pub(crate) fn tell_take_fault<E: Write>(name: &str, fault: TakeFault, errors: &mut Output<'_, E>) {
     match fault.fault {
         RouteFault::OutOfMemory => tell("out of memory\n", errors),

@@ -1,6 +1,6 @@
 // Written by scripts/plain out of crates/cidr_join/src/value_ids.rt
 
-//! What is printed of addresses by the networks of a list, by number.
+//! Numbers for what is printed for addresses by the networks of a list.
 
 use fosibegan::plain_std::vec::Vec;
 use crate::answers::Answers;
@@ -21,9 +21,9 @@ pub struct ValueIds<'a> {
     pub(crate) founds: Vec<Found<'a>>,
 }
 
-// The networks of one family, as networks of either.
+// Networks of one family that convert to networks of either.
 trait OfEither: IndexedNetwork {
-    // A network.
+    // Returns the network as one of either family.
     fn either(self) -> IpNetwork;
 }
 
@@ -40,7 +40,8 @@ impl OfEither for Ipv6Network {
 }
 
 impl<'a> ValueIds<'a> {
-    /// The networks by which this is printed of addresses, numbered.
+    /// Numbers the networks that decide what is printed for addresses. Returns `AllocError` if
+    /// memory runs out.
     pub(crate) fn of(alloc: Global, answers: &Answers<'a>) -> Result<ValueIds<'a>, AllocError> {
         match answers {
             Answers::Values(routes) => number_routes(alloc, routes, false),
@@ -49,7 +50,7 @@ impl<'a> ValueIds<'a> {
         }
     }
 
-    /// What each number stands for.
+    /// Returns what each number stands for.
     pub(crate) fn founds(&self) -> &[Found<'a>] {
         self.founds.as_slice()
     }
@@ -83,7 +84,7 @@ fn number_in<N: IndexedNetwork>(index: &RouteIndex<N, usize>, addr: N::Addr) -> 
     }
 }
 
-// No numbers.
+// Returns no numbers.
 fn no_numbers<'a>(alloc: Global) -> Result<ValueIds<'a>, AllocError> {
     Ok(ValueIds {
         v4: RouteIndex::from_table(alloc, PrefixTable::new(alloc))?,
@@ -92,7 +93,7 @@ fn no_numbers<'a>(alloc: Global) -> Result<ValueIds<'a>, AllocError> {
     })
 }
 
-// The networks of a list, numbered: they are printed, or their values.
+// Numbers the networks of a list; `network` tells whether they or their values are printed.
 fn number_routes<'a>(
     alloc: Global,
     routes: &Routes<'a>,
@@ -105,7 +106,8 @@ fn number_routes<'a>(
     Ok(ValueIds { v4, v6, founds })
 }
 
-// Numbers the networks of one family from the number of those that stand for something on.
+// Numbers the networks of one family, continuing the numbers in `founds`, and adds what these
+// stand for.
 fn number_each<'a, N: OfEither>(
     alloc: Global,
     table: &PrefixTable<N, Value<'a>>,
@@ -122,13 +124,13 @@ fn number_each<'a, N: OfEither>(
     RouteIndex::from_table(alloc, numbers)
 }
 
-// Puts an item behind others.
+// Adds an item after the others.
 fn put<T>(items: &mut Vec<T>, item: T) -> Result<(), AllocError> {
     items.push(item)?;
     Ok(())
 }
 
-// What is printed where this is the longest network, with this value.
+// Returns what is printed if this is the longest network, with this value.
 fn found_of<N: OfEither>(at: N, value: Value<'_>, network: bool) -> Found<'_> {
     if network {
         Found::Network(at.either())

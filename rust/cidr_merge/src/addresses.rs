@@ -8,7 +8,7 @@ use cidr_programs::lines::fault::RunFault;
 use cidr_programs::lines::output::Output;
 use fosibegan::plain_std::io::Write;
 
-/// Prints each of the addresses on a line.
+/// Prints each address on a line of its own.
 pub(crate) fn print_addresses<A: Address, W: Write>(
     names: &SetNames<'_>,
     mut addresses: NetworkIterator<A>,

@@ -1,6 +1,6 @@
 // Written by scripts/plain out of crates/cidr_merge/src/checking.rt
 
-//! Tells the wrong entries of lists, and strictly those with host bits too.
+//! Reports the wrong entries of lists, and, in a strict check, those with host bits.
 
 use crate::entry_match::entry_of;
 use crate::findings::{either, tell_host_bits, tell_wrong};
@@ -12,7 +12,7 @@ use cidr_programs::lines::output::Output;
 use cidr_programs::lists::Entry;
 use fosibegan::plain_std::io::Write;
 
-/// Tells what is found in the lines of lists, strictly or not, and returns whether anything is.
+/// Prints the findings for the lines of lists, strictly or not, and returns whether there are any.
 pub(crate) fn check_lists<W: Write>(
     strictly: bool,
     lists: &WholeLists<'_>,
@@ -27,7 +27,7 @@ pub(crate) fn check_lists<W: Write>(
     found
 }
 
-// Tells what is found in a line, strictly or not, and returns whether anything is.
+// Prints the finding for a line, strictly or not, and returns whether there is one.
 fn check_line<W: Write>(strictly: bool, line: &Line<'_>, output: &mut Output<'_, W>) -> bool {
     match entry_of(line.text) {
         Ok(said) => tell_if_loose(is_loose(strictly, said), line, output),
@@ -38,7 +38,7 @@ fn check_line<W: Write>(strictly: bool, line: &Line<'_>, output: &mut Output<'_,
     }
 }
 
-// Tells a line if its entry has host bits that are to be told, and returns whether it has.
+// Prints the finding for host bits if `is_loose`, and returns `is_loose`.
 fn tell_if_loose<W: Write>(is_loose: bool, line: &Line<'_>, output: &mut Output<'_, W>) -> bool {
     if is_loose {
         tell_host_bits(line, output);
@@ -47,12 +47,12 @@ fn tell_if_loose<W: Write>(is_loose: bool, line: &Line<'_>, output: &mut Output<
     false
 }
 
-// Whether host bits of an entry, if there are any, are to be told.
+// Returns whether an entry has host bits and the check is strict.
 fn is_loose(strictly: bool, said: Option<Entry>) -> bool {
     strictly && has_host_bits(said)
 }
 
-// Whether an entry has host bits.
+// Returns whether an entry has host bits.
 fn has_host_bits(said: Option<Entry>) -> bool {
     match said {
         Some(Entry::Network(network)) => {

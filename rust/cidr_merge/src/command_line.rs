@@ -33,7 +33,7 @@ pub enum Operation {
     Differ,
 }
 
-/// How the answer is printed.
+/// The form in which the result is printed.
 #[derive(Clone, Copy, Debug, PartialEq, Eq)]
 pub enum Form {
     /// The blocks of the least list.
@@ -57,7 +57,7 @@ pub struct Request {
     pub skips_bad: bool,
     /// How the lists are written.
     pub shape: Shape,
-    /// How many lists the first side has: those of the second follow.
+    /// The number of lists on the first side; those of the second follow.
     pub middle: usize,
 }
 
@@ -77,9 +77,9 @@ pub struct SplitRequest {
 pub enum Inspection {
     /// Their wrong entries are printed.
     Check,
-    /// Those are, and then each entry that has addresses of another, with that.
+    /// Wrong entries and host bits are printed, then the entries that overlap an earlier one.
     Strict,
-    /// Those are, and then the pairs of entries that overlap.
+    /// Wrong entries are printed, then the pairs of entries that overlap.
     Overlaps,
 }
 
@@ -92,7 +92,7 @@ pub enum Command {
     Split(SplitRequest),
     /// Lists are looked over.
     Inspect(Inspection),
-    /// The addresses of so many names, and those of so many lists that follow, are sought in the lists that follow these.
+    /// The lists after so many addresses, and so many lists of addresses, are searched for these.
     Find(usize, usize),
 }
 
@@ -102,11 +102,11 @@ pub struct Asked<'a> {
     pub command: Command,
     /// The FILEs.
     pub names: Vec<String>,
-    /// The names of the sets that an export fills, and what stands around each line.
+    /// The names of the sets that an export fills, and the texts around each line.
     pub sets: SetNames<'a>,
 }
 
-/// What the words after the program's name ask for, or what is wrong with them, unless memory runs out.
+/// What the words after the program's name ask for, or their fault. `AllocError`: out of memory.
 pub(crate) fn command_of<'a>(
     alloc: Global,
     table: &Table<'_>,
@@ -121,7 +121,7 @@ pub(crate) fn command_of<'a>(
     }
 }
 
-// What words ask for of which the first has this name.
+// The command of a task, from the words after the one that names it.
 fn command_for<'a>(
     alloc: Global,
     table: &Table<'_>,
@@ -162,7 +162,7 @@ fn add_from(
     Ok(())
 }
 
-// What is asked for by options and so many FILEs of the first side.
+// The command for a task, its options and the number of names on the first side.
 fn asked_for(task: Task, items: &[Item<'_>], middle: usize) -> Command {
     match task {
         Task::Merge(operation) => {
@@ -203,7 +203,7 @@ fn inspection_of(strictly: bool) -> Inspection {
     }
 }
 
-/// How these options say to print, or else this form.
+/// The form that these options give, else the usual one.
 pub(crate) fn form_of(usual: Form, items: &[Item<'_>]) -> Form {
     if is_given(items, RANGES) {
         return Form::Ranges;
@@ -217,7 +217,7 @@ pub(crate) fn form_of(usual: Form, items: &[Item<'_>]) -> Form {
     }
 }
 
-// How these options say that lists are written.
+// The format of lists that these options give.
 fn shape_of(items: &[Item<'_>]) -> Shape {
     if !is_given(items, JSON) {
         return Shape::Lines;
@@ -239,7 +239,7 @@ pub(crate) fn prefix_in(text: &str) -> Option<u8> {
     length_in(without_plus(text.as_bytes()), 128)
 }
 
-// What follows a `+` at the head of a text, or the text.
+// A text without the `+` at its start, if it has one.
 fn without_plus(text: &[u8]) -> &[u8] {
     match text {
         [b'+', digits @ ..] => digits,

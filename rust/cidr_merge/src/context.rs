@@ -1,19 +1,19 @@
 // Written by scripts/plain out of crates/cidr_merge/src/context.rt
 
-//! What a run is given.
+//! The inputs of a run.
 
 use fosibegan::plain_std::string::String;
 use crate::set_names::SetNames;
 use fosibegan::plain_std::alloc::Global;
 
-/// What a run is given, but for what it writes to.
+/// The inputs of a run, without its outputs.
 pub(crate) struct Context<'a, L> {
-    /// Where it allocates.
+    /// The allocator.
     pub alloc: Global,
-    /// The names of the lists, or of a `find` the addresses and then those.
+    /// The names of the lists; for a `find`, the addresses and then the names of the lists.
     pub names: &'a [String],
-    /// The lists that it can open.
+    /// The lists that the run can open.
     pub lists: &'a L,
-    /// The names of the sets that an export fills, and what stands around each line.
+    /// The names of the sets that an export fills, and the texts around each line.
     pub sets: &'a SetNames<'a>,
 }

@@ -1,6 +1,6 @@
 // Written by scripts/plain out of crates/cidr_merge/src/counts.rt
 
-//! How many blocks and addresses there are.
+//! The numbers of blocks and of addresses.
 
 use crate::sweep::Sweep;
 use fosibegan::plain_std::arrayvec::ArrayString;
@@ -9,7 +9,7 @@ use fosibegan::ipnetwork_addr::decimal::push_number;
 use fosibegan::ipnetwork_blocks::AddressSpace;
 use fosibegan::ipnetwork_sets::{AddressCount, SetBlocks};
 
-/// How many blocks there are, and how many addresses they have.
+/// The number of blocks, and of the addresses in them.
 #[derive(Clone, Copy, Debug)]
 pub(crate) struct Counts {
     blocks: u128,
@@ -17,7 +17,7 @@ pub(crate) struct Counts {
 }
 
 impl Counts {
-    /// The counts of these blocks.
+    /// Counts these blocks and their addresses.
     pub(crate) fn of<N: AddressSpace>(mut blocks: Sweep<'_, N>) -> Counts {
         let mut count = 0u128;
         let mut addresses = AddressCount::ZERO;
@@ -31,7 +31,7 @@ impl Counts {
         }
     }
 
-    /// Both numbers, with a blank between them.
+    /// Returns both numbers, with a space between them.
     pub(crate) fn text(self) -> ArrayString<80> {
         let mut text = ArrayString::new();
         push_number(&mut text, self.blocks);
@@ -41,7 +41,7 @@ impl Counts {
     }
 }
 
-// Writes a count of addresses at the end of a text.
+// Appends a count of addresses to a text.
 #[inline]
 fn push_count(text: &mut ArrayString<80>, count: AddressCount) {
     match count {

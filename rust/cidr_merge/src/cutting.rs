@@ -1,6 +1,6 @@
 // Written by scripts/plain out of crates/cidr_merge/src/cutting.rt
 
-//! Cuts networks into those of one prefix length.
+//! Splits networks into subnets of one prefix length.
 
 use crate::set_names::{SetNames, put_line};
 use fosibegan::ipnetwork::{Address, CidrNetwork, Network};
@@ -10,7 +10,7 @@ use cidr_programs::lines::fault::RunFault;
 use cidr_programs::lines::output::Output;
 use fosibegan::plain_std::io::Write;
 
-/// Prints the pieces of this prefix length of each block of a set.
+/// Prints the subnets of this prefix length of each block of a set, or the block if it has none.
 pub(crate) fn print_pieces<A: Address, W: Write>(
     names: &SetNames<'_>,
     length: u8,
@@ -24,7 +24,7 @@ pub(crate) fn print_pieces<A: Address, W: Write>(
     Ok(())
 }
 
-// Prints the pieces of a block.
+// Prints the pieces of a block, or the block itself if it has no subnets of this length.
 fn print_block<A: Address, W: Write>(
     names: &SetNames<'_>,
     length: u8,
@@ -40,7 +40,7 @@ fn print_block<A: Address, W: Write>(
     Ok(())
 }
 
-/// Prints a network on a line.
+/// Prints a network on a line of its own.
 pub(crate) fn put_network<A: Address, W: Write>(
     names: &SetNames<'_>,
     network: Network<A>,

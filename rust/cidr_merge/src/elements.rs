@@ -1,6 +1,6 @@
 // Written by scripts/plain out of crates/cidr_merge/src/elements.rt
 
-//! How a block is written in an export.
+//! The text of a block in an export.
 
 use crate::addresses::print_addresses;
 use crate::cutting::put_network;
@@ -14,7 +14,7 @@ use cidr_programs::lines::output::Output;
 use cidr_programs::program::putting::put_all;
 use fosibegan::plain_std::io::Write;
 
-/// The most bytes of a line of comma-separated values.
+/// The greatest length of a line of comma-separated values, in bytes.
 const LINE_CAPACITY: usize = 129;
 
 /// A line of comma-separated values.
@@ -39,7 +39,7 @@ pub(crate) fn print_element<A: Address, W: Write>(
     }
 }
 
-// The mask with each bit turned round.
+// Returns the wildcard mask of a block: the complement of its mask.
 fn wildcard<A: Address>(block: Network<A>) -> A {
     A::mask(0).greatest(block.prefix())
 }
@@ -68,7 +68,7 @@ fn put_with_mask<A: Address, W: Write>(
     }
 }
 
-// A line of comma-separated values.
+// Returns the line of comma-separated values for a block.
 fn csv_line<A: Address>(version: Version, block: Network<A>) -> Line {
     let mut text = ArrayString::new();
     text.push_str(family_name(version));
@@ -82,8 +82,8 @@ fn csv_line<A: Address>(version: Version, block: Network<A>) -> Line {
     text
 }
 
-// Writes what adds a block to the new set of ipset: a set cannot have the block of all addresses, but
-// both halves of it.
+// Writes the command that adds a block to the new set of ipset. Since a set cannot have the block
+// of all addresses, its two halves are added instead.
 fn put_ipset<A: Address, W: Write>(
     set: Name,
     version: Version,
@@ -106,7 +106,7 @@ fn put_ipset<A: Address, W: Write>(
     )
 }
 
-// Writes what adds all addresses to the new set of ipset.
+// Writes the commands that add all addresses to the new set of ipset.
 fn put_halves<W: Write>(
     set: Name,
     version: Version,
@@ -123,7 +123,7 @@ fn put_halves<W: Write>(
     )
 }
 
-// The name of a family.
+// Returns the name of a family.
 fn family_name(version: Version) -> &'static str {
     match version {
         Version::V4 => "IPv4",
@@ -131,7 +131,7 @@ fn family_name(version: Version) -> &'static str {
     }
 }
 
-// The halves of the block of all addresses.
+// Returns the two halves of the block of all addresses.
 fn half_blocks(version: Version) -> (&'static str, &'static str) {
     match version {
         Version::V4 => ("0.0.0.0/1", "128.0.0.0/1"),
@@ -139,12 +139,12 @@ fn half_blocks(version: Version) -> (&'static str, &'static str) {
     }
 }
 
-// Writes the canonical text of an address at the end of a text.
+// Appends the canonical text of an address to a text.
 fn push_address<A: Address>(text: &mut Line, address: A) {
     text.push_text(&address.canonical());
 }
 
-// Writes the canonical text of a block at the end of a text.
+// Appends the canonical text of a block to a text.
 fn push_network<A: Address>(text: &mut Line, block: Network<A>) {
     push_address(text, block.ip());
     text.push('/');

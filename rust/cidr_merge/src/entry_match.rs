@@ -1,13 +1,13 @@
 // Written by scripts/plain out of crates/cidr_merge/src/entry_match.rt
 
-//! What the lines of lists name.
+//! The entries in the lines of lists, and the addresses they have.
 
 use fosibegan::ipnetwork::IpAddr;
 use cidr_programs::lists::{Entry, LINE_MAX, LineFault, read_entry};
 
-/// The entry of a line, or nothing, or why it is refused.
+/// Returns the entry of a line, if it has one, or why the line is refused.
 pub(crate) fn entry_of(line: &[u8]) -> Result<Option<Entry>, LineFault> {
-    // Does nothing. The proof needs the law: what reading a line gives can be computed.
+    // Does nothing. The proof needs the law: the result of reading a line can be computed.
     if line.len() > LINE_MAX {
         return Err(LineFault::Length);
     }
@@ -17,7 +17,7 @@ pub(crate) fn entry_of(line: &[u8]) -> Result<Option<Entry>, LineFault> {
     }
 }
 
-/// Whether an entry has an address.
+/// Returns whether an entry has an address.
 pub(crate) fn has_address(entry: &Entry, address: &IpAddr) -> bool {
     // Does nothing. The proof needs the law: the members of a network can be computed.
     match entry {
@@ -26,7 +26,7 @@ pub(crate) fn has_address(entry: &Entry, address: &IpAddr) -> bool {
     }
 }
 
-// Whether the addresses are of one family, and the first is not after the last.
+// Returns whether the addresses are of one family and the first is not greater than the last.
 fn is_range(first: &IpAddr, last: &IpAddr) -> bool {
     if let (IpAddr::V4(_), IpAddr::V6(_)) = (first, last) {
         return false;

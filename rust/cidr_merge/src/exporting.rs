@@ -26,8 +26,8 @@ pub(crate) fn print_export<W: Write>(
     put_frame(export, names, Frame::Foot, output)
 }
 
-// Prints the blocks of a family, which may follow blocks of the other, and tells whether any was
-// printed yet.
+// Prints the blocks of a family, and returns whether any block was printed up to now. `follows`
+// says whether blocks of the other family were printed before.
 fn print_family<A: Address, W: Write>(
     export: Export,
     names: &SetNames<'_>,
@@ -42,7 +42,7 @@ fn print_family<A: Address, W: Write>(
     Ok(any)
 }
 
-// Prints the blocks of a family with what stands around them.
+// Prints the blocks of a family, and the texts around them if there are any.
 fn print_listed<A: Address, W: Write>(
     export: Export,
     names: &SetNames<'_>,

@@ -1,6 +1,6 @@
 // Written by scripts/plain out of crates/cidr_merge/src/exports.rt
 
-//! Forms that other programs read, and the texts that stand around the blocks in each.
+//! Forms that other programs read, and the texts around the blocks in each.
 
 use crate::set_names::SetNames;
 use cidr_programs::lines::fault::RunFault;
@@ -11,17 +11,17 @@ use fosibegan::plain_std::io::Write;
 /// A form that other programs read.
 #[derive(Clone, Copy, Debug, PartialEq, Eq)]
 pub enum Export {
-    /// An IPv4 address and its mask on a line.
+    /// Lines with an IPv4 address and its mask, or an IPv6 block.
     Netmask,
-    /// An IPv4 address and its mask with each bit turned round on a line.
+    /// Lines with an IPv4 address and its wildcard mask, or an IPv6 block.
     Wildcard,
     /// Comma-separated values with a header line.
     Csv,
-    /// What `nft -f` reads: the sets of both families get these blocks, in place of what they have.
+    /// Input for `nft -f` that replaces the elements of both families' sets by these blocks.
     Nft,
-    /// What `ipset restore` reads, likewise.
+    /// Input for `ipset restore` that does the same.
     Ipset,
-    /// An array of strings.
+    /// A JSON array of strings.
     Json,
     /// Each address on a line.
     Addresses,
@@ -36,13 +36,13 @@ pub enum Version {
     V6,
 }
 
-/// How a set of ipset is made, behind its name.
+/// The options that create an IPv4 set of ipset, after its name.
 const MADE_V4: &str = " hash:net family inet maxelem 4294967295 -exist\n";
 
-/// The same for IPv6.
+/// The options that create an IPv6 set of ipset, after its name.
 const MADE_V6: &str = " hash:net family inet6 maxelem 4294967295 -exist\n";
 
-/// The end of the name of a family's set.
+/// Returns the suffix of the name of a family's set.
 pub(crate) fn family_word(version: Version) -> &'static str {
     match version {
         Version::V4 => "_ipv4",
@@ -50,7 +50,7 @@ pub(crate) fn family_word(version: Version) -> &'static str {
     }
 }
 
-// The addresses of a set of nftables.
+// Returns the type of the elements of a family's set of nftables.
 fn address_type(version: Version) -> &'static str {
     match version {
         Version::V4 => "ipv4_addr",
@@ -58,7 +58,7 @@ fn address_type(version: Version) -> &'static str {
     }
 }
 
-// How a set of ipset is made, behind its name.
+// Returns the options that create a set of ipset, after its name.
 fn made(version: Version) -> &'static str {
     match version {
         Version::V4 => MADE_V4,
@@ -66,14 +66,14 @@ fn made(version: Version) -> &'static str {
     }
 }
 
-/// What stands around the blocks of an export.
+/// A place around the blocks of an export.
 #[derive(Clone, Copy, Debug, PartialEq, Eq)]
 pub enum Frame {
     /// Before everything else.
     Head,
     /// Before the blocks of a family, even if there is none.
     FamilyHead(Version),
-    /// Before the first block of a family, which may follow blocks of the other.
+    /// Before the first block of a family, and whether blocks of the other family come before it.
     Opening(Version, bool),
     /// After the blocks of a family, even if there is none.
     FamilyFoot(Version),
@@ -81,7 +81,7 @@ pub enum Frame {
     Foot,
 }
 
-/// Writes what stands around the blocks.
+/// Writes the text of an export at this place around the blocks.
 pub(crate) fn put_frame<W: Write>(
     export: Export,
     names: &SetNames<'_>,
@@ -158,7 +158,7 @@ pub(crate) fn put_frame<W: Write>(
     }
 }
 
-/// What stands between two blocks of a family, and after the last one.
+/// Returns the text between two blocks of a family, and the one after its last block.
 pub(crate) fn around_blocks(export: Export) -> (&'static str, &'static str) {
     match export {
         Export::Nft => (",\n\t", "\n}\n"),

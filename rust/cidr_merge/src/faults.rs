@@ -15,12 +15,12 @@ use cidr_programs::options::reading::is_plain;
 use cidr_programs::options::table::{Kind, Row, Table, kind_at, named};
 use cidr_programs::program::words::count_of;
 
-/// This is wrong with a word.
+/// The fault of a word, with the problem to report.
 pub(crate) fn at<'a>(word: &'a str, problem: &'a str) -> Fault<'a> {
     about(Subject::Word(Text::new(word)), problem)
 }
 
-// What is told of an option that stands in a wrong place: this, unless it stands alone.
+// The problem of an option in a wrong place: the usual one, or its own if it is only taken alone.
 fn problem_of_row(rows: &[Row], row: usize, usual: &'static str) -> &'static str {
     match kind_at(rows, row) {
         Kind::Alone => problem_at(rows, row),
@@ -28,7 +28,7 @@ fn problem_of_row(rows: &[Row], row: usize, usual: &'static str) -> &'static str
     }
 }
 
-/// What is wrong with a first word that says nothing to do.
+/// The fault of a first word that names no task.
 pub(crate) fn no_task_fault<'a>(rows: &[Row], word: &'a str) -> Fault<'a> {
     if is_plain(word) {
         return at(word, "not an operation");
@@ -45,7 +45,7 @@ fn takes(task: Task, row: usize) -> bool {
     taken(task).iter().any(|one| *one == row)
 }
 
-// That a task does not take the option of a row.
+// The fault if a task does not take the option of a row.
 fn option_fault<'a>(rows: &[Row], task: Task, row: usize) -> Option<Fault<'a>> {
     if takes(task, row) {
         return None;
@@ -64,7 +64,7 @@ fn is_value(row: usize, text: &str) -> bool {
     }
 }
 
-// That a text is no value of the option of a row.
+// The fault if a text is not a valid value of the option of a row.
 fn value_fault<'a>(rows: &[Row], row: usize, text: &'a str) -> Option<Fault<'a>> {
     if is_value(row, text) {
         return None;
@@ -88,7 +88,7 @@ fn item_fault<'a>(rows: &[Row], task: Task, item: &Item<'a>) -> Option<Fault<'a>
     }
 }
 
-// What is wrong with the first option with which something is wrong.
+// The fault of the first item that has one.
 fn items_fault<'a>(rows: &[Row], task: Task, items: &[Item<'a>]) -> Option<Fault<'a>> {
     let mut at = 0;
     while at < items.len() {
@@ -100,17 +100,17 @@ fn items_fault<'a>(rows: &[Row], task: Task, items: &[Item<'a>]) -> Option<Fault
     None
 }
 
-// Whether `--strict` is given without the `--json` that it says more of.
+// Whether `--strict` is given without the `--json` that it needs.
 fn lacks_json(task: Task, items: &[Item<'_>]) -> bool {
     takes(task, JSON) && is_given(items, STRICT) && !is_given(items, JSON)
 }
 
-// Whether a `split` is without its length.
+// Whether a `split` has no prefix length.
 fn lacks_prefix(task: Task, items: &[Item<'_>]) -> bool {
     matches!(task, Task::Split) && !is_given(items, PREFIX)
 }
 
-// Whether a task cannot print in this form: those that other programs read cannot tell the sides of `differ`.
+// Whether a task cannot print in this form: exports cannot show the two sides of a `differ`.
 fn cannot_print(task: Task, form: Form) -> bool {
     match (task, form) {
         (Task::Merge(Operation::Differ), Form::Exported(_)) => true,
@@ -127,7 +127,7 @@ fn has_table(form: Form) -> bool {
     matches!(form, Form::Exported(Export::Nft))
 }
 
-// Whether a form has lines, around which texts can stand.
+// Whether a form has lines with a text before and after each.
 fn has_lines(form: Form) -> bool {
     !matches!(
         form,
@@ -135,7 +135,7 @@ fn has_lines(form: Form) -> bool {
     )
 }
 
-// What is told of a text around lines in another form.
+// The problem with a text around lines in another form.
 const NO_LINES: &str = "not together with --count, nor with --format csv, nft, ipset or json";
 
 // What is wrong with options that name sets, or texts around lines, in this form.
@@ -177,8 +177,8 @@ fn together_fault<'a>(table: &Table<'_>, task: Task, items: &[Item<'a>]) -> Opti
     names_fault(items, form)
 }
 
-// What is wrong with the sides, which have so many FILEs: with one a `--`, or that there is no FILE; with two that there is
-// no `--`, another one, or nothing before or behind it.
+// The fault of the sides, by the number of `--` and of FILEs on each. If the task has one side: a
+// `--`, or no FILE. If it has two: no `--`, more than one, or nothing before or after it.
 fn sides_fault<'a>(
     task: Task,
     name: &'a str,
@@ -207,7 +207,7 @@ fn sides_fault<'a>(
     }
 }
 
-// What is wrong with the names of lists: that one is empty, or that standard input is among them twice.
+// The fault of the names of lists: one is empty, or standard input is named twice.
 fn files_fault<'a>(files: &[String]) -> Option<Fault<'a>> {
     if count_of(files, "") > 0 {
         Some(at("", "not a file name"))
@@ -218,7 +218,7 @@ fn files_fault<'a>(files: &[String]) -> Option<Fault<'a>> {
     }
 }
 
-// The lists that are read: those of both sides, but what stands before the `--` of a `find` are addresses.
+// The names of lists: all names, except that those before the `--` of a `find` are addresses.
 fn files_among(task: Task, middle: usize, names: &[String]) -> &[String] {
     match task {
         Task::Find => &names[middle..],
@@ -235,8 +235,8 @@ pub(crate) fn from_count(task: Task, items: &[Item<'_>]) -> usize {
     }
 }
 
-/// What is wrong with the words behind the first: with an option, the first that is wrong; then with options together, with
-/// the sides, and with the names of lists.
+/// The first fault of the words: that of the first wrong option, of options together, of the sides,
+/// or of the names of lists.
 pub(crate) fn fault_of<'a>(
     table: &Table<'_>,
     task: Task,

@@ -1,6 +1,6 @@
 // Written by scripts/plain out of crates/cidr_merge/src/find.rt
 
-//! The run of a `find`.
+//! Runs a `find`.
 
 use fosibegan::plain_std::vec::Vec;
 use fosibegan::plain_std::string::String;
@@ -27,11 +27,11 @@ use fosibegan::plain_std::io::Write;
 /// The exit status if an entry was printed.
 const FOUND: u8 = 0;
 
-/// The exit status if no entry has an address that is sought.
+/// The exit status if no entry has a sought address.
 const NOTHING_FOUND: u8 = 1;
 
-/// Prints the entries of lists that have addresses, and returns the exit status. The names before this index are
-/// addresses, and those from it on lists, of which so many of the first have addresses too.
+/// Runs a `find`, and returns the exit status. The first `middle` names are addresses, the next
+/// `from` name lists of addresses, and the others name the lists to search.
 pub(crate) fn find<L: OpenLists, W: Write, E: Write>(
     middle: usize,
     from: usize,
@@ -62,8 +62,8 @@ fn refuse_sought<E: Write>(
     }
 }
 
-// Reads the lists, and prints their entries that have one of these addresses, or of those of the first
-// lists.
+// Reads the lists, and prints the entries that have one of these addresses, or one of those in the
+// lists of addresses.
 fn find_all<L: OpenLists, W: Write, E: Write>(
     middle: usize,
     from: usize,
@@ -112,8 +112,8 @@ fn all_sought(
     Ok((sought, places))
 }
 
-// Prints the entries of lists that have an address that is sought, and tells the refused lines, those of the
-// lists of addresses first.
+// Prints the entries that have a sought address, and reports the refused lines, those of the lists
+// of addresses first.
 fn search<W: Write, E: Write>(
     query: &Query<'_>,
     froms: &WholeLists<'_>,
@@ -128,7 +128,7 @@ fn search<W: Write, E: Write>(
     end(written, status, errors)
 }
 
-// The exit status by whether an entry was printed, and whether a refused line was told.
+// The exit status, given whether an entry was printed and whether a refused line was reported.
 fn status(printed: bool, told: bool) -> u8 {
     if told {
         FAILED

@@ -1,6 +1,6 @@
 // Written by scripts/plain out of crates/cidr_merge/src/findings.rt
 
-//! The lines that tell what was found in lists.
+//! The lines in which findings are printed.
 
 use crate::numbered_lines::Line;
 use cidr_programs::lines::output::Output;
@@ -9,7 +9,7 @@ use cidr_programs::program::escapes::tell_escaped;
 use cidr_programs::program::messages::{tell, tell_bytes, tell_number};
 use fosibegan::plain_std::io::Write;
 
-/// Tells why a line is refused, and the line.
+/// Prints why a line is refused, and the line, unless it is too long.
 pub(crate) fn tell_wrong<W: Write>(line: &Line<'_>, fault: LineFault, output: &mut Output<'_, W>) {
     let text = shown(fault, line.text);
     let line = Line { text, ..*line };
@@ -22,13 +22,13 @@ pub(crate) fn tell_wrong<W: Write>(line: &Line<'_>, fault: LineFault, output: &m
     );
 }
 
-/// Tells that the entry of a line has host bits, and the line.
+/// Prints that the entry of a line has host bits, and the line.
 pub(crate) fn tell_host_bits<W: Write>(line: &Line<'_>, output: &mut Output<'_, W>) {
     tell_line(line, ": host bits", b"", ": ", output);
 }
 
-/// Tells where a line stands, what there is to say of it, in two parts, and behind a separator the
-/// line.
+/// Prints the place of a line, two texts about it (`what` and `about`), a separator, and the line,
+/// escaped.
 pub(crate) fn tell_line<W: Write>(
     line: &Line<'_>,
     what: &str,
@@ -44,19 +44,19 @@ pub(crate) fn tell_line<W: Write>(
     tell("\n", output);
 }
 
-/// Tells where a line stands.
+/// Prints the place of a line: `FILE:LINE`.
 pub(crate) fn tell_place<W: Write>(name: &str, number: usize, output: &mut Output<'_, W>) {
     tell(name, output);
     tell(":", output);
     tell_number(number as u64, output);
 }
 
-/// Whether something was found here or there.
+/// Returns whether something was found in either of two places.
 pub(crate) fn either(here: bool, there: bool) -> bool {
     here || there
 }
 
-// What is shown of a refused line: the line, unless it is too long.
+// Returns the text to show of a refused line: the line, or nothing if it is too long.
 fn shown(fault: LineFault, line: &[u8]) -> &[u8] {
     match fault {
         LineFault::Entry(_) => line,
@@ -64,7 +64,7 @@ fn shown(fault: LineFault, line: &[u8]) -> &[u8] {
     }
 }
 
-// What stands between a fault and that.
+// Returns the text between a fault and the text of its line.
 fn separator(line: &[u8]) -> &'static str {
     if line.is_empty() { "" } else { ": " }
 }

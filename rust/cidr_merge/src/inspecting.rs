@@ -1,6 +1,6 @@
 // Written by scripts/plain out of crates/cidr_merge/src/inspecting.rt
 
-//! The run that looks lists over.
+//! Runs an inspection of lists.
 
 use fosibegan::plain_std::vec::Vec;
 use fosibegan::plain_std::string::String;
@@ -26,7 +26,7 @@ const NOTHING_FOUND: u8 = 0;
 /// The exit status if something was found.
 const FOUND: u8 = 1;
 
-/// Looks over the lists, and returns the exit status.
+/// Inspects the lists, and returns the exit status.
 pub(crate) fn inspect<L: OpenLists, W: Write, E: Write>(
     inspection: Inspection,
     context: &Context<'_, L>,
@@ -42,7 +42,7 @@ pub(crate) fn inspect<L: OpenLists, W: Write, E: Write>(
     look_over(inspection, context.alloc, names, texts, output, errors)
 }
 
-// Looks over the lists of these names and bytes, and returns the exit status.
+// Inspects lists of these names and bytes, and returns the exit status.
 fn look_over<W: Write, E: Write>(
     inspection: Inspection,
     alloc: Global,
@@ -70,8 +70,8 @@ fn check<W: Write, E: Write>(
     end(written, status(found), errors)
 }
 
-// Prints the wrong entries of lists, and then what there is to say of the others in order, and
-// returns the exit status.
+// Prints the wrong entries of lists, then the findings for all entries in order, and returns the
+// exit status.
 fn check_ordered<W: Write, E: Write>(
     alloc: Global,
     strictly: bool,
@@ -92,8 +92,8 @@ fn check_ordered<W: Write, E: Write>(
     end(written, status(either(wrong, more)), errors)
 }
 
-// Tells what there is to say of entries in order, and returns whether there is anything. Leaves the
-// entries in any order.
+// Prints the findings for entries in order, and returns whether there are any. May reorder the
+// entries.
 fn tell_ordered<W: Write>(
     strictly: bool,
     names: &[String],
@@ -107,7 +107,7 @@ fn tell_ordered<W: Write>(
     }
 }
 
-// The exit status by whether something was found.
+// Returns the exit status, given whether something was found.
 fn status(found: bool) -> u8 {
     if found { FOUND } else { NOTHING_FOUND }
 }

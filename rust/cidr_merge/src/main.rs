@@ -1,6 +1,6 @@
 // Written by scripts/plain out of crates/cidr_merge/src/main.rt
 
-//! Merges lists of networks: prints the least list of what an operation leaves of them.
+//! Merges lists of networks: prints the result of an operation on them as the shortest list.
 #![allow(unused_imports, unused_labels, unused_variables, dead_code)]
 #![allow(clippy::complexity, clippy::style, clippy::large_enum_variant, clippy::manual_contains,
     clippy::non_canonical_clone_impl)]

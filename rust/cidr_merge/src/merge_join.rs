@@ -1,6 +1,6 @@
 // Written by scripts/plain out of crates/cidr_merge/src/merge_join.rt
 
-//! The parts that an operation leaves of both sides, in one ascending list.
+//! The result of an operation on two sides, as one ascending list of parts.
 
 use crate::command_line::Operation;
 use crate::side_parts::Parts;
@@ -21,7 +21,7 @@ pub(crate) struct MergeJoin<P: Parts> {
 }
 
 impl<P: Parts> MergeJoin<P> {
-    /// The parts of the first side, and, for `differ` only, those of the second.
+    /// Merges the parts of the first side and, only for `differ`, those of the second.
     pub(crate) fn of(operation: Operation, mut firsts: P, mut seconds: P) -> MergeJoin<P> {
         let first = firsts.next_part();
         let second = first_of_second(operation, &mut seconds);
@@ -33,7 +33,7 @@ impl<P: Parts> MergeJoin<P> {
         }
     }
 
-    /// The part that comes first, and its side.
+    /// Removes and returns the part that begins first, with its side.
     pub(crate) fn next(&mut self) -> Option<(Side, P::Part)> {
         let Some(first) = self.first else {
             let second = self.second?;
@@ -49,20 +49,20 @@ impl<P: Parts> MergeJoin<P> {
         }
     }
 
-    // The part of the first side that is at hand.
+    // Returns this part, the next one of the first side, and moves on to the one after it.
     fn next_of_first(&mut self, part: P::Part) -> (Side, P::Part) {
         self.first = self.firsts.next_part();
         (Side::First, part)
     }
 
-    // The part of the second side that is at hand.
+    // Returns this part, the next one of the second side, and moves on to the one after it.
     fn next_of_second(&mut self, part: P::Part) -> (Side, P::Part) {
         self.second = self.seconds.next_part();
         (Side::Second, part)
     }
 }
 
-// The first part that the operation leaves of the second side.
+// Returns the first part of the second side that the operation prints.
 fn first_of_second<P: Parts>(operation: Operation, seconds: &mut P) -> Option<P::Part> {
     match operation {
         Operation::Union => None,

@@ -1,6 +1,6 @@
 // Written by scripts/plain out of crates/cidr_merge/src/numbered_lines.rt
 
-//! The lines of lists, one after the other, with their numbers.
+//! An iterator over the lines of lists, with their numbers.
 
 use fosibegan::plain_std::vec::Vec;
 use fosibegan::plain_std::string::String;
@@ -15,27 +15,27 @@ pub(crate) struct Line<'a> {
     pub list: usize,
     /// The name of the list.
     pub name: &'a str,
-    /// The number of the line, from 1 on.
+    /// The number of the line, from 1.
     pub number: usize,
-    /// The line, without its line end.
+    /// The line, without its line ending.
     pub text: &'a [u8],
 }
 
-/// The lines of lists that are to come.
+/// The lines of lists that are still to come.
 pub(crate) struct NumberedLines<'a> {
     // The names of all lists.
     names: &'a [String],
-    // The bytes of those that are not begun, of which the first has the index `next`.
+    // The bytes of the lists after the current one; the first of them has the index `next`.
     texts: &'a [Vec<u8>],
     next: usize,
-    // The list that is begun, how many of its lines were taken, and the others.
+    // The index of the current list, how many of its lines were returned, and its other lines.
     list: usize,
     number: usize,
     lines: TextLines<'a>,
 }
 
 impl<'a> NumberedLines<'a> {
-    /// All lines of lists.
+    /// Returns an iterator over all lines of lists.
     pub(crate) fn of(lists: &WholeLists<'a>) -> NumberedLines<'a> {
         NumberedLines {
             names: lists.names,
@@ -47,7 +47,7 @@ impl<'a> NumberedLines<'a> {
         }
     }
 
-    /// The next line.
+    /// Returns the next line.
     pub(crate) fn next(&mut self) -> Option<Line<'a>> {
         'lists: loop {
             if let Some(text) = self.lines.next() {

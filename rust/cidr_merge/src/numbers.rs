@@ -1,6 +1,6 @@
 // Written by scripts/plain out of crates/cidr_merge/src/numbers.rt
 
-//! The places of addresses that are sought, by number: what an entry does not have is passed over.
+//! The places of sought addresses, by number, so that a search can skip those an entry lacks.
 
 use fosibegan::plain_std::vec::Vec;
 use crate::placed::ends_of;
@@ -22,10 +22,10 @@ pub(crate) fn places_of(alloc: Global, sought: &[Sought]) -> Result<Vec<Place>, 
     Ok(places)
 }
 
-/// The most places among which the next one is looked for.
+/// The greatest number of places among which `next_place` searches.
 const FEW: usize = 64;
 
-/// The places of addresses that an entry may have, or more than so few of them. It has none of those at other places.
+/// The places of the addresses that an entry may have, unless there are more than `FEW`.
 pub(crate) fn places_in<'a>(places: &'a [Place], entry: &Entry) -> &'a [Place] {
     let (first, last) = ends_of(entry);
     few_up_to(
@@ -34,14 +34,14 @@ pub(crate) fn places_in<'a>(places: &'a [Place], entry: &Entry) -> &'a [Place] {
     )
 }
 
-// How many of places are passed over before the first that may have this number.
+// The number of places whose number is less than this one.
 fn count_before(places: &[Place], first: u64) -> usize {
     places.partition_point(
         |place: &Place| -> bool { place.0 < first },
     )
 }
 
-// The first of places, up to this number, or more than so few of them.
+// The first places, up to this number, or the first `FEW + 1`.
 fn few_up_to(places: &[Place], last: u64) -> &[Place] {
     let mut count = 0;
     while count < places.len() && count <= FEW && places[count].0 <= last {
@@ -50,7 +50,7 @@ fn few_up_to(places: &[Place], last: u64) -> &[Place] {
     &places[..count]
 }
 
-/// The least of these places from one on, or, of more than so few, that one.
+/// The least of these places that is at least `from`; `from` itself if there are more than `FEW`.
 pub(crate) fn next_place(places: &[Place], from: usize, end: usize) -> usize {
     if places.len() > FEW {
         return from;
@@ -65,7 +65,7 @@ pub(crate) fn next_place(places: &[Place], from: usize, end: usize) -> usize {
     least
 }
 
-// The number of an address: of an IPv6 address that of its first 64 bits.
+// The number of an address; of an IPv6 address, that of its first 64 bits.
 fn number_of(address: &IpAddr) -> u64 {
     match address {
         IpAddr::V4(address) => u64::from(u32::from(*address)),

@@ -1,6 +1,6 @@
 // Written by scripts/plain out of crates/cidr_merge/src/overlapping.rt
 
-//! Tells which entries of lists overlap.
+//! Reports which entries of lists overlap.
 
 use fosibegan::plain_std::string::String;
 use crate::findings::{either, tell_place};
@@ -10,15 +10,15 @@ use cidr_programs::program::messages::tell;
 use cidr_programs::program::words::text_at;
 use fosibegan::plain_std::io::Write;
 
-/// Tells each pair of entries that overlap, of entries in order, and returns whether there is one.
-/// Leaves the entries in another order.
+/// Prints each pair of overlapping entries, given entries in order, and returns whether there is
+/// one. May reorder the entries.
 pub(crate) fn tell_pairs<W: Write>(
     names: &[String],
     entries: &mut [Placed],
     output: &mut Output<'_, W>,
 ) -> bool {
     let mut found = false;
-    // Those of the earlier entries that may overlap one to come stand first.
+    // The first `kept` entries are the earlier ones that may overlap a later one.
     let mut kept = 0;
     for place in 0..entries.len() {
         let count = keep_reaching(entries, kept, place);
@@ -31,8 +31,8 @@ pub(crate) fn tell_pairs<W: Write>(
     found
 }
 
-// Puts those of the first entries that overlap the one at a place first, in their order, and
-// returns how many they are.
+// Moves those of the first `kept` entries that the entry at a place overlaps to the front, in their
+// order, and returns their number.
 fn keep_reaching(entries: &mut [Placed], kept: usize, place: usize) -> usize {
     let mut count = 0;
     for index in 0..kept {
@@ -44,12 +44,12 @@ fn keep_reaching(entries: &mut [Placed], kept: usize, place: usize) -> usize {
     count
 }
 
-// Whether the entry at a place overlaps an earlier one.
+// Returns whether the entry at a place overlaps an earlier one.
 fn overlaps(entries: &[Placed], place: usize, earlier: usize) -> bool {
     is_up_to(&entries[place].first, &entries[earlier].last.0)
 }
 
-// Tells an entry with each of these earlier ones, and returns whether there is one.
+// Prints the finding for an entry with each of these earlier ones; returns whether there are any.
 fn tell_with<W: Write>(
     names: &[String],
     before: &[Placed],
@@ -62,7 +62,7 @@ fn tell_with<W: Write>(
     !before.is_empty()
 }
 
-/// Tells an entry with an earlier one.
+/// Prints the finding for an entry and an earlier one that it overlaps.
 pub(crate) fn tell_pair<W: Write>(
     names: &[String],
     later: &Placed,
@@ -77,7 +77,7 @@ pub(crate) fn tell_pair<W: Write>(
     tell("\n", output);
 }
 
-// What an entry is to an earlier one that it overlaps.
+// Returns how an entry overlaps an earlier one: as the same, within it, or in part.
 fn relation(later: &Placed, earlier: &Placed) -> &'static str {
     if !is_up_to(&later.last.0, &earlier.last.0) {
         return "overlaps";
@@ -89,7 +89,7 @@ fn relation(later: &Placed, earlier: &Placed) -> &'static str {
     }
 }
 
-/// Whether the first address is not after the last.
+/// Returns whether the first address is not after the last.
 pub(crate) fn is_up_to(first: &Key, last: &Key) -> bool {
     if first.0 == last.0 {
         first.1 <= last.1

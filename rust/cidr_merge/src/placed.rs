@@ -11,11 +11,11 @@ use cidr_programs::lists::Entry;
 use fosibegan::plain_std::alloc::{AllocError, Global};
 use std::cmp::Reverse;
 
-/// An address: whether it is an IPv6 address, and its number. The order is that of addresses.
+/// An address: whether it is an IPv6 address, and its number. Keys are ordered as addresses are.
 pub(crate) type Key = (bool, u128);
 
-/// An entry. The derived order is by the first address, the last address from the greatest on, the
-/// list, the line.
+/// An entry. The derived order is by the first address, then the last address in descending order,
+/// the list, and the line.
 #[derive(Clone, Copy, Debug, PartialEq, Eq, PartialOrd, Ord)]
 pub(crate) struct Placed {
     /// The first address.
@@ -24,11 +24,11 @@ pub(crate) struct Placed {
     pub last: Reverse<Key>,
     /// The index of the list among the lists.
     pub list: usize,
-    /// The number of the line, from 1 on.
+    /// The number of the line, from 1.
     pub number: usize,
 }
 
-/// The entries of lists, in order.
+/// Returns the entries of lists, in order, or `AllocError` if memory runs out.
 pub(crate) fn entries_of(alloc: Global, lists: &WholeLists<'_>) -> Result<Vec<Placed>, AllocError> {
     let mut entries = Vec::new(alloc);
     let mut lines = NumberedLines::of(lists);
@@ -53,7 +53,7 @@ fn add_line(line: &Line<'_>, entries: &mut Vec<Placed>) -> Result<(), AllocError
     Ok(())
 }
 
-/// The first and the last address of an entry.
+/// Returns the first and the last address of an entry.
 pub(crate) fn ends_of(entry: &Entry) -> (IpAddr, IpAddr) {
     match entry {
         Entry::Network(network) => (network.network(), network.broadcast()),
@@ -61,7 +61,7 @@ pub(crate) fn ends_of(entry: &Entry) -> (IpAddr, IpAddr) {
     }
 }
 
-/// An address as a key.
+/// Returns an address as a key.
 pub(crate) fn key_of(address: &IpAddr) -> Key {
     match address {
         IpAddr::V4(address) => (false, u128::from(u32::from(*address))),

@@ -1,6 +1,6 @@
 // Written by scripts/plain out of crates/cidr_merge/src/printing.rt
 
-//! Prints the answer.
+//! Prints the result of a merge.
 
 use crate::command_line::{Form, Operation, Request};
 use crate::counts::Counts;
@@ -17,19 +17,19 @@ use cidr_programs::lines::output::Output;
 use cidr_programs::program::putting::put_all;
 use fosibegan::plain_std::io::Write;
 
-/// A request, and what was read of the lists of its sides.
+/// A request, and the addresses read from the lists of its sides.
 pub(crate) struct Merging<'a> {
     /// The request.
     pub request: Request,
-    /// The names of the sets of an export, and what stands around each line.
+    /// The names of the sets of an export, and the texts around each line.
     pub sets: &'a SetNames<'a>,
     /// The addresses of the first side.
     pub first: &'a Sets,
-    /// Those of the second.
+    /// The addresses of the second side.
     pub second: &'a Sets,
 }
 
-/// Prints what the operation leaves of the sides.
+/// Prints the result of the operation on the two sides.
 pub(crate) fn print<W: Write>(
     merging: &Merging<'_>,
     output: &mut Output<'_, W>,
@@ -56,7 +56,7 @@ pub(crate) fn print<W: Write>(
     }
 }
 
-// Prints the ranges or the blocks that the operation leaves of two sets of one family.
+// Prints the result of the operation on two sets of one family, as ranges or as blocks.
 fn print_lines<A: Address, W: Write>(
     in_ranges: bool,
     names: &SetNames<'_>,
@@ -79,7 +79,7 @@ fn print_lines<A: Address, W: Write>(
     print_parts(names, operation, firsts, seconds, output)
 }
 
-// Prints the parts of the first side, and for `differ` among them those of the second.
+// Prints the parts of the first side and, for `differ`, those of the second among them.
 fn print_parts<P: Parts, W: Write>(
     names: &SetNames<'_>,
     operation: Operation,
@@ -94,7 +94,7 @@ fn print_parts<P: Parts, W: Write>(
     Ok(())
 }
 
-// Prints the counts of both families; of `differ` for each side.
+// Prints the counts of both families; for `differ`, those of each side.
 fn print_counts<W: Write>(merging: &Merging<'_>, output: &mut Output<'_, W>) -> Result<(), RunFault> {
     let operation = merging.request.operation;
     let first = merging.first;
@@ -106,7 +106,7 @@ fn print_counts<W: Write>(merging: &Merging<'_>, output: &mut Output<'_, W>) -> 
     }
 }
 
-// Prints the counts of both families of what the operation leaves of the first of two sides.
+// Prints the counts of the first side's addresses in the result, for both families.
 fn print_counts_left<W: Write>(
     operation: Operation,
     side: Side,
@@ -119,7 +119,7 @@ fn print_counts_left<W: Write>(
     print_count_line(sign, "v6 ", operation, &first.v6, &second.v6, output)
 }
 
-// Prints the counts of what the operation leaves of the first of two sets of one family.
+// Prints the counts of the first set's addresses in the result, for one family.
 fn print_count_line<A: Address, W: Write>(
     sign: &str,
     family: &str,
@@ -132,7 +132,7 @@ fn print_count_line<A: Address, W: Write>(
     put_counts(sign, family, counts.text().as_str(), output)
 }
 
-// Prints the counts of a family.
+// Prints the line with the counts of a family.
 fn put_counts<W: Write>(
     sign: &str,
     family: &str,

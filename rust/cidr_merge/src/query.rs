@@ -1,6 +1,6 @@
 // Written by scripts/plain out of crates/cidr_merge/src/query.rt
 
-//! The addresses that are sought in lists, as words name them, and those that are sought at once.
+//! The addresses that are sought in lists.
 
 use fosibegan::plain_std::vec::Vec;
 use fosibegan::plain_std::string::String;
@@ -11,13 +11,13 @@ use fosibegan::plain_std::alloc::Global;
 
 /// The addresses that are sought.
 pub(crate) struct Query<'a> {
-    /// They, in the order in which they are printed.
+    /// The addresses, in the order in which they are printed.
     pub sought: &'a [Sought],
-    /// Their places, by number.
+    /// The places of the addresses, in ascending order of their numbers.
     pub places: &'a [Place],
 }
 
-/// Why words are not taken as addresses.
+/// Why words are not accepted as addresses.
 #[derive(Clone, Copy, Debug, PartialEq, Eq)]
 pub(crate) enum QueryFault {
     /// The word at this index is not an address.
@@ -26,7 +26,7 @@ pub(crate) enum QueryFault {
     OutOfMemory,
 }
 
-/// The addresses that these words name, of which the first is the word at the index `first`.
+/// Returns the addresses that these words name; the first of the words has the index `first`.
 pub(crate) fn addresses_of(
     alloc: Global,
     words: &[String],

@@ -20,9 +20,9 @@ pub(crate) struct Sets {
     pub(crate) v6: AddressSet<Ipv6Network>,
 }
 
-/// Reads the lists of these names, in that order. The first has this index.
+/// Reads the lists of these names, in order; `first` is the index of the first of them.
 ///
-/// The refused lines are added to the earlier ones, even if the reading ends with a fault.
+/// The refused lines are added to `refusals`, even if the reading ends with a fault.
 pub(crate) fn read_side<L: OpenLists>(
     context: &Context<'_, L>,
     shape: Shape,
@@ -36,7 +36,7 @@ pub(crate) fn read_side<L: OpenLists>(
     (Sets { v4, v6 }, refusals, end)
 }
 
-// Reads the lists of these names.
+// Reads the lists of these names, in order.
 fn read_all<L: OpenLists>(
     context: &Context<'_, L>,
     shape: Shape,
@@ -50,7 +50,7 @@ fn read_all<L: OpenLists>(
     Ok(())
 }
 
-/// Reports why lists were not read to their ends, and returns the exit status for that.
+/// Reports why lists could not be read to their ends, and returns the exit status for that.
 pub(crate) fn refuse_lists<E: Write>(
     words: &[String],
     fault: ReadFault,

@@ -1,6 +1,6 @@
 // Written by scripts/plain out of crates/cidr_merge/src/repeating.rt
 
-//! Tells which entries of lists have addresses that another has.
+//! Reports which entries of lists share addresses with an earlier one.
 
 use fosibegan::plain_std::string::String;
 use crate::findings::either;
@@ -9,7 +9,7 @@ use crate::placed::Placed;
 use cidr_programs::lines::output::Output;
 use fosibegan::plain_std::io::Write;
 
-/// Tells each entry that overlaps an earlier one with one of those, of entries in order, and
+/// Prints each entry that overlaps an earlier one, with one of those, given entries in order, and
 /// returns whether there is one.
 pub(crate) fn tell_repetitions<W: Write>(
     names: &[String],
@@ -21,7 +21,7 @@ pub(crate) fn tell_repetitions<W: Write>(
     };
     let mut found = false;
     let mut previous = *first;
-    // Of the earlier entries the first of those with the greatest last address.
+    // Of the earlier entries, the first of those with the greatest last address.
     let mut furthest = *first;
     for place in 0..others.len() {
         let later = others[place];
@@ -38,7 +38,7 @@ pub(crate) fn tell_repetitions<W: Write>(
     found
 }
 
-// Tells an entry with an earlier one if it overlaps that, and returns whether it does.
+// Prints the finding for an entry and an earlier one if they overlap, and returns whether they do.
 fn tell_overlap<W: Write>(
     names: &[String],
     later: &Placed,
@@ -52,13 +52,13 @@ fn tell_overlap<W: Write>(
     false
 }
 
-// Whether an entry overlaps an earlier one.
+// Returns whether an entry overlaps an earlier one.
 fn reaches(later: &Placed, earlier: &Placed) -> bool {
     is_up_to(&later.first, &earlier.last.0)
 }
 
-// The entry with which a later one is told: the one just before it or the one that reaches
-// furthest.
+// Returns the entry with which a later one is compared: the one just before it, if it has the same
+// addresses, else the one that reaches furthest.
 fn other_of(previous: &Placed, furthest: &Placed, later: &Placed) -> Placed {
     if is_same(later, previous) {
         *previous
@@ -67,15 +67,15 @@ fn other_of(previous: &Placed, furthest: &Placed, later: &Placed) -> Placed {
     }
 }
 
-// Whether an entry has the addresses of an earlier one.
+// Returns whether an entry has the same addresses as an earlier one.
 fn is_same(later: &Placed, earlier: &Placed) -> bool {
     is_up_to(&later.first, &earlier.first)
         && is_up_to(&later.last.0, &earlier.last.0)
         && is_up_to(&earlier.last.0, &later.last.0)
 }
 
-// Of an entry and a later one that with the greater last address: the earlier one if they have the
-// same.
+// Returns that of two entries with the greater last address; the earlier one if the last addresses
+// are equal.
 fn further(earlier: &Placed, later: &Placed) -> Placed {
     if is_up_to(&later.last.0, &earlier.last.0) {
         *earlier

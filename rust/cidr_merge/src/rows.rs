@@ -71,13 +71,13 @@ const ROWS: [Row; 15] = [
     ),
 ];
 
-// What is told of a value of `--set` or `--table` that is no name.
+// The message for a value of `--set` or `--table` that is not a name.
 const NO_NAME: &str = "not a name of 1 to 22 letters, digits, _, - and ., the first a letter";
 
-// What is told of `--format` beside an option that says how to print.
+// The message for `--format` together with another option for the output form.
 const ANOTHER_FORM: &str = "--format: given twice, or together with --ranges or --count";
 
-// Which do not go together.
+// The pairs of options that exclude each other.
 const PAIRS: [Pair; 10] = [
     pair!(RANGES, COUNT, "--ranges: not together with --count"),
     pair!(FORMAT, FORMAT, ANOTHER_FORM),
@@ -101,7 +101,7 @@ pub(crate) fn table() -> Table<'static> {
     }
 }
 
-// Those of an operation that merges, of a `split` and of a `check`, by the indices of their rows.
+// The options of a merge, a `split` and a `check`, by the indices of their rows.
 const OF_MERGES: [usize; 10] = [
     RANGES, COUNT, FORMAT, SET, TABLE, BEFORE, AFTER, SKIP_BAD, JSON, STRICT,
 ];

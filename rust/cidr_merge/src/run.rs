@@ -1,6 +1,6 @@
 // Written by scripts/plain out of crates/cidr_merge/src/run.rt
 
-//! The run that the program makes.
+//! A run of the program.
 
 use fosibegan::plain_std::string::String;
 use crate::command_line::{Command, Operation, Request, command_of};
@@ -52,7 +52,7 @@ pub(crate) fn run<L: OpenLists, W: Write, E: Write>(
     }
 }
 
-// Does what is asked for.
+// Runs a command, and returns the exit status.
 fn obey<L: OpenLists, W: Write, E: Write>(
     command: Command,
     rows: &[Row],
@@ -68,7 +68,7 @@ fn obey<L: OpenLists, W: Write, E: Write>(
     }
 }
 
-// Reads the lists of both sides, and prints what the operation leaves of them.
+// Reads the lists of both sides, prints the result of the operation, and returns the exit status.
 fn merge<L: OpenLists, W: Write, E: Write>(
     request: Request,
     context: &Context<'_, L>,
@@ -91,8 +91,8 @@ fn merge<L: OpenLists, W: Write, E: Write>(
     }
 }
 
-// Reads the lists of both sides. Those of the second are only read if those of the first were read
-// to the end.
+// Reads the lists of both sides. The lists of the second side are read only if those of the first
+// were read to their ends.
 fn read_sides<L: OpenLists>(
     request: Request,
     context: &Context<'_, L>,
@@ -109,13 +109,13 @@ fn read_sides<L: OpenLists>(
     }
 }
 
-// Which lists of the second side are read: none, if those of the first were not read to the end.
+// Returns the lists of the second side to read: none if those of the first could not be read.
 fn lists_behind<'a>(read: &Result<(), ReadFault>, names: &'a [String]) -> &'a [String] {
     if read.is_err() { &[] } else { names }
 }
 
-// Prints what the operation leaves of the sides, unless lines were refused that are not to be
-// skipped.
+// Prints the result of the operation, unless lines were refused that are not to be skipped, and
+// returns the exit status.
 fn answer<W: Write, E: Write>(
     merging: &Merging<'_>,
     skips: bool,
@@ -131,22 +131,22 @@ fn answer<W: Write, E: Write>(
     end(written, status, errors)
 }
 
-// Writes what the operation leaves of the sides.
+// Writes the result of the operation.
 fn write_answer<W: Write>(merging: &Merging<'_>, output: &mut Output<'_, W>) -> Result<(), RunFault> {
     print(merging, output)?;
     output.finish()
 }
 
-/// The exit status of an answer.
+/// The exit status if the result was written and nothing below applies.
 const ANSWERED: u8 = 0;
 
 /// The exit status of `differ` if the sides are not equal.
 const UNEQUAL: u8 = 1;
 
-/// The exit status of an answer if lines were skipped.
+/// The exit status if the result was written and lines were skipped.
 const SKIPPED: u8 = 3;
 
-// The exit status of an answer.
+// Returns the exit status after the result was written.
 fn status(operation: Operation, skips: bool, first: &Sets, second: &Sets) -> u8 {
     if skips {
         return SKIPPED;

@@ -18,11 +18,11 @@ use fosibegan::plain_std::io::Write;
 pub(crate) struct Reported {
     /// Whether a line was printed.
     pub printed: bool,
-    /// Whether a refused line was told.
+    /// Whether a refused line was reported.
     pub told: bool,
 }
 
-/// Prints the entries with the addresses sought of lists, and tells the refused lines.
+/// Prints the entries of lists that have sought addresses, and reports the refused lines.
 pub(crate) fn search_lists<W: Write, E: Write>(
     query: &Query<'_>,
     lists: &WholeLists<'_>,
@@ -40,7 +40,7 @@ pub(crate) fn search_lists<W: Write, E: Write>(
     Reported { printed, told }
 }
 
-// Searches a line, or tells why it is refused.
+// Searches a line, or reports why it is refused.
 fn search_line<W: Write, E: Write>(
     query: &Query<'_>,
     line: &Line<'_>,

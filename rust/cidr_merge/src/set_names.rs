@@ -1,6 +1,6 @@
 // Written by scripts/plain out of crates/cidr_merge/src/set_names.rt
 
-//! What other programs call the sets that an export fills, and what stands around each line.
+//! The names of the sets that an export fills, and the texts around each line.
 
 use crate::rows::{AFTER, BEFORE, SET, TABLE};
 use fosibegan::plain_std::arrayvec::ArrayString;
@@ -11,26 +11,26 @@ use cidr_programs::options::items::Item;
 use cidr_programs::program::putting::put_all;
 use fosibegan::plain_std::io::Write;
 
-/// The most bytes of a name: ipset takes 31, of which `_ipv4_new` needs nine.
+/// The greatest length of a name, in bytes: ipset takes 31, and `_ipv4_new` needs nine of them.
 const NAME_MAX: usize = 22;
 
-/// A name.
+/// The name of a set or a table.
 pub(crate) type Name = ArrayString<NAME_MAX>;
 
-/// The table of nftables, what the names of both sets begin with, and what stands before and after each line.
+/// The table of nftables, the beginning of both sets' names, and the texts around each line.
 #[derive(Debug)]
 pub struct SetNames<'a> {
     /// The table.
     pub table: Name,
     /// The beginning of `NAME_ipv4` and `NAME_ipv6`.
     pub set: Name,
-    /// What stands before each line.
+    /// The text before each line.
     pub before: &'a str,
-    /// What stands after each line.
+    /// The text after each line.
     pub after: &'a str,
 }
 
-/// Those that options name.
+/// Returns the names and texts that options give, with defaults for those not given.
 pub(crate) fn names_of<'a>(items: &[Item<'a>]) -> SetNames<'a> {
     SetNames {
         table: name_by(items, TABLE),
@@ -40,7 +40,7 @@ pub(crate) fn names_of<'a>(items: &[Item<'a>]) -> SetNames<'a> {
     }
 }
 
-/// Prints a text between what stands before and after each line.
+/// Prints a line: a text, between the texts before and after each line.
 pub(crate) fn put_line<W: Write>(
     names: &SetNames<'_>,
     text: &str,
@@ -49,7 +49,7 @@ pub(crate) fn put_line<W: Write>(
     put_all(&[names.before, text, names.after, "\n"], output)
 }
 
-// The name that the option of a row says, or else the usual one.
+// Returns the name that the option of a row gives, else `cidr_merge`.
 fn name_by(items: &[Item<'_>], row: usize) -> Name {
     if is_given(items, row) {
         name_in(value_of(items, row))
@@ -58,7 +58,7 @@ fn name_by(items: &[Item<'_>], row: usize) -> Name {
     }
 }
 
-// A text as a name; nothing, if it is too long.
+// Returns a text as a name, or an empty name if it is too long.
 fn name_in(text: &str) -> Name {
     let mut name = Name::new();
     if text.len() <= NAME_MAX {
@@ -67,7 +67,8 @@ fn name_in(text: &str) -> Name {
     name
 }
 
-/// Whether a text is a name: 1 to 22 letters, digits, `_`, `-` and `.`, of which the first is a letter.
+/// Returns whether a text is a name: 1 to 22 ASCII letters, digits, `_`, `-` and `.`, the first of
+/// which is a letter.
 pub(crate) fn is_set_name(text: &str) -> bool {
     match text.as_bytes() {
         [] => false,
@@ -77,17 +78,17 @@ pub(crate) fn is_set_name(text: &str) -> bool {
     }
 }
 
-// Whether bytes may stand in a name.
+// Returns whether all bytes may be in a name.
 fn are_name_bytes(bytes: &[u8]) -> bool {
     bytes.iter().all(|byte| is_name_byte(*byte))
 }
 
-// Whether a byte is a letter.
+// Returns whether a byte is an ASCII letter.
 fn is_letter(byte: u8) -> bool {
     byte >= b'a' && byte <= b'z' || byte >= b'A' && byte <= b'Z'
 }
 
-// Whether a byte may stand in a name.
+// Returns whether a byte may be in a name.
 fn is_name_byte(byte: u8) -> bool {
     is_letter(byte) || byte >= b'0' && byte <= b'9' || byte == b'_' || byte == b'-' || byte == b'.'
 }

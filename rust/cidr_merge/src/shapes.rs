@@ -1,18 +1,18 @@
 // Written by scripts/plain out of crates/cidr_merge/src/shapes.rt
 
-//! How lists are written, and how one is read.
+//! The formats of lists, and how a list is read.
 
 use crate::context::Context;
 use cidr_programs::lists::{ListReader, OpenLists, ReadFault, read_document, read_named};
 
-/// How lists are written.
+/// The format of lists.
 #[derive(Clone, Copy, Debug, PartialEq, Eq)]
 pub enum Shape {
-    /// An entry in a line.
+    /// Text with one entry on a line.
     Lines,
-    /// As documents of JSON, of which the strings that name no entry are passed over.
+    /// JSON documents; strings that name no entry are ignored.
     Json,
-    /// As documents of JSON, of which these strings are refused.
+    /// JSON documents; strings that name no entry are refused.
     StrictJson,
 }
 

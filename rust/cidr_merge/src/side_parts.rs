@@ -1,6 +1,6 @@
 // Written by scripts/plain out of crates/cidr_merge/src/side_parts.rt
 
-//! The parts that an operation leaves of one side: blocks, or ranges of addresses.
+//! The parts of one side that are in an operation's result: blocks, or ranges of addresses.
 
 use crate::command_line::Operation;
 use crate::cutting::put_network;
@@ -14,18 +14,18 @@ use cidr_programs::lines::output::Output;
 use cidr_programs::program::putting::put_all;
 use fosibegan::plain_std::io::Write;
 
-/// Parts in the order of where they begin, one after the other.
+/// An iterator over parts, in ascending order of their first addresses.
 pub(crate) trait Parts {
     /// A part.
     type Part: Copy;
 
-    /// The next part.
+    /// Returns the next part.
     fn next_part(&mut self) -> Option<Self::Part>;
 
-    /// Whether the first begins before the second.
+    /// Returns whether the first part begins before the second.
     fn begins_before(first: Self::Part, second: Self::Part) -> bool;
 
-    /// Prints a part of a side.
+    /// Prints a part of a side on a line.
     fn put<W: Write>(
         names: &SetNames<'_>,
         operation: Operation,
@@ -35,7 +35,7 @@ pub(crate) trait Parts {
     ) -> Result<(), RunFault>;
 }
 
-// The blocks.
+// Blocks as parts.
 impl<'a, A: Address> Parts for Sweep<'a, Network<A>> {
     type Part = Network<A>;
 
@@ -59,7 +59,7 @@ impl<'a, A: Address> Parts for Sweep<'a, Network<A>> {
     }
 }
 
-// The ranges: the first and the last address of each.
+// Ranges as parts: the first and the last address of each.
 impl<'a, A: Address> Parts for Ranges<Network<A>, Sweep<'a, Network<A>>> {
     type Part = (A, A);
 
@@ -103,7 +103,7 @@ fn put_range<A: Address, W: Write>(
     )
 }
 
-/// What stands before a part of a side.
+/// Returns the text before a part of a side.
 pub(crate) fn sign_of(operation: Operation, side: Side) -> &'static str {
     match operation {
         Operation::Differ => match side {

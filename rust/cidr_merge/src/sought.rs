@@ -35,7 +35,7 @@ pub(crate) fn sought_in_words(
     Ok(sought)
 }
 
-/// Adds those that the lines of lists name.
+/// Adds the addresses that the lines of lists name.
 pub(crate) fn add_lines(
     alloc: Global,
     lists: &WholeLists<'_>,
@@ -78,7 +78,7 @@ fn address_of(text: &[u8]) -> Option<IpAddr> {
     }
 }
 
-/// Tells the lines of lists that have something else than an address.
+/// Reports the lines of lists that have something other than an address.
 pub(crate) fn tell_others<E: Write>(lists: &WholeLists<'_>, errors: &mut Output<'_, E>) -> bool {
     let mut told = false;
     let mut lines = NumberedLines::of(lists);
@@ -89,7 +89,7 @@ pub(crate) fn tell_others<E: Write>(lists: &WholeLists<'_>, errors: &mut Output<
     told
 }
 
-// Tells a line that has something else than an address.
+// Reports a line that has something other than an address.
 fn tell_other<E: Write>(line: &Line<'_>, errors: &mut Output<'_, E>) -> bool {
     if !is_other(trim::<Blank>(line.text)) {
         return false;
@@ -98,7 +98,7 @@ fn tell_other<E: Write>(line: &Line<'_>, errors: &mut Output<'_, E>) -> bool {
     true
 }
 
-// Whether a text has something that names no address.
+// Whether a text is not empty and names no address.
 fn is_other(text: &[u8]) -> bool {
     address_of(text).is_none() && !text.is_empty()
 }

@@ -1,6 +1,6 @@
 // Written by scripts/plain out of crates/cidr_merge/src/split.rt
 
-//! The run of a `split`.
+//! Runs a `split`.
 
 use crate::command_line::SplitRequest;
 use crate::context::Context;
@@ -14,7 +14,7 @@ use cidr_programs::program::ending::{FAILED, end};
 use cidr_programs::program::telling::{InLists, tell_refusals};
 use fosibegan::plain_std::io::Write;
 
-/// Reads the lists, and prints their networks in pieces. Returns the exit status.
+/// Reads the lists, prints their networks in pieces, and returns the exit status.
 pub(crate) fn split<L: OpenLists, W: Write, E: Write>(
     request: SplitRequest,
     context: &Context<'_, L>,

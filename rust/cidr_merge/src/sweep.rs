@@ -1,12 +1,12 @@
 // Written by scripts/plain out of crates/cidr_merge/src/sweep.rt
 
-//! The blocks that an operation leaves of one side.
+//! The blocks of one side that are in an operation's result.
 
 use crate::command_line::Operation;
 use fosibegan::ipnetwork_blocks::AddressSpace;
 use fosibegan::ipnetwork_sets::{AddressSet, Blocks, Difference, Intersection, SetBlocks};
 
-/// The blocks that are still to come, in ascending order.
+/// An iterator over blocks, in ascending order.
 pub(crate) enum Sweep<'a, N: AddressSpace> {
     Whole(Blocks<'a, N>),
     Common(Intersection<'a, N>),
@@ -14,7 +14,7 @@ pub(crate) enum Sweep<'a, N: AddressSpace> {
 }
 
 impl<'a, N: AddressSpace> Sweep<'a, N> {
-    /// What the operation leaves of the first of two sets. For a union that is all of it.
+    /// Returns the first set's blocks in the result of an operation; for a union, all of them.
     pub(crate) fn of(
         operation: Operation,
         first: &'a AddressSet<N>,
@@ -22,7 +22,7 @@ impl<'a, N: AddressSpace> Sweep<'a, N> {
     ) -> Sweep<'a, N> {
         match operation {
             Operation::Union => {
-                // The clause `set` of this call says that they are the blocks of a set.
+                // The clause `set` of this call's contract says that these are the blocks of a set.
                 let _ = first.blocks();
                 let whole = first.iter();
                 Sweep::Whole(whole)

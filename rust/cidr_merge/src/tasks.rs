@@ -1,15 +1,15 @@
 // Written by scripts/plain out of crates/cidr_merge/src/tasks.rt
 
-//! What the first word says to do, and what is told of words that it does not take.
+//! The tasks, and the messages for words that a task does not take.
 
 use crate::command_line::Operation;
 
-/// What the first word says to do.
+/// The task that the first word names.
 #[derive(Clone, Copy, Debug, PartialEq, Eq)]
 pub enum Task {
-    /// An operation, of which the blocks are printed.
+    /// An operation, whose result is printed.
     Merge(Operation),
-    /// The union, of which each address is printed.
+    /// The union, with each of its addresses printed.
     List,
     /// The union, in pieces of one length.
     Split,
@@ -21,7 +21,7 @@ pub enum Task {
     Find,
 }
 
-/// What a word says to do.
+/// The task that a word names.
 pub(crate) fn task_called(text: &str) -> Option<Task> {
     match text {
         "union" => Some(Task::Merge(Operation::Union)),
@@ -37,7 +37,7 @@ pub(crate) fn task_called(text: &str) -> Option<Task> {
     }
 }
 
-/// Whether a `--` stands between two sides.
+/// Whether a task has two sides, with a `--` between them.
 pub(crate) fn is_two_sided(task: Task) -> bool {
     match task {
         Task::Merge(operation) => !matches!(operation, Operation::Union),
@@ -46,7 +46,7 @@ pub(crate) fn is_two_sided(task: Task) -> bool {
     }
 }
 
-/// What is told of a word that begins with a `-` and is no option of a task.
+/// The message for a word that begins with a `-` and is no option of a task.
 pub(crate) fn no_option(task: Task) -> &'static str {
     match task {
         Task::Merge(_) | Task::List => {
@@ -64,7 +64,7 @@ pub(crate) fn no_option(task: Task) -> &'static str {
     }
 }
 
-/// What is told of a `--` with nothing before it.
+/// The message for a `--` with nothing before it.
 pub(crate) fn no_first(task: Task) -> &'static str {
     match task {
         Task::Find => "no ADDRESS before it, and no --from FILE",
@@ -73,5 +73,5 @@ pub(crate) fn no_first(task: Task) -> &'static str {
     }
 }
 
-/// What is told of a `--` where there is one side.
+/// The message for a `--` of a task with one side.
 pub(crate) const ONE_SIDE: &str = "only common, minus, differ and find take a --";

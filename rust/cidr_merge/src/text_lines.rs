@@ -4,20 +4,20 @@
 
 use fosibegan::byte_search::find_from;
 
-/// The lines of a text, without their line ends.
+/// An iterator over the lines of a text, without their line endings.
 #[derive(Clone, Copy, Debug)]
 pub(crate) struct TextLines<'a> {
     text: &'a [u8],
 }
 
 impl<'a> TextLines<'a> {
-    /// The lines of this text.
+    /// Returns an iterator over the lines of this text.
     pub(crate) fn of(text: &'a [u8]) -> TextLines<'a> {
         TextLines { text }
     }
 
-    /// The next line. One ends with a line feed, or one carriage return and a line feed, or with
-    /// the text.
+    /// Returns the next line. A line ends at a line feed, or a carriage return and a line feed, or
+    /// at the end of the text.
     pub(crate) fn next(&mut self) -> Option<&'a [u8]> {
         let text = self.text;
         if text.is_empty() {
@@ -36,7 +36,7 @@ impl<'a> TextLines<'a> {
     }
 }
 
-// A line that ends with a line feed, without one carriage return before that.
+// Returns a line that a line feed ended, without the one carriage return at its end, if any.
 fn without_return(line: &[u8]) -> &[u8] {
     match line.split_last() {
         Some((byte, front)) if *byte == b'\r' => front,

@@ -9,13 +9,13 @@ use cidr_programs::lists::{BytesFault, OpenLists, ReadFault, read_bytes};
 
 /// The names and the bytes of lists.
 pub(crate) struct WholeLists<'a> {
-    /// The names.
+    /// The names of the lists.
     pub names: &'a [String],
-    /// The bytes of each, in the same order.
+    /// The bytes of each list, in the same order.
     pub texts: &'a [Vec<u8>],
 }
 
-/// The bytes of the lists of these names, of which the first is the word at the index `first`.
+/// Returns the bytes of the lists of these names; the first name is the word at the index `first`.
 pub(crate) fn texts_of<L: OpenLists>(
     context: &Context<'_, L>,
     names: &[String],
@@ -34,7 +34,7 @@ pub(crate) fn texts_of<L: OpenLists>(
     Ok(texts)
 }
 
-// The bytes of the list of this name, which is the word at the index `place`.
+// Returns the bytes of the list of this name, which is the word at the index `place`.
 fn text_of<L: OpenLists>(
     context: &Context<'_, L>,
     name: &str,
@@ -46,7 +46,7 @@ fn text_of<L: OpenLists>(
     }
 }
 
-// Why the list was not read that the word at this index names. None is too long.
+// Returns why the list that the word at this index names was not read. No list is too long.
 fn not_read(fault: BytesFault, place: usize) -> ReadFault {
     match fault {
         BytesFault::Open(cause) => ReadFault::Open(place, cause),

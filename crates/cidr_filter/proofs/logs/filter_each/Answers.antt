@@ -3,9 +3,9 @@ use Rattle.std.specs.String.{string_bytes}
 use Rattle.program.specs.Endings.{ending}
 use Rattle.cidr_filter.specs.Filters.{is_silent}
 use Rattle.cidr_filter.specs.Logs.{is_enough}
-use Rattle.cidr_filter.specs.Stands.{stand}
+use Rattle.cidr_filter.specs.Stands.{stand_at}
 use Rattle.cidr_filter.specs.Private.Runs.{FiltersNames}
-use Rattle.cidr_filter.specs.Runs.{StopsAtLog}
+use Rattle.cidr_filter.specs.Runs.{StopsLogs}
 use Rattle.cidr_filter.specs.declared.filter.Filter.{Filter}
 use Rattle.cidr_filter.proofs.LogsInTurn.{names_none}
 use Rattle.program.proofs.LogNames.{names_more}
@@ -30,12 +30,12 @@ loop-file-preserved g c =
       room = omega (arith, c.loop-file.invariant.room, c.filter_one.auto.buffer);
       filter = c.filter_one.ensures.filter ∙ c.loop-file.invariant.filter;
       names = subst (λ (b : Bool). FiltersNames c.args.filter.now (g.L.OpenLists.known c.args.lists.now) (map string_bytes (take (i + 1) files)) b
-          (stand c.args.output.now c.args.tally.now) (stand c.filter_one.new.output c.filter_one.new.tally)
+          (stand_at c.args.output.now c.args.selected.now) (stand_at c.filter_one.new.output c.filter_one.new.selected)
           c.args.errors.now c.filter_one.new.errors) (sym c.either-missed.ensures)
           (one_more c.args.filter.now (g.L.OpenLists.known c.args.lists.now) files i name c.loop-file.missed c.in-Some.more _ _ _ _ _ _
           (names_more files i c.file-item.result name (omega arith) c.file-item.is c.as_str-name.ensures.value) c.requires.none c.loop-file.invariant.few c.loop-file.invariant.names (subst (λ (f : Filter). FiltersNames f (g.L.OpenLists.known c.args.lists.now) (name ∷ []) c.in-Some.more
-          (stand c.loop-file.output c.loop-file.tally) (stand c.filter_one.new.output c.filter_one.new.tally) c.loop-file.errors c.filter_one.new.errors) c.loop-file.invariant.filter c.in-Some.ensures.logs));
-      few = enough_as c.args.filter.now.shows c.is_silent-is_silent.result c.is_enough.result false c.filter_one.new.tally.selected c.is_silent-is_silent.ensures
+          (stand_at c.loop-file.output c.loop-file.selected) (stand_at c.filter_one.new.output c.filter_one.new.selected) c.loop-file.errors c.filter_one.new.errors) c.loop-file.invariant.filter c.in-Some.ensures.logs));
+      few = enough_as c.args.filter.now.shows c.is_silent-is_silent.result c.is_enough.result false c.filter_one.new.selected c.is_silent-is_silent.ensures
           c.is_enough.ensures c.if-is_enough.false;
     }
 
@@ -48,14 +48,14 @@ returns-then-is_enough-clause-logs g c =
     let name = c.as_str-name.result.now in
     enough_named c.args.filter.now (g.L.OpenLists.known c.args.lists.now) files (i + 1) c.either-missed.result _ _ _ _
     c.requires.none
-    (enough_as c.args.filter.now.shows c.is_silent-is_silent.result c.is_enough.result true c.filter_one.new.tally.selected c.is_silent-is_silent.ensures
+    (enough_as c.args.filter.now.shows c.is_silent-is_silent.result c.is_enough.result true c.filter_one.new.selected c.is_silent-is_silent.ensures
     c.is_enough.ensures c.if-is_enough.true)
     (subst (λ (b : Bool). FiltersNames c.args.filter.now (g.L.OpenLists.known c.args.lists.now) (map string_bytes (take (i + 1) files)) b
-    (stand c.args.output.now c.args.tally.now) (stand c.filter_one.new.output c.filter_one.new.tally)
+    (stand_at c.args.output.now c.args.selected.now) (stand_at c.filter_one.new.output c.filter_one.new.selected)
     c.args.errors.now c.filter_one.new.errors) (sym c.either-missed.ensures)
     (one_more c.args.filter.now (g.L.OpenLists.known c.args.lists.now) files i name c.loop-file.missed c.in-Some.more _ _ _ _ _ _
     (names_more files i c.file-item.result name (omega arith) c.file-item.is c.as_str-name.ensures.value) c.requires.none c.loop-file.invariant.few c.loop-file.invariant.names (subst (λ (f : Filter). FiltersNames f (g.L.OpenLists.known c.args.lists.now) (name ∷ []) c.in-Some.more
-    (stand c.loop-file.output c.loop-file.tally) (stand c.filter_one.new.output c.filter_one.new.tally) c.loop-file.errors c.filter_one.new.errors) c.loop-file.invariant.filter c.in-Some.ensures.logs)))
+    (stand_at c.loop-file.output c.loop-file.selected) (stand_at c.filter_one.new.output c.filter_one.new.selected) c.loop-file.errors c.filter_one.new.errors) c.loop-file.invariant.filter c.in-Some.ensures.logs)))
 
 pub returns-then-is_enough-clause-filter : goal.returns-then-is_enough-clause-filter
 returns-then-is_enough-clause-filter g c = c.filter_one.ensures.filter ∙ c.loop-file.invariant.filter
@@ -68,9 +68,9 @@ returns-in_default-clause-logs g c =
     let i = c.loop-file.file-index in
     let name = c.as_str-name.result.now in
     one_stops c.args.filter.now (g.L.OpenLists.known c.args.lists.now) files i name c.loop-file.missed c.args.output.now c.loop-file.output
-    c.filter_one.new.output c.args.errors.now c.loop-file.errors c.filter_one.new.errors c.args.tally.now c.loop-file.tally
+    c.filter_one.new.output c.args.errors.now c.loop-file.errors c.filter_one.new.errors c.args.selected.now c.loop-file.selected
     (names_more files i c.file-item.result name (omega arith) c.file-item.is c.as_str-name.ensures.value) c.requires.none c.loop-file.invariant.few c.loop-file.invariant.names
-    (subst (λ (f : Filter). StopsAtLog f (g.L.OpenLists.known c.args.lists.now) (name ∷ []) (ending c.loop-file.output c.filter_one.new.output c.loop-file.errors c.filter_one.new.errors 2)) c.loop-file.invariant.filter c.in_default.ensures.logs)
+    (subst (λ (f : Filter). StopsLogs f (g.L.OpenLists.known c.args.lists.now) (name ∷ []) (ending c.loop-file.output c.filter_one.new.output c.loop-file.errors c.filter_one.new.errors 2)) c.loop-file.invariant.filter c.in_default.ensures.logs)
 
 pub returns-in_default-clause-filter : goal.returns-in_default-clause-filter
 returns-in_default-clause-filter g c = c.filter_one.ensures.filter ∙ c.loop-file.invariant.filter
