@@ -1,5 +1,5 @@
 -- How a run ends.
-use Rattle.std.proofs.Common.{◌≡◌, ◌||◌, ◌∙◌, ℕ, Bool, true, false, List, [], ◌++◌, append-nil, inl, inr, subst, sym, codes}
+use Rattle.std.proofs.Common.{◌≡◌, ◌||◌, ℕ, Bool, true, false, List, [], ◌++◌, append-nil, inl, inr, subst, sym, codes}
 use Rattle.std.specs.Prelude.{Result, Ok, Err, OnOk, OnErr, is_err, Option, None, MatchOption}
 use Rattle.lines.specs.Outputs.{Written, Prints, FailsIn, Writes, AppendsBeginning}
 use Rattle.lines.proofs.Putting.{begins_after_puts}

@@ -1,5 +1,5 @@
 -- Where a text stands, and why it is refused.
-use Rattle.std.proofs.Common.{◌≡◌, ◌<◌, ◌≤◌, ◌↔◌, ℕ, zero, suc, Bool, true, false, List, [], ◌∷◌, ◌++◌, refl, sym, ap, subst, arith, rules, codes, decimal, ◌∙◌, eqb, length}
+use Rattle.std.proofs.Common.{◌≡◌, ◌<◌, ◌≤◌, ◌↔◌, ℕ, Bool, true, false, List, ◌++◌, refl, sym, ap, subst, arith, rules, codes, decimal, ◌∙◌}
 use Rattle.std.specs.Prelude.{nat_lt, if◌then◌else◌, Option, None, Some, Result, Ok, Err}
 use Rattle.std.proofs.lemmas.Bool.Decides.{nat_tests}
 use Rattle.ipnetwork_addr.specs.Computed.Either.{ip_of}
@@ -10,8 +10,7 @@ use Rattle.ipnetwork_addr.specs.declared.error.AddrParseError.{AddrParseError}
 use Rattle.ipnetwork_addr.specs.declared.error.AddrParseError.TheVariants as kinds
 use Rattle.ipnetwork_addr.specs.declared.ip.IpAddr.{IpAddr}
 use Rattle.ipnetwork_family.specs.NetworkText.{slashes, before_slash}
-use Rattle.ipnetwork_family.specs.declared.error.CidrFault.{CidrFault}
-use Rattle.ipnetwork_family.specs.declared.error.CidrFault.TheVariants.{Format, Addr, Prefix}
+use Rattle.ipnetwork_family.specs.declared.error.CidrFault.TheVariants.{Addr, Prefix}
 use Rattle.ipnetwork.specs.IpNetworkText.{IsIpCause}
 use Rattle.ipnetwork.specs.Computed.IpNetworkText.{ip_network_of}
 use Rattle.ipnetwork.specs.declared.ip_network.IpNetwork.{IpNetwork}

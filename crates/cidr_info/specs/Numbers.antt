@@ -1,5 +1,5 @@
 -- Hexadecimal numbers.
-use Rattle.std.specs.Prelude.{ℕ, ◌+◌, List, [], ◌∷◌, ◌++◌, map, nat_lt, if◌then◌else◌, codes}
+use Rattle.std.specs.Prelude.{ℕ, ◌+◌, List, ◌++◌, map, nat_lt, if◌then◌else◌, codes}
 use Rattle.ipnetwork_addr.specs.Digits.{digits_in}
 
 -- the character of a hexadecimal digit: `0` to `9`, then `a` to `f`

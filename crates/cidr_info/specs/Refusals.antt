@@ -1,5 +1,5 @@
 -- What is reported about texts that name no network, and about standard input.
-use Rattle.std.specs.Prelude.{ℕ, Bool, List, [], ◌∷◌, ◌++◌, Option, None, Some, nat_lt, if◌then◌else◌, codes, decimal}
+use Rattle.std.specs.Prelude.{ℕ, List, [], ◌++◌, Option, None, Some, nat_lt, if◌then◌else◌, codes, decimal}
 use Rattle.std.specs.List.{flat_map}
 use Rattle.ipnetwork_addr.specs.Computed.Either.{ip_of}
 use Rattle.ipnetwork_addr.specs.declared.ip.IpAddr.{IpAddr}

@@ -1,6 +1,6 @@
-use Rattle.std.proofs.Common.{◌≡◌, ◌<◌, ◌^◌, ℕ, refl, sym, ap, arith}
-use Rattle.std.specs.Prelude.{Some, Ok}
-use Rattle.ipnetwork_family.specs.Network.{Network, IsNetwork, low, block_of}
+use Rattle.std.proofs.Common.{ℕ, refl, sym, ap, arith}
+use Rattle.std.specs.Prelude.{Ok}
+use Rattle.ipnetwork_family.specs.Network.{Network, IsNetwork, block_of}
 use Rattle.ipnetwork_family.proofs.Blocks.{high_fits, size_pos}
 use Rattle.ipnetwork.specs.IpNetworks.{IsIpNetwork, prefix_of, ip_low, made_of}
 use Rattle.ipnetwork.specs.declared.ip_network.IpNetwork.{IpNetwork}

@@ -1,4 +1,4 @@
-use Rattle.std.proofs.Common.{rules, ◌≡◌, ◌∙◌, ◌+◌, ◌++◌, ◌&&◌, ℕ, Bool, List, ap, sym, refl, arith, append_assoc, drop}
+use Rattle.std.proofs.Common.{rules, ◌∙◌, ◌+◌, ◌++◌, ◌&&◌, ℕ, Bool, List, ap, sym, refl, arith, append_assoc, drop}
 use Rattle.std.specs.Prelude.{Option}
 use Rattle.std.specs.Option.{is_none}
 use Rattle.ipnetwork.specs.declared.ip_network.IpNetwork.{IpNetwork}

@@ -1,6 +1,5 @@
 use Rattle.cidr_info.proofs.Ends.{failed_all}
 use Rattle.cidr_info.specs.Runs.{answer_text}
-use Rattle.cidr_info.specs.Texts.{infos_text}
 use Rattle.std.proofs.Common.{rules}
 use Rattle.cidr_info.proofs.run.write_answer.Goals as goal
 

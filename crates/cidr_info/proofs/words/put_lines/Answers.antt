@@ -1,4 +1,4 @@
-use Rattle.std.proofs.Common.{◌≡◌, ◌==◌, ◌∙◌, ◌++◌, ◌∷◌, [], ◌+◌, ◌-◌, ◌^◌, List, ℕ, length, drop, ap, sym, min, append_assoc, append-nil, arith, rules, tests}
+use Rattle.std.proofs.Common.{◌==◌, ◌∙◌, ◌++◌, ◌+◌, ◌-◌, ◌^◌, List, ℕ, length, drop, ap, sym, min, append_assoc, append-nil, rules, tests}
 use Rattle.std.specs.List.{slice_split}
 use Rattle.std.proofs.lemmas.List.{length_push}
 use Rattle.std.proofs.lemmas.Iterator.Consumers.{YieldsList-turn, YieldsList-end}
