@@ -32,7 +32,8 @@ pub enum Verdict {
 }
 
 impl Verdict {
-    /// Whether a line of this verdict has an address where it is looked for. A line that is too long has none.
+    /// Whether a line of this verdict has an address where it is looked for. A line that is too long
+    /// has none.
     #[inline(always)]
     pub(crate) fn is_addressed(&self) -> bool
         ensures { result ≡ is_addressed_by self.now }
@@ -108,9 +109,9 @@ impl Filter<'_> {
         self.judge_within(line)
     }
 
-    /// Whether a line is selected, if it is not too long and has the one address that is looked for.
-    /// No branch is taken on that, so that the processor guesses nothing wrong. Of another line, and
-    /// with `--longest`, nothing is told.
+    /// Whether a line is selected, if it is not too long and has the one address that is looked
+    /// for. No branch is taken on that, so that the processor guesses nothing wrong. Of another
+    /// line, and with `--longest`, nothing is told.
     #[inline(always)]
     pub(crate) fn selects_by_address(&self, line: &[u8]) -> Option<bool>
         ensures { IfSome result (IsSelectedByAddress self.now line.now) }
@@ -199,7 +200,8 @@ impl Filter<'_> {
         requires ordered { found.now.start ≤ found.now.end }
         requires within { found.now.end ≤ length part.now }
         ensures { IsVerdictOfAddresses self.now
-            (of_family self.now.family self.now.mapped (spelled_at part.now found.now ∷ [])) result }
+            (of_family self.now.family self.now.mapped (spelled_at part.now found.now ∷ []))
+            result }
     {
         if !self.is_of_family(&found.address) {
             return Verdict::NoAddress;
@@ -225,7 +227,8 @@ impl Filter<'_> {
     // What a line is to the list of which all addresses of this part are looked at.
     fn judge_each(&self, line: &[u8]) -> Verdict
         ensures { IsVerdictOfAddresses self.now
-            (of_family self.now.family self.now.mapped (found_of (reads_networks self.now.listed) line.now)) result }
+            (of_family self.now.family self.now.mapped
+            (found_of (reads_networks self.now.listed) line.now)) result }
     {
         let mut at = 0;
         let mut is_seen = false;
@@ -279,8 +282,8 @@ impl Filter<'_> {
         }
     }
 
-    /// Whether an address or network of a line is printed in place of it: whether it counts and is in
-    /// the list. Of blocks none is, since `-o` is not given together with `--longest`.
+    /// Whether an address or network of a line is printed in place of it: whether it counts and is
+    /// in the list. Of blocks none is, since `-o` is not given together with `--longest`.
     pub(crate) fn prints(&self, line: &[u8], found: &Found) -> bool
         requires ordered { found.now.start ≤ found.now.end }
         requires within { found.now.end ≤ length line.now }
@@ -293,7 +296,8 @@ impl Filter<'_> {
     fn is_listed(&self, line: &[u8], found: &Found) -> bool
         requires ordered { found.now.start ≤ found.now.end }
         requires within { found.now.end ≤ length line.now }
-        ensures { result ≡ is_listed self.now.listed self.now.mapped (spelled_at line.now found.now) }
+        ensures { result ≡ is_listed self.now.listed self.now.mapped
+            (spelled_at line.now found.now) }
     {
         match &self.listed {
             Matcher::Addresses(sets) => sets.has(self.asked(found.address)),

@@ -10,8 +10,8 @@ use ipnetwork::{IpAddr, IpNetwork};
 use ipnetwork_blocks::laws::ip_one_block;
 use ipnetwork_sets::IpAddressSet;
 
-/// Whether a text names a network of which each address is in the set. If `mapped`, it is asked of an IPv4-mapped
-/// network as its IPv4 one.
+/// Whether a text names a network of which each address is in the set. If `mapped`, it is asked of an
+/// IPv4-mapped network as its IPv4 one.
 pub(crate) fn covers(set: &IpAddressSet, mapped: bool, text: &[u8]) -> bool
     ensures covered { IsTrue result ↔ CoversNamed set.now mapped text.now }
     ensures test { result ≡ covers_named set.now mapped text.now }

@@ -25,7 +25,8 @@ pub enum Verdict {
 }
 
 impl Verdict {
-    /// Whether a line of this verdict has an address where it is looked for. A line that is too long has none.
+    /// Whether a line of this verdict has an address where it is looked for. A line that is too long
+    /// has none.
     #[inline(always)]
     pub(crate) fn is_addressed(&self) -> bool
     {
@@ -97,9 +98,9 @@ impl Filter<'_> {
         self.judge_within(line)
     }
 
-    /// Whether a line is selected, if it is not too long and has the one address that is looked for.
-    /// No branch is taken on that, so that the processor guesses nothing wrong. Of another line, and
-    /// with `--longest`, nothing is told.
+    /// Whether a line is selected, if it is not too long and has the one address that is looked
+    /// for. No branch is taken on that, so that the processor guesses nothing wrong. Of another
+    /// line, and with `--longest`, nothing is told.
     #[inline(always)]
     pub(crate) fn selects_by_address(&self, line: &[u8]) -> Option<bool> {
         if line.len() > LINE_MAX {
@@ -233,8 +234,8 @@ impl Filter<'_> {
         }
     }
 
-    /// Whether an address or network of a line is printed in place of it: whether it counts and is in
-    /// the list. Of blocks none is, since `-o` is not given together with `--longest`.
+    /// Whether an address or network of a line is printed in place of it: whether it counts and is
+    /// in the list. Of blocks none is, since `-o` is not given together with `--longest`.
     pub(crate) fn prints(&self, line: &[u8], found: &Found) -> bool {
         self.is_of_family(&found.address) && self.is_listed(line, found)
     }

@@ -5,8 +5,8 @@
 use fosibegan::ipnetwork::{IpAddr, IpNetwork};
 use fosibegan::ipnetwork_sets::IpAddressSet;
 
-/// Whether a text names a network of which each address is in the set. If `mapped`, it is asked of an IPv4-mapped
-/// network as its IPv4 one.
+/// Whether a text names a network of which each address is in the set. If `mapped`, it is asked of an
+/// IPv4-mapped network as its IPv4 one.
 pub(crate) fn covers(set: &IpAddressSet, mapped: bool, text: &[u8]) -> bool {
     match IpNetwork::read_bytes(text) {
         Ok(network) => covers_network(set, asked_network(mapped, network)),

@@ -42,8 +42,9 @@ pub(crate) fn prints_as_read(filter: &Filter) -> bool {
     }
 }
 
-// Writes what stands first, with `--longest` the block that holds the address, and then a line of this verdict. `whole`
-// is the line as it was read, with its end; if that is no line feed, one is written.
+// Writes what stands first, with `--longest` the block that holds the address, and then a line of
+// this verdict. `whole` is the line as it was read, with its end; if that is no line feed, one is
+// written.
 fn print_named<W: Write>(
     filter: &Filter,
     number: u64,

@@ -46,8 +46,8 @@ pub(crate) fn question_of(items: &[Item<'_>]) -> Question {
     }
 }
 
-/// Reads the lists that the options name, in their order. Returns the networks, as they are asked, the refused lines,
-/// and whether all lists were read to the end.
+/// Reads the lists that the options name, in their order. Returns the networks, as they are asked,
+/// the refused lines, and whether all lists were read to the end.
 pub(crate) fn read_listed<L: OpenLists>(
     alloc: Global,
     lists: &L,

@@ -76,8 +76,8 @@ fn filter<L: OpenLists, W: Write, E: Write>(
     )
 }
 
-// Reads the lists, reports the refused lines, by these names of lists, and then filters these logs by what was read,
-// unless memory ran out.
+// Reads the lists, reports the refused lines, by these names of lists, and then filters these logs by
+// what was read, unless memory ran out.
 fn filter_files<L: OpenLists, W: Write, E: Write>(
     alloc: Global,
     items: &[Item<'_>],
