@@ -201,7 +201,8 @@ impl Filter<'_> {
         requires ordered { found.now.start ≤ found.now.end }
         requires within { found.now.end ≤ length part.now }
         ensures { IsVerdictOfAddresses self.now
-            (of_family self.now.family self.now.mapped (spelled_at part.now found.now ∷ [])) result }
+            (of_family self.now.family self.now.mapped (spelled_at part.now found.now ∷ []))
+            result }
     {
         if !self.is_of_family(&found.address) {
             return Verdict::NoAddress;
@@ -227,7 +228,8 @@ impl Filter<'_> {
     // Returns the verdict on a line, given the part that is searched for all its addresses.
     fn judge_each(&self, line: &[u8]) -> Verdict
         ensures { IsVerdictOfAddresses self.now
-            (of_family self.now.family self.now.mapped (found_of (reads_networks self.now.listed) line.now)) result }
+            (of_family self.now.family self.now.mapped
+            (found_of (reads_networks self.now.listed) line.now)) result }
     {
         let mut at = 0;
         let mut is_seen = false;
@@ -295,7 +297,8 @@ impl Filter<'_> {
     fn is_listed(&self, line: &[u8], found: &Found) -> bool
         requires ordered { found.now.start ≤ found.now.end }
         requires within { found.now.end ≤ length line.now }
-        ensures { result ≡ is_listed self.now.listed self.now.mapped (spelled_at line.now found.now) }
+        ensures { result ≡ is_listed self.now.listed self.now.mapped
+            (spelled_at line.now found.now) }
     {
         match &self.listed {
             Matcher::Addresses(sets) => sets.has(self.asked(found.address)),
