@@ -1,10 +1,12 @@
 -- What the contracts of this crate cite.
 pub mod Addressed
+pub mod Asked
 pub mod Entries
 pub mod Groups
 pub mod Joins
 pub mod Laws
 pub mod Logs
+pub mod Longest
 pub mod Options
 pub mod Private
 pub mod Routes
