@@ -6,8 +6,8 @@ use fosibegan::ipnetwork_index::{IndexedNetwork, RouteIndex};
 use fosibegan::ipnetwork_table::PrefixTable;
 
 /// The longest network of the index that has all addresses of this one, and its value. One look-up
-/// finds it, unless a longer network than this one has its address: then the table is asked for each
-/// prefix length from this one's down. Does not allocate.
+/// finds it, unless a longer network than this one has its address: then the table is asked for
+/// each prefix length from this one's down. Does not allocate.
 #[inline(always)]
 pub(crate) fn longest_over<N: IndexedNetwork, V: Copy>(
     index: &RouteIndex<N, V>,
