@@ -14,7 +14,7 @@ _cidr_join() {
         -f) ;;
         *)
             if [[ "$word" == -* ]]; then
-                COMPREPLY=($(compgen -W "-f --last-wins --skip-bad -k -d -w -a --nth --after --mapped --last --network --tally --zero --group --bad --quiet --help --version -- -" -- "$word"))
+                COMPREPLY=($(compgen -W "-f --last-wins --skip-bad -k -d -w -a --nth --after --mapped --networks --last --network --tally --zero --group --bad --quiet --help --version -- -" -- "$word"))
             fi
             ;;
     esac

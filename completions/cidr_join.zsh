@@ -11,6 +11,7 @@ _arguments \
     '*--nth=[use only this one of the addresses found]:value:(first last)' \
     '*--after=[the address is the first one after the first TEXT in a line]:text: ' \
     '*--mapped[treat an address \:\:ffff\:A.B.C.D of a line as A.B.C.D]' \
+    '*--networks[look up a network in a line too]' \
     '*--last[print the value after the line and a tab]' \
     '*--network[print the network instead of its value]' \
     '*--tally[print for each value the number of lines that have it]' \

@@ -1,7 +1,7 @@
 -- The address of a line, and the counts of lines.
 use Rattle.std.proofs.Common.{◌≡◌, ◌<◌, ◌≤◌, ◌||◌, Bool, true, false, List, [], ◌∷◌, ◌++◌, length, refl, sym, ap, ◌∙◌, true≢false}
 use Rattle.std.specs.Prelude.{Option, None, Some, if◌then◌else◌}
-use Rattle.ipnetwork_addr.specs.declared.ip.IpAddr.{IpAddr}
+use Rattle.ipnetwork.specs.declared.ip_network.IpNetwork.{IpNetwork}
 use Rattle.log_programs.specs.LogStats.{is_long, with_line, with_long}
 use Rattle.log_programs.specs.WithoutAddress.{is_stopped}
 use Rattle.log_programs.specs.declared.log_stats.LogStats.{LogStats}
@@ -9,22 +9,22 @@ use Rattle.log_programs.specs.declared.without_address.WithoutAddress.{WithoutAd
 use Rattle.log_programs.proofs.LogStats.{line_seen, long_seen, within_limit, past_limit}
 use Rattle.program.specs.LogLines.{LogLine, content, printed}
 use Rattle.cidr_join.specs.Addressed.{is_addressed, seen_of}
-use Rattle.cidr_join.specs.Joins.{address_in, asked_in, is_left_out, is_refused, output_of, shown_in}
+use Rattle.cidr_join.specs.Joins.{network_in, asked_in, is_left_out, is_refused, output_of, shown_in}
 use Rattle.cidr_join.specs.Private.Progress.{shown}
 use Rattle.cidr_join.specs.declared.found.Found.{Found}
 use Rattle.cidr_join.specs.declared.join.Join.{Join}
 
 module _ (join : Join) (line : LogLine) where
-  asked_if : (long : Bool) → is_long line ≡ long → asked_in join line ≡ (if long then None else address_in join (content line))
-  asked_if long e = ap (λ (l : Bool). if l then None else address_in join (content line)) e
+  asked_if : (long : Bool) → is_long line ≡ long → asked_in join line ≡ (if long then None else network_in join (content line))
+  asked_if long e = ap (λ (l : Bool). if l then None else network_in join (content line)) e
 
   shown_if : (found : Found) (long : Bool) → is_long line ≡ long
-      → shown_in join found line ≡ (if long || is_left_out join.bad (if long then None else address_in join (content line)) then [] else output_of join found line)
-  shown_if found long e = ap (λ (l : Bool). if l || is_left_out join.bad (if l then None else address_in join (content line)) then [] else output_of join found line) e
+      → shown_in join found line ≡ (if long || is_left_out join.bad (if long then None else network_in join (content line)) then [] else output_of join found line)
+  shown_if found long e = ap (λ (l : Bool). if l || is_left_out join.bad (if l then None else network_in join (content line)) then [] else output_of join found line) e
 
   -- a line within the limit
   module _ (within : length (content line) ≤ 1048576) where
-    pub asked_within : asked_in join line ≡ address_in join (content line)
+    pub asked_within : asked_in join line ≡ network_in join (content line)
     asked_within = asked_if false (within_limit line within)
 
     pub shown_within : (found : Found) → shown_in join found line ≡ shown join found (content line) (printed line)
@@ -49,6 +49,6 @@ module _ (join : Join) (line : LogLine) where
     long_adds first mid new was adds = adds ∙ ap with_long was ∙ long_seen (is_addressed join) first line (past_limit line long)
 
 -- only a line without an address is refused
-pub refused_none : (bad : WithoutAddress) (address : Option IpAddr) → is_refused bad address ≡ true → (address ≡ None) × (is_stopped bad ≡ true)
+pub refused_none : (bad : WithoutAddress) (address : Option IpNetwork) → is_refused bad address ≡ true → (address ≡ None) × (is_stopped bad ≡ true)
 refused_none bad None e = (refl, e)
 refused_none bad (Some address) e = absurd (true≢false (sym e))

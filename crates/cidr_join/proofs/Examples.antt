@@ -1,11 +1,12 @@
 -- Values at which a misreading of the definitions would show.
-use Rattle.std.proofs.Common.{◌≡◌, ℕ, ◌^◌, ◌+◌, ◌∷◌, [], map, Bool, true, false, refl}
+use Rattle.std.proofs.Common.{◌≡◌, ℕ, ◌^◌, ◌*◌, ◌+◌, ◌∷◌, [], map, Bool, true, false, refl}
 use Rattle.std.specs.Prelude.{◌++◌, decimal, codes, not, filter, length, nat_lt, List, None, Some}
 use Rattle.std.specs.Fmt.{digits}
 use Rattle.std.specs.List.{range_with_len}
 use Rattle.ipnetwork_addr.specs.declared.ip.IpAddr.TheVariants as addresses
 use Rattle.ipnetwork.specs.declared.ip_network.IpNetwork.TheVariants as families
 use Rattle.cidr_join.specs.Addressed.{lacking_by}
+use Rattle.cidr_join.specs.Asked.{asked_network, only}
 use Rattle.program.specs.LogLines.{ended}
 use Rattle.log_programs.specs.LogStats.{place_of, stats_of}
 use Rattle.log_programs.specs.Seen.{seen_text}
@@ -107,12 +108,28 @@ zeros_are_told = refl
 -- ---- blocks of two lengths
 
 -- 10.1.2.3 is in 10.1.2.0/24
-pub block_of_v4 : block_in (record { v4 = 24; v6 = 64 }) (addresses.V4 167838211) ≡ families.V4 (record { address = 167838208; prefix = 24 })
+pub block_of_v4 : block_in (record { v4 = 24; v6 = 64 }) (only (addresses.V4 167838211)) ≡ founds.Network (families.V4 (record { address = 167838208; prefix = 24 }))
 block_of_v4 = refl
 
 -- 1::1 is in 1::/16
-pub block_of_v6 : block_in (record { v4 = 24; v6 = 16 }) (addresses.V6 (2 ^ 112 + 1)) ≡ families.V6 (record { address = 2 ^ 112; prefix = 16 })
+pub block_of_v6 : block_in (record { v4 = 24; v6 = 16 }) (only (addresses.V6 (2 ^ 112 + 1))) ≡ founds.Network (families.V6 (record { address = 2 ^ 112; prefix = 16 }))
 block_of_v6 = refl
+
+-- so is 10.1.2.3/24, and no such block has 10.1.2.3/23
+pub block_of_networks : map (λ prefix. block_in (record { v4 = 24; v6 = 64 }) (families.V4 (record { address = 167838211; prefix = prefix }))) (24 ∷ 23 ∷ [])
+    ≡ founds.Network (families.V4 (record { address = 167838208; prefix = 24 })) ∷ founds.Nothing ∷ []
+block_of_networks = refl
+
+-- ---- networks of lines
+
+-- ::ffff:10.1.2.3/120 is asked as 10.1.2.3/24, with the option; a network of more than the IPv4-mapped addresses as it is
+pub mapped_networks : map (λ prefix. asked_network true (families.V6 (record { address = 0xffff * 2 ^ 32 + 167838211; prefix = prefix }))) (120 ∷ 96 ∷ 95 ∷ [])
+    ≡ families.V4 (record { address = 167838211; prefix = 24 }) ∷ families.V4 (record { address = 167838211; prefix = 0 }) ∷ families.V6 (record { address = 0xffff * 2 ^ 32 + 167838211; prefix = 95 }) ∷ []
+mapped_networks = refl
+
+pub not_mapped_networks : map (asked_network true) (families.V6 (record { address = 1; prefix = 128 }) ∷ families.V4 (record { address = 1; prefix = 0 }) ∷ [])
+    ≡ families.V6 (record { address = 1; prefix = 128 }) ∷ families.V4 (record { address = 1; prefix = 0 }) ∷ []
+not_mapped_networks = refl
 
 -- ---- lines of lists
 

@@ -1,7 +1,7 @@
 -- How a log is joined, line by line.
 use Rattle.std.proofs.Common.{◌≡◌, ℕ, ◌<◌, ◌≤◌, Bool, true, false, List, [], ◌∷◌, ◌++◌, length, refl, sym, ap, ◌∙◌, subst, arith, append-nil, length-append}
 use Rattle.std.specs.Prelude.{Option, None, Err}
-use Rattle.ipnetwork_addr.specs.declared.ip.IpAddr.{IpAddr}
+use Rattle.ipnetwork.specs.declared.ip_network.IpNetwork.{IpNetwork}
 use Rattle.lines.specs.Outputs.{Written, Puts, AppendsBeginning, Prints, FailsIn}
 use Rattle.lines.specs.declared.line_end.LineEnd.{LineEnd}
 use Rattle.lines.specs.declared.line_end.LineEnd.TheVariants.{LineFeed, ReturnAndLineFeed, EndOfInput}
@@ -16,7 +16,7 @@ use Rattle.program.specs.declared.log_reader.NextLogLine.TheVariants.{Line, TooL
 use Rattle.program.proofs.LogReadings as readings
 use Rattle.program.specs.LogFaults.{ended_by_read}
 use Rattle.cidr_join.specs.Addressed.{is_addressed}
-use Rattle.cidr_join.specs.Joins.{address_in, asked_in, Finds, is_refused, shown_in, Joins}
+use Rattle.cidr_join.specs.Joins.{network_in, asked_in, Finds, is_refused, shown_in, Joins}
 use Rattle.cidr_join.specs.Logs.{EndsRunBy}
 use Rattle.cidr_join.specs.Stands.{Stand, stand}
 use Rattle.cidr_join.specs.Stops.{JoinsLines, WritesBeginning, Ends, Stops}
@@ -71,19 +71,19 @@ module _ (join : Join) (old : Stand) where
         → JoinsLines join old new (first ++ next ∷ [])
     long_more long goes puts adds = record {
       added = d.added ++ [];
-      joins = joins_more founds.Nothing [] (refused_long join next long goes) (subst (λ (a : Option IpAddr). Finds join a founds.Nothing) (sym (asked_long join next long)) refl) (shown_long join next long founds.Nothing);
+      joins = joins_more founds.Nothing [] (refused_long join next long goes) (subst (λ (a : Option IpNetwork). Finds join a founds.Nothing) (sym (asked_long join next long)) refl) (shown_long join next long founds.Nothing);
       puts = puts_on [] puts;
       seen = long_adds join next long first mid.seen new.seen d.seen adds;
     }
 
-    module _ (short : length (content next) ≤ 1048576) (found : Found) (finds : Finds join (address_in join (content next)) found) (passes : is_refused join.bad (address_in join (content next)) ≡ false)
+    module _ (short : length (content next) ≤ 1048576) (found : Found) (finds : Finds join (network_in join (content next)) found) (passes : is_refused join.bad (network_in join (content next)) ≡ false)
         (adds : new.seen ≡ with_line mid.seen (is_addressed join (content next))) where
-      asks : asked_in join next ≡ address_in join (content next)
+      asks : asked_in join next ≡ network_in join (content next)
       asks = asked_within join next short
 
       joins_it : Joins join (first ++ next ∷ []) (d.added ++ shown join found (content next) (printed next))
       joins_it =
-          joins_more found (shown join found (content next) (printed next)) (ap (is_refused join.bad) asks ∙ passes) (subst (λ (a : Option IpAddr). Finds join a found) (sym asks) finds)
+          joins_more found (shown join found (content next) (printed next)) (ap (is_refused join.bad) asks ∙ passes) (subst (λ (a : Option IpNetwork). Finds join a found) (sym asks) finds)
           (shown_within join next short found)
 
       -- one more line within the limit
@@ -169,7 +169,7 @@ module _ {W : Type 0} (join : Join) (was now : LogReader) (remained before after
                 (line_unwritten join old (stand between seen) new s.first next still short lost.1 lost.2 lost.3 lost.5 lost.4),
           )
       line_stops new read_failed write_failed faults.Address h =
-          let none = subst (λ (l : List ℕ). address_in join l ≡ None) same h.0 in
+          let none = subst (λ (l : List ℕ). network_in join l ≡ None) same h.0 in
           subst (λ (n : Stand). ReadsToLine (JoinsLines join old n) (EndsRunBy join faults.Address) remained after) (sym h.2)
           (readings.line_ends _ (JoinsLines join old (stand between seen)) was now remained before after s (EndsRunBy join faults.Address) (log_line (line_of now) end) given.next (short, none, h.1) still)
       line_stops new read_failed write_failed faults.Length h = absurd h

@@ -42,7 +42,7 @@ three_of_two_and_one law join a b whole p q r two one = omega (arith, law join (
 
 -- the letters of options without and with a value, the long names, and those that a value may follow after `=`
 pub letters_and_names : (flags_of entries ≡ codes "aw") × (values_of entries ≡ codes "kdf")
-    × (names_of entries ≡ codes "--after" ∷ codes "--mapped" ∷ codes "--help" ∷ codes "--version" ∷ codes "--nth" ∷ codes "--last" ∷ codes "--last-wins" ∷ codes "--network" ∷ codes "--tally" ∷ codes "--group" ∷ codes "--bad" ∷ codes "--zero" ∷ codes "--skip-bad" ∷ [])
+    × (names_of entries ≡ codes "--after" ∷ codes "--mapped" ∷ codes "--help" ∷ codes "--version" ∷ codes "--nth" ∷ codes "--last" ∷ codes "--last-wins" ∷ codes "--network" ∷ codes "--tally" ∷ codes "--group" ∷ codes "--bad" ∷ codes "--zero" ∷ codes "--skip-bad" ∷ codes "--networks" ∷ [])
     × (joined_of entries ≡ codes "--nth" ∷ codes "--bad" ∷ [])
 letters_and_names = (refl, refl, refl, refl)
 
@@ -54,7 +54,7 @@ none_of_these rows has law = no_options entries rows has law (codes "--networl" 
 
 -- the law excludes the words of options, and no others
 pub words_of_options : list_all (is_option_word entries)
-    (codes "-f" ∷ codes "-flist" ∷ codes "-k3" ∷ codes "-wk" ∷ codes "-ad," ∷ codes "--last" ∷ codes "--last-wins" ∷ codes "--network" ∷ codes "--mapped" ∷ codes "--tally" ∷ codes "--after" ∷ codes "--group" ∷ codes "-aw" ∷ []) ≡ true
+    (codes "-f" ∷ codes "-flist" ∷ codes "-k3" ∷ codes "-wk" ∷ codes "-ad," ∷ codes "--last" ∷ codes "--last-wins" ∷ codes "--network" ∷ codes "--networks" ∷ codes "--mapped" ∷ codes "--tally" ∷ codes "--after" ∷ codes "--group" ∷ codes "-aw" ∷ []) ≡ true
 words_of_options = refl
 
 pub words_of_none : list_any (is_option_word entries)

@@ -5,6 +5,7 @@ pub mod LawExamples
 pub mod Listing
 pub mod LogParts
 pub mod LogsInTurn
+pub mod LongestOver
 pub mod Marks
 pub mod Numbering
 pub mod OneOutput

@@ -7,19 +7,19 @@ use Rattle.std.specs.Ordering.{eq_by_cmp}
 use Rattle.std.proofs.lemmas.Cmp.{eq_by_cmp_equiv}
 use Rattle.std.proofs.lemmas.Grind.{flat_map-append}
 use Rattle.std.proofs.lemmas.Option.{none-some}
-use Rattle.ipnetwork_addr.specs.declared.ip.IpAddr.{IpAddr}
-use Rattle.ipnetwork_addr.specs.declared.ip.IpAddr.TheVariants as addresses
+use Rattle.ipnetwork.specs.declared.ip_network.IpNetwork.{IpNetwork}
 use Rattle.ipnetwork.specs.declared.ip_network.IpNetwork.TheVariants as families
 use Rattle.ipnetwork_family.specs.Network.{Network, HostBitsAreZero, block_of, network_cmp}
-use Rattle.ipnetwork_table.specs.Table.{HasOnlyBlocks, IsLongest, NoneHolds, Answers}
+use Rattle.ipnetwork_table.specs.Table.{HasOnlyBlocks}
 use Rattle.ipnetwork_table.proofs.Listing.{same_value, listed_is_stored, stored_is_listed}
 use Rattle.ipnetwork_table.proofs.Pairs.{total, one_network, tie_of}
 use Rattle.cidr_join.specs.Joins.{Finds, FindsBy}
+use Rattle.cidr_join.specs.Longest.{IsLongestOver, NoneHasAll}
 use Rattle.cidr_join.specs.Routes.{Values}
 use Rattle.cidr_join.specs.Runs.{answers_by}
 use Rattle.cidr_join.specs.TallyRuns.{named}
 use Rattle.cidr_join.specs.Private.Counting.{named_by}
-use Rattle.cidr_join.specs.Private.Numbering.{AreNumbered, AddsNumbers, founds_of, NumbersRoutes, IsNumbering, StandsFor, StandsForRoute, found_by, number_or_none}
+use Rattle.cidr_join.specs.Private.Numbering.{AreNumbered, AddsNumbers, AnswersOver, founds_of, NumbersRoutes, IsNumbering, StandsFor, StandsForRoute, found_by, number_or_none}
 use Rattle.cidr_join.specs.declared.answers.Answers.TheVariants as answers
 use Rattle.cidr_join.specs.declared.answers.Answers.{Answers as Answering}
 use Rattle.cidr_join.specs.declared.found.Found.{Found}
@@ -132,14 +132,14 @@ module _ (by : Network → Value → Found) (table : Values) where
 
   -- ---- what is found by number
 
-  found_at : (w : ℕ) (numbers : FinMap network_cmp ℕ) (founds : List Found) (x : ℕ) (n : Network) (number : ℕ) → AreNumbered by table numbers founds → IsLongest w numbers x n number
-      → (value : Value) × IsLongest w table x n value × (slice_get founds number ≡ Some (by n value))
-  found_at w numbers founds x n number h longest =
+  found_at : (w : ℕ) (numbers : FinMap network_cmp ℕ) (founds : List Found) (a n : Network) (number : ℕ) → AreNumbered by table numbers founds → IsLongestOver w numbers a n number
+      → (value : Value) × IsLongestOver w table a n value × (slice_get founds number ≡ Some (by n value))
+  found_at w numbers founds a n number h longest =
       let s = h.stored n number longest.stored in
       (s.0, record { stored = s.1; holds = longest.holds; longest = λ m some. longest.longest m (h.all m some) }, s.2)
 
-  none_at : (w : ℕ) (numbers : FinMap network_cmp ℕ) (founds : List Found) (x : ℕ) → AreNumbered by table numbers founds → NoneHolds w numbers x → NoneHolds w table x
-  none_at w numbers founds x h none m some = none m (h.all m some)
+  none_at : (w : ℕ) (numbers : FinMap network_cmp ℕ) (founds : List Found) (a : Network) → AreNumbered by table numbers founds → NoneHasAll w numbers a → NoneHasAll w table a
+  none_at w numbers founds a h none m some = none m (h.all m some)
 
 pub routes_numbered : (network : Bool) (routes : Routes) (numbered : ValueIds) (t4 t6 : Values) (first second : List Found) → t4 ≡ routes.v4 → t6 ≡ routes.v6 → first ≡ prints.Nothing ∷ []
     → AddsNumbers (found_by network (λ n. families.V4 n)) t4 numbered.v4 first second → AddsNumbers (found_by network (λ n. families.V6 n)) t6 numbered.v6 second numbered.founds.items
@@ -159,10 +159,10 @@ routes_numbered network routes numbered t4 t6 first second is4 is6 one h4 h6 =
 clear_at : {V : Type 0} (w : ℕ) (t : FinMap network_cmp V) (n : Network) (v : V) → HasOnlyBlocks w t → get t n ≡ Some v → HostBitsAreZero w n
 clear_at w t n v blocks has = (blocks n (ap is_some has)).block
 
--- what stands at the number that is found for an address
-stands : (w : ℕ) (by : Network → Value → Found) (table : Values) (numbers : FinMap network_cmp ℕ) (founds : List Found) (IsSo : Found → Type 0) (a : ℕ) (found : Option (Network × ℕ))
-    → AreNumbered by table numbers founds → slice_get founds 0 ≡ Some prints.Nothing → Answers w numbers a found → HasOnlyBlocks w numbers
-    → (NoneHolds w table a → IsSo prints.Nothing) → ((n : Network) (v : Value) → IsLongest w table a n v → HostBitsAreZero w n → IsSo (by n v))
+-- what stands at the number that is found for a network
+stands : (w : ℕ) (by : Network → Value → Found) (table : Values) (numbers : FinMap network_cmp ℕ) (founds : List Found) (IsSo : Found → Type 0) (a : Network) (found : Option (Network × ℕ))
+    → AreNumbered by table numbers founds → slice_get founds 0 ≡ Some prints.Nothing → AnswersOver w numbers a found → HasOnlyBlocks w numbers
+    → (NoneHasAll w table a → IsSo prints.Nothing) → ((n : Network) (v : Value) → IsLongestOver w table a n v → HostBitsAreZero w n → IsSo (by n v))
     → (f : Found) × (slice_get founds (number_or_none found) ≡ Some f) × IsSo f
 stands w by table numbers founds IsSo a None h nothing none blocks nowhere longest = (prints.Nothing, nothing, nowhere (none_at by table w numbers founds a h none))
 stands w by table numbers founds IsSo a (Some found) h nothing is blocks nowhere longest =
@@ -174,15 +174,15 @@ at_zero : (founds rest : List Found) → founds ≡ prints.Nothing ∷ rest → 
 at_zero founds rest is = ap (λ (f : List Found). slice_get f 0) is
 
 module _ (routes : Routes) (numbered : ValueIds) where
-  pub stands_v4 : (network : Bool) (a : ℕ) (found : Option (Network × ℕ)) → NumbersRoutes network routes numbered → Answers 32 numbered.v4 a found → HasOnlyBlocks 32 numbered.v4
-      → (f : Found) × (slice_get numbered.founds.items (number_or_none found) ≡ Some f) × FindsBy (answers_by network routes) (addresses.V4 a) f
-  stands_v4 true a found h is blocks = stands 32 _ _ _ _ (FindsBy (answers_by true routes) (addresses.V4 a)) a found h.v4 (at_zero _ _ h.founds) is blocks (λ none. none) (λ n v longest clear. (v, (longest, clear)))
-  stands_v4 false a found h is blocks = stands 32 _ _ _ _ (FindsBy (answers_by false routes) (addresses.V4 a)) a found h.v4 (at_zero _ _ h.founds) is blocks (λ none. none) (λ n v longest clear. (families.V4 n, (longest, clear)))
+  pub stands_v4 : (network : Bool) (a : Network) (found : Option (Network × ℕ)) → NumbersRoutes network routes numbered → AnswersOver 32 numbered.v4 a found → HasOnlyBlocks 32 numbered.v4
+      → (f : Found) × (slice_get numbered.founds.items (number_or_none found) ≡ Some f) × FindsBy (answers_by network routes) (families.V4 a) f
+  stands_v4 true a found h is blocks = stands 32 _ _ _ _ (FindsBy (answers_by true routes) (families.V4 a)) a found h.v4 (at_zero _ _ h.founds) is blocks (λ none. none) (λ n v longest clear. (v, (longest, clear)))
+  stands_v4 false a found h is blocks = stands 32 _ _ _ _ (FindsBy (answers_by false routes) (families.V4 a)) a found h.v4 (at_zero _ _ h.founds) is blocks (λ none. none) (λ n v longest clear. (families.V4 n, (longest, clear)))
 
-  pub stands_v6 : (network : Bool) (a : ℕ) (found : Option (Network × ℕ)) → NumbersRoutes network routes numbered → Answers 128 numbered.v6 a found → HasOnlyBlocks 128 numbered.v6
-      → (f : Found) × (slice_get numbered.founds.items (number_or_none found) ≡ Some f) × FindsBy (answers_by network routes) (addresses.V6 a) f
-  stands_v6 true a found h is blocks = stands 128 _ _ _ _ (FindsBy (answers_by true routes) (addresses.V6 a)) a found h.v6 (at_zero _ _ h.founds) is blocks (λ none. none) (λ n v longest clear. (v, (longest, clear)))
-  stands_v6 false a found h is blocks = stands 128 _ _ _ _ (FindsBy (answers_by false routes) (addresses.V6 a)) a found h.v6 (at_zero _ _ h.founds) is blocks (λ none. none) (λ n v longest clear. (families.V6 n, (longest, clear)))
+  pub stands_v6 : (network : Bool) (a : Network) (found : Option (Network × ℕ)) → NumbersRoutes network routes numbered → AnswersOver 128 numbered.v6 a found → HasOnlyBlocks 128 numbered.v6
+      → (f : Found) × (slice_get numbered.founds.items (number_or_none found) ≡ Some f) × FindsBy (answers_by network routes) (families.V6 a) f
+  stands_v6 true a found h is blocks = stands 128 _ _ _ _ (FindsBy (answers_by true routes) (families.V6 a)) a found h.v6 (at_zero _ _ h.founds) is blocks (λ none. none) (λ n v longest clear. (v, (longest, clear)))
+  stands_v6 false a found h is blocks = stands 128 _ _ _ _ (FindsBy (answers_by false routes) (families.V6 a)) a found h.v6 (at_zero _ _ h.founds) is blocks (λ none. none) (λ n v longest clear. (families.V6 n, (longest, clear)))
 
 pub not_empty : (numbered : ValueIds) (empty : Bool) → empty ≡ (vec_len numbered.founds == 0) → empty ≡ false → ¬ (numbered.founds.items ≡ [])
 not_empty numbered empty is not none =
@@ -194,17 +194,17 @@ stands_for_none (answers.Values routes) numbered some h = at_zero _ _ h.founds
 stands_for_none (answers.Networks routes) numbered some h = at_zero _ _ h.founds
 stands_for_none (answers.Blocks lengths) numbered some h = absurd (some h)
 
-pub stands_for_some : (by : Answering) (numbered : ValueIds) (address : IpAddr) (number : ℕ) → ¬ (numbered.founds.items ≡ []) → StandsForRoute numbered address number → IsNumbering by numbered
-    → StandsFor by (Some address) numbered.founds.items number
-stands_for_some (answers.Values routes) numbered address number some stands h = stands false routes h
-stands_for_some (answers.Networks routes) numbered address number some stands h = stands true routes h
-stands_for_some (answers.Blocks lengths) numbered address number some stands h = absurd (some h)
+pub stands_for_some : (by : Answering) (numbered : ValueIds) (asked : IpNetwork) (number : ℕ) → ¬ (numbered.founds.items ≡ []) → StandsForRoute numbered asked number → IsNumbering by numbered
+    → StandsFor by (Some asked) numbered.founds.items number
+stands_for_some (answers.Values routes) numbered asked number some stands h = stands false routes h
+stands_for_some (answers.Networks routes) numbered asked number some stands h = stands true routes h
+stands_for_some (answers.Blocks lengths) numbered asked number some stands h = absurd (some h)
 
 -- of a line
-pub line_found : (join : Join) (address : Option IpAddr) (items : List Found) (number : ℕ) → StandsFor join.answers address items number
-    → (found : Found) × (slice_get items number ≡ Some found) × Finds join address found
+pub line_found : (join : Join) (asked : Option IpNetwork) (items : List Found) (number : ℕ) → StandsFor join.answers asked items number
+    → (found : Found) × (slice_get items number ≡ Some found) × Finds join asked found
 line_found join None items number stands = (prints.Nothing, stands, refl)
-line_found join (Some address) items number stands = stands
+line_found join (Some asked) items number stands = stands
 
 -- ---- what is named
 

@@ -2,13 +2,11 @@
 use Rattle.std.proofs.Common.{◌≡◌, ℕ, List, [], ◌∷◌, ◌++◌, Option, None, Some, refl, sym, ap, subst, ◌∙◌, arith}
 use Rattle.std.specs.Prelude.{IsSome}
 use Rattle.std.specs.FinMap.{get}
-use Rattle.ipnetwork_addr.specs.declared.ip.IpAddr.{IpAddr}
-use Rattle.ipnetwork_addr.specs.declared.ip.IpAddr.TheVariants as addresses
 use Rattle.ipnetwork.specs.declared.ip_network.IpNetwork.{IpNetwork}
 use Rattle.ipnetwork.specs.declared.ip_network.IpNetwork.TheVariants as networks
 use Rattle.ipnetwork_family.specs.Network.{Network, HostBitsAreZero}
 use Rattle.ipnetwork_table.specs.Laws.{BlocksOfAnyWidthThatMeet}
-use Rattle.ipnetwork_table.specs.Table.{IsLongest, NoneHolds}
+use Rattle.cidr_join.specs.Longest.{IsLongestOver, NoneHasAll}
 use Rattle.cidr_join.specs.Joins.{FindsBy, Finds, shown_in, Joins}
 use Rattle.cidr_join.specs.Laws.{LogsHaveOneOutput}
 use Rattle.program.specs.LogLines.{LogLine, log_lines}
@@ -28,37 +26,37 @@ some_is x = refl
 is_stored : (t : Values) (n : Network) (v : Value) → get t n ≡ Some v → IsSome (get t n)
 is_stored t n v e = subst IsSome (sym e) (some_is v)
 
--- one address has one longest block, and that has one value
-module _ (meet : BlocksOfAnyWidthThatMeet) (w : ℕ) (t : Values) (x : ℕ) (m n : Network) (v u : Value) where
-  one_block : IsLongest w t x m v → HostBitsAreZero w m → IsLongest w t x n u → HostBitsAreZero w n → m ≡ n
+-- one network has one longest block over it, and that has one value
+module _ (meet : BlocksOfAnyWidthThatMeet) (w : ℕ) (t : Values) (a m n : Network) (v u : Value) where
+  one_block : IsLongestOver w t a m v → HostBitsAreZero w m → IsLongestOver w t a n u → HostBitsAreZero w n → m ≡ n
   one_block p clear q empty =
-      meet w m n x clear empty (omega (arith, p.longest n (is_stored t n u q.stored) q.holds, q.longest m (is_stored t m v p.stored) p.holds)) p.holds q.holds
+      meet w m n a.address clear empty (omega (arith, p.longest n (is_stored t n u q.stored) q.holds, q.longest m (is_stored t m v p.stored) p.holds)) p.holds.0 q.holds.0
 
-  one_value : IsLongest w t x m v → IsLongest w t x n u → m ≡ n → v ≡ u
+  one_value : IsLongestOver w t a m v → IsLongestOver w t a n u → m ≡ n → v ≡ u
   one_value p q e = same_value v u (sym p.stored ∙ ap (get t) e ∙ q.stored)
 
-not_both : (w : ℕ) (t : Values) (x : ℕ) (n : Network) (v : Value) → IsLongest w t x n v → NoneHolds w t x → ⊥
-not_both w t x n v p none = none n (is_stored t n v p.stored) p.holds
+not_both : (w : ℕ) (t : Values) (a n : Network) (v : Value) → IsLongestOver w t a n v → NoneHasAll w t a → ⊥
+not_both w t a n v p none = none n (is_stored t n v p.stored) p.holds
 
-one_route : BlocksOfAnyWidthThatMeet → (routes : Routes) (address : IpAddr) (m n : IpNetwork) (v u : Value) → IsLongestRoute routes address m v → IsLongestRoute routes address n u
+one_route : BlocksOfAnyWidthThatMeet → (routes : Routes) (asked m n : IpNetwork) (v u : Value) → IsLongestRoute routes asked m v → IsLongestRoute routes asked n u
     → ◌≡◌ {A = Option (IpNetwork × Value)} (Some (m, v)) (Some (n, u))
-one_route meet routes (addresses.V4 a) (networks.V4 m) (networks.V4 n) v u p q =
+one_route meet routes (networks.V4 a) (networks.V4 m) (networks.V4 n) v u p q =
     let e = one_block meet 32 routes.v4 a m n v u p.0 p.1 q.0 q.1 in
     ap (λ (k : Network). Some (networks.V4 k, v)) e ∙ ap (λ (x : Value). Some (networks.V4 n, x)) (one_value meet 32 routes.v4 a m n v u p.0 q.0 e)
-one_route meet routes (addresses.V4 a) (networks.V4 m) (networks.V6 n) v u p q = absurd q
-one_route meet routes (addresses.V4 a) (networks.V6 m) n v u p q = absurd p
-one_route meet routes (addresses.V6 a) (networks.V4 m) n v u p q = absurd p
-one_route meet routes (addresses.V6 a) (networks.V6 m) (networks.V4 n) v u p q = absurd q
-one_route meet routes (addresses.V6 a) (networks.V6 m) (networks.V6 n) v u p q =
+one_route meet routes (networks.V4 a) (networks.V4 m) (networks.V6 n) v u p q = absurd q
+one_route meet routes (networks.V4 a) (networks.V6 m) n v u p q = absurd p
+one_route meet routes (networks.V6 a) (networks.V4 m) n v u p q = absurd p
+one_route meet routes (networks.V6 a) (networks.V6 m) (networks.V4 n) v u p q = absurd q
+one_route meet routes (networks.V6 a) (networks.V6 m) (networks.V6 n) v u p q =
     let e = one_block meet 128 routes.v6 a m n v u p.0 p.1 q.0 q.1 in
     ap (λ (k : Network). Some (networks.V6 k, v)) e ∙ ap (λ (x : Value). Some (networks.V6 n, x)) (one_value meet 128 routes.v6 a m n v u p.0 q.0 e)
 
--- nor does an address have one and none
-apart : (routes : Routes) (address : IpAddr) (n : IpNetwork) (v : Value) → IsLongestRoute routes address n v → NoRouteHolds routes address → ⊥
-apart routes (addresses.V4 a) (networks.V4 n) v p none = not_both 32 routes.v4 a n v p.0 none
-apart routes (addresses.V4 a) (networks.V6 n) v p none = p
-apart routes (addresses.V6 a) (networks.V4 n) v p none = p
-apart routes (addresses.V6 a) (networks.V6 n) v p none = not_both 128 routes.v6 a n v p.0 none
+-- nor does a network have one and none
+apart : (routes : Routes) (asked n : IpNetwork) (v : Value) → IsLongestRoute routes asked n v → NoRouteHolds routes asked → ⊥
+apart routes (networks.V4 a) (networks.V4 n) v p none = not_both 32 routes.v4 a n v p.0 none
+apart routes (networks.V4 a) (networks.V6 n) v p none = p
+apart routes (networks.V6 a) (networks.V4 n) v p none = p
+apart routes (networks.V6 a) (networks.V6 n) v p none = not_both 128 routes.v6 a n v p.0 none
 
 network_of : Option (IpNetwork × Value) → Found
 network_of None = founds.Nothing
@@ -68,28 +66,28 @@ value_of : Option (IpNetwork × Value) → Found
 value_of None = founds.Nothing
 value_of (Some found) = founds.Value found.1
 
--- one address has one answer
-one_answer : BlocksOfAnyWidthThatMeet → (by : Answers) (address : IpAddr) (a b : Found) → FindsBy by address a → FindsBy by address b → a ≡ b
+-- one network has one answer
+one_answer : BlocksOfAnyWidthThatMeet → (by : Answers) (asked : IpNetwork) (a b : Found) → FindsBy by asked a → FindsBy by asked b → a ≡ b
 unfolding network_of value_of
-one_answer meet (answers.Values routes) address (founds.Network m) b p q = absurd p
-one_answer meet (answers.Values routes) address (founds.Value v) (founds.Network n) p q = absurd q
-one_answer meet (answers.Values routes) address (founds.Value v) (founds.Value u) p q = ap value_of (one_route meet routes address p.0 q.0 v u p.1 q.1)
-one_answer meet (answers.Values routes) address (founds.Value v) founds.Nothing p q = absurd (apart routes address p.0 v p.1 q)
-one_answer meet (answers.Values routes) address founds.Nothing (founds.Network n) p q = absurd q
-one_answer meet (answers.Values routes) address founds.Nothing (founds.Value u) p q = absurd (apart routes address q.0 u q.1 p)
-one_answer meet (answers.Values routes) address founds.Nothing founds.Nothing p q = refl
-one_answer meet (answers.Networks routes) address (founds.Value v) b p q = absurd p
-one_answer meet (answers.Networks routes) address (founds.Network m) (founds.Value u) p q = absurd q
-one_answer meet (answers.Networks routes) address (founds.Network m) (founds.Network n) p q = ap network_of (one_route meet routes address m n p.0 q.0 p.1 q.1)
-one_answer meet (answers.Networks routes) address (founds.Network m) founds.Nothing p q = absurd (apart routes address m p.0 p.1 q)
-one_answer meet (answers.Networks routes) address founds.Nothing (founds.Value u) p q = absurd q
-one_answer meet (answers.Networks routes) address founds.Nothing (founds.Network n) p q = absurd (apart routes address n q.0 q.1 p)
-one_answer meet (answers.Networks routes) address founds.Nothing founds.Nothing p q = refl
-one_answer meet (answers.Blocks lengths) address a b p q = p ∙ sym q
+one_answer meet (answers.Values routes) asked (founds.Network m) b p q = absurd p
+one_answer meet (answers.Values routes) asked (founds.Value v) (founds.Network n) p q = absurd q
+one_answer meet (answers.Values routes) asked (founds.Value v) (founds.Value u) p q = ap value_of (one_route meet routes asked p.0 q.0 v u p.1 q.1)
+one_answer meet (answers.Values routes) asked (founds.Value v) founds.Nothing p q = absurd (apart routes asked p.0 v p.1 q)
+one_answer meet (answers.Values routes) asked founds.Nothing (founds.Network n) p q = absurd q
+one_answer meet (answers.Values routes) asked founds.Nothing (founds.Value u) p q = absurd (apart routes asked q.0 u q.1 p)
+one_answer meet (answers.Values routes) asked founds.Nothing founds.Nothing p q = refl
+one_answer meet (answers.Networks routes) asked (founds.Value v) b p q = absurd p
+one_answer meet (answers.Networks routes) asked (founds.Network m) (founds.Value u) p q = absurd q
+one_answer meet (answers.Networks routes) asked (founds.Network m) (founds.Network n) p q = ap network_of (one_route meet routes asked m n p.0 q.0 p.1 q.1)
+one_answer meet (answers.Networks routes) asked (founds.Network m) founds.Nothing p q = absurd (apart routes asked m p.0 p.1 q)
+one_answer meet (answers.Networks routes) asked founds.Nothing (founds.Value u) p q = absurd q
+one_answer meet (answers.Networks routes) asked founds.Nothing (founds.Network n) p q = absurd (apart routes asked n q.0 q.1 p)
+one_answer meet (answers.Networks routes) asked founds.Nothing founds.Nothing p q = refl
+one_answer meet (answers.Blocks lengths) asked a b p q = p ∙ sym q
 
-pub one_found : BlocksOfAnyWidthThatMeet → (join : Join) (address : Option IpAddr) (a b : Found) → Finds join address a → Finds join address b → a ≡ b
+pub one_found : BlocksOfAnyWidthThatMeet → (join : Join) (asked : Option IpNetwork) (a b : Found) → Finds join asked a → Finds join asked b → a ≡ b
 one_found meet join None a b p q = p ∙ sym q
-one_found meet join (Some address) a b p q = one_answer meet join.answers address a b p q
+one_found meet join (Some asked) a b p q = one_answer meet join.answers asked a b p q
 
 one_of_lines : BlocksOfAnyWidthThatMeet → (join : Join) (lines : List LogLine) (a b : List ℕ) → Joins join lines a → Joins join lines b → a ≡ b
 one_of_lines meet join [] a b p q = p ∙ sym q

@@ -1,19 +1,19 @@
 -- How lines and logs are counted.
 use Rattle.std.proofs.Common.{◌≡◌, ◌∙◌, ◌&&◌, not, ℕ, ◌<◌, ◌≤◌, Bool, true, false, true≢false, List, [], ◌∷◌, ◌++◌, length, refl, sym, ap, subst, arith, append_assoc, append-nil}
 use Rattle.std.specs.Prelude.{Option, None, Some, Result, Ok, Err, OnOk, if◌then◌else◌}
-use Rattle.ipnetwork_addr.specs.declared.ip.IpAddr.{IpAddr}
+use Rattle.ipnetwork.specs.declared.ip_network.IpNetwork.{IpNetwork}
 use Rattle.lines.specs.declared.line_end.LineEnd.{LineEnd}
 use Rattle.log_programs.specs.LogStats.{nothing, with_line, with_long}
 use Rattle.std.specs.Option.{is_some}
 use Rattle.log_programs.specs.WithoutAddress.{is_dropped, is_stopped}
 use Rattle.log_programs.specs.declared.without_address.WithoutAddress.{WithoutAddress}
 use Rattle.log_programs.specs.declared.log_stats.LogStats.{LogStats}
-use Rattle.cidr_join.specs.Joins.{Finds, address_in, asked_in, is_left_out, is_refused, mark_of}
+use Rattle.cidr_join.specs.Joins.{Finds, network_in, asked_in, is_left_out, is_refused, mark_of}
 use Rattle.cidr_join.specs.Logs.{EndsRunBy}
 use Rattle.program.specs.LogLines.{LogLine, content, log_line}
 use Rattle.cidr_join.specs.Addressed.{is_addressed, seen_of}
 use Rattle.cidr_join.specs.TallyRuns.{Marks, counted_for}
-use Rattle.cidr_join.specs.Private.TallyProgress.{IsCounted, CountsAddress, CountsLine, CountsAll, CountsLines, LineNotCounted, StopsCounting, ended_by_read, tally_fault}
+use Rattle.cidr_join.specs.Private.TallyProgress.{IsCounted, CountsAsked, CountsLine, CountsAll, CountsLines, LineNotCounted, StopsCounting, ended_by_read, tally_fault}
 use Rattle.cidr_join.specs.declared.counts.Counts.{Counts}
 use Rattle.cidr_join.specs.declared.found.Found.{Found}
 use Rattle.cidr_join.specs.declared.found.Found.TheVariants as founds_of
@@ -37,7 +37,7 @@ marks_both join (line ∷ lines) more a b p q =
     (p.0, p.1 ++ b, p.2, p.3, marks_both join lines more p.1 b p.4 q, ap (λ t. t ++ b) p.5 ∙ append_assoc (counted_for join (asked_in join line) p.0) p.1 b)
 
 -- whether an address is left out, as it was asked
-pub left_by : (bad : WithoutAddress) (address : Option IpAddr) (some left is : Bool) → some ≡ is_some address → left ≡ (not some && is_dropped bad) → left ≡ is → is_left_out bad address ≡ is
+pub left_by : (bad : WithoutAddress) (address : Option IpNetwork) (some left is : Bool) → some ≡ is_some address → left ≡ (not some && is_dropped bad) → left ≡ is → is_left_out bad address ≡ is
 left_by bad None some left is e f g = sym (ap (λ (b : Bool). not b && is_dropped bad) e) ∙ sym f ∙ g
 left_by bad (Some address) some left is e f g = sym (ap (λ (b : Bool). not b && is_dropped bad) e) ∙ sym f ∙ g
 
@@ -50,18 +50,18 @@ module _ (founds : List Found) where
       subst (λ (t : List (List ℕ)). IsCounted founds t new) (append_assoc texts first second) (q (texts ++ first) (p texts counted))
 
   -- what is found for an address was counted, or lines without one are left out
-  pub address_counted : (join : Join) (old new : Counts) (address : Option IpAddr) (found : Found) → is_left_out join.bad address ≡ false → Finds join address found
-      → CountsAll founds (mark_of found ∷ []) old new → CountsAddress founds join address old new
+  pub address_counted : (join : Join) (old new : Counts) (address : Option IpNetwork) (found : Found) → is_left_out join.bad address ≡ false → Finds join address found
+      → CountsAll founds (mark_of found ∷ []) old new → CountsAsked founds join address old new
   address_counted join old new address found stays finds counts =
       (found, finds, subst (λ (t : List (List ℕ)). CountsAll founds t old new) (sym (ap (λ (b : Bool). if b then [] else mark_of found ∷ []) stays)) counts)
 
-  pub address_counted_if : {T E : Type 0} (result : Result T E) (join : Join) (old new : Counts) (text : List ℕ) (address : Option IpAddr) (found : Found) → is_left_out join.bad address ≡ false
-      → Finds join address found → mark_of found ≡ text → OnOk result ((all : List Found) → CountsAll all (text ∷ []) old new) → OnOk result (CountsAddress founds join address old new)
+  pub address_counted_if : {T E : Type 0} (result : Result T E) (join : Join) (old new : Counts) (text : List ℕ) (address : Option IpNetwork) (found : Found) → is_left_out join.bad address ≡ false
+      → Finds join address found → mark_of found ≡ text → OnOk result ((all : List Found) → CountsAll all (text ∷ []) old new) → OnOk result (CountsAsked founds join address old new)
   address_counted_if (Ok done) join old new text address found stays finds mark counts =
       address_counted join old new address found stays finds (subst (λ (t : List ℕ). CountsAll founds (t ∷ []) old new) (sym mark) (counts founds))
   address_counted_if (Err fault) join old new text address found stays finds mark counts = tt
 
-  pub left_out : (join : Join) (counts : Counts) (address : Option IpAddr) → is_left_out join.bad address ≡ true → CountsAddress founds join address counts counts
+  pub left_out : (join : Join) (counts : Counts) (address : Option IpNetwork) → is_left_out join.bad address ≡ true → CountsAsked founds join address counts counts
   left_out join counts (Some address) leaves = absurd (true≢false (sym leaves))
   left_out join counts None leaves =
       (founds_of.Nothing, refl, subst (λ (t : List (List ℕ)). CountsAll founds t counts counts) (sym (ap (λ (b : Bool). if b then [] else mark_of founds_of.Nothing ∷ []) leaves)) (counts_nothing counts))
@@ -71,7 +71,7 @@ module _ (founds : List Found) where
 
   -- one more line
   next_more : (join : Join) (old mid new : Counts) (among is : LogStats) (first : List LogLine) (next : LogLine) → is_refused join.bad (asked_in join next) ≡ false
-      → CountsAddress founds join (asked_in join next) mid new → is ≡ seen_of join (first ++ next ∷ []) → CountsLines founds join old mid among first
+      → CountsAsked founds join (asked_in join next) mid new → is ≡ seen_of join (first ++ next ∷ []) → CountsLines founds join old mid among first
       → CountsLines founds join old new is (first ++ next ∷ [])
   next_more join old mid new among is first next passes c adds d =
       let more = counted_for join (asked_in join next) c.0 in (
@@ -85,15 +85,15 @@ module _ (founds : List Found) where
       → (first : List LogLine) (next : LogLine) → content next ≡ line → length (content next) ≤ 1048576 → CountsLines founds join old mid among first
       → CountsLines founds join old new is (first ++ next ∷ [])
   line_more join old mid new among is line f first next same short d =
-      let asks = asked_within join next short ∙ ap (address_in join) same in
-      next_more join old mid new among is first next (ap (is_refused join.bad) asks ∙ f.1) (subst (λ (a : Option IpAddr). CountsAddress founds join a mid new) (sym asks) f.0)
+      let asks = asked_within join next short ∙ ap (network_in join) same in
+      next_more join old mid new among is first next (ap (is_refused join.bad) asks ∙ f.1) (subst (λ (a : Option IpNetwork). CountsAsked founds join a mid new) (sym asks) f.0)
       (line_adds join next short first among is d.3 (subst (λ (l : List ℕ). is ≡ with_line among (is_addressed join l)) (sym same) f.2)) d
 
   -- one more line that is too long
   pub long_more : (join : Join) (old mid new : Counts) (among is : LogStats) (first : List LogLine) (next : LogLine) → 1048576 < length (content next) → is_stopped join.bad ≡ false
-      → CountsAddress founds join None mid new → is ≡ with_long among → CountsLines founds join old mid among first → CountsLines founds join old new is (first ++ next ∷ [])
+      → CountsAsked founds join None mid new → is ≡ with_long among → CountsLines founds join old mid among first → CountsLines founds join old new is (first ++ next ∷ [])
   long_more join old mid new among is first next long goes c adds d =
-      next_more join old mid new among is first next (refused_long join next long goes) (subst (λ (a : Option IpAddr). CountsAddress founds join a mid new) (sym (asked_long join next long)) c)
+      next_more join old mid new among is first next (refused_long join next long goes) (subst (λ (a : Option IpNetwork). CountsAsked founds join a mid new) (sym (asked_long join next long)) c)
       (long_adds join next long first among is d.3 adds) d
 
 -- ---- a log that is not read to its end
@@ -119,7 +119,7 @@ line_not_counted founds join was now remained before after old mid new among is 
 line_not_counted founds join was now remained before after old mid new among is s end given line same failed (tallies.Log faults.Address) h =
     let content_is = given.is_content ∙ sym same in
     line_ends (CountsLines founds join old mid among) (CountsLines founds join old new is) was now remained before after s (EndsRunBy join faults.Address) (log_line (line_of now) end) given.next
-    (omega (arith, ap length given.is_content, given.within), ap (address_in join) content_is ∙ h.0, h.1)
+    (omega (arith, ap length given.is_content, given.within), ap (network_in join) content_is ∙ h.0, h.1)
     (subst (λ (n : Counts). CountsLines founds join old n is s.first) (sym h.2) (subst (λ (l : LogStats). CountsLines founds join old mid l s.first) (sym h.3) s.is_done))
 line_not_counted founds join was now remained before after old mid new among is s end given line same failed (tallies.Log faults.Length) h = absurd h
 line_not_counted founds join was now remained before after old mid new among is s end given line same failed (tallies.Log faults.Endless) h = absurd h

@@ -6,13 +6,13 @@ use Rattle.log_programs.specs.Lacking.{lacking_told}
 use Rattle.log_programs.specs.LogStats.{stats_of}
 use Rattle.log_programs.specs.Seen.{seen_text}
 use Rattle.log_programs.specs.declared.log_stats.LogStats.{LogStats}
-use Rattle.cidr_join.specs.Joins.{address_in}
+use Rattle.cidr_join.specs.Joins.{network_in}
 use Rattle.cidr_join.specs.declared.join.Join.{Join}
 use Rattle.line_addresses.specs.declared.area.Area.{Area}
 
 -- whether a line, given without its end, has an address where one is looked for
 abbrev pub is_addressed : Join → List ℕ → Bool
-is_addressed join line = is_some (address_in join line)
+is_addressed join line = is_some (network_in join line)
 
 -- the counts of these lines
 abbrev pub seen_of : Join → List LogLine → LogStats

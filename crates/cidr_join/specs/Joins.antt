@@ -1,15 +1,14 @@
 -- What is printed for the lines of a log.
 use Rattle.std.specs.Prelude.{◌≡◌, ℕ, ◌||◌, Bool, false, List, [], ◌∷◌, ◌++◌, Option, None, Some, length, drop, codes}
 use Rattle.std.specs.Prelude.{option_map, if◌then◌else◌}
-use Rattle.ipnetwork_addr.specs.declared.ip.IpAddr.{IpAddr}
 use Rattle.ipnetwork.specs.IpNetworkText.{ip_network_text}
 use Rattle.ipnetwork.specs.declared.ip_network.IpNetwork.{IpNetwork}
-use Rattle.ipnetwork_addr.specs.Either.{unmapped}
-use Rattle.log_programs.specs.Finding.{found_in}
+use Rattle.line_addresses.specs.Areas.{part_of, picked_in}
 use Rattle.log_programs.specs.LogStats.{is_long}
 use Rattle.log_programs.specs.WithoutAddress.{is_dropped, is_stopped}
 use Rattle.log_programs.specs.declared.without_address.WithoutAddress.{WithoutAddress}
 use Rattle.program.specs.LogLines.{LogLine, content, printed}
+use Rattle.cidr_join.specs.Asked.{asked_network, network_of_found}
 use Rattle.cidr_join.specs.Groups.{block_in}
 use Rattle.cidr_join.specs.Routes.{IsLongestRoute, NoRouteHolds}
 use Rattle.cidr_join.specs.declared.answers.Answers.{Answers}
@@ -19,31 +18,32 @@ use Rattle.cidr_join.specs.declared.found.Found.TheVariants as founds
 use Rattle.cidr_join.specs.declared.join.Join.{Join}
 use Rattle.cidr_join.specs.declared.value.Value.{Value}
 
--- the address that counts: for an IPv4-mapped one its IPv4 one, if the option says so
-abbrev pub asked_of : Bool → Option IpAddr → Option IpAddr
-asked_of mapped found = if mapped then option_map unmapped found else found
+-- what was found in a line of which this is printed, as a network: that of an address has no other address
+abbrev pub found_in : Join → List ℕ → Option IpNetwork
+found_in join line =
+    network_of_found join.networks (picked_in join.networks join.area.pick (part_of join.area.part line))
 
--- that of a line
-abbrev pub address_in : Join → List ℕ → Option IpAddr
-address_in join line = asked_of join.mapped (found_in join.area line)
+-- the one for which the list is asked
+abbrev pub network_in : Join → List ℕ → Option IpNetwork
+network_in join line = option_map (asked_network join.mapped) (found_in join line)
 
--- what is found for an address: the value of the longest network of the list that has it, or that network, or nothing;
--- or the block of one length that has it
-abbrev pub FindsBy : Answers → IpAddr → Found → Type 0
-FindsBy (answers.Values routes) address (founds.Network network) = ⊥
-FindsBy (answers.Values routes) address (founds.Value value) = (network : IpNetwork)
-    × IsLongestRoute routes address network value
-FindsBy (answers.Values routes) address founds.Nothing = NoRouteHolds routes address
-FindsBy (answers.Networks routes) address (founds.Network network) = (value : Value)
-    × IsLongestRoute routes address network value
-FindsBy (answers.Networks routes) address (founds.Value value) = ⊥
-FindsBy (answers.Networks routes) address founds.Nothing = NoRouteHolds routes address
-FindsBy (answers.Blocks lengths) address found = found ≡ founds.Network (block_in lengths address)
+-- what is found for it: the value of the longest network of the list that has all its addresses, or that network, or
+-- nothing; or the block of one length that has them
+abbrev pub FindsBy : Answers → IpNetwork → Found → Type 0
+FindsBy (answers.Values routes) asked (founds.Network network) = ⊥
+FindsBy (answers.Values routes) asked (founds.Value value) = (network : IpNetwork)
+    × IsLongestRoute routes asked network value
+FindsBy (answers.Values routes) asked founds.Nothing = NoRouteHolds routes asked
+FindsBy (answers.Networks routes) asked (founds.Network network) = (value : Value)
+    × IsLongestRoute routes asked network value
+FindsBy (answers.Networks routes) asked (founds.Value value) = ⊥
+FindsBy (answers.Networks routes) asked founds.Nothing = NoRouteHolds routes asked
+FindsBy (answers.Blocks lengths) asked found = found ≡ block_in lengths asked
 
 -- and for that of a line, if there is one
-abbrev pub Finds : Join → Option IpAddr → Found → Type 0
+abbrev pub Finds : Join → Option IpNetwork → Found → Type 0
 Finds join None found = found ≡ founds.Nothing
-Finds join (Some address) found = FindsBy join.answers address found
+Finds join (Some asked) found = FindsBy join.answers asked found
 
 -- the text for what was found: the network's canonical text, or the value, or a minus sign for nothing
 abbrev pub mark_of : Found → List ℕ
@@ -59,18 +59,18 @@ shown_of last mark line text = if last then line ++ 9 ∷ (mark ++ drop (length 
 abbrev pub output_of : Join → Found → LogLine → List ℕ
 output_of join found line = shown_of join.last (mark_of found) (content line) (printed line)
 
--- the address of a line of a log: one of more than 1,048,576 bytes, not counting its end, has none
-abbrev pub asked_in : Join → LogLine → Option IpAddr
-asked_in join line = if is_long line then None else address_in join (content line)
+-- that of a line of a log: one of more than 1,048,576 bytes, not counting its end, has none
+abbrev pub asked_in : Join → LogLine → Option IpNetwork
+asked_in join line = if is_long line then None else network_in join (content line)
 
 -- a line without an address ends the run, or is left out, if the option says so
-abbrev pub is_refused : WithoutAddress → Option IpAddr → Bool
+abbrev pub is_refused : WithoutAddress → Option IpNetwork → Bool
 is_refused bad None = is_stopped bad
-is_refused bad (Some address) = false
+is_refused bad (Some asked) = false
 
-abbrev pub is_left_out : WithoutAddress → Option IpAddr → Bool
+abbrev pub is_left_out : WithoutAddress → Option IpNetwork → Bool
 is_left_out bad None = is_dropped bad
-is_left_out bad (Some address) = false
+is_left_out bad (Some asked) = false
 
 -- what is written for a line, given what was found for it: nothing if it is left out or too long
 abbrev pub shown_in : Join → Found → LogLine → List ℕ

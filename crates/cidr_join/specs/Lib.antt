@@ -1,10 +1,12 @@
 -- The definitions used in the contracts of this crate.
 pub mod Addressed
+pub mod Asked
 pub mod Entries
 pub mod Groups
 pub mod Joins
 pub mod Laws
 pub mod Logs
+pub mod Longest
 pub mod Options
 pub mod Private
 pub mod Routes

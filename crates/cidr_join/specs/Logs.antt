@@ -4,7 +4,7 @@ use Rattle.std.specs.Prelude.{length, codes}
 use Rattle.lists.specs.KnownLists.{KnownLists}
 use Rattle.lists.specs.declared.opening.OpenFault.{OpenFault}
 use Rattle.cidr_join.specs.Addressed.{seen_of, ended_by}
-use Rattle.cidr_join.specs.Joins.{Joins, address_in}
+use Rattle.cidr_join.specs.Joins.{Joins, network_in}
 use Rattle.log_programs.specs.Closed.{closed_text}
 use Rattle.log_programs.specs.Seen.{is_missed}
 use Rattle.log_programs.specs.WithoutAddress.{is_stopped}
@@ -48,7 +48,7 @@ abbrev pub EndsRunBy : Join → LogFault → List ℕ → Type 0
 EndsRunBy join (faults.Open cause) line = ⊥
 EndsRunBy join faults.Read line = ⊥
 EndsRunBy join faults.Write line = ⊥
-EndsRunBy join faults.Address line = (length line ≤ 1048576) × (address_in join line ≡ None)
+EndsRunBy join faults.Address line = (length line ≤ 1048576) × (network_in join line ≡ None)
     × (is_stopped join.bad ≡ true)
 EndsRunBy join faults.Length line = (1048576 < length line) × (is_stopped join.bad ≡ true)
 EndsRunBy join faults.Endless line = ⊥

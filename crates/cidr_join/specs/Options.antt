@@ -6,7 +6,7 @@ use Rattle.options.specs.declared.table.Kind.TheVariants as kinds
 use Rattle.options.specs.declared.table.Table.{Table}
 
 -- the rows of the options that this program alone has: `--last`, `--last-wins`, `--network`, `--tally`, `--group`,
--- `--bad`, `--zero` and `--skip-bad`
+-- `--bad`, `--zero`, `--skip-bad` and `--networks`
 abbrev pub last : ℕ
 last = 10
 
@@ -31,6 +31,9 @@ zeros = 16
 abbrev pub skips_bad : ℕ
 skips_bad = 17
 
+abbrev pub networks : ℕ
+networks = 18
+
 -- the options, in the order of their rows
 abbrev pub entries : List Entry
 entries = rows.shared
@@ -38,7 +41,7 @@ entries = rows.shared
     ∷ long_flag (codes "--tally")
     ∷ long (codes "--group") kinds.Lengths false (codes "not N,M with N up to 32 and M up to 128")
     ∷ long (codes "--bad") kinds.Rule true (codes "not drop, keep, stop or report")
-    ∷ long_flag (codes "--zero") ∷ long_flag (codes "--skip-bad") ∷ []
+    ∷ long_flag (codes "--zero") ∷ long_flag (codes "--skip-bad") ∷ long_flag (codes "--networks") ∷ []
 
 -- the pairs of options that may not be given together: some options for where addresses are looked for, `--tally` with
 -- `--last`, two `-f`, and `--group` with `-f` or an option about its list. If several pairs are given, the first is

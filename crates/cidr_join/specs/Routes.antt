@@ -1,19 +1,18 @@
--- The networks of a list with their values, and which of them an address has.
+-- The networks of a list with their values, and which of them has the addresses of a network.
 use Rattle.std.specs.Prelude.{◌≡◌, ℕ, ◌&&◌, Bool, true, false, not, List, [], ◌∷◌, None, IsSome}
 use Rattle.std.specs.List.{list_any}
 use Rattle.std.specs.Option.{is_some}
 use Rattle.std.specs.FinMap.{FinMap, get, insert, empty}
-use Rattle.ipnetwork_addr.specs.declared.ip.IpAddr.{IpAddr}
 use Rattle.ipnetwork_addr.specs.declared.ip.IpAddr.TheVariants as addresses
 use Rattle.ipnetwork.specs.declared.ip_network.IpNetwork.{IpNetwork}
 use Rattle.ipnetwork.specs.declared.ip_network.IpNetwork.TheVariants as families
 use Rattle.ipnetwork_blocks.specs.LeastList.{IsLeastList}
 use Rattle.ipnetwork_blocks.specs.Ranges.{FromTo}
 use Rattle.ipnetwork_family.specs.Network.{Network, HostBitsAreZero, block_of, network_cmp}
-use Rattle.ipnetwork_table.specs.Table.{IsLongest, NoneHolds}
 use Rattle.lists.specs.Entries.{IsRange}
 use Rattle.lists.specs.declared.entry.Entry.{Entry}
 use Rattle.lists.specs.declared.entry.Entry.TheVariants as entries
+use Rattle.cidr_join.specs.Longest.{IsLongestOver, NoneHasAll}
 use Rattle.cidr_join.specs.declared.line.Cause.TheVariants as causes
 use Rattle.cidr_join.specs.declared.routes.Networks.{Networks}
 use Rattle.cidr_join.specs.declared.routes.RouteFault.{RouteFault}
@@ -103,17 +102,17 @@ abbrev pub Keeps : {A : Type 0} → A → A → RouteFault → Type 0
 Keeps before after faults.OutOfMemory = Unit {0}
 Keeps before after (faults.Refused cause) = after ≡ before
 
--- the network is one of the list's, without host bits, it has the address and this value, and no network of the list
--- that has the address has a greater prefix length
-abbrev pub IsLongestRoute : Routes → IpAddr → IpNetwork → Value → Type 0
-IsLongestRoute routes (addresses.V4 address) (families.V4 n) value = IsLongest 32 routes.v4 address n value
+-- the network is one of the list's, without host bits, it has this value and all addresses of the one that is asked,
+-- and no network of the list that has them all has a greater prefix length
+abbrev pub IsLongestRoute : Routes → IpNetwork → IpNetwork → Value → Type 0
+IsLongestRoute routes (families.V4 asked) (families.V4 n) value = IsLongestOver 32 routes.v4 asked n value
     × HostBitsAreZero 32 n
-IsLongestRoute routes (addresses.V4 address) (families.V6 n) value = ⊥
-IsLongestRoute routes (addresses.V6 address) (families.V4 n) value = ⊥
-IsLongestRoute routes (addresses.V6 address) (families.V6 n) value = IsLongest 128 routes.v6 address n value
+IsLongestRoute routes (families.V4 asked) (families.V6 n) value = ⊥
+IsLongestRoute routes (families.V6 asked) (families.V4 n) value = ⊥
+IsLongestRoute routes (families.V6 asked) (families.V6 n) value = IsLongestOver 128 routes.v6 asked n value
     × HostBitsAreZero 128 n
 
--- no network of the list has the address
-abbrev pub NoRouteHolds : Routes → IpAddr → Type 0
-NoRouteHolds routes (addresses.V4 address) = NoneHolds 32 routes.v4 address
-NoRouteHolds routes (addresses.V6 address) = NoneHolds 128 routes.v6 address
+-- no network of the list has them all
+abbrev pub NoRouteHolds : Routes → IpNetwork → Type 0
+NoRouteHolds routes (families.V4 asked) = NoneHasAll 32 routes.v4 asked
+NoRouteHolds routes (families.V6 asked) = NoneHasAll 128 routes.v6 asked

@@ -94,6 +94,7 @@ abbrev pub join_of : List Item → Answers → Join
 join_of items by = record {
   answers = by;
   area = area_of items;
+  networks = is_given items own.networks;
   mapped = is_given items rows.mapped;
   last = is_given items own.last;
   bad = bad_in (value_of items own.bad);

@@ -15,7 +15,8 @@ use Rattle.cidr_join.specs.declared.value.Value.{Value}
 -- by these rules, the line is taken: it says nothing, or its network or the blocks of its range get its value
 abbrev pub TakesLine : ListRules → Networks → List ℕ → Networks → Type 0
 TakesLine rules before line after = (SaysNothing line × (after ≡ before))
-    ⊎ ((entry : Entry) × (value : Value) × Says rules.bare line entry value × SetsEntry rules.last_wins before entry value after)
+    ⊎ ((entry : Entry) × (value : Value) × Says rules.bare line entry value
+    × SetsEntry rules.last_wins before entry value after)
 
 -- why the line cannot be taken
 abbrev pub LineFails : ListRules → Networks → List ℕ → RouteFault → Type 0

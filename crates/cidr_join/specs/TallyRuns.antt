@@ -2,8 +2,8 @@
 use Rattle.std.specs.Prelude.{◌≡◌, ◌⊎◌, ℕ, Bool, false, Err, List, [], ◌∷◌, ◌++◌, Option}
 use Rattle.std.specs.Prelude.{length, map, codes, if◌then◌else◌}
 use Rattle.std.specs.FinMap.{entries}
-use Rattle.ipnetwork_addr.specs.declared.ip.IpAddr.{IpAddr}
 use Rattle.ipnetwork.specs.IpNetworkText.{ip_network_text}
+use Rattle.ipnetwork.specs.declared.ip_network.IpNetwork.{IpNetwork}
 use Rattle.ipnetwork.specs.declared.ip_network.IpNetwork.TheVariants as families
 use Rattle.lists.specs.KnownLists.{KnownLists}
 use Rattle.program.specs.Endings.{Ending, Refuses, HasTold, HasWritten}
@@ -20,10 +20,10 @@ use Rattle.cidr_join.specs.declared.found.Found.{Found}
 use Rattle.cidr_join.specs.declared.join.Join.{Join}
 use Rattle.program.specs.declared.log_fault.LogFault.{LogFault}
 
--- what is counted for this address, or where there is none, of which this was found: nothing, if such lines are left
+-- what is counted for this network, or where there is none, of which this was found: nothing, if such lines are left
 -- out
-abbrev pub counted_for : Join → Option IpAddr → Found → List (List ℕ)
-counted_for join address found = if is_left_out join.bad address then [] else mark_of found ∷ []
+abbrev pub counted_for : Join → Option IpNetwork → Found → List (List ℕ)
+counted_for join asked found = if is_left_out join.bad asked then [] else mark_of found ∷ []
 
 -- what is counted for these lines, none of which ends the run; a line that is too long counts as one without an address
 abbrev pub Marks : Join → List LogLine → List (List ℕ) → Type 0

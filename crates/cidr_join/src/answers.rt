@@ -1,37 +1,37 @@
-//! What is printed of an address.
+//! What is printed of the network of a line.
 ghost use Rattle.cidr_join.specs.Joins.{FindsBy};
 
 use crate::found::Found;
 use crate::lengths::Lengths;
 use crate::routes::Routes;
-use ipnetwork::IpAddr;
+use ipnetwork::IpNetwork;
 
-/// What is printed of an address.
+/// What is printed of the network of a line.
 #[derive(Drop)]
 pub enum Answers<'a> {
-    /// The value of the longest network of a list that has it.
+    /// The value of the longest network of a list that has all its addresses.
     Values(Routes<'a>),
     /// That network.
     Networks(Routes<'a>),
-    /// The block of one length that has it.
+    /// The block of one length that has them.
     Blocks(Lengths),
 }
 
 impl<'a> Answers<'a> {
-    /// What is printed of an address. Does not allocate.
-    pub(crate) fn find(&self, address: IpAddr) -> Found<'a>
-        ensures { FindsBy self.now address result }
+    /// What is printed of a network. Does not allocate.
+    pub(crate) fn find(&self, asked: IpNetwork) -> Found<'a>
+        ensures { FindsBy self.now asked result }
     {
         match self {
-            Answers::Values(routes) => match routes.longest(address) {
+            Answers::Values(routes) => match routes.longest(asked) {
                 Some((_, value)) => Found::Value(value),
                 None => Found::Nothing,
             },
-            Answers::Networks(routes) => match routes.longest(address) {
+            Answers::Networks(routes) => match routes.longest(asked) {
                 Some((network, _)) => Found::Network(network),
                 None => Found::Nothing,
             },
-            Answers::Blocks(lengths) => Found::Network(lengths.block(address)),
+            Answers::Blocks(lengths) => lengths.block(asked),
         }
     }
 }

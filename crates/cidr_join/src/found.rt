@@ -1,12 +1,12 @@
-//! What is found for the address of a line.
+//! What is found for the address or network of a line.
 
 use crate::value::Value;
 use ipnetwork::IpNetwork;
 
-/// What is printed of the address of a line.
+/// What is printed of the address or network of a line.
 #[derive(Clone, Copy, Debug)]
 pub enum Found<'a> {
-    /// The network or the block that has it.
+    /// The network or the block that has it, or all its addresses.
     Network(IpNetwork),
     /// The value of the network that contains it.
     Value(Value<'a>),

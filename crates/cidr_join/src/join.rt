@@ -1,21 +1,23 @@
 //! What is printed for a line.
 ghost use Rattle.std.specs.Prelude.{◌≡◌, None, Some};
-ghost use Rattle.cidr_join.specs.Joins.{Finds, address_in, is_left_out, is_refused};
+ghost use Rattle.cidr_join.specs.Joins.{Finds, is_left_out, is_refused, network_in};
 
 use crate::answers::Answers;
+use crate::asked::{asked_network, network_of};
 use crate::found::Found;
-use ipnetwork::IpAddr;
-use line_addresses::Area;
-use log_programs::finding::found_in;
+use ipnetwork::IpNetwork;
+use line_addresses::{Area, part_of, picked};
 use log_programs::without_address::WithoutAddress;
 
 /// What decides what is printed for a line.
 #[derive(Drop)]
 pub struct Join<'a> {
-    /// What is printed of its address.
+    /// What is printed of its address or network.
     pub(crate) answers: Answers<'a>,
     pub(crate) area: Area<'a>,
-    /// Whether an IPv4-mapped address of a line counts as its IPv4 one.
+    /// Whether networks of lines are looked for, beside addresses.
+    pub(crate) networks: bool,
+    /// Whether an IPv4-mapped address or network of a line counts as its IPv4 one.
     pub(crate) mapped: bool,
     /// Whether that is printed after the line instead of before it.
     pub(crate) last: bool,
@@ -25,49 +27,52 @@ pub struct Join<'a> {
 }
 
 impl<'a> Join<'a> {
-    /// What is printed of the address of a line. Does not allocate.
-    pub(crate) fn find(&self, address: Option<IpAddr>) -> Found<'a>
-        ensures { Finds self.now address result }
+    /// What is printed of the network of a line. Does not allocate.
+    pub(crate) fn find(&self, asked: Option<IpNetwork>) -> Found<'a>
+        ensures { Finds self.now asked result }
     {
-        match address {
-            Some(address) => self.answers.find(address),
+        match asked {
+            Some(asked) => self.answers.find(asked),
             None => Found::Nothing,
         }
     }
 
-    /// Whether a line with this address, or without one, ends the run.
+    /// Whether a line with this network, or without an address, ends the run.
     #[inline(always)]
-    pub(crate) fn refuses(&self, address: Option<IpAddr>) -> bool
-        ensures { result ≡ is_refused self.now.bad address }
+    pub(crate) fn refuses(&self, asked: Option<IpNetwork>) -> bool
+        ensures { result ≡ is_refused self.now.bad asked }
     {
-        match address {
+        match asked {
             Some(_) => false,
             None => self.bad.is_stopped(),
         }
     }
 
-    /// Whether a line with this address, or without one, is left out.
+    /// Whether a line with this network, or without an address, is left out.
     #[inline(always)]
-    pub(crate) fn leaves_out(&self, address: Option<IpAddr>) -> bool
-        ensures { result ≡ is_left_out self.now.bad address }
+    pub(crate) fn leaves_out(&self, asked: Option<IpNetwork>) -> bool
+        ensures { result ≡ is_left_out self.now.bad asked }
     {
-        match address {
+        match asked {
             Some(_) => false,
             None => self.bad.is_dropped(),
         }
     }
 
-    /// The address of a line of which this is printed. The line is given without its end.
-    pub(crate) fn address_in(&self, line: &[u8]) -> Option<IpAddr>
-        ensures { result ≡ address_in self.now line.now }
+    /// The network of a line of which this is printed; that of an address has no other address. The
+    /// line is given without its end.
+    pub(crate) fn network_in(&self, line: &[u8]) -> Option<IpNetwork>
+        ensures { result ≡ network_in self.now line.now }
     {
-        let Some(address) = found_in(&self.area, line) else {
+        let Some(part) = part_of(&self.area.part, line) else {
             return None;
         };
-        if self.mapped {
-            Some(address.to_canonical())
-        } else {
-            Some(address)
+        let Some(found) = picked(part, self.area.pick, self.networks) else {
+            return None;
+        };
+        match network_of(part, &found, self.networks) {
+            Some(network) => Some(asked_network(self.mapped, network)),
+            None => None,
         }
     }
 }

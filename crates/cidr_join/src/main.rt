@@ -2,6 +2,7 @@
 #![tactic(auto)]
 
 mod answers;
+mod asked;
 mod counts;
 mod found;
 mod help;
@@ -12,6 +13,7 @@ mod line;
 mod list;
 mod log;
 mod logs;
+mod longest;
 mod missing;
 mod printing;
 mod routes;

@@ -1,12 +1,13 @@
-//! The networks of a list with their values, and which of them an address has.
+//! The networks of a list with their values, and which of them has the addresses of a network.
 ghost use Rattle.std.specs.Prelude.{◌≡◌, ◌<◌, ◌≤◌, ◌^◌, IfOk, IfErr, MatchOption, OnOk};
 ghost use Rattle.ipnetwork_blocks.specs.LeastList.{IsLeastList};
 ghost use Rattle.ipnetwork_blocks.specs.Ranges.{FromTo};
 ghost use Rattle.cidr_join.specs.Routes.{IsLongestRoute, NoRouteHolds, SetsOne, HasOne, SetsRange, RangeHasOne, RefusesRange, IsRefusal, Keeps, no_networks};
 
 use crate::line::Cause;
+use crate::longest::longest_over;
 use crate::value::Value;
-use ipnetwork::{IpAddr, IpNetwork, Ipv4Network, Ipv6Network};
+use ipnetwork::{IpNetwork, Ipv4Network, Ipv6Network};
 use ipnetwork_blocks::laws::ranges_are_shortest;
 use ipnetwork_blocks::{AddressSpace, RangeBlocks, range_to_blocks};
 use ipnetwork_index::RouteIndex;
@@ -61,17 +62,17 @@ impl<'a> Routes<'a> {
         })
     }
 
-    /// The longest network that has the address, and its value.
-    pub(crate) fn longest(&self, address: IpAddr) -> Option<(IpNetwork, Value<'a>)>
-        ensures { MatchOption result (NoRouteHolds self.now address)
-            (λ found. IsLongestRoute self.now address found.0 found.1) }
+    /// The longest network that has all addresses of this one, and its value.
+    pub(crate) fn longest(&self, asked: IpNetwork) -> Option<(IpNetwork, Value<'a>)>
+        ensures { MatchOption result (NoRouteHolds self.now asked)
+            (λ found. IsLongestRoute self.now asked found.0 found.1) }
     {
-        match address {
-            IpAddr::V4(address) => match self.v4.lookup(address) {
+        match asked {
+            IpNetwork::V4(asked) => match longest_over(&self.v4, asked) {
                 Some((network, value)) => Some((IpNetwork::V4(network), value)),
                 None => None,
             },
-            IpAddr::V6(address) => match self.v6.lookup(address) {
+            IpNetwork::V6(asked) => match longest_over(&self.v6, asked) {
                 Some((network, value)) => Some((IpNetwork::V6(network), value)),
                 None => None,
             },

@@ -28,8 +28,11 @@ pub(crate) const ZERO: usize = 16;
 /// The row of `--skip-bad`.
 pub(crate) const SKIPS_BAD: usize = 17;
 
+/// The row of `--networks`.
+pub(crate) const NETWORKS: usize = 18;
+
 // The options.
-const ROWS: [Row; 18] = log_rows![
+const ROWS: [Row; 19] = log_rows![
     long!("--last", Flag, false, ""),
     long!("--last-wins", Flag, false, ""),
     long!("--network", Flag, false, ""),
@@ -43,6 +46,7 @@ const ROWS: [Row; 18] = log_rows![
     long!("--bad", Rule, true, "not drop, keep, stop or report"),
     long!("--zero", Flag, false, ""),
     long!("--skip-bad", Flag, false, ""),
+    long!("--networks", Flag, false, ""),
 ];
 
 // The options that may not be given together; `-f` may be given only once.

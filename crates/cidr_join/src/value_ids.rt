@@ -2,21 +2,22 @@
 ghost use Rattle.std.specs.Prelude.{◌≡◌, ℕ, [], ◌∷◌, ◌++◌, Option, IfOk, IfSome, OnOk};
 ghost use Rattle.ipnetwork.specs.declared.ip_network.IpNetwork.{IpNetwork as AnyNetwork};
 ghost use Rattle.ipnetwork_family.specs.Network.{Network as Pair};
-ghost use Rattle.ipnetwork_table.specs.Table.{HasOnlyBlocks, Answers as AnswersTo};
-ghost use Rattle.cidr_join.specs.Private.Numbering.{AddsNumbers, NumbersRoutes, IsNumbering, StandsFor, StandsForRoute, found_by, number_or_none};
+ghost use Rattle.ipnetwork_table.specs.Table.{HasOnlyBlocks};
+ghost use Rattle.cidr_join.specs.Private.Numbering.{AddsNumbers, AnswersOver, NumbersRoutes, IsNumbering, StandsFor, StandsForRoute, found_by, number_or_none};
 ghost use Rattle.cidr_join.specs.declared.answers.Answers.{Answers as AnswersOf};
 
 use crate::answers::Answers;
 use crate::found::Found;
+use crate::longest::longest_over;
 use crate::routes::Routes;
 use crate::value::Value;
-use ipnetwork::{IpAddr, IpNetwork, Ipv4Network, Ipv6Network};
+use ipnetwork::{IpNetwork, Ipv4Network, Ipv6Network};
 use ipnetwork_index::{IndexedNetwork, RouteIndex};
 use ipnetwork_table::PrefixTable;
 use std::alloc::{AllocError, Global};
 
-/// What is printed of addresses by the networks of a list: each network has a number, and 0 is that
-/// of addresses that no network has. If addresses are printed as blocks, there are no numbers.
+/// What is printed of networks by those of a list: each of these has a number, and 0 is that of
+/// what none of them has. If blocks are printed, there are no numbers.
 #[derive(Drop)]
 pub struct ValueIds<'a> {
     pub(crate) v4: RouteIndex<Ipv4Network, usize>,
@@ -75,38 +76,38 @@ impl<'a> ValueIds<'a> {
         self.founds.as_slice()
     }
 
-    /// The number that stands for what is printed of the address of a line; `None` if there are no
+    /// The number that stands for what is printed of the network of a line; `None` if there are no
     /// numbers. Does not allocate.
-    pub(crate) fn number_of(&self, address: Option<IpAddr>) -> Option<usize>
+    pub(crate) fn number_of(&self, asked: Option<IpNetwork>) -> Option<usize>
         ensures { IfSome result (λ number. (by : AnswersOf) → IsNumbering by self.now
-            → StandsFor by address self.now.founds.items number) }
+            → StandsFor by asked self.now.founds.items number) }
     {
         if self.founds.is_empty() {
             return None;
         }
-        match address {
-            Some(address) => Some(self.number_at(address)),
+        match asked {
+            Some(asked) => Some(self.number_at(asked)),
             None => Some(0),
         }
     }
 
-    // The number that stands for what is printed of an address.
-    fn number_at(&self, address: IpAddr) -> usize
-        ensures { StandsForRoute self.now address result }
+    // The number that stands for what is printed of a network.
+    fn number_at(&self, asked: IpNetwork) -> usize
+        ensures { StandsForRoute self.now asked result }
     {
-        match address {
-            IpAddr::V4(address) => number_in(&self.v4, address),
-            IpAddr::V6(address) => number_in(&self.v6, address),
+        match asked {
+            IpNetwork::V4(asked) => number_in(&self.v4, asked),
+            IpNetwork::V6(asked) => number_in(&self.v6, asked),
         }
     }
 }
 
-// The number of the longest network that has the address, or 0.
-fn number_in<N: IndexedNetwork>(index: &RouteIndex<N, usize>, addr: N::Addr) -> usize
-    ensures { (found : Option (Pair × ℕ)) × AnswersTo N.WIDTH index.now (N.number addr) found
+// The number of the longest network that has all addresses of this one, or 0.
+fn number_in<N: IndexedNetwork>(index: &RouteIndex<N, usize>, asked: N) -> usize
+    ensures { (found : Option (Pair × ℕ)) × AnswersOver N.WIDTH index.now (N.pair asked) found
         × HasOnlyBlocks N.WIDTH index.now × (result ≡ number_or_none found) }
 {
-    match index.lookup(addr) {
+    match longest_over(index, asked) {
         Some(found) => found.1,
         None => 0,
     }

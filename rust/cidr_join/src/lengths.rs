@@ -2,7 +2,8 @@
 
 //! Blocks of one length in each family.
 
-use fosibegan::ipnetwork::{IpAddr, IpNetwork, Ipv4Network, Ipv6Network};
+use crate::found::Found;
+use fosibegan::ipnetwork::{IpNetwork, Ipv4Network, Ipv6Network};
 
 /// The lengths of the blocks in which lines are grouped.
 #[derive(Clone, Copy, Debug, PartialEq, Eq)]
@@ -14,17 +15,30 @@ pub struct Lengths {
 }
 
 impl Lengths {
-    /// The block of one of these lengths that has an address. Does not allocate.
-    pub(crate) fn block(self, address: IpAddr) -> IpNetwork {
-        match address {
-            IpAddr::V4(address) => match Ipv4Network::block(address, self.v4.min(32)) {
-                Some(block) => IpNetwork::V4(block),
-                None => unreachable!(),
-            },
-            IpAddr::V6(address) => match Ipv6Network::block(address, self.v6.min(128)) {
-                Some(block) => IpNetwork::V6(block),
-                None => unreachable!(),
-            },
+    /// The block of one of these lengths that has all addresses of a network, if one has. Does not
+    /// allocate.
+    pub(crate) fn block<'a>(self, network: IpNetwork) -> Found<'a> {
+        match network {
+            IpNetwork::V4(network) => {
+                let length = self.v4.min(32);
+                if network.prefix() < length {
+                    return Found::Nothing;
+                }
+                match Ipv4Network::block(network.ip(), length) {
+                    Some(block) => Found::Network(IpNetwork::V4(block)),
+                    None => unreachable!(),
+                }
+            }
+            IpNetwork::V6(network) => {
+                let length = self.v6.min(128);
+                if network.prefix() < length {
+                    return Found::Nothing;
+                }
+                match Ipv6Network::block(network.ip(), length) {
+                    Some(block) => Found::Network(IpNetwork::V6(block)),
+                    None => unreachable!(),
+                }
+            }
         }
     }
 }

@@ -12,7 +12,8 @@ use cidr_programs::program::log_fault::LogFault;
 use cidr_programs::program::log_reader::{LogReader, NextLogLine};
 use fosibegan::plain_std::io::{Read, Write};
 
-/// Writes each line of a log with the value of its address, and counts what is seen of them, from the first on.
+/// Writes each line of a log with what is printed of its address or network, and counts what is seen
+/// of them, from the first on.
 ///
 /// What is printed for the lines that a read completes is written before the next read. After a
 /// failed read nothing is written. If lines that are too long end the run, one does so even before
@@ -48,8 +49,8 @@ pub(crate) fn join_log<R: Read, W: Write>(
     }
 }
 
-// Writes a line within the limit with the value of its address, and counts it. `whole` is the line as it was read, with
-// its end.
+// Writes a line within the limit with what is printed of its address or network, and counts it.
+// `whole` is the line as it was read, with its end.
 fn join_line<W: Write>(
     join: &Join<'_>,
     line: &[u8],
@@ -58,15 +59,15 @@ fn join_line<W: Write>(
     output: &mut Output<'_, W>,
     seen: &mut LogStats,
 ) -> Result<(), LogFault> {
-    let address = join.address_in(line);
-    if join.refuses(address) {
+    let asked = join.network_in(line);
+    if join.refuses(asked) {
         return Err(LogFault::Address);
     }
-    seen.add(address.is_some());
-    if join.leaves_out(address) {
+    seen.add(asked.is_some());
+    if join.leaves_out(asked) {
         return Ok(());
     }
-    let found = join.find(address);
+    let found = join.find(asked);
     match print_line(join, &found, line, whole, end, output) {
         Ok(()) => Ok(()),
         Err(_) => Err(LogFault::Write),

@@ -9,6 +9,7 @@
 use fosibegan::plain_std::rt::HostRuntime;
 
 mod answers;
+mod asked;
 mod counts;
 mod found;
 mod help;
@@ -18,6 +19,7 @@ mod line;
 mod list;
 mod log;
 mod logs;
+mod longest;
 mod missing;
 mod printing;
 mod routes;

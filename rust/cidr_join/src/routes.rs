@@ -1,10 +1,11 @@
 // Written by scripts/plain out of crates/cidr_join/src/routes.rt
 
-//! The networks of a list with their values, and which of them an address has.
+//! The networks of a list with their values, and which of them has the addresses of a network.
 
 use crate::line::Cause;
+use crate::longest::longest_over;
 use crate::value::Value;
-use fosibegan::ipnetwork::{IpAddr, IpNetwork, Ipv4Network, Ipv6Network};
+use fosibegan::ipnetwork::{IpNetwork, Ipv4Network, Ipv6Network};
 use fosibegan::ipnetwork_blocks::{AddressSpace, RangeBlocks, range_to_blocks};
 use fosibegan::ipnetwork_index::RouteIndex;
 use fosibegan::ipnetwork_table::PrefixTable;
@@ -51,14 +52,14 @@ impl<'a> Routes<'a> {
         })
     }
 
-    /// The longest network that has the address, and its value.
-    pub(crate) fn longest(&self, address: IpAddr) -> Option<(IpNetwork, Value<'a>)> {
-        match address {
-            IpAddr::V4(address) => match self.v4.lookup(address) {
+    /// The longest network that has all addresses of this one, and its value.
+    pub(crate) fn longest(&self, asked: IpNetwork) -> Option<(IpNetwork, Value<'a>)> {
+        match asked {
+            IpNetwork::V4(asked) => match longest_over(&self.v4, asked) {
                 Some((network, value)) => Some((IpNetwork::V4(network), value)),
                 None => None,
             },
-            IpAddr::V6(address) => match self.v6.lookup(address) {
+            IpNetwork::V6(asked) => match longest_over(&self.v6, asked) {
                 Some((network, value)) => Some((IpNetwork::V6(network), value)),
                 None => None,
             },

@@ -12,7 +12,7 @@ use crate::list::{ListRules, networks_of};
 use crate::logs::join_logs;
 use crate::missing::status;
 use crate::routes::Routes;
-use crate::rows::{BAD, GROUP, LAST, LAST_WINS, NETWORK, SKIPS_BAD, TALLY, ZERO, table};
+use crate::rows::{BAD, GROUP, LAST, LAST_WINS, NETWORK, NETWORKS, SKIPS_BAD, TALLY, ZERO, table};
 use crate::tally_logs::tally_logs;
 use crate::telling::{tell_bytes_fault, tell_take_fault};
 use cidr_programs::lines::output::Output;
@@ -192,6 +192,7 @@ fn join_of<'a>(items: &[Item<'a>], answers: Answers<'a>) -> Join<'a> {
     Join {
         answers,
         area: area_of(items),
+        networks: is_given(items, NETWORKS),
         mapped: is_given(items, MAPPED),
         last: is_given(items, LAST),
         bad: bad_in(value_of(items, BAD)),

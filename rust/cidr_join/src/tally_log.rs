@@ -7,7 +7,7 @@ use crate::counts::Counts;
 use crate::found::Found;
 use crate::join::Join;
 use crate::value_ids::ValueIds;
-use fosibegan::ipnetwork::IpAddr;
+use fosibegan::ipnetwork::IpNetwork;
 use cidr_programs::lines::output::Output;
 use cidr_programs::lines::watched::Watched;
 use cidr_programs::log_programs::log_stats::LogStats;
@@ -25,7 +25,7 @@ pub enum TallyFault {
     OutOfMemory,
 }
 
-/// Counts for each line of a log what the list gives its address, and the line.
+/// Counts for each line of a log what the list gives its address or network, and the line.
 ///
 /// A line that is too long counts as one without an address. If such lines end the run, one does so
 /// even before its end was read. The counts in `seen` start anew.
@@ -57,7 +57,7 @@ pub(crate) fn tally_log<R: Read>(
                     return Err(TallyFault::Log(LogFault::Length));
                 }
                 seen.add_long();
-                if let Err(_) = count_address(alloc, join, numbered, None, counts) {
+                if let Err(_) = count_asked(alloc, join, numbered, None, counts) {
                     return Err(TallyFault::OutOfMemory);
                 }
             }
@@ -80,7 +80,7 @@ fn tally_fault(fault: LogFault) -> TallyFault {
     }
 }
 
-// Counts what is printed of the address of a line within the limit, and the line.
+// Counts what is printed of the network of a line within the limit, and the line.
 fn count_line(
     alloc: Global,
     join: &Join<'_>,
@@ -89,33 +89,34 @@ fn count_line(
     counts: &mut Counts,
     seen: &mut LogStats,
 ) -> Result<(), TallyFault> {
-    let address = join.address_in(line);
-    if join.refuses(address) {
+    let asked = join.network_in(line);
+    if join.refuses(asked) {
         return Err(TallyFault::Log(LogFault::Address));
     }
-    seen.add(address.is_some());
-    match count_address(alloc, join, numbered, address, counts) {
+    seen.add(asked.is_some());
+    match count_asked(alloc, join, numbered, asked, counts) {
         Ok(()) => Ok(()),
         Err(_) => Err(TallyFault::OutOfMemory),
     }
 }
 
-// Counts what is printed of an address, or where there is none, unless lines without one are left out.
-fn count_address(
+// Counts what is printed of a network, or where there is none, unless lines without one are left
+// out.
+fn count_asked(
     alloc: Global,
     join: &Join<'_>,
     numbered: &ValueIds<'_>,
-    address: Option<IpAddr>,
+    asked: Option<IpNetwork>,
     counts: &mut Counts,
 ) -> Result<(), AllocError> {
-    if is_left_out(join, address.is_some()) {
+    if is_left_out(join, asked.is_some()) {
         return Ok(());
     }
-    if let Some(number) = numbered.number_of(address) {
+    if let Some(number) = numbered.number_of(asked) {
         counts.count_number(number);
         return Ok(());
     }
-    match join.find(address) {
+    match join.find(asked) {
         Found::Network(network) => {
             counts.count_text(alloc, network.canonical().as_bytes())
         }

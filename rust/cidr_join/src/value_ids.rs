@@ -5,15 +5,16 @@
 use fosibegan::plain_std::vec::Vec;
 use crate::answers::Answers;
 use crate::found::Found;
+use crate::longest::longest_over;
 use crate::routes::Routes;
 use crate::value::Value;
-use fosibegan::ipnetwork::{IpAddr, IpNetwork, Ipv4Network, Ipv6Network};
+use fosibegan::ipnetwork::{IpNetwork, Ipv4Network, Ipv6Network};
 use fosibegan::ipnetwork_index::{IndexedNetwork, RouteIndex};
 use fosibegan::ipnetwork_table::PrefixTable;
 use fosibegan::plain_std::alloc::{AllocError, Global};
 
-/// What is printed of addresses by the networks of a list: each network has a number, and 0 is that
-/// of addresses that no network has. If addresses are printed as blocks, there are no numbers.
+/// What is printed of networks by those of a list: each of these has a number, and 0 is that of
+/// what none of them has. If blocks are printed, there are no numbers.
 pub struct ValueIds<'a> {
     pub(crate) v4: RouteIndex<Ipv4Network, usize>,
     pub(crate) v6: RouteIndex<Ipv6Network, usize>,
@@ -55,30 +56,30 @@ impl<'a> ValueIds<'a> {
         self.founds.as_slice()
     }
 
-    /// The number that stands for what is printed of the address of a line; `None` if there are no
+    /// The number that stands for what is printed of the network of a line; `None` if there are no
     /// numbers. Does not allocate.
-    pub(crate) fn number_of(&self, address: Option<IpAddr>) -> Option<usize> {
+    pub(crate) fn number_of(&self, asked: Option<IpNetwork>) -> Option<usize> {
         if self.founds.is_empty() {
             return None;
         }
-        match address {
-            Some(address) => Some(self.number_at(address)),
+        match asked {
+            Some(asked) => Some(self.number_at(asked)),
             None => Some(0),
         }
     }
 
-    // The number that stands for what is printed of an address.
-    fn number_at(&self, address: IpAddr) -> usize {
-        match address {
-            IpAddr::V4(address) => number_in(&self.v4, address),
-            IpAddr::V6(address) => number_in(&self.v6, address),
+    // The number that stands for what is printed of a network.
+    fn number_at(&self, asked: IpNetwork) -> usize {
+        match asked {
+            IpNetwork::V4(asked) => number_in(&self.v4, asked),
+            IpNetwork::V6(asked) => number_in(&self.v6, asked),
         }
     }
 }
 
-// The number of the longest network that has the address, or 0.
-fn number_in<N: IndexedNetwork>(index: &RouteIndex<N, usize>, addr: N::Addr) -> usize {
-    match index.lookup(addr) {
+// The number of the longest network that has all addresses of this one, or 0.
+fn number_in<N: IndexedNetwork>(index: &RouteIndex<N, usize>, asked: N) -> usize {
+    match longest_over(index, asked) {
         Some(found) => found.1,
         None => 0,
     }

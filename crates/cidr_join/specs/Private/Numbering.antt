@@ -2,11 +2,11 @@
 use Rattle.std.specs.Prelude.{◌≡◌, ℕ, Bool, true, false, List, [], ◌∷◌, ◌++◌, map, Option, None, Some, IsSome}
 use Rattle.std.specs.Prelude.{slice_get}
 use Rattle.std.specs.FinMap.{FinMap, get, entries}
-use Rattle.ipnetwork_addr.specs.declared.ip.IpAddr.{IpAddr}
 use Rattle.ipnetwork.specs.declared.ip_network.IpNetwork.{IpNetwork}
 use Rattle.ipnetwork.specs.declared.ip_network.IpNetwork.TheVariants as families
 use Rattle.ipnetwork_family.specs.Network.{Network, network_cmp}
 use Rattle.cidr_join.specs.Joins.{FindsBy}
+use Rattle.cidr_join.specs.Longest.{FindsOver}
 use Rattle.cidr_join.specs.Routes.{Values}
 use Rattle.cidr_join.specs.Runs.{answers_by}
 use Rattle.cidr_join.specs.declared.answers.Answers.{Answers}
@@ -52,19 +52,23 @@ IsNumbering (answers.Values routes) numbered = NumbersRoutes false routes number
 IsNumbering (answers.Networks routes) numbered = NumbersRoutes true routes numbered
 IsNumbering (answers.Blocks lengths) numbered = numbered.founds.items ≡ []
 
--- the number of what a look-up found, or 0
+-- what a look-up found, its network as a pair
+abbrev pub AnswersOver : {V : Type 0} → ℕ → FinMap network_cmp V → Network → Option (Network × V) → Type 0
+AnswersOver w t asked answer = FindsOver (λ n. n) w t asked answer
+
+-- its number, or 0
 abbrev pub number_or_none : Option (Network × ℕ) → ℕ
 number_or_none None = 0
 number_or_none (Some found) = found.1
 
--- the number stands for what is found for an address
-abbrev pub StandsForRoute : ValueIds → IpAddr → ℕ → Type 0
-StandsForRoute numbered address number = (network : Bool) (routes : Routes) → NumbersRoutes network routes numbered
+-- the number stands for what is found for a network
+abbrev pub StandsForRoute : ValueIds → IpNetwork → ℕ → Type 0
+StandsForRoute numbered asked number = (network : Bool) (routes : Routes) → NumbersRoutes network routes numbered
     → (found : Found) × (slice_get numbered.founds.items number ≡ Some found)
-    × FindsBy (answers_by network routes) address found
+    × FindsBy (answers_by network routes) asked found
 
 -- and for that of a line, if there is one
-abbrev pub StandsFor : Answers → Option IpAddr → List Found → ℕ → Type 0
+abbrev pub StandsFor : Answers → Option IpNetwork → List Found → ℕ → Type 0
 StandsFor by None founds number = slice_get founds number ≡ Some prints.Nothing
-StandsFor by (Some address) founds number = (found : Found) × (slice_get founds number ≡ Some found)
-    × FindsBy by address found
+StandsFor by (Some asked) founds number = (found : Found) × (slice_get founds number ≡ Some found)
+    × FindsBy by asked found

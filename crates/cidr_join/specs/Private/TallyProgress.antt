@@ -1,11 +1,11 @@
 -- How the lines of logs are counted, step by step.
 use Rattle.std.specs.Prelude.{◌≡◌, ℕ, Bool, true, false, List, [], ◌++◌, length, codes, Option, None, Result, Ok, Err}
-use Rattle.ipnetwork_addr.specs.declared.ip.IpAddr.{IpAddr}
+use Rattle.ipnetwork.specs.declared.ip_network.IpNetwork.{IpNetwork}
 use Rattle.lines.specs.Outputs.{Written}
 use Rattle.lists.specs.KnownLists.{KnownLists}
 use Rattle.program.specs.Messages.{Reports}
 use Rattle.cidr_join.specs.Addressed.{is_addressed, seen_of}
-use Rattle.cidr_join.specs.Joins.{address_in, Finds, is_refused}
+use Rattle.cidr_join.specs.Joins.{Finds, is_refused, network_in}
 use Rattle.cidr_join.specs.Logs.{EndsRunBy}
 use Rattle.program.specs.LogFaults as logs
 use Rattle.program.specs.LogFaults.{log_fault_text}
@@ -41,15 +41,15 @@ module _ (founds : List Found) where
   abbrev pub CountsAll : List (List ℕ) → Counts → Counts → Type 0
   CountsAll marks old new = (texts : List (List ℕ)) → IsCounted founds texts old → IsCounted founds (texts ++ marks) new
 
-  -- what the list gives an address was counted, or what it gives a line without one
-  abbrev pub CountsAddress : Join → Option IpAddr → Counts → Counts → Type 0
-  CountsAddress join address old new = (found : Found) × Finds join address found
-      × CountsAll (counted_for join address found) old new
+  -- what the list gives a network was counted, or what it gives a line without an address
+  abbrev pub CountsAsked : Join → Option IpNetwork → Counts → Counts → Type 0
+  CountsAsked join asked old new = (found : Found) × Finds join asked found
+      × CountsAll (counted_for join asked found) old new
 
   -- what is found for the line was counted, and so was the line
   abbrev pub CountsLine : Join → List ℕ → Counts → Counts → LogStats → LogStats → Type 0
-  CountsLine join line old new was is = CountsAddress join (address_in join line) old new
-      × (is_refused join.bad (address_in join line) ≡ false) × (is ≡ with_line was (is_addressed join line))
+  CountsLine join line old new was is = CountsAsked join (network_in join line) old new
+      × (is_refused join.bad (network_in join line) ≡ false) × (is ≡ with_line was (is_addressed join line))
 
   -- what is found for these first lines of a log was counted, and so were the lines
   abbrev pub CountsLines : Join → Counts → Counts → LogStats → List LogLine → Type 0
@@ -68,7 +68,7 @@ LineNotCounted join line old new was is (tallies.Log (faults.Open cause)) = ⊥
 LineNotCounted join line old new was is (tallies.Log faults.Read) = ⊥
 LineNotCounted join line old new was is (tallies.Log faults.Write) = ⊥
 LineNotCounted join line old new was is (tallies.Log faults.Address) =
-    (address_in join line ≡ None) × (is_stopped join.bad ≡ true) × (new ≡ old) × (is ≡ was)
+    (network_in join line ≡ None) × (is_stopped join.bad ≡ true) × (new ≡ old) × (is ≡ was)
 LineNotCounted join line old new was is (tallies.Log faults.Length) = ⊥
 LineNotCounted join line old new was is (tallies.Log faults.Endless) = ⊥
 LineNotCounted join line old new was is tallies.OutOfMemory = Unit {0}

@@ -67,8 +67,8 @@ lines-preserved g c =
       sofar = record {
         first = s.first ++ given.line ∷ [];
         hands = given.hands (hurries ∙ c.if-stops.false);
-        is_done = long_more c.args.numbered.now.founds.items c.args.join.now c.args.counts.now c.lines.counts c.count_address.new.counts c.lines.seen c.add_long.new.self s.first given.line given.long
-            (sym c.is_stopped-stops.ensures ∙ c.if-stops.false) c.in_default-count_address.ensures c.add_long.ensures s.is_done;
+        is_done = long_more c.args.numbered.now.founds.items c.args.join.now c.args.counts.now c.lines.counts c.count_asked.new.counts c.lines.seen c.add_long.new.self s.first given.line given.long
+            (sym c.is_stopped-stops.ensures ∙ c.if-stops.false) c.in_default-count_asked.ensures c.add_long.ensures s.is_done;
       };
       hurries = hurries;
       reads = still_works _ _ _ c.in-Ok-TooLong.ensures.reader_failed c.lines.invariant.reads;

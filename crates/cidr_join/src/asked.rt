@@ -1,0 +1,62 @@
+//! The network of a line.
+ghost use Rattle.std.specs.Prelude.{◌≡◌, ◌≤◌, length};
+ghost use Rattle.line_addresses.specs.Found.{spelled_at};
+ghost use Rattle.cidr_join.specs.Asked.{asked_network, named_network, network_of, unmapped_network};
+
+use ipnetwork::laws::ip_network_reading_is_computed;
+use ipnetwork::{IpAddr, IpNetwork};
+use line_addresses::Found;
+
+/// What was found in a line, as a network: that which its text names, if `networks`, or that of its
+/// one address.
+#[inline(always)]
+pub(crate) fn network_of(part: &[u8], found: &Found, networks: bool) -> Option<IpNetwork>
+    requires ordered { found.now.start ≤ found.now.end }
+    requires within { found.now.end ≤ length part.now }
+    ensures { result ≡ network_of networks (spelled_at part.now found.now) }
+{
+    if networks {
+        named_network(&part[found.start..found.end])
+    } else {
+        Some(IpNetwork::from(found.address))
+    }
+}
+
+// The network that a text names.
+fn named_network(text: &[u8]) -> Option<IpNetwork>
+    ensures { result ≡ named_network text.now }
+{
+    ip_network_reading_is_computed();
+    match IpNetwork::read_bytes(text) {
+        Ok(network) => Some(network),
+        Err(_) => None,
+    }
+}
+
+/// The network for which the list is asked.
+#[inline(always)]
+pub(crate) fn asked_network(mapped: bool, network: IpNetwork) -> IpNetwork
+    ensures { result ≡ asked_network mapped network }
+{
+    if mapped {
+        unmapped_network(network)
+    } else {
+        network
+    }
+}
+
+// The IPv4 network of an IPv4-mapped one, or another as it is.
+fn unmapped_network(network: IpNetwork) -> IpNetwork
+    ensures { result ≡ unmapped_network network }
+{
+    let prefix = network.prefix();
+    if prefix < 96 {
+        return network;
+    }
+    match network.ip().to_canonical() {
+        IpAddr::V4(address) => {
+            IpNetwork::new(IpAddr::V4(address), prefix - 96).unwrap_or(network)
+        }
+        IpAddr::V6(_) => network,
+    }
+}
