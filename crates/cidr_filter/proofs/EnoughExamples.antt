@@ -39,7 +39,7 @@ how_many = refl
 pub named_without_another_option : is_named asks_names ≡ true
 named_without_another_option = refl
 
--- two logs with `-c`, one, standard input, and two with `-h`; and one with `-H`
+-- `-c` with two logs, with one, with standard input, and with two and `-h`; and `-H` with one log
 pub named_before_their_counts : map is_named
     ((says.Flag 15 ∷ says.File (codes "a") ∷ says.File (codes "b") ∷ []) ∷ (says.Flag 15 ∷ says.File (codes "a") ∷ []) ∷ (says.Flag 15 ∷ [])
     ∷ (says.Flag 18 ∷ says.File (codes "a") ∷ says.Flag 15 ∷ says.File (codes "b") ∷ []) ∷ (says.Flag 15 ∷ says.Flag 17 ∷ []) ∷ [])

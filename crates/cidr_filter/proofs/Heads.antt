@@ -27,6 +27,6 @@ some_count counts label selected e fits =
     let same : selected ≡ min selected (2 ^ 64 - 1) = omega (arith, fits) in
     ap (λ (n : ℕ). name_head label ++ (decimal n ++ 10 ∷ [])) same ∙ sym (ap (λ (b : Bool). count_line b label selected) e)
 
--- numbers that 64 bits count as one
+-- line numbers that are the same in 64 bits
 pub heads_same : (filter : Filter) (a b : ℕ) → min a (2 ^ 64 - 1) ≡ min b (2 ^ 64 - 1) → head_of filter a ≡ head_of filter b
 heads_same filter a b e = ap (λ (n : ℕ). name_head filter.name ++ (if filter.numbered then decimal n ++ 58 ∷ [] else [])) e

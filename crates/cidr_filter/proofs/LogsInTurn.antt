@@ -1,4 +1,4 @@
--- Logs that are filtered in turn.
+-- How logs are filtered one after another.
 use Rattle.std.proofs.Common.{◌≡◌, ◌+◌, ◌-◌, ◌^◌, ◌++◌, ◌∷◌, ◌∙◌, ◌||◌, ◌⊎◌, [], ℕ, Bool, List, true, false, inl, inr, refl, sym, ap, subst, arith, min, append_assoc, append-nil, codes, decimal}
 use Rattle.std.specs.Prelude.{Option, None, Some, MatchOption}
 use Rattle.std.specs.Io.KnownBytes.{Consumes, IsAtEnd}
@@ -33,7 +33,7 @@ use Rattle.log_programs.proofs.Failing.{or_assoc, or_none}
 first_lines : (read pending : List ℕ) (first : List LogLine) → log_lines (read ++ []) ≡ first ++ log_lines (pending ++ []) → log_lines read ≡ first ++ log_lines pending
 first_lines read pending first e = sym (ap log_lines (append-nil read)) ∙ e ∙ ap (λ (p : List ℕ). first ++ log_lines p) (append-nil pending)
 
--- the number of lines that is told
+-- the number of lines that is printed
 count_same : (counts : Bool) (label : List ℕ) (told count : ℕ) → told ≡ min count (2 ^ 64 - 1) → count_line counts label told ≡ count_line counts label count
 count_same true label told count e =
     let same : min told (2 ^ 64 - 1) ≡ min count (2 ^ 64 - 1) = omega (arith, e) in
@@ -46,7 +46,7 @@ module _ (filter : Filter) (known : KnownLists) where
       → FiltersLogs filter known (name ∷ []) output count text missed
   one_log name output count text missed h = (output, [], count, 0, text, [], missed, false, h, goes_nowhere (is_enough filter.shows count), sym (append-nil output), omega arith, sym (append-nil text), or_none missed missed refl)
 
-  -- the number of the lines of one was written, or could not be
+  -- the number of lines of a log was written, or could not be
   module _ {W E : Type 0} (name added : List ℕ) (count : ℕ) (text : List ℕ) (missed : Bool) (output mid after : Written W) (was now told : ℕ) (errors before last : Written E)
       (puts : Prints output mid added) (telling : told ≡ min count (2 ^ 64 - 1)) (sum : now ≡ min (was + told) (2 ^ 64 - 1)) (tells : Reports errors before text) where
     abbrev number : List ℕ

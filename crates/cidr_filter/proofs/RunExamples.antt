@@ -34,7 +34,7 @@ pub the_number_of_lines : map (λ label. count_line true label 12) ([] ∷ codes
 unfolding digits
 the_number_of_lines = refl
 
--- up to what 64 bits count
+-- the greatest number is 2^64 - 1
 pub no_greater_number : count_line true [] 18446744073709551616 ≡ codes "18446744073709551615\n"
 unfolding digits
 no_greater_number = refl
@@ -57,7 +57,7 @@ not_silent known items read end none (inr ends) = ends.1
 pub refused_or_skipped : map (λ items. is_stopped_by items (record { kept = record { list = 0; line = 7; fault = Entry Prefix } ∷ []; more = 0 })) ([] ∷ (says.Flag 22 ∷ []) ∷ []) ≡ true ∷ false ∷ []
 refused_or_skipped = refl
 
--- the first log was filtered, and nothing more comes of those behind it
+-- the first log was filtered, and the logs after it add nothing
 pub one_log : {W E : Type 0} (filter : Filter) (known : KnownLists) (name : List ℕ) (names : List (List ℕ)) (output text : List ℕ) (selected : ℕ) (end : Ending W E)
     → ReadsLog filter known name output selected text false ⊎ LeavesLog filter known name output selected text false → GoesOn (is_enough filter.shows selected) (FiltersLogs filter known names [] 0 [] false) [] 0 [] false
     → HasWritten end output → HasTold end text → end.status ≡ status_by (is_enough filter.shows selected) false selected → EndsLogs filter known (name ∷ names) end
@@ -115,7 +115,7 @@ module _ (known : KnownLists) (inside : IsVerdict (by false without.Stop) (codes
     refl,
   )
 
-  -- what is counted of each
+  -- the selected lines of each log are counted
   abbrev counted : Filter
   counted = record (counting without.Stop) { named = true }
 
@@ -150,7 +150,7 @@ module _ (known : KnownLists) (inside : IsVerdict (by false without.Stop) (codes
     ends = inl (written, told, status);
   })
 
-  -- the number of the first could not be written: the second is not read
+  -- the number of lines of the first log could not be written: the second log is not read
   pub number_unwritten : IsAllOf known (codes "a") (codes "10.0.0.1\n") → {W E : Type 0} (end : Ending W E) → FailsWriting end (codes "a:1\n") → HasTold end (codes "write error\n") → end.status ≡ 2
       → EndsLogs counted known (codes "a" ∷ codes "b" ∷ []) end
   unfolding address_of digits v6_of gap_below

@@ -124,7 +124,7 @@ module _ {W E : Type 0} (filter : Filter) (known : KnownLists) (name : List ℕ)
 
 -- ---- logs in turn
 
--- a log that stops behind others that were filtered, or whose number of lines could not be written
+-- a log that stops the run after others that were filtered, or whose number of lines could not be written
 module _ {W E : Type 0} (filter : Filter) (known : KnownLists) (done more rest names : List (List ℕ)) (missed : Bool) (end : Ending W E) (mid : Written W) (between : Written E) (was now : ℕ)
     (e : names ≡ done ++ (more ++ rest)) (none : was ≡ 0) (few : is_enough filter.shows now ≡ false)
     (f : FiltersNames filter known done missed (stand_at end.output was) (stand_at mid now) end.errors between) where
@@ -208,7 +208,7 @@ module _ {Z : Type 0} (filter : Filter) (known : KnownLists) (files : List (Stri
   all_named i missed old new errors told past h =
       subst (λ (n : List (List ℕ)). FiltersNames filter known n missed old new errors told) (ap (map string_bytes) (take_all i files past)) h
 
-  -- the one at a place stopped
+  -- the log at an index stopped the run
   pub one_stops : {W E : Type 0} (i : ℕ) (name : List ℕ) (missed : Bool) (output mid after : Written W) (errors between told : Written E) (was now : ℕ)
       → map string_bytes (take (i + 1) files) ≡ map string_bytes (take i files) ++ name ∷ []
       → was ≡ 0 → is_enough filter.shows now ≡ false

@@ -1,4 +1,4 @@
--- Logs that are filtered in turn.
+-- How logs are filtered one after another.
 use Rattle.std.specs.Prelude.{◌≡◌, ℕ, ◌+◌, ◌-◌, ◌^◌, ◌||◌, ◌&&◌, ◌⊎◌, Bool, true, false, Option, List, [], ◌∷◌, ◌++◌}
 use Rattle.std.specs.Prelude.{if◌then◌else◌, nat_lt, codes, bytes_eq, decimal, min}
 use Rattle.lists.specs.KnownLists.{KnownLists}
@@ -15,8 +15,8 @@ use Rattle.program.specs.declared.log_fault.LogFault.{LogFault}
 use Rattle.program.specs.declared.log_fault.LogFault.TheVariants as faults
 use Rattle.lists.specs.declared.opening.OpenFault.{OpenFault}
 
--- a log as it is called before its lines or their count, or in place of them: standard input `(standard input)`, and
--- others by their name; not at all if it is not named
+-- the label of a log, printed before its lines or their count, or in place of them: `(standard input)` for standard
+-- input, else its name; empty if logs are not named
 abbrev pub label_of : Bool → List ℕ → List ℕ
 label_of named name = if named then if bytes_eq name (codes "-") then codes "(standard input)" else name else []
 
@@ -24,21 +24,21 @@ label_of named name = if named then if bytes_eq name (codes "-") then codes "(st
 abbrev pub filter_for : Filter → List ℕ → Filter
 filter_for filter name = record filter { name = label_of filter.named name }
 
--- what a log of this label, of which so many lines are selected, ends with if lines are counted: the label and a colon,
--- if it has one, and the number of these lines, up to the greatest of 64 bits
+-- what is printed at the end of a log if lines are counted: its label and a colon, unless the label is empty, and the
+-- number of its selected lines, at most 2^64 - 1
 abbrev pub count_line : Bool → List ℕ → ℕ → List ℕ
 count_line counts label selected =
     if counts then name_head label ++ (decimal (min selected (2 ^ 64 - 1)) ++ codes "\n") else []
 
--- this is the output of these lines of the log of this name, and of their number if lines are counted, and this many of
--- them are selected
+-- these lines of the log with this name have this output, which ends with their count if lines are counted, and this
+-- number of selected lines
 abbrev pub FiltersAs : Filter → List ℕ → List LogLine → List ℕ → ℕ → Type 0
 FiltersAs filter name lines output selected = (added : List ℕ)
     × Filters (filter_for filter name) 0 lines added selected
     × (output ≡ added ++ count_line (is_count filter.shows) (label_of filter.named name) selected)
 
--- the log of this name was read to its end: this is the output of its lines, this many of them were selected, what was
--- seen of them is reported, and whether one is missed
+-- the log with this name was read to its end: its output, how many of its lines were selected, the reports about it,
+-- and whether one of its lines is missed
 abbrev pub ReadsLog : Filter → KnownLists → List ℕ → List ℕ → ℕ → List ℕ → Bool → Type 0
 ReadsLog filter known name output selected told missed = (read : List ℕ) × IsAllOf known name read
     × FiltersAs filter name (log_lines read) output selected

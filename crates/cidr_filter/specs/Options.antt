@@ -65,9 +65,9 @@ entries = rows.shared
     ∷ flag (codes "l") ∷ flag (codes "q") ∷ long_flag (codes "--skip-bad")
     ∷ long_flag (codes "--networks") ∷ flag (codes "4") ∷ flag (codes "6") ∷ []
 
--- which of them do not go together: `--longest` with `-v` or `-c`, those that say where addresses are looked for, `-o`
--- with `-v` or `--longest`, `-H` with `-h`, `--networks` with `--longest`, and `-4` and `-6` with one another, with
--- `--nth` or `--after`. Of several such pairs the first is told
+-- the pairs of options that may not be given together: `--longest` with `-v` or `-c`, some options for where addresses
+-- are looked for, `-o` with `-v` or `--longest`, `-H` with `-h`, `--networks` with `--longest`, and `-4` and `-6` with
+-- each other, with `--nth` or with `--after`. If several pairs are given, the first is reported
 abbrev pub pairs : List (ℕ × ℕ × List ℕ)
 pairs =
     (longest, inverts, codes "--longest goes with neither -v nor -c")

@@ -64,9 +64,9 @@ pub record StopsAtLog {W E : Type 0} (filter : Filter) (known : KnownLists) (nam
       ++ log_fault_text name (length lines) fault))
   pub status : end.status ≡ 2
 
--- the number of lines could not be written that the log of this name ends with: this log and those before it were
--- filtered, the writer took a beginning of their outputs, a write error was reported after what there is to report of
--- them, and the status is 2
+-- the count at the end of the log with this name could not be written. This log and those before it were filtered, the
+-- writer took a beginning of their outputs, and a write error was reported after the reports about them. The status
+-- is 2
 pub record StopsAtCount {W E : Type 0} (filter : Filter) (known : KnownLists) (names : List (List ℕ))
     (end : Ending W E) : Type 0 where
   pub before : List (List ℕ)
@@ -137,8 +137,8 @@ shows_of items =
     else if is_given items own.only then shows.Addresses
     else shows.Lines
 
--- the name of its log is printed of a line, or before the number of its lines if there are several logs, unless `-h` is
--- given
+-- the name of the log is printed before a line, or, if there are several logs and not `-h`, before the number of its
+-- lines
 abbrev pub is_named : List Item → Bool
 is_named items = is_given items own.named || (is_given items own.names
     || is_given items own.counts && nat_lt 1 (length (inputs_of items)) && not (is_given items own.unnamed))

@@ -1,5 +1,5 @@
-//! What stands before what is printed of a line: the name of its log, and its number; and the count
-//! of the selected lines of a log.
+//! What is printed before a line: the name of its log, and its number; and the count of the
+//! selected lines of a log.
 ghost use Rattle.std.specs.Prelude.{◌≡◌, ◌++◌, ◌∷◌, [], true, OnErr, decimal};
 ghost use Rattle.cidr_filter.specs.Filters.{head_of, name_head, number_head};
 ghost use Rattle.cidr_filter.specs.Logs.{count_line, label_of};
@@ -12,8 +12,8 @@ use program::messages::number_text;
 use program::putting::put_both;
 use std::io::Write;
 
-/// What the log of this name is called before its lines or their count; nothing, if it is not named
-/// there.
+/// Returns the label that is printed for the log with this name before its lines or their count;
+/// empty if none is printed.
 pub(crate) fn label_of(named: bool, name: &str) -> &[u8]
     ensures { result.now ≡ label_of named name.now }
 {
@@ -39,7 +39,7 @@ pub(crate) fn put_head<W: Write>(
     put_number(filter.numbered, number, output)
 }
 
-/// If lines are counted, writes how many lines of a log were selected, after what the log is called
+/// If lines are counted, writes how many lines of a log were selected, after the label of the log
 /// and a colon.
 pub(crate) fn put_count<W: Write>(
     counts: bool,
@@ -64,7 +64,7 @@ fn put_total<W: Write>(number: u64, output: &mut Output<'_, W>) -> Result<(), Ru
     put_both(number_text(number).as_str().as_bytes(), b"\n", output)
 }
 
-// Writes what the log is called, and a colon, or nothing if it is not named.
+// Writes the label of the log and a colon, or nothing if the label is empty.
 #[inline(always)]
 fn put_name<W: Write>(name: &[u8], output: &mut Output<'_, W>) -> Result<(), RunFault>
     ensures { PutsOrFails result output.old output.new (name_head name.now) }

@@ -115,14 +115,14 @@ block_of_v4 = refl
 pub block_of_v6 : block_in (record { v4 = 24; v6 = 16 }) (only (addresses.V6 (2 ^ 112 + 1))) ≡ founds.Network (families.V6 (record { address = 2 ^ 112; prefix = 16 }))
 block_of_v6 = refl
 
--- so is 10.1.2.3/24, and no such block has 10.1.2.3/23
+-- so is 10.1.2.3/24, and no such block contains 10.1.2.3/23
 pub block_of_networks : map (λ prefix. block_in (record { v4 = 24; v6 = 64 }) (families.V4 (record { address = 167838211; prefix = prefix }))) (24 ∷ 23 ∷ [])
     ≡ founds.Network (families.V4 (record { address = 167838208; prefix = 24 })) ∷ founds.Nothing ∷ []
 block_of_networks = refl
 
 -- ---- networks of lines
 
--- ::ffff:10.1.2.3/120 is asked as 10.1.2.3/24, with the option; a network of more than the IPv4-mapped addresses as it is
+-- with `--mapped`, ::ffff:10.1.2.3/120 is looked up as 10.1.2.3/24, and a network of other addresses too is unchanged
 pub mapped_networks : map (λ prefix. asked_network true (families.V6 (record { address = 0xffff * 2 ^ 32 + 167838211; prefix = prefix }))) (120 ∷ 96 ∷ 95 ∷ [])
     ≡ families.V4 (record { address = 167838211; prefix = 24 }) ∷ families.V4 (record { address = 167838211; prefix = 0 }) ∷ families.V6 (record { address = 0xffff * 2 ^ 32 + 167838211; prefix = 95 }) ∷ []
 mapped_networks = refl

@@ -159,7 +159,7 @@ routes_numbered network routes numbered t4 t6 first second is4 is6 one h4 h6 =
 clear_at : {V : Type 0} (w : ℕ) (t : FinMap network_cmp V) (n : Network) (v : V) → HasOnlyBlocks w t → get t n ≡ Some v → HostBitsAreZero w n
 clear_at w t n v blocks has = (blocks n (ap is_some has)).block
 
--- what stands at the number that is found for a network
+-- what the number that is found for a network stands for
 stands : (w : ℕ) (by : Network → Value → Found) (table : Values) (numbers : FinMap network_cmp ℕ) (founds : List Found) (IsSo : Found → Type 0) (a : Network) (found : Option (Network × ℕ))
     → AreNumbered by table numbers founds → slice_get founds 0 ≡ Some prints.Nothing → AnswersOver w numbers a found → HasOnlyBlocks w numbers
     → (NoneHasAll w table a → IsSo prints.Nothing) → ((n : Network) (v : Value) → IsLongestOver w table a n v → HostBitsAreZero w n → IsSo (by n v))
@@ -200,7 +200,7 @@ stands_for_some (answers.Values routes) numbered asked number some stands h = st
 stands_for_some (answers.Networks routes) numbered asked number some stands h = stands true routes h
 stands_for_some (answers.Blocks lengths) numbered asked number some stands h = absurd (some h)
 
--- of a line
+-- what the number for a line stands for
 pub line_found : (join : Join) (asked : Option IpNetwork) (items : List Found) (number : ℕ) → StandsFor join.answers asked items number
     → (found : Found) × (slice_get items number ≡ Some found) × Finds join asked found
 line_found join None items number stands = (prints.Nothing, stands, refl)

@@ -26,7 +26,7 @@ some_is x = refl
 is_stored : (t : Values) (n : Network) (v : Value) → get t n ≡ Some v → IsSome (get t n)
 is_stored t n v e = subst IsSome (sym e) (some_is v)
 
--- one network has one longest block over it, and that has one value
+-- one network has one longest block that contains it, and that block has one value
 module _ (meet : BlocksOfAnyWidthThatMeet) (w : ℕ) (t : Values) (a m n : Network) (v u : Value) where
   one_block : IsLongestOver w t a m v → HostBitsAreZero w m → IsLongestOver w t a n u → HostBitsAreZero w n → m ≡ n
   one_block p clear q empty =
@@ -51,7 +51,7 @@ one_route meet routes (networks.V6 a) (networks.V6 m) (networks.V6 n) v u p q =
     let e = one_block meet 128 routes.v6 a m n v u p.0 p.1 q.0 q.1 in
     ap (λ (k : Network). Some (networks.V6 k, v)) e ∙ ap (λ (x : Value). Some (networks.V6 n, x)) (one_value meet 128 routes.v6 a m n v u p.0 q.0 e)
 
--- nor does a network have one and none
+-- a network does not have both a longest block and none
 apart : (routes : Routes) (asked n : IpNetwork) (v : Value) → IsLongestRoute routes asked n v → NoRouteHolds routes asked → ⊥
 apart routes (networks.V4 a) (networks.V4 n) v p none = not_both 32 routes.v4 a n v p.0 none
 apart routes (networks.V4 a) (networks.V6 n) v p none = p
@@ -66,7 +66,7 @@ value_of : Option (IpNetwork × Value) → Found
 value_of None = founds.Nothing
 value_of (Some found) = founds.Value found.1
 
--- one network has one answer
+-- one thing is found for one network
 one_answer : BlocksOfAnyWidthThatMeet → (by : Answers) (asked : IpNetwork) (a b : Found) → FindsBy by asked a → FindsBy by asked b → a ≡ b
 unfolding network_of value_of
 one_answer meet (answers.Values routes) asked (founds.Network m) b p q = absurd p

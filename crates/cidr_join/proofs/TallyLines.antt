@@ -36,7 +36,7 @@ marks_both join [] more a b p q = subst (λ (t : List (List ℕ)). Marks join mo
 marks_both join (line ∷ lines) more a b p q =
     (p.0, p.1 ++ b, p.2, p.3, marks_both join lines more p.1 b p.4 q, ap (λ t. t ++ b) p.5 ∙ append_assoc (counted_for join (asked_in join line) p.0) p.1 b)
 
--- whether an address is left out, as it was asked
+-- the test of the code is the one of the definitions
 pub left_by : (bad : WithoutAddress) (address : Option IpNetwork) (some left is : Bool) → some ≡ is_some address → left ≡ (not some && is_dropped bad) → left ≡ is → is_left_out bad address ≡ is
 left_by bad None some left is e f g = sym (ap (λ (b : Bool). not b && is_dropped bad) e) ∙ sym f ∙ g
 left_by bad (Some address) some left is e f g = sym (ap (λ (b : Bool). not b && is_dropped bad) e) ∙ sym f ∙ g
@@ -49,7 +49,7 @@ module _ (founds : List Found) where
   counts_both old mid new first second p q texts counted =
       subst (λ (t : List (List ℕ)). IsCounted founds t new) (append_assoc texts first second) (q (texts ++ first) (p texts counted))
 
-  -- what is found for an address was counted, or lines without one are left out
+  -- what is found for an address was counted; or lines without an address are left out
   pub address_counted : (join : Join) (old new : Counts) (address : Option IpNetwork) (found : Found) → is_left_out join.bad address ≡ false → Finds join address found
       → CountsAll founds (mark_of found ∷ []) old new → CountsAsked founds join address old new
   address_counted join old new address found stays finds counts =

@@ -82,8 +82,8 @@ SaysNothing line = (length line ≤ 1024) × (is_skipped (trimmed line) ≡ true
 abbrev pub SaysSomething : List ℕ → Type 0
 SaysSomething line = (length line ≤ 1024) × (is_skipped (trimmed line) ≡ false)
 
--- the line begins with this network or range, read as a line of a list of networks, and this value is behind it, which
--- is empty only where a value may be missing
+-- the line begins with this network or range, read as a line of a list of networks, and this value follows, which is
+-- empty only if `bare`
 abbrev pub Says : Bool → List ℕ → Entry → Value → Type 0
 Says bare line entry value = SaysSomething line × ReadsEntry (entry_part (trimmed line)) (Ok (Some entry))
     × (value.bytes.now ≡ value_of (trimmed line)) × (bare ≡ false → value.bytes.now ≢ [])

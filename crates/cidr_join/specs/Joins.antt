@@ -18,17 +18,17 @@ use Rattle.cidr_join.specs.declared.found.Found.TheVariants as founds
 use Rattle.cidr_join.specs.declared.join.Join.{Join}
 use Rattle.cidr_join.specs.declared.value.Value.{Value}
 
--- what was found in a line of which this is printed, as a network: that of an address has no other address
+-- the address or network found in a line, as a network; that of an address has no other address
 abbrev pub found_in : Join → List ℕ → Option IpNetwork
 found_in join line =
     network_of_found join.networks (picked_in join.networks join.area.pick (part_of join.area.part line))
 
--- the one for which the list is asked
+-- the network that is looked up in the list
 abbrev pub network_in : Join → List ℕ → Option IpNetwork
 network_in join line = option_map (asked_network join.mapped) (found_in join line)
 
--- what is found for it: the value of the longest network of the list that has all its addresses, or that network, or
--- nothing; or the block of one length that has them
+-- what is found for it: the value of the longest network of the list that contains it, or that network, or nothing; or,
+-- with `--group`, the block that contains it, if one does
 abbrev pub FindsBy : Answers → IpNetwork → Found → Type 0
 FindsBy (answers.Values routes) asked (founds.Network network) = ⊥
 FindsBy (answers.Values routes) asked (founds.Value value) = (network : IpNetwork)
@@ -40,7 +40,7 @@ FindsBy (answers.Networks routes) asked (founds.Value value) = ⊥
 FindsBy (answers.Networks routes) asked founds.Nothing = NoRouteHolds routes asked
 FindsBy (answers.Blocks lengths) asked found = found ≡ block_in lengths asked
 
--- and for that of a line, if there is one
+-- what is found for the network of a line, or for a line without one
 abbrev pub Finds : Join → Option IpNetwork → Found → Type 0
 Finds join None found = found ≡ founds.Nothing
 Finds join (Some asked) found = FindsBy join.answers asked found
@@ -59,11 +59,11 @@ shown_of last mark line text = if last then line ++ 9 ∷ (mark ++ drop (length 
 abbrev pub output_of : Join → Found → LogLine → List ℕ
 output_of join found line = shown_of join.last (mark_of found) (content line) (printed line)
 
--- that of a line of a log: one of more than 1,048,576 bytes, not counting its end, has none
+-- the network of a line of a log; a line of more than 1,048,576 bytes, not counting its end, has none
 abbrev pub asked_in : Join → LogLine → Option IpNetwork
 asked_in join line = if is_long line then None else network_in join (content line)
 
--- a line without an address ends the run, or is left out, if the option says so
+-- a line without an address ends the run, with `--bad stop`, or is left out, with `--bad drop`
 abbrev pub is_refused : WithoutAddress → Option IpNetwork → Bool
 is_refused bad None = is_stopped bad
 is_refused bad (Some asked) = false

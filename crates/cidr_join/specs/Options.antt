@@ -5,7 +5,7 @@ use Rattle.options.specs.Table.{Entry, IsTable, long_flag, long}
 use Rattle.options.specs.declared.table.Kind.TheVariants as kinds
 use Rattle.options.specs.declared.table.Table.{Table}
 
--- the rows of the options that this program alone has: `--last`, `--last-wins`, `--network`, `--tally`, `--group`,
+-- the rows of the options that only this program has: `--last`, `--last-wins`, `--network`, `--tally`, `--group`,
 -- `--bad`, `--zero`, `--skip-bad` and `--networks`
 abbrev pub last : ℕ
 last = 10

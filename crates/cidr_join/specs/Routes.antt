@@ -1,4 +1,4 @@
--- The networks of a list with their values, and which of them has the addresses of a network.
+-- The networks of a list with their values, and which of them contains a network.
 use Rattle.std.specs.Prelude.{◌≡◌, ℕ, ◌&&◌, Bool, true, false, not, List, [], ◌∷◌, None, IsSome}
 use Rattle.std.specs.List.{list_any}
 use Rattle.std.specs.Option.{is_some}
@@ -102,8 +102,8 @@ abbrev pub Keeps : {A : Type 0} → A → A → RouteFault → Type 0
 Keeps before after faults.OutOfMemory = Unit {0}
 Keeps before after (faults.Refused cause) = after ≡ before
 
--- the network is one of the list's, without host bits, it has this value and all addresses of the one that is asked,
--- and no network of the list that has them all has a greater prefix length
+-- the network is in the list, without host bits, and contains the network that is looked up; this is its value, and no
+-- network of the list that contains the latter is longer
 abbrev pub IsLongestRoute : Routes → IpNetwork → IpNetwork → Value → Type 0
 IsLongestRoute routes (families.V4 asked) (families.V4 n) value = IsLongestOver 32 routes.v4 asked n value
     × HostBitsAreZero 32 n
@@ -112,7 +112,7 @@ IsLongestRoute routes (families.V6 asked) (families.V4 n) value = ⊥
 IsLongestRoute routes (families.V6 asked) (families.V6 n) value = IsLongestOver 128 routes.v6 asked n value
     × HostBitsAreZero 128 n
 
--- no network of the list has them all
+-- no network of the list contains the network that is looked up
 abbrev pub NoRouteHolds : Routes → IpNetwork → Type 0
 NoRouteHolds routes (families.V4 asked) = NoneHasAll 32 routes.v4 asked
 NoRouteHolds routes (families.V6 asked) = NoneHasAll 128 routes.v6 asked

@@ -20,7 +20,7 @@ use Rattle.cidr_join.specs.declared.found.Found.{Found}
 use Rattle.cidr_join.specs.declared.join.Join.{Join}
 use Rattle.program.specs.declared.log_fault.LogFault.{LogFault}
 
--- what is counted for this network, or where there is none, of which this was found: nothing, if such lines are left
+-- what is counted for a line with this network, or with none, if this was found for it: nothing if such lines are left
 -- out
 abbrev pub counted_for : Join → Option IpNetwork → Found → List (List ℕ)
 counted_for join asked found = if is_left_out join.bad asked then [] else mark_of found ∷ []

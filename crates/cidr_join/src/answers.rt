@@ -1,4 +1,4 @@
-//! What is printed of the network of a line.
+//! What is printed for the network of a line.
 ghost use Rattle.cidr_join.specs.Joins.{FindsBy};
 
 use crate::found::Found;
@@ -6,19 +6,19 @@ use crate::lengths::Lengths;
 use crate::routes::Routes;
 use ipnetwork::IpNetwork;
 
-/// What is printed of the network of a line.
+/// What decides what is printed for the network of a line.
 #[derive(Drop)]
 pub enum Answers<'a> {
-    /// The value of the longest network of a list that has all its addresses.
+    /// The value of the longest network of a list that contains it.
     Values(Routes<'a>),
     /// That network.
     Networks(Routes<'a>),
-    /// The block of one length that has them.
+    /// The block that contains it, of one length for each family.
     Blocks(Lengths),
 }
 
 impl<'a> Answers<'a> {
-    /// What is printed of a network. Does not allocate.
+    /// Returns what is printed for a network. Does not allocate.
     pub(crate) fn find(&self, asked: IpNetwork) -> Found<'a>
         ensures { FindsBy self.now asked result }
     {

@@ -12,10 +12,10 @@ use log_programs::without_address::WithoutAddress;
 /// What decides what is printed for a line.
 #[derive(Drop)]
 pub struct Join<'a> {
-    /// What is printed of its address or network.
+    /// What is printed for its address or network.
     pub(crate) answers: Answers<'a>,
     pub(crate) area: Area<'a>,
-    /// Whether networks of lines are looked for, beside addresses.
+    /// Whether lines are searched for networks as well as addresses.
     pub(crate) networks: bool,
     /// Whether an IPv4-mapped address or network of a line counts as its IPv4 one.
     pub(crate) mapped: bool,
@@ -27,7 +27,8 @@ pub struct Join<'a> {
 }
 
 impl<'a> Join<'a> {
-    /// What is printed of the network of a line. Does not allocate.
+    /// Returns what is printed for the network of a line, or for a line without one. Does not
+    /// allocate.
     pub(crate) fn find(&self, asked: Option<IpNetwork>) -> Found<'a>
         ensures { Finds self.now asked result }
     {
@@ -37,7 +38,7 @@ impl<'a> Join<'a> {
         }
     }
 
-    /// Whether a line with this network, or without an address, ends the run.
+    /// Returns whether a line with this network, or without an address, ends the run.
     #[inline(always)]
     pub(crate) fn refuses(&self, asked: Option<IpNetwork>) -> bool
         ensures { result ≡ is_refused self.now.bad asked }
@@ -48,7 +49,7 @@ impl<'a> Join<'a> {
         }
     }
 
-    /// Whether a line with this network, or without an address, is left out.
+    /// Returns whether a line with this network, or without an address, is left out.
     #[inline(always)]
     pub(crate) fn leaves_out(&self, asked: Option<IpNetwork>) -> bool
         ensures { result ≡ is_left_out self.now.bad asked }
@@ -59,8 +60,8 @@ impl<'a> Join<'a> {
         }
     }
 
-    /// The network of a line of which this is printed; that of an address has no other address. The
-    /// line is given without its end.
+    /// Returns the network of a line that is looked up; that of an address has no other address.
+    /// The line is given without its end.
     pub(crate) fn network_in(&self, line: &[u8]) -> Option<IpNetwork>
         ensures { result ≡ network_in self.now line.now }
     {

@@ -15,8 +15,8 @@ pub struct Lengths {
 }
 
 impl Lengths {
-    /// The block of one of these lengths that has all addresses of a network, if one has. Does not
-    /// allocate.
+    /// Returns the block that contains a network, of the length for its family, if one does. Does
+    /// not allocate.
     pub(crate) fn block<'a>(self, network: IpNetwork) -> Found<'a>
         ensures { result ≡ block_in self network }
     {

@@ -18,8 +18,8 @@ use program::log_fault::LogFault;
 use program::log_reader::{LogReader, NextLogLine};
 use std::io::{Read, Write};
 
-/// Writes each line of a log with what is printed of its address or network, and counts what is seen
-/// of them, from the first on.
+/// Writes each line of a log with what is found for its address or network. The counts in `seen`
+/// start anew.
 ///
 /// What is printed for the lines that a read completes is written before the next read. After a
 /// failed read nothing is written. If lines that are too long end the run, one does so even before
@@ -61,8 +61,8 @@ pub fn join_log<R: Read, W: Write>(
     }
 }
 
-// Writes a line within the limit with what is printed of its address or network, and counts it.
-// `whole` is the line as it was read, with its end.
+// Writes a line within the limit with what is found for its address or network, and counts it.
+// `whole` is the line with its end.
 fn join_line<W: Write>(
     join: &Join<'_>,
     line: &[u8],

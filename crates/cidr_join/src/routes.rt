@@ -1,4 +1,4 @@
-//! The networks of a list with their values, and which of them has the addresses of a network.
+//! The networks of a list with their values, and which of them contains a network.
 ghost use Rattle.std.specs.Prelude.{◌≡◌, ◌<◌, ◌≤◌, ◌^◌, IfOk, IfErr, MatchOption, OnOk};
 ghost use Rattle.ipnetwork_blocks.specs.LeastList.{IsLeastList};
 ghost use Rattle.ipnetwork_blocks.specs.Ranges.{FromTo};
@@ -62,7 +62,7 @@ impl<'a> Routes<'a> {
         })
     }
 
-    /// The longest network that has all addresses of this one, and its value.
+    /// Returns the longest network that contains this one, with its value, or `None` if none does.
     pub(crate) fn longest(&self, asked: IpNetwork) -> Option<(IpNetwork, Value<'a>)>
         ensures { MatchOption result (NoRouteHolds self.now asked)
             (λ found. IsLongestRoute self.now asked found.0 found.1) }

@@ -28,7 +28,7 @@ pub enum TallyFault {
     OutOfMemory,
 }
 
-/// Counts for each line of a log what the list gives its address or network, and the line.
+/// Counts the lines of a log, and what is found for their addresses or networks.
 ///
 /// A line that is too long counts as one without an address. If such lines end the run, one does so
 /// even before its end was read. The counts in `seen` start anew.
@@ -100,7 +100,7 @@ fn tally_fault(fault: LogFault) -> TallyFault
     }
 }
 
-// Counts what is printed of the network of a line within the limit, and the line.
+// Counts a line within the limit, and what is found for its network.
 fn count_line(
     alloc: Global,
     join: &Join<'_>,
@@ -127,8 +127,7 @@ fn count_line(
     }
 }
 
-// Counts what is printed of a network, or where there is none, unless lines without one are left
-// out.
+// Counts what is found for a network, or for a line without one, unless such lines are left out.
 fn count_asked(
     alloc: Global,
     join: &Join<'_>,

@@ -16,8 +16,8 @@ use ipnetwork_index::{IndexedNetwork, RouteIndex};
 use ipnetwork_table::PrefixTable;
 use std::alloc::{AllocError, Global};
 
-/// What is printed of networks by those of a list: each of these has a number, and 0 is that of
-/// what none of them has. If blocks are printed, there are no numbers.
+/// The numbers of the networks of a list, and what each number stands for. The number 0 is for
+/// what none of them contains. If blocks are printed, there are no numbers.
 #[derive(Drop)]
 pub struct ValueIds<'a> {
     pub(crate) v4: RouteIndex<Ipv4Network, usize>,
@@ -76,8 +76,8 @@ impl<'a> ValueIds<'a> {
         self.founds.as_slice()
     }
 
-    /// The number that stands for what is printed of the network of a line; `None` if there are no
-    /// numbers. Does not allocate.
+    /// Returns the number that stands for what is printed for the network of a line, or for a line
+    /// without one; `None` if there are no numbers. Does not allocate.
     pub(crate) fn number_of(&self, asked: Option<IpNetwork>) -> Option<usize>
         ensures { IfSome result (λ number. (by : AnswersOf) → IsNumbering by self.now
             → StandsFor by asked self.now.founds.items number) }
@@ -91,7 +91,7 @@ impl<'a> ValueIds<'a> {
         }
     }
 
-    // The number that stands for what is printed of a network.
+    // Returns the number that stands for what is printed for a network.
     fn number_at(&self, asked: IpNetwork) -> usize
         ensures { StandsForRoute self.now asked result }
     {
@@ -102,7 +102,7 @@ impl<'a> ValueIds<'a> {
     }
 }
 
-// The number of the longest network that has all addresses of this one, or 0.
+// Returns the number of the longest network that contains this one, or 0.
 fn number_in<N: IndexedNetwork>(index: &RouteIndex<N, usize>, asked: N) -> usize
     ensures { (found : Option (Pair × ℕ)) × AnswersOver N.WIDTH index.now (N.pair asked) found
         × HasOnlyBlocks N.WIDTH index.now × (result ≡ number_or_none found) }

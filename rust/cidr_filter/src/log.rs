@@ -26,7 +26,7 @@ pub enum Reached {
 /// The number of selected lines, and the counts of the lines of a log.
 #[derive(Clone, Copy, Debug, PartialEq, Eq)]
 pub struct Tally {
-    /// How many lines were selected.
+    /// The number of selected lines.
     pub selected: u64,
     /// The counts of the lines of this log.
     pub seen: LogStats,

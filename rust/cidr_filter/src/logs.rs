@@ -47,10 +47,10 @@ pub(crate) fn filter_logs<'a, L: OpenLists, W: Write, E: Write>(
     }
 }
 
-// Filters the logs of these names up to the first that is enough, adds how many of their lines are
-// selected, and returns whether one of the logs could not be opened, or a line of one is missed,
-// which is reported. If a fault ends the filtering of one that was opened, or the number of its
-// lines cannot be written, that is reported, and `None` is returned.
+// Filters the logs with these names up to the first that ends the run, adds how many of their lines
+// are selected, and returns whether one of the logs could not be opened or a line of one is missed,
+// which is reported. If a fault ends the filtering of a log that was opened, or the number of its
+// lines cannot be written, that is reported and `None` is returned.
 fn filter_each<'a, L: OpenLists, W: Write, E: Write>(
     filter: &mut Filter<'a>,
     selected: &mut u64,
@@ -85,8 +85,8 @@ fn either(first: bool, second: bool) -> bool {
     first || second
 }
 
-// Opens the log of this name. If lines or their addresses are printed, it is not the file that they
-// are written to.
+// Opens the log with this name. If lines or their addresses are printed, it refuses the file that
+// they are written to.
 fn open_log<L: OpenLists>(
     shows: OutputMode,
     lists: &L,
@@ -98,8 +98,8 @@ fn open_log<L: OpenLists>(
     }
 }
 
-// Opens the log of this name and filters it, adds how many of its lines are selected, and returns
-// whether it could not be opened, or a line of it is missed, as `filter_each` does.
+// Opens the log with this name and filters it, adds how many of its lines are selected, and returns
+// whether it could not be opened or a line of it is missed, as `filter_each` does.
 fn filter_one<'a, L: OpenLists, W: Write, E: Write>(
     filter: &mut Filter<'a>,
     selected: &mut u64,
@@ -166,8 +166,7 @@ fn write_count<W: Write, E: Write>(
     }
 }
 
-// The exit status by whether the selected lines end the run, whether a log or a line was missed, and
-// how many lines were selected.
+// Returns the exit status; `missed` tells whether a log or a line was missed.
 fn status(is_enough: bool, missed: bool, selected: u64) -> u8 {
     if is_enough {
         SELECTED

@@ -75,7 +75,7 @@ const ROWS: [Row; 26] = log_rows![
     letter!(b'6', Flag, ""),
 ];
 
-// Which do not go together.
+// The options that may not be given together.
 const PAIRS: [Pair; 16] = log_pairs![
     [
         pair!(LONGEST, INVERTS, "--longest goes with neither -v nor -c"),

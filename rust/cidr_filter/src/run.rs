@@ -119,7 +119,7 @@ fn is_stopped_by(items: &[Item<'_>], refusals: &Refusals) -> bool {
     !refusals.is_empty() && !is_given(items, SKIPS_BAD)
 }
 
-// The filter that is asked for, of logs of these names.
+// Returns the filter that is asked for, for logs with these names.
 fn filter_of<'a>(items: &[Item<'a>], files: &[String], listed: Matcher) -> Filter<'a> {
     Filter {
         listed,
@@ -180,7 +180,7 @@ fn shows_of(items: &[Item<'_>]) -> OutputMode {
     }
 }
 
-// Whether the name of its log is printed of a line, or before the number of its lines.
+// Returns whether the name of a log is printed before a line or before the number of its lines.
 fn is_named(items: &[Item<'_>], files: &[String]) -> bool {
     if is_given(items, NAMED) || is_given(items, NAMES) {
         return true;

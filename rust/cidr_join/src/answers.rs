@@ -1,24 +1,24 @@
 // Written by scripts/plain out of crates/cidr_join/src/answers.rt
 
-//! What is printed of the network of a line.
+//! What is printed for the network of a line.
 
 use crate::found::Found;
 use crate::lengths::Lengths;
 use crate::routes::Routes;
 use fosibegan::ipnetwork::IpNetwork;
 
-/// What is printed of the network of a line.
+/// What decides what is printed for the network of a line.
 pub enum Answers<'a> {
-    /// The value of the longest network of a list that has all its addresses.
+    /// The value of the longest network of a list that contains it.
     Values(Routes<'a>),
     /// That network.
     Networks(Routes<'a>),
-    /// The block of one length that has them.
+    /// The block that contains it, of one length for each family.
     Blocks(Lengths),
 }
 
 impl<'a> Answers<'a> {
-    /// What is printed of a network. Does not allocate.
+    /// Returns what is printed for a network. Does not allocate.
     pub(crate) fn find(&self, asked: IpNetwork) -> Found<'a> {
         match self {
             Answers::Values(routes) => match routes.longest(asked) {

@@ -5,10 +5,10 @@
 use crate::value::Value;
 use fosibegan::ipnetwork::IpNetwork;
 
-/// What is printed of the address or network of a line.
+/// What is found, and printed, for the address or network of a line.
 #[derive(Clone, Copy, Debug)]
 pub enum Found<'a> {
-    /// The network or the block that has it, or all its addresses.
+    /// The network or block that contains it.
     Network(IpNetwork),
     /// The value of the network that contains it.
     Value(Value<'a>),

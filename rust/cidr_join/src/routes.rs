@@ -1,6 +1,6 @@
 // Written by scripts/plain out of crates/cidr_join/src/routes.rt
 
-//! The networks of a list with their values, and which of them has the addresses of a network.
+//! The networks of a list with their values, and which of them contains a network.
 
 use crate::line::Cause;
 use crate::longest::longest_over;
@@ -52,7 +52,7 @@ impl<'a> Routes<'a> {
         })
     }
 
-    /// The longest network that has all addresses of this one, and its value.
+    /// Returns the longest network that contains this one, with its value, or `None` if none does.
     pub(crate) fn longest(&self, asked: IpNetwork) -> Option<(IpNetwork, Value<'a>)> {
         match asked {
             IpNetwork::V4(asked) => match longest_over(&self.v4, asked) {

@@ -13,8 +13,8 @@ use fosibegan::ipnetwork_index::{IndexedNetwork, RouteIndex};
 use fosibegan::ipnetwork_table::PrefixTable;
 use fosibegan::plain_std::alloc::{AllocError, Global};
 
-/// What is printed of networks by those of a list: each of these has a number, and 0 is that of
-/// what none of them has. If blocks are printed, there are no numbers.
+/// The numbers of the networks of a list, and what each number stands for. The number 0 is for
+/// what none of them contains. If blocks are printed, there are no numbers.
 pub struct ValueIds<'a> {
     pub(crate) v4: RouteIndex<Ipv4Network, usize>,
     pub(crate) v6: RouteIndex<Ipv6Network, usize>,
@@ -56,8 +56,8 @@ impl<'a> ValueIds<'a> {
         self.founds.as_slice()
     }
 
-    /// The number that stands for what is printed of the network of a line; `None` if there are no
-    /// numbers. Does not allocate.
+    /// Returns the number that stands for what is printed for the network of a line, or for a line
+    /// without one; `None` if there are no numbers. Does not allocate.
     pub(crate) fn number_of(&self, asked: Option<IpNetwork>) -> Option<usize> {
         if self.founds.is_empty() {
             return None;
@@ -68,7 +68,7 @@ impl<'a> ValueIds<'a> {
         }
     }
 
-    // The number that stands for what is printed of a network.
+    // Returns the number that stands for what is printed for a network.
     fn number_at(&self, asked: IpNetwork) -> usize {
         match asked {
             IpNetwork::V4(asked) => number_in(&self.v4, asked),
@@ -77,7 +77,7 @@ impl<'a> ValueIds<'a> {
     }
 }
 
-// The number of the longest network that has all addresses of this one, or 0.
+// Returns the number of the longest network that contains this one, or 0.
 fn number_in<N: IndexedNetwork>(index: &RouteIndex<N, usize>, asked: N) -> usize {
     match longest_over(index, asked) {
         Some(found) => found.1,

@@ -22,8 +22,8 @@ pub record FiltersNames {E : Type 0} (filter : Filter) (known : KnownLists) (nam
   pub puts : Puts old.holds old.waits new.holds new.waits output
   pub counted : Counts old.selected new.selected count
 
--- the number of selected lines of a log of this label was put, and whether a line of it is missed is returned; or the
--- writer failed at it, which is reported, and nothing is returned
+-- the number of selected lines of a log with this label was put, and the result tells whether a line of it is missed;
+-- or the writer failed at it, which was reported, and the result is `None`
 abbrev pub WritesCount : {W E : Type 0} → Option Bool → Bool → Bool → List ℕ → ℕ → Ending W E → Type 0
 WritesCount result missed counts label selected end = MatchOption result
     ((counts ≡ true) × FailsWriting end (count_line counts label selected) × HasTold end (codes "write error\n"))

@@ -52,11 +52,11 @@ IsNumbering (answers.Values routes) numbered = NumbersRoutes false routes number
 IsNumbering (answers.Networks routes) numbered = NumbersRoutes true routes numbered
 IsNumbering (answers.Blocks lengths) numbered = numbered.founds.items ≡ []
 
--- what a look-up found, its network as a pair
+-- what a lookup found, with its network as a pair
 abbrev pub AnswersOver : {V : Type 0} → ℕ → FinMap network_cmp V → Network → Option (Network × V) → Type 0
 AnswersOver w t asked answer = FindsOver (λ n. n) w t asked answer
 
--- its number, or 0
+-- the number that a lookup found, or 0
 abbrev pub number_or_none : Option (Network × ℕ) → ℕ
 number_or_none None = 0
 number_or_none (Some found) = found.1
@@ -67,7 +67,7 @@ StandsForRoute numbered asked number = (network : Bool) (routes : Routes) → Nu
     → (found : Found) × (slice_get numbered.founds.items number ≡ Some found)
     × FindsBy (answers_by network routes) asked found
 
--- and for that of a line, if there is one
+-- the number stands for what is found for the network of a line, or for a line without one
 abbrev pub StandsFor : Answers → Option IpNetwork → List Found → ℕ → Type 0
 StandsFor by None founds number = slice_get founds number ≡ Some prints.Nothing
 StandsFor by (Some asked) founds number = (found : Found) × (slice_get founds number ≡ Some found)

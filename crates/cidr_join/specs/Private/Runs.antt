@@ -8,8 +8,8 @@ use Rattle.cidr_join.specs.Joins.{Joins}
 use Rattle.cidr_join.specs.Logs.{ReadsLogs}
 use Rattle.cidr_join.specs.declared.join.Join.{Join}
 
--- the logs of these names were read to their ends, or could not be opened, in turn: with all that is given by their
--- lines it was done, and what there is to report of them was reported
+-- the logs with these names were each read to the end, or could not be opened, in turn; `Done` holds of what their
+-- lines give, and the reports about them were written
 pub record ReadsNames {A E : Type 0} (Gives : List LogLine → List A → Type 0) (Done : List A → Type 0) (join : Join)
     (known : KnownLists) (names : List (List ℕ)) (missed : Bool) (errors told : Written E) : Type 0 where
   pub all : List A

@@ -41,7 +41,7 @@ module _ (founds : List Found) where
   abbrev pub CountsAll : List (List ℕ) → Counts → Counts → Type 0
   CountsAll marks old new = (texts : List (List ℕ)) → IsCounted founds texts old → IsCounted founds (texts ++ marks) new
 
-  -- what the list gives a network was counted, or what it gives a line without an address
+  -- what is found for the network, or for a line without an address, was counted
   abbrev pub CountsAsked : Join → Option IpNetwork → Counts → Counts → Type 0
   CountsAsked join asked old new = (found : Found) × Finds join asked found
       × CountsAll (counted_for join asked found) old new

@@ -11,7 +11,7 @@ module _ {N : Type 0} (pair : N → Network) (w : ℕ) (index : FinMap network_c
   by_what_it_means None finds = finds
   by_what_it_means (Some found) finds = finds
 
-  -- the number of what a look-up found, its network told by what it means
+  -- the number that a lookup found, with its network as the pair that contracts see
   number_is : (found : Option (N × ℕ)) (number : ℕ) → FindsOver pair w index a found → HasOnlyBlocks w index
       → number_or_none (found_by_pair pair found) ≡ number → (told : Option (Network × ℕ)) × AnswersOver w index a told × HasOnlyBlocks w index × (number ≡ number_or_none told)
   number_is found number finds blocks is = (found_by_pair pair found, by_what_it_means found finds, blocks, sym is)
