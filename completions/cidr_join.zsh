@@ -16,7 +16,7 @@ _arguments \
     '*--network[print the network instead of its value]' \
     '*--tally[print for each value the number of lines that have it]' \
     '*--zero[print the values of the list that no line has too]' \
-    '*--group[print before each line the block of length N that has its address]:lengths: ' \
+    '*--group=[print before each line the block of length N that has its address]:lengths: ' \
     '*--bad=[a line without an address]:value:(drop keep stop report)' \
     '--quiet[do not show on a terminal how much was read]' \
     '(- *)--help[print this text]' \

@@ -74,7 +74,8 @@ fn filter_each<'a, L: OpenLists, W: Write, E: Write>(
         (StopsLogs filter.old (L.known lists.now) (map string_bytes files.now)
         (ending output.old output.new errors.old errors.new 2))
         (λ missed. FiltersNames filter.old (L.known lists.now) (map string_bytes files.now) missed
-        (stand_at output.old selected.old) (stand_at output.new selected.new) errors.old errors.new) }
+        (stand_at output.old selected.old) (stand_at output.new selected.new)
+        errors.old errors.new) }
     ensures filter { filter.new ≡ filter.old }
 {
     let is_silent = filter.is_silent();
@@ -142,7 +143,8 @@ fn filter_one<'a, L: OpenLists, W: Write, E: Write>(
         (StopsLogs filter.old (L.known lists.now) (name.now ∷ [])
         (ending output.old output.new errors.old errors.new 2))
         (λ missed. FiltersNames filter.old (L.known lists.now) (name.now ∷ []) missed
-        (stand_at output.old selected.old) (stand_at output.new selected.new) errors.old errors.new) }
+        (stand_at output.old selected.old) (stand_at output.new selected.new)
+        errors.old errors.new) }
     ensures filter { filter.new ≡ filter.old }
 {
     let mut log = match open_log(filter.shows, lists, name) {

@@ -82,7 +82,7 @@ rows = rows_of entries
 
 pub letters_and_values : map (free_items rows) (codes "-wk1" ∷ codes "-flist" ∷ codes "-awd" ∷ codes "--tally" ∷ codes "-wxk1" ∷ codes "--group=24,64" ∷ [])
     ≡ (says.Flag 1 ∷ says.Value 2 (codes "1") ∷ []) ∷ (says.Joined 6 (codes "list") (codes "-flist") ∷ []) ∷ (says.Flag 0 ∷ says.Flag 1 ∷ [])
-    ∷ (says.Flag 13 ∷ []) ∷ (says.Flag 1 ∷ says.Unknown (codes "-wxk1") ∷ []) ∷ (says.Unknown (codes "--group=24,64") ∷ []) ∷ []
+    ∷ (says.Flag 13 ∷ []) ∷ (says.Flag 1 ∷ says.Unknown (codes "-wxk1") ∷ []) ∷ (says.Joined 14 (codes "24,64") (codes "--group=24,64") ∷ []) ∷ []
 letters_and_values = refl
 
 pub next_words : map (free_mode rows) (codes "-wf" ∷ codes "-wf1" ∷ codes "--group" ∷ codes "--last" ∷ []) ≡ modes.Value 6 ∷ modes.Free ∷ modes.Value 14 ∷ modes.Free ∷ []

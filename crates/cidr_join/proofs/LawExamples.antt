@@ -43,14 +43,14 @@ three_of_two_and_one law join a b whole p q r two one = omega (arith, law join (
 -- the letters of options without and with a value, the long names, and those that a value may follow after `=`
 pub letters_and_names : (flags_of entries ≡ codes "aw") × (values_of entries ≡ codes "kdf")
     × (names_of entries ≡ codes "--after" ∷ codes "--mapped" ∷ codes "--help" ∷ codes "--version" ∷ codes "--nth" ∷ codes "--last" ∷ codes "--last-wins" ∷ codes "--network" ∷ codes "--tally" ∷ codes "--group" ∷ codes "--bad" ∷ codes "--zero" ∷ codes "--skip-bad" ∷ codes "--networks" ∷ [])
-    × (joined_of entries ≡ codes "--nth" ∷ codes "--bad" ∷ [])
+    × (joined_of entries ≡ codes "--after" ∷ codes "--nth" ∷ codes "--group" ∷ codes "--bad" ∷ [])
 letters_and_names = (refl, refl, refl, refl)
 
 -- a long name with a wrong letter, an unknown letter, also after another, a name cut short, and a value after a name
 -- that does not allow it
 pub none_of_these : (rows : List options.Row) → map entry_of rows ≡ entries → ((word : List ℕ) → OthersAreNoOptions rows (is_option_word (map entry_of rows)) word)
-    → AllByRecursion (λ word. list_any is_unknown (free_items rows word) ≡ true) (codes "--networl" ∷ codes "-x" ∷ codes "-vx" ∷ codes "--las" ∷ codes "--group=1,1" ∷ [])
-none_of_these rows has law = no_options entries rows has law (codes "--networl" ∷ codes "-x" ∷ codes "-vx" ∷ codes "--las" ∷ codes "--group=1,1" ∷ []) refl
+    → AllByRecursion (λ word. list_any is_unknown (free_items rows word) ≡ true) (codes "--networl" ∷ codes "-x" ∷ codes "-vx" ∷ codes "--las" ∷ codes "--tally=1" ∷ [])
+none_of_these rows has law = no_options entries rows has law (codes "--networl" ∷ codes "-x" ∷ codes "-vx" ∷ codes "--las" ∷ codes "--tally=1" ∷ []) refl
 
 -- the law excludes the words of options, and no others
 pub words_of_options : list_all (is_option_word entries)
@@ -58,5 +58,5 @@ pub words_of_options : list_all (is_option_word entries)
 words_of_options = refl
 
 pub words_of_none : list_any (is_option_word entries)
-    ([] ∷ codes "--" ∷ codes "f" ∷ codes "-K" ∷ codes "-e" ∷ codes "--last-win" ∷ codes "--network=" ∷ codes "--map" ∷ codes "--tallyx" ∷ codes "--group=1,1" ∷ codes "-wxk1" ∷ []) ≡ false
+    ([] ∷ codes "--" ∷ codes "f" ∷ codes "-K" ∷ codes "-e" ∷ codes "--last-win" ∷ codes "--network=" ∷ codes "--map" ∷ codes "--tallyx" ∷ codes "--tally=1" ∷ codes "-wxk1" ∷ []) ≡ false
 words_of_none = refl

@@ -39,7 +39,7 @@ abbrev pub entries : List Entry
 entries = rows.shared
     ++ long_flag (codes "--last") ∷ long_flag (codes "--last-wins") ∷ long_flag (codes "--network")
     ∷ long_flag (codes "--tally")
-    ∷ long (codes "--group") kinds.Lengths false (codes "not N,M with N up to 32 and M up to 128")
+    ∷ long (codes "--group") kinds.Lengths true (codes "not N,M with N up to 32 and M up to 128")
     ∷ long (codes "--bad") kinds.Rule true (codes "not drop, keep, stop or report")
     ∷ long_flag (codes "--zero") ∷ long_flag (codes "--skip-bad") ∷ long_flag (codes "--networks") ∷ []
 

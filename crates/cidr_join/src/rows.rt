@@ -40,7 +40,7 @@ const ROWS: [Row; 19] = log_rows![
     long!(
         "--group",
         Lengths,
-        false,
+        true,
         "not N,M with N up to 32 and M up to 128"
     ),
     long!("--bad", Rule, true, "not drop, keep, stop or report"),
