@@ -14,7 +14,8 @@ use Rattle.options.specs.declared.table.Row.{Row}
 use Rattle.options.specs.declared.table.Table.{Table}
 use Rattle.program.specs.Words.{count}
 use Rattle.cidr_merge.specs.CommandLines.{asked_for, command_of}
-use Rattle.cidr_merge.specs.Faults.{is_exported, files_among, from_of, has_lines, has_sets, has_table, takes, times_named}
+use Rattle.cidr_merge.specs.Faults.{is_exported, files_among, from_of, has_lines, has_sets, has_table, takes}
+use Rattle.cidr_merge.specs.Faults.{times_named}
 use Rattle.cidr_merge.specs.Forms.{form_called, form_of, prefix_in}
 use Rattle.cidr_merge.specs.Options as own
 use Rattle.cidr_merge.specs.SetNames.{is_set_name}

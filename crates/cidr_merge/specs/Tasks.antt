@@ -33,7 +33,8 @@ no_option tasks.Check = codes "not an option of check; it takes --strict"
 no_option tasks.Overlaps = codes "not an option of overlaps; it takes none"
 no_option tasks.Find = codes "not an option of find; it takes --from FILE"
 no_option task = codes "not an option of union, common, minus, differ or list; they take --ranges, --count, "
-    ++ codes "--format FORM, --set NAME, --table NAME, --line-prefix TEXT, --line-suffix TEXT, --skip-bad, --json and --strict"
+    ++ codes "--format FORM, --set NAME, --table NAME, --line-prefix TEXT, --line-suffix TEXT, --skip-bad, "
+    ++ codes "--json and --strict"
 
 -- and of a `--` where there is one side, and with nothing before it
 abbrev pub one_side : List ℕ

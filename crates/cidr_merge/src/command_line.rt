@@ -2,9 +2,10 @@
 ghost use Rattle.std.specs.Prelude.{◌≡◌, ◌≤◌, ◌+◌, ◌++◌, ℕ, length, map, IfOk, OnOk};
 ghost use Rattle.std.specs.String.{string_bytes};
 ghost use Rattle.cidr_merge.specs.Faults.{from_of};
-ghost use Rattle.cidr_merge.specs.CommandLines.{request_of, inspection_of, asked_for, command_for, command_of, told_of};
-ghost use Rattle.cidr_merge.specs.CommandLines.{sets_by, sets_of};
-ghost use Rattle.cidr_merge.specs.Forms.{form_called, form_of, shape_of, without_plus, prefix_in, length_of};
+ghost use Rattle.cidr_merge.specs.CommandLines.{request_of, inspection_of, asked_for};
+ghost use Rattle.cidr_merge.specs.CommandLines.{command_for, command_of, told_of, sets_by, sets_of};
+ghost use Rattle.cidr_merge.specs.Forms.{form_called, form_of, shape_of, without_plus};
+ghost use Rattle.cidr_merge.specs.Forms.{prefix_in, length_of};
 ghost use Rattle.cidr_merge.specs.Private.Words.{IsCommandWithin};
 
 use crate::exports::Export;
@@ -95,7 +96,8 @@ pub enum Command {
     Split(SplitRequest),
     /// Lists are looked over.
     Inspect(Inspection),
-    /// The addresses of so many names, and those of so many lists that follow, are sought in the lists that follow these.
+    /// The addresses of so many names, and those of so many lists that follow, are sought in the
+    /// lists that follow these.
     Find(usize, usize),
 }
 
@@ -110,7 +112,8 @@ pub struct Asked<'a> {
     pub sets: SetNames<'a>,
 }
 
-/// What the words after the program's name ask for, or what is wrong with them, unless memory runs out.
+/// What the words after the program's name ask for, or what is wrong with them, unless memory runs
+/// out.
 pub(crate) fn command_of<'a>(
     alloc: Global,
     table: &Table<'_>,

@@ -1,7 +1,11 @@
 //! What is wrong with the words of a command line.
 ghost use Rattle.std.specs.Prelude.{◌≡◌, ◌≤◌, ◌+◌, length, map};
 ghost use Rattle.std.specs.String.{string_bytes};
-ghost use Rattle.cidr_merge.specs.Faults.{at, problem_of_row, no_task_fault, takes, option_fault, is_value, value_fault, item_fault, items_fault, lacks_json, lacks_prefix, cannot_print, has_sets, has_table, has_lines, names_fault, together_fault, sides_fault, files_fault, files_among, from_of, fault_of};
+ghost use Rattle.cidr_merge.specs.Faults.{at, problem_of_row, no_task_fault, takes, option_fault};
+ghost use Rattle.cidr_merge.specs.Faults.{is_value, value_fault, item_fault, items_fault};
+ghost use Rattle.cidr_merge.specs.Faults.{lacks_json, lacks_prefix, cannot_print, has_sets};
+ghost use Rattle.cidr_merge.specs.Faults.{has_table, has_lines, names_fault, together_fault};
+ghost use Rattle.cidr_merge.specs.Faults.{sides_fault, files_fault, files_among, from_of, fault_of};
 
 use crate::command_line::{Form, Operation, form_called, form_of, prefix_in};
 use crate::exports::Export;
@@ -132,7 +136,8 @@ fn lacks_prefix(task: Task, items: &[Item<'_>]) -> bool
     matches!(task, Task::Split) && !is_given(items, PREFIX)
 }
 
-// Whether a task cannot print in this form: those that other programs read cannot tell the sides of `differ`.
+// Whether a task cannot print in this form: those that other programs read cannot tell the sides of
+// `differ`.
 fn cannot_print(task: Task, form: Form) -> bool
     ensures { result ≡ cannot_print task form }
 {
@@ -211,8 +216,8 @@ fn together_fault<'a>(table: &Table<'_>, task: Task, items: &[Item<'a>]) -> Opti
     names_fault(items, form)
 }
 
-// What is wrong with the sides, which have so many FILEs: with one a `--`, or that there is no FILE; with two that there is
-// no `--`, another one, or nothing before or behind it.
+// What is wrong with the sides, which have so many FILEs: with one a `--`, or that there is no
+// FILE; with two that there is no `--`, another one, or nothing before or behind it.
 fn sides_fault<'a>(
     task: Task,
     name: &'a str,
@@ -243,7 +248,8 @@ fn sides_fault<'a>(
     }
 }
 
-// What is wrong with the names of lists: that one is empty, or that standard input is among them twice.
+// What is wrong with the names of lists: that one is empty, or that standard input is among them
+// twice.
 fn files_fault<'a>(files: &[String]) -> Option<Fault<'a>>
     ensures { result ≡ files_fault (map string_bytes files.now) }
 {
@@ -256,7 +262,8 @@ fn files_fault<'a>(files: &[String]) -> Option<Fault<'a>>
     }
 }
 
-// The lists that are read: those of both sides, but what stands before the `--` of a `find` are addresses.
+// The lists that are read: those of both sides, but what stands before the `--` of a `find` are
+// addresses.
 fn files_among(task: Task, middle: usize, names: &[String]) -> &[String]
     requires { middle ≤ length names.now }
     ensures { result.now ≡ files_among task middle names.now }
@@ -278,8 +285,8 @@ pub(crate) fn from_count(task: Task, items: &[Item<'_>]) -> usize
     }
 }
 
-/// What is wrong with the words behind the first: with an option, the first that is wrong; then with options together, with
-/// the sides, and with the names of lists.
+/// What is wrong with the words behind the first: with an option, the first that is wrong; then
+/// with options together, with the sides, and with the names of lists.
 pub(crate) fn fault_of<'a>(
     table: &Table<'_>,
     task: Task,

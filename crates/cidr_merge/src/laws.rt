@@ -25,20 +25,22 @@ pub fn unions_of_parts_print_the_same()
     block_laws::same_union();
 }
 
-/// No word but `union`, `common`, `minus`, `differ`, `list`, `split`, `check`, `overlaps` and `find` says to do something.
+/// No word but `union`, `common`, `minus`, `differ`, `list`, `split`, `check`, `overlaps` and
+/// `find` says to do something.
 pub fn no_other_tasks()
     ensures { NoOtherTask }
 {}
 
-/// No word but `--ranges`, `--count`, `--format`, `--set`, `--table`, `--line-prefix`, `--line-suffix`, `--skip-bad`, `--json` and
-/// `--strict` is an option of an operation.
+/// No word but `--ranges`, `--count`, `--format`, `--set`, `--table`, `--line-prefix`,
+/// `--line-suffix`, `--skip-bad`, `--json` and `--strict` is an option of an operation.
 pub fn no_other_options(table: &Table<'_>)
     ensures { IsOptions table.now → NoOtherOption table.now.rows.now }
 {
     let _table = table;
 }
 
-/// Words are taken exactly if they are right, by a relation that reads nothing; and what is taken is what they ask for.
+/// Words are taken exactly if they are right, by a relation that reads nothing; and what is taken
+/// is what they ask for.
 pub fn right_words_are_taken(table: &Table<'_>, words: &[String])
     ensures { RightWordsAreTaken table.now words.now }
 {

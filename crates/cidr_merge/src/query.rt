@@ -2,18 +2,20 @@
 ghost use Rattle.std.specs.Prelude.{◌≡◌, ◌+◌, ◌^◌, ◌<◌, length, IfOk, IfErr};
 ghost use Rattle.cidr_merge.specs.FindWords.{AreAddresses, StopsAtWord};
 
-use crate::numbers::Place;
 use crate::sought::Sought;
+use crate::sought_places::Place;
 use ipnetwork::IpAddr;
 use std::alloc::Global;
 
 /// The addresses that are sought.
 #[derive(Drop)]
-pub(crate) struct Query<'a> {
+pub(crate) struct Query {
     /// They, in the order in which they are printed.
-    pub sought: &'a [Sought],
-    /// Their places, by number.
-    pub places: &'a [Place],
+    pub sought: Vec<Sought>,
+    /// The places of the IPv4 addresses, by number.
+    pub v4: Vec<Place>,
+    /// Those of the IPv6 addresses, by number.
+    pub v6: Vec<Place>,
 }
 
 /// Why words are not taken as addresses.

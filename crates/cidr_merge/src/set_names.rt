@@ -21,7 +21,8 @@ const NAME_MAX: usize = 22;
 /// A name.
 pub(crate) type Name = ArrayString<NAME_MAX>;
 
-/// The table of nftables, what the names of both sets begin with, and what stands before and after each line.
+/// The table of nftables, what the names of both sets begin with, and what stands before and after
+/// each line.
 #[derive(Debug, Drop)]
 pub struct SetNames<'a> {
     /// The table.
@@ -93,7 +94,8 @@ fn name_in(text: &str) -> Name
     name
 }
 
-/// Whether a text is a name: 1 to 22 letters, digits, `_`, `-` and `.`, of which the first is a letter.
+/// Whether a text is a name: 1 to 22 letters, digits, `_`, `-` and `.`, of which the first is a
+/// letter.
 pub(crate) fn is_set_name(text: &str) -> bool
     ensures { result ≡ is_set_name text.now }
 {

@@ -57,12 +57,12 @@ pub(crate) fn no_option(task: Task) -> &'static str
     match task {
         Task::Merge(_) | Task::List => {
             "not an option of union, common, minus, differ or list; they take --ranges, --count, \
-             --format FORM, --set NAME, --table NAME, --line-prefix TEXT, --line-suffix TEXT, --skip-bad, \
-             --json and --strict"
+             --format FORM, --set NAME, --table NAME, --line-prefix TEXT, --line-suffix TEXT, \
+             --skip-bad, --json and --strict"
         }
         Task::Split => {
-            "not an option of split; it takes --prefix N, --line-prefix TEXT, --line-suffix TEXT, --skip-bad, \
-             --json and --strict"
+            "not an option of split; it takes --prefix N, --line-prefix TEXT, --line-suffix TEXT, \
+             --skip-bad, --json and --strict"
         }
         Task::Check => "not an option of check; it takes --strict",
         Task::Overlaps => "not an option of overlaps; it takes none",

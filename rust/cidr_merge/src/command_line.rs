@@ -92,7 +92,8 @@ pub enum Command {
     Split(SplitRequest),
     /// Lists are looked over.
     Inspect(Inspection),
-    /// The addresses of so many names, and those of so many lists that follow, are sought in the lists that follow these.
+    /// The addresses of so many names, and those of so many lists that follow, are sought in the
+    /// lists that follow these.
     Find(usize, usize),
 }
 
@@ -106,7 +107,8 @@ pub struct Asked<'a> {
     pub sets: SetNames<'a>,
 }
 
-/// What the words after the program's name ask for, or what is wrong with them, unless memory runs out.
+/// What the words after the program's name ask for, or what is wrong with them, unless memory runs
+/// out.
 pub(crate) fn command_of<'a>(
     alloc: Global,
     table: &Table<'_>,

@@ -82,8 +82,8 @@ fn csv_line<A: Address>(version: Version, block: Network<A>) -> Line {
     text
 }
 
-// Writes what adds a block to the new set of ipset: a set cannot have the block of all addresses, but
-// both halves of it.
+// Writes what adds a block to the new set of ipset: a set cannot have the block of all addresses,
+// but both halves of it.
 fn put_ipset<A: Address, W: Write>(
     set: Name,
     version: Version,

@@ -110,7 +110,8 @@ fn lacks_prefix(task: Task, items: &[Item<'_>]) -> bool {
     matches!(task, Task::Split) && !is_given(items, PREFIX)
 }
 
-// Whether a task cannot print in this form: those that other programs read cannot tell the sides of `differ`.
+// Whether a task cannot print in this form: those that other programs read cannot tell the sides of
+// `differ`.
 fn cannot_print(task: Task, form: Form) -> bool {
     match (task, form) {
         (Task::Merge(Operation::Differ), Form::Exported(_)) => true,
@@ -177,8 +178,8 @@ fn together_fault<'a>(table: &Table<'_>, task: Task, items: &[Item<'a>]) -> Opti
     names_fault(items, form)
 }
 
-// What is wrong with the sides, which have so many FILEs: with one a `--`, or that there is no FILE; with two that there is
-// no `--`, another one, or nothing before or behind it.
+// What is wrong with the sides, which have so many FILEs: with one a `--`, or that there is no
+// FILE; with two that there is no `--`, another one, or nothing before or behind it.
 fn sides_fault<'a>(
     task: Task,
     name: &'a str,
@@ -207,7 +208,8 @@ fn sides_fault<'a>(
     }
 }
 
-// What is wrong with the names of lists: that one is empty, or that standard input is among them twice.
+// What is wrong with the names of lists: that one is empty, or that standard input is among them
+// twice.
 fn files_fault<'a>(files: &[String]) -> Option<Fault<'a>> {
     if count_of(files, "") > 0 {
         Some(at("", "not a file name"))
@@ -218,7 +220,8 @@ fn files_fault<'a>(files: &[String]) -> Option<Fault<'a>> {
     }
 }
 
-// The lists that are read: those of both sides, but what stands before the `--` of a `find` are addresses.
+// The lists that are read: those of both sides, but what stands before the `--` of a `find` are
+// addresses.
 fn files_among(task: Task, middle: usize, names: &[String]) -> &[String] {
     match task {
         Task::Find => &names[middle..],
@@ -235,8 +238,8 @@ pub(crate) fn from_count(task: Task, items: &[Item<'_>]) -> usize {
     }
 }
 
-/// What is wrong with the words behind the first: with an option, the first that is wrong; then with options together, with
-/// the sides, and with the names of lists.
+/// What is wrong with the words behind the first: with an option, the first that is wrong; then
+/// with options together, with the sides, and with the names of lists.
 pub(crate) fn fault_of<'a>(
     table: &Table<'_>,
     task: Task,

@@ -4,15 +4,16 @@
 
 use fosibegan::plain_std::vec::Vec;
 use fosibegan::plain_std::string::String;
+use fosibegan::plain_std::vec;
 use crate::context::Context;
 use crate::faults::at;
 use crate::findings::either;
 use crate::help::{PROGRAM, USAGE};
-use crate::numbers::{Place, places_of};
 use crate::query::{Query, QueryFault, addresses_of};
 use crate::reading::refuse_lists;
 use crate::searching::search_lists;
-use crate::sought::{Sought, add_lines, sought_in_words, tell_others};
+use crate::sought::{add_lines, sought_in_words, tell_others};
+use crate::sought_places::places_of;
 use crate::texts::{WholeLists, texts_of};
 use fosibegan::ipnetwork::IpAddr;
 use cidr_programs::lines::output::Output;
@@ -30,8 +31,8 @@ const FOUND: u8 = 0;
 /// The exit status if no entry has an address that is sought.
 const NOTHING_FOUND: u8 = 1;
 
-/// Prints the entries of lists that have addresses, and returns the exit status. The names before this index are
-/// addresses, and those from it on lists, of which so many of the first have addresses too.
+/// Prints the entries of lists that have addresses, and returns the exit status. The names before
+/// `middle` are addresses, the others lists, of which the first `from` have addresses too.
 pub(crate) fn find<L: OpenLists, W: Write, E: Write>(
     middle: usize,
     from: usize,
@@ -62,8 +63,8 @@ fn refuse_sought<E: Write>(
     }
 }
 
-// Reads the lists, and prints their entries that have one of these addresses, or of those of the first
-// lists.
+// Reads the lists, and prints their entries that have one of these addresses, or of those in the
+// first `from` lists.
 fn find_all<L: OpenLists, W: Write, E: Write>(
     middle: usize,
     from: usize,
@@ -88,41 +89,47 @@ fn find_all<L: OpenLists, W: Write, E: Write>(
         texts: list_texts,
     };
     match all_sought(context.alloc, &context.names[..middle], addresses, &froms) {
-        Ok((sought, places)) => {
-            let query = Query {
-                sought: sought.as_slice(),
-                places: places.as_slice(),
-            };
-            search(&query, &froms, &lists, output, errors)
+        Ok((query, mut buffer)) => {
+            search(
+                &query,
+                buffer.as_mut_slice(),
+                &froms,
+                &lists,
+                output,
+                errors,
+            )
         }
         Err(_) => refuse_lists(context.names, ReadFault::OutOfMemory, errors),
     }
 }
 
-// The addresses that words name, and those of lists, with their places.
+// The addresses that words name, and those of lists, and a buffer for as many places.
 fn all_sought(
     alloc: Global,
     words: &[String],
     addresses: &[IpAddr],
     froms: &WholeLists<'_>,
-) -> Result<(Vec<Sought>, Vec<Place>), AllocError> {
+) -> Result<(Query, Vec<usize>), AllocError> {
     let mut sought = sought_in_words(alloc, words, addresses)?;
     add_lines(alloc, froms, &mut sought)?;
-    let places = places_of(alloc, sought.as_slice())?;
-    Ok((sought, places))
+    let v4 = places_of(alloc, sought.as_slice(), false)?;
+    let v6 = places_of(alloc, sought.as_slice(), true)?;
+    let buffer = vec![in alloc; 0usize; sought.len()]?;
+    Ok((Query { sought, v4, v6 }, buffer))
 }
 
-// Prints the entries of lists that have an address that is sought, and tells the refused lines, those of the
-// lists of addresses first.
+// Prints the entries of lists that have an address that is sought, and tells the refused lines,
+// those of the lists of addresses first.
 fn search<W: Write, E: Write>(
-    query: &Query<'_>,
+    query: &Query,
+    buffer: &mut [usize],
     froms: &WholeLists<'_>,
     lists: &WholeLists<'_>,
     output: &mut Output<'_, W>,
     errors: &mut Output<'_, E>,
 ) -> u8 {
     let told = tell_others(froms, errors);
-    let reported = search_lists(query, lists, output, errors);
+    let reported = search_lists(query, buffer, lists, output, errors);
     let written = output.finish();
     let status = status(reported.printed, either(told, reported.told));
     end(written, status, errors)

@@ -4,17 +4,19 @@
 
 use fosibegan::plain_std::vec::Vec;
 use fosibegan::plain_std::string::String;
-use crate::numbers::Place;
 use crate::sought::Sought;
+use crate::sought_places::Place;
 use fosibegan::ipnetwork::IpAddr;
 use fosibegan::plain_std::alloc::Global;
 
 /// The addresses that are sought.
-pub(crate) struct Query<'a> {
+pub(crate) struct Query {
     /// They, in the order in which they are printed.
-    pub sought: &'a [Sought],
-    /// Their places, by number.
-    pub places: &'a [Place],
+    pub sought: Vec<Sought>,
+    /// The places of the IPv4 addresses, by number.
+    pub v4: Vec<Place>,
+    /// Those of the IPv6 addresses, by number.
+    pub v6: Vec<Place>,
 }
 
 /// Why words are not taken as addresses.
