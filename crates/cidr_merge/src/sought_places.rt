@@ -1,4 +1,4 @@
-//! The places of addresses that are sought, by number: those of an entry's addresses stand together.
+//! The places of addresses that are sought, by number: those that an entry has stand together.
 ghost use Rattle.std.specs.Prelude.{◌≡◌, ◌≤◌, ◌<◌, ◌/◌, ◌^◌, IfOk, length, take, nat_lt};
 ghost use Rattle.cidr_merge.specs.Private.SoughtPlaces.{AreAscending, AreFound, ArePartOf};
 ghost use Rattle.cidr_merge.specs.Private.SoughtPlaces.{ArePlacesOf, AreQuery, is_v6, number_of};

@@ -1,6 +1,6 @@
 // Written by scripts/plain out of crates/cidr_merge/src/sought_places.rt
 
-//! The places of addresses that are sought, by number: those of an entry's addresses stand together.
+//! The places of addresses that are sought, by number: those that an entry has stand together.
 
 use fosibegan::plain_std::vec::Vec;
 use crate::placed::ends_of;
