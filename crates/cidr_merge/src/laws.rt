@@ -31,8 +31,9 @@ pub fn no_other_tasks()
     ensures { NoOtherTask }
 {}
 
-/// No word but `--ranges`, `--count`, `--format`, `--set`, `--table`, `--line-prefix`,
-/// `--line-suffix`, `--skip-bad`, `--json` and `--strict` is an option of an operation.
+/// No long name but `--ranges`, `--count`, `--format`, `--set`, `--table`, `--line-prefix`,
+/// `--line-suffix`, `--skip-bad`, `--json` and `--strict` is that of an option of an operation, and
+/// no letter but `e`.
 pub fn no_other_options(table: &Table<'_>)
     ensures { IsOptions table.now → NoOtherOption table.now.rows.now }
 {

@@ -18,6 +18,7 @@ mod help;
 mod inspecting;
 mod laws;
 mod merge_join;
+mod named_lists;
 mod numbered_lines;
 mod overlapping;
 mod placed;

@@ -24,6 +24,7 @@ mod findings;
 mod help;
 mod inspecting;
 mod merge_join;
+mod named_lists;
 mod numbered_lines;
 mod overlapping;
 mod placed;
