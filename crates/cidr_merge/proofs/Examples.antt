@@ -10,7 +10,7 @@ use Rattle.ipnetwork_blocks.specs.Aggregate.{InUnion}
 use Rattle.lists.specs.declared.entry.EntryFault.TheVariants.{Prefix}
 use Rattle.lists.specs.declared.fault.LineFault.TheVariants.{Entry}
 use Rattle.program.specs.Reported.{in_list, refusals_text}
-use Rattle.std.specs.List.{concat}
+use Rattle.std.specs.List.{flat_map}
 use Rattle.options.specs.Faults.{pair_fault}
 use Rattle.options.specs.Items.{free_items}
 use Rattle.options.specs.declared.items.Item.TheVariants as says
@@ -164,7 +164,7 @@ pub what_words_say : map (free_items rows) (codes "--skip-bad" ∷ codes "--form
 what_words_say = refl
 
 -- TEXTs of `-e` stand among the FILEs, and are told from them
-pub what_lists : lists_of (concat (map (free_items rows) (codes "a" ∷ codes "-ex" ∷ codes "--json" ∷ codes "-" ∷ [])))
+pub what_lists : lists_of (flat_map (free_items rows) (codes "a" ∷ codes "-ex" ∷ codes "--json" ∷ codes "-" ∷ []))
     ≡ codes "a" ∷ codes "-e x" ∷ codes "-" ∷ []
 what_lists = refl
 
