@@ -14,14 +14,15 @@ _cidr_merge() {
         return
     fi
     case "${COMP_WORDS[at]}" in
-        union | common | minus | differ | list) options="--ranges --count --format --set --table --line-prefix --line-suffix --skip-bad --json --strict" ;;
-        split) options="--prefix --line-prefix --line-suffix --skip-bad --json --strict" ;;
-        check) options="--strict" ;;
-        find) options="--from" ;;
+        union | common | minus | differ | list) options="-e --ranges --count --format --set --table --line-prefix --line-suffix --skip-bad --json --strict" ;;
+        split) options="-e --prefix --line-prefix --line-suffix --skip-bad --json --strict" ;;
+        check) options="-e --strict" ;;
+        overlaps) options="-e" ;;
+        find) options="-e --from" ;;
     esac
     case "$before" in
         --format) COMPREPLY=($(compgen -W "plain range netmask wildcard csv nft ipset json addresses" -- "$word")) ;;
-        --set | --table | --line-prefix | --line-suffix | --prefix) COMPREPLY=() ;;
+        --set | --table | --line-prefix | --line-suffix | --prefix | -e) COMPREPLY=() ;;
         --from) ;;
         *)
             if [[ "$word" == -* ]]; then

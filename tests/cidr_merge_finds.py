@@ -4,6 +4,7 @@ the status, standard output and standard error."""
 import ipaddress
 import os
 import random
+import resource
 import subprocess
 
 SECONDS = int(os.environ.get("TEST_SECONDS", 60))
@@ -80,3 +81,33 @@ def finds(program, folder):
         words = ["find", *map(str, sought[:cut]), *(["--from", "sought"] if cut < len(sought) else []), "--", *names]
         status = 2 if error else 0 if output else 1
         yield f"find, seed {seed}", run(program, words, folder), (status, output.encode(), error.encode())
+
+
+def in_one_block(count):
+    """So many networks of two addresses, and addresses, within one /64, of which no network has one."""
+    nets = [f"{ipaddress.IPv6Address((0x20010DB8 << 96) + 2 * n)}/127" for n in range(count)]
+    return nets, [str(ipaddress.IPv6Address((0x20010DB8 << 96) + (1 << 40) + n)) for n in range(count // 5)], 0
+
+
+def with_many_each(count):
+    """So many networks that have the same 65 of ten times as many addresses."""
+    return ["10.0.0.0/25"] * count, [f"10.{n >> 16}.{n >> 8 & 255}.{n & 255}" for n in range(63, 63 + 10 * count)], 65
+
+
+def growth(program, folder):
+    """A search takes time in proportion to entries and addresses and to what it prints, not to entries times addresses.
+    Twice as many of both may take three times the time, and a tenth of a second for the clock."""
+    for make, sizes in ((in_one_block, (25000, 50000)), (with_many_each, (2000, 4000))):
+        taken = []
+        for size in sizes:
+            nets, addresses, each = make(size)
+            for name, lines in (("nets", nets), ("addresses", addresses)):
+                with open(os.path.join(folder, name), "w") as file:
+                    file.write("".join(f"{line}\n" for line in lines))
+            before = resource.getrusage(resource.RUSAGE_CHILDREN).ru_utime
+            status, output, error = run(program, ["find", "--from", "addresses", "--", "nets"], folder)
+            taken.append(resource.getrusage(resource.RUSAGE_CHILDREN).ru_utime - before)
+            got = (status, output.count(b"\n"), error)
+            yield f"find, {make.__name__}, {size}", got, (0 if each else 1, each * size, b"")
+        grows = taken[1] <= 3 * taken[0] + 0.1
+        yield f"find, {make.__name__}: {taken[0]:.2f} s, twice as many {taken[1]:.2f} s", grows, True

@@ -10,12 +10,14 @@ use Rattle.ipnetwork_blocks.specs.Aggregate.{InUnion}
 use Rattle.lists.specs.declared.entry.EntryFault.TheVariants.{Prefix}
 use Rattle.lists.specs.declared.fault.LineFault.TheVariants.{Entry}
 use Rattle.program.specs.Reported.{in_list, refusals_text}
+use Rattle.std.specs.List.{flat_map}
 use Rattle.options.specs.Faults.{pair_fault}
 use Rattle.options.specs.Items.{free_items}
 use Rattle.options.specs.declared.items.Item.TheVariants as says
 use Rattle.options.specs.declared.table.Row.{Row}
 use Rattle.options.proofs.Tables.{rows_of, pairs_of}
 use Rattle.program.specs.Words.{is}
+use Rattle.cidr_merge.specs.NamedLists.{lists_of, text_in}
 use Rattle.cidr_merge.specs.Answers.{IsLeft, IsLeftOfSecond, AreBoth, merged, merged_ranges}
 use Rattle.cidr_merge.specs.Answers.{block_line, range_line}
 use Rattle.cidr_merge.specs.Faults.{files_among, files_fault, takes}
@@ -161,6 +163,15 @@ pub what_words_say : map (free_items rows) (codes "--skip-bad" ∷ codes "--form
     ∷ (says.File (codes "a") ∷ []) ∷ (says.File [] ∷ []) ∷ []
 what_words_say = refl
 
+-- the TEXTs of `-e` are among the FILEs, and can be told from them
+pub what_lists : lists_of (flat_map (free_items rows) (codes "a" ∷ codes "-ex" ∷ codes "--json" ∷ codes "-" ∷ []))
+    ≡ codes "a" ∷ codes "-e x" ∷ codes "-" ∷ []
+what_lists = refl
+
+pub what_texts : map text_in (codes "-e 10.0.0.0/8" ∷ codes "-e " ∷ codes "-" ∷ codes "-e" ∷ codes "-f x" ∷ codes "./-e x" ∷ [])
+    ≡ Some (codes "10.0.0.0/8") ∷ Some [] ∷ None ∷ None ∷ None ∷ None ∷ []
+what_texts = refl
+
 -- a path that begins with a dot and standard input are valid names; standard input twice and an empty name are not
 pub wrong_names : map (λ files. is_some (files_fault files)) ((codes "./-x" ∷ codes "-" ∷ []) ∷ (codes "-" ∷ codes "a" ∷ codes "-" ∷ []) ∷ (codes "a" ∷ [] ∷ []) ∷ [] ∷ [])
     ≡ false ∷ true ∷ true ∷ false ∷ []
@@ -171,12 +182,15 @@ pub no_files : (files_among tasks.Find 2 (codes "-" ∷ [] ∷ codes "-" ∷ [])
     × (files_among tasks.Check 2 (codes "-" ∷ [] ∷ codes "-" ∷ []) ≡ codes "-" ∷ [] ∷ codes "-" ∷ [])
 no_files = (refl, refl)
 
--- which of `--ranges`, `--skip-bad`, `--strict`, `--line-prefix`, `--prefix`, `--from` and `--help` each task takes
-pub options_of_tasks : map (λ task. map (takes task) (0 ∷ 3 ∷ 5 ∷ 8 ∷ 10 ∷ 11 ∷ 12 ∷ [])) (tasks.Merge Differ ∷ tasks.List ∷ tasks.Split ∷ tasks.Check ∷ tasks.Overlaps ∷ tasks.Find ∷ [])
-    ≡ (true ∷ true ∷ true ∷ true ∷ false ∷ false ∷ false ∷ []) ∷ (true ∷ true ∷ true ∷ true ∷ false ∷ false ∷ false ∷ [])
-    ∷ (false ∷ true ∷ true ∷ true ∷ true ∷ false ∷ false ∷ []) ∷ (false ∷ false ∷ true ∷ false ∷ false ∷ false ∷ false ∷ [])
-    ∷ (false ∷ false ∷ false ∷ false ∷ false ∷ false ∷ false ∷ [])
-    ∷ (false ∷ false ∷ false ∷ false ∷ false ∷ true ∷ false ∷ []) ∷ []
+-- which of `-e`, `--ranges`, `--skip-bad`, `--strict`, `--line-prefix`, `--prefix`, `--from` and `--help` each task
+-- takes
+pub options_of_tasks : map (λ task. map (takes task) (12 ∷ 0 ∷ 3 ∷ 5 ∷ 8 ∷ 10 ∷ 11 ∷ 13 ∷ [])) (tasks.Merge Differ ∷ tasks.List ∷ tasks.Split ∷ tasks.Check ∷ tasks.Overlaps ∷ tasks.Find ∷ [])
+    ≡ (true ∷ true ∷ true ∷ true ∷ true ∷ false ∷ false ∷ false ∷ [])
+    ∷ (true ∷ true ∷ true ∷ true ∷ true ∷ false ∷ false ∷ false ∷ [])
+    ∷ (true ∷ false ∷ true ∷ true ∷ true ∷ true ∷ false ∷ false ∷ [])
+    ∷ (true ∷ false ∷ false ∷ true ∷ false ∷ false ∷ false ∷ false ∷ [])
+    ∷ (true ∷ false ∷ false ∷ false ∷ false ∷ false ∷ false ∷ false ∷ [])
+    ∷ (true ∷ false ∷ false ∷ false ∷ false ∷ false ∷ true ∷ false ∷ []) ∷ []
 options_of_tasks = refl
 
 -- two output forms, the same one twice, `--format` given twice, also without a value, and two prefix lengths

@@ -1,6 +1,6 @@
 -- The findings printed so far, and those that are left.
 use Rattle.std.proofs.Common.{◌≡◌, ◌==◌, ◌||◌, ◌∙◌, ℕ, Bool, true, false, not, List, [], ◌∷◌, ◌++◌}
-use Rattle.std.proofs.Common.{refl, sym, ap, length, append_assoc, append-nil}
+use Rattle.std.proofs.Common.{refl, sym, ap, subst, length, append_assoc, append-nil}
 use Rattle.std.specs.List.{concat}
 use Rattle.std.proofs.Math.Dec.{eqb-suc-zero}
 use Rattle.std.proofs.lemmas.List.Folds.{concat-append}
@@ -58,3 +58,10 @@ more_so_far all left one rest old mid new is_found is_more both h e k b = (
   append_assoc h.0 one rest ∙ ap (λ l. h.0 ++ l) (sym e) ∙ h.1,
   tells_both h.0 one old mid new is_found is_more both h.2 k b,
 )
+
+-- nothing is left
+pub all_told : {W : Type 0} (all left : List (List ℕ)) (old new : Written W) (is_found : Bool)
+    → ToldSoFar all left old new is_found → left ≡ [] → TellsFound all old new is_found
+all_told all left old new is_found h e =
+    subst (λ (found : List (List ℕ)). TellsFound found old new is_found)
+    (sym (append-nil h.0) ∙ ap (λ l. h.0 ++ l) (sym e) ∙ h.1) h.2

@@ -9,6 +9,7 @@ use Rattle.std.specs.List.{Contains}
 use Rattle.std.specs.Str.Lines.{lines}
 use Rattle.ipnetwork_addr.specs.declared.ip.IpAddr.TheVariants.{V4, V6}
 use Rattle.ipnetwork_blocks.proofs.LeastLists.{contains_cons, contains_head, contains_nil}
+use Rattle.cidr_merge.specs.NamedLists.{lists_of}
 use Rattle.cidr_merge.specs.EntriesWithin.{HasAllOf, LiesInAnother, TellsWithin, TellsNotWithin}
 use Rattle.cidr_merge.specs.EntriesWithin.{IsToldWithin, EachWithinAnotherIsTold}
 use Rattle.cidr_merge.specs.Faults.{takes}
@@ -18,9 +19,8 @@ use Rattle.cidr_merge.specs.Overlaps.{Listed, lists_entries, IsInOrder}
 use Rattle.cidr_merge.specs.Parts.{UnionPrints, HaveLines, AreShort, UnionsOfPartsPrintTheSame}
 use Rattle.cidr_merge.specs.Repetitions.{repetitions}
 use Rattle.cidr_merge.specs.Tasks.{task_called}
-use Rattle.options.specs.Table.{named}
+use Rattle.options.specs.Table.{lettered, named}
 use Rattle.options.specs.declared.table.Row.{Row}
-use Rattle.options.specs.Given.{files_of}
 use Rattle.options.specs.Grammar.{LongName, NoWords, OneFile, OneWord, Says}
 use Rattle.options.specs.declared.items.Item.{Item}
 use Rattle.options.specs.declared.items.Item.TheVariants as says
@@ -86,15 +86,17 @@ no_tasks law = (
 pub no_options : (rows : List Row) → NoOtherOption rows → (is_of (tasks.Merge Common) (named (codes "--skip") rows) ≡ false)
     × (is_of (tasks.Merge Union) (named (codes "--") rows) ≡ false) × (is_of (tasks.Merge Minus) (named (codes "--counts") rows) ≡ false)
     × (is_of (tasks.Merge Differ) (named (codes "--prefix") rows) ≡ false)
+    × (is_of (tasks.Merge Union) (lettered 102 rows) ≡ false)
 no_options rows law = (
-  law Common (codes "--skip") (no refl) (no refl) (no refl) (no refl) (no refl) (no refl)
+  law.0 Common (codes "--skip") (no refl) (no refl) (no refl) (no refl) (no refl) (no refl) (no refl)
       (no refl) (no refl) (no refl) (no refl),
-  law Union (codes "--") (no refl) (no refl) (no refl) (no refl) (no refl) (no refl)
+  law.0 Union (codes "--") (no refl) (no refl) (no refl) (no refl) (no refl) (no refl) (no refl)
       (no refl) (no refl) (no refl) (no refl),
-  law Minus (codes "--counts") (no refl) (no refl) (no refl) (no refl) (no refl) (no refl)
+  law.0 Minus (codes "--counts") (no refl) (no refl) (no refl) (no refl) (no refl) (no refl) (no refl)
       (no refl) (no refl) (no refl) (no refl),
-  law Differ (codes "--prefix") (no refl) (no refl) (no refl) (no refl) (no refl) (no refl)
+  law.0 Differ (codes "--prefix") (no refl) (no refl) (no refl) (no refl) (no refl) (no refl) (no refl)
       (no refl) (no refl) (no refl) (no refl),
+  law.1 Union 102 (λ e. omega (arith, e)),
 )
 
 pub ranges_are_no_form : NoOtherForm → form_called (codes "ranges") ≡ None
@@ -160,7 +162,7 @@ module _ {Z : Type 0} (minus a dashes b ranges : String Z) (o : string_bytes min
   })
 
   -- each of the two sides has its own list
-  pub its_sides : RightWordsAreTaken table words → SidesAreCut table words → drop request.middle (codes "a" ∷ codes "b" ∷ []) ≡ files_of (second_said table.rows.now (a ∷ dashes ∷ b ∷ ranges ∷ []))
+  pub its_sides : RightWordsAreTaken table words → SidesAreCut table words → drop request.middle (codes "a" ∷ codes "b" ∷ []) ≡ lists_of (second_said table.rows.now (a ∷ dashes ∷ b ∷ ranges ∷ []))
   its_sides law cut = (cut request (codes "a" ∷ codes "b" ∷ []) (option_behind_lists law)).1
 
 -- items that are not valid: an option of another task, an unknown one, and one without its value

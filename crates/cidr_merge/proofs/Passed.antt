@@ -2,17 +2,17 @@
 use Rattle.std.proofs.Common.{◌≡◌, ◌+◌, ◌-◌, ◌*◌, ◌/◌, ◌^◌, ◌<◌, ◌≤◌, ◌==◌, ◌&&◌, ◌∙◌, ℕ, zero, suc, Bool, true, false}
 use Rattle.std.proofs.Common.{List, [], ◌∷◌, ◌++◌, refl, sym, ap, subst, arith, inl, inr, length, map, take, drop, get_or, length-take}
 use Rattle.std.specs.Prelude.{◌⊎◌, nat_lt, nat_le, IsTrue, Option, None, Some, Result, Ok, Err}
-use Rattle.std.specs.List.{Contains, flat_map}
-use Rattle.std.specs.List.Sorted.{IsPartitionedBy, IsPermutation, IsSorted}
+use Rattle.std.specs.List.{All, Contains, flat_map}
+use Rattle.std.specs.List.Sorted.{IsNonDecreasing, IsPartitionedBy, IsPartitionPoint, IsPermutation, IsSorted}
 use Rattle.std.specs.Ordering.{nat_cmp, ordering_then}
 use Rattle.std.specs.declared.cmp.Ordering.{Ordering}
 use Rattle.std.proofs.Math.Seq.{drop-nil}
 use Rattle.std.proofs.lemmas.Nat.{pow_pos}
 use Rattle.std.proofs.Math.Nat.{div-mul-le_self, le-div_iff_mul-le, lt-div-mul-add}
 use Rattle.std.proofs.lemmas.Bool.{cases_lt, eqb-true, leb-true, lt-ltb, ltb-true}
-use Rattle.std.proofs.lemmas.List.{get_or-drop, get_or-take, get_or_default, length-drop}
-use Rattle.std.proofs.lemmas.List.Elements.{Contains-append_left, Contains-append_right}
-use Rattle.std.proofs.lemmas.List.Sorted.{Contains-permutation, IsNonDecreasingBy-from_all_adjacent}
+use Rattle.std.proofs.lemmas.List.{get_or-drop, get_or-take, get_or_default, length-append, length-drop}
+use Rattle.std.proofs.lemmas.List.Elements.{All-drop, All-map, All-push, All-take, Contains-append_left, Contains-append_right}
+use Rattle.std.proofs.lemmas.List.Sorted.{All-permutation, Contains-permutation, IsNonDecreasingBy-drop, IsNonDecreasingBy-from_all_adjacent, IsNonDecreasingBy-from_sort, length_permutation}
 use Rattle.ipnetwork_addr.specs.Computed.Reading.{answer_from}
 use Rattle.ipnetwork_addr.specs.declared.error.AddrParseError.{AddrParseError}
 use Rattle.ipnetwork_addr.specs.declared.error.AddrParseError.TheVariants.{Ip}
@@ -21,12 +21,13 @@ use Rattle.ipnetwork_addr.specs.declared.ip.IpAddr.{IpAddr}
 use Rattle.ipnetwork_addr.specs.declared.ip.IpAddr.TheVariants.{V4, V6}
 use Rattle.ipnetwork_family.specs.Computed.Network.{is_member}
 use Rattle.ipnetwork_family.specs.Network.{Network, block_size, low, high}
+use Rattle.lists.proofs.Printed.{map_contains}
 use Rattle.lists.specs.declared.entry.Entry.{Entry}
 use Rattle.lists.specs.declared.entry.Entry.TheVariants as entries
 use Rattle.cidr_merge.specs.Finds.{has, match_lines}
 use Rattle.cidr_merge.specs.Overlaps.{ends_of}
 use Rattle.cidr_merge.specs.Private.LinesLeft.{sought_as}
-use Rattle.cidr_merge.specs.Private.Numbers.{AreAscending, AreBefore, ArePlacesOf, number_of}
+use Rattle.cidr_merge.specs.Private.SoughtPlaces.{AreAscending, AreFound, ArePartOf, ArePlacesOf, is_v6, number_of}
 use Rattle.cidr_merge.specs.declared.sought.Sought.{Sought}
 use Rattle.cidr_merge.proofs.ListedOrder.{not_before}
 
@@ -36,11 +37,6 @@ both : (a b : Bool) → (a && b) ≡ true → (a ≡ true) × (b ≡ true)
 both true true e = (refl, refl)
 both true false e = absurd (let q = e in cc)
 both false b e = absurd (let q = e in cc)
-
-halves : (a b : ℕ) → a ≤ b → a / 2 ^ 64 ≤ b / 2 ^ 64
-halves a b l =
-    let some : zero < 2 ^ 64 = omega arith in
-    let h = div-mul-le_self a (2 ^ 64) in (le-div_iff_mul-le some).1 (omega (arith, l, h))
 
 member_within : (w : ℕ) (n : Network) (a : ℕ) → is_member w n a ≡ true
     → (low w n ≤ a) × (a ≤ high w n)
@@ -53,22 +49,30 @@ member_within w n a e =
     let start = ap (λ q. q * size) same in
     (omega (arith, below, start), omega (arith, above, start))
 
-pub within_ends : (entry : Entry) (address : IpAddr) → IsTrue (has entry address)
-    → (number_of (ends_of entry).0 ≤ number_of address) × (number_of address ≤ number_of (ends_of entry).1)
+-- an address that the entry has is of the family of its ends, and between their numbers
+abbrev IsWithin : IpAddr × IpAddr → IpAddr → Type 0
+IsWithin ends address = (is_v6 address ≡ is_v6 ends.0)
+    × (number_of ends.0 ≤ number_of address) × (number_of address ≤ number_of ends.1)
+
+first_bits : (first a last : ℕ) → (first ≤ a) × (a ≤ last) → (first * 2 ^ 96 ≤ a * 2 ^ 96) × (a * 2 ^ 96 ≤ last * 2 ^ 96)
+first_bits first a last l = let low = l.0 in let high = l.1 in (omega (arith, low), omega (arith, high))
+
+pub within_ends : (entry : Entry) (address : IpAddr) → IsTrue (has entry address) → IsWithin (ends_of entry) address
 within_ends (entries.Range (V4 first) (V4 last)) (V4 a) h =
-    let k = both (nat_le first a) (nat_le a last) h in (leb-true first a k.0, leb-true a last k.1)
-within_ends (entries.Range (V6 first) (V6 last)) (V6 a) h =
     let k = both (nat_le first a) (nat_le a last) h in
-    (halves first a (leb-true first a k.0), halves a last (leb-true a last k.1))
+    let l = first_bits first a last (leb-true first a k.0, leb-true a last k.1) in (refl, l.0, l.1)
+within_ends (entries.Range (V6 first) (V6 last)) (V6 a) h =
+    let k = both (nat_le first a) (nat_le a last) h in (refl, leb-true first a k.0, leb-true a last k.1)
 within_ends (entries.Range (V4 first) last) (V6 a) h = absurd (let q = h in cc)
 within_ends (entries.Range (V6 first) last) (V4 a) h = absurd (let q = h in cc)
 within_ends (entries.Range (V4 first) (V6 last)) (V4 a) h =
     absurd (let q = (both (nat_le first a) false h).1 in cc)
 within_ends (entries.Range (V6 first) (V4 last)) (V6 a) h =
     absurd (let q = (both (nat_le first a) false h).1 in cc)
-within_ends (entries.Network (networks.V4 n)) (V4 a) h = member_within 32 n a h
+within_ends (entries.Network (networks.V4 n)) (V4 a) h =
+    let l = first_bits _ _ _ (member_within 32 n a h) in (refl, l.0, l.1)
 within_ends (entries.Network (networks.V6 n)) (V6 a) h =
-    let k = member_within 128 n a h in (halves _ _ k.0, halves _ _ k.1)
+    let l = member_within 128 n a h in (refl, l.0, l.1)
 within_ends (entries.Network (networks.V4 n)) (V6 a) h = absurd (let q = h in cc)
 within_ends (entries.Network (networks.V6 n)) (V4 a) h = absurd (let q = h in cc)
 
@@ -77,24 +81,33 @@ within_ends (entries.Network (networks.V6 n)) (V4 a) h = absurd (let q = h in cc
 abbrev place_cmp : ℕ × ℕ → ℕ × ℕ → Ordering
 place_cmp a b = ordering_then (nat_cmp a.0 b.0) (nat_cmp a.1 b.1)
 
-pub sorted_places : (xs : List (ℕ × ℕ)) → IsSorted place_cmp xs → AreAscending xs
+sorted_places : (xs : List (ℕ × ℕ)) → IsSorted place_cmp xs → AreAscending xs
 sorted_places xs h = IsNonDecreasingBy-from_all_adjacent (λ p. p.0) xs
     (λ k d l. not_before (get_or xs k d).0 (get_or xs (k + 1) d).0 (nat_cmp (get_or xs (k + 1) d).1 (get_or xs k d).1)
     (h k d (omega arith) l))
 
-pub parted : (first : ℕ) (xs : List (ℕ × ℕ)) → AreAscending xs → IsPartitionedBy (λ place. nat_lt place.0 first) xs
-parted first xs h i j d l m e =
-    let less = ltb-true (get_or xs j d).0 first e in
-    let up = h i j d l m in lt-ltb (get_or xs i d).0 first (omega (arith, less, up))
+shifted : (bits a b : ℕ) → a ≤ b → a / 2 ^ bits ≤ b / 2 ^ bits
+shifted bits a b l =
+    let some = pow_pos bits in
+    let h = div-mul-le_self a (2 ^ bits) in (le-div_iff_mul-le some).1 (omega (arith, l, h))
+
+pub parted : (bits first : ℕ) (xs : List (ℕ × ℕ)) → AreAscending xs
+    → IsPartitionedBy (λ place. nat_lt (place.0 / 2 ^ bits) first) xs
+parted bits first xs h i j d l m e =
+    let less = ltb-true ((get_or xs j d).0 / 2 ^ bits) first e in
+    let up = shifted bits (get_or xs i d).0 (get_or xs j d).0 (h i j d l m) in
+    lt-ltb ((get_or xs i d).0 / 2 ^ bits) first (omega (arith, less, up))
 
 -- a place whose number is at least `first` is not among the first `count` places, whose numbers are less
-pub stands_behind : (places : List (ℕ × ℕ)) (count first : ℕ) (one : ℕ × ℕ) → count ≤ length places
-    → AreBefore first places count → Contains places one → first ≤ one.0 → Contains (drop count places) one
-stands_behind places count first one within before c l = by (cases_lt c.0 count) where
+stands_behind : (bits first : ℕ) (places : List (ℕ × ℕ)) (count : ℕ) (one : ℕ × ℕ) → count ≤ length places
+    → ((at : ℕ) (d : ℕ × ℕ) → at < count → nat_lt ((get_or places at d).0 / 2 ^ bits) (first / 2 ^ bits) ≡ true)
+    → Contains places one → first ≤ one.0 → Contains (drop count places) one
+stands_behind bits first places count one within before c l = by (cases_lt c.0 count) where
   by : ((c.0 < count) ⊎ (count ≤ c.0)) → Contains (drop count places) one
   by (inl less) =
-      let b = before c.0 one less in
-      let e = ap (λ (p : ℕ × ℕ). p.0) c.2 in absurd (omega (arith, b, e, l))
+      let b = ltb-true ((get_or places c.0 one).0 / 2 ^ bits) (first / 2 ^ bits) (before c.0 one less) in
+      let e = ap (λ (p : ℕ × ℕ). p.0 / 2 ^ bits) c.2 in
+      let up = shifted bits first one.0 l in absurd (omega (arith, b, e, up))
   by (inr more) =
       let at : count + (c.0 - count) ≡ c.0 = omega (arith, more) in
       let n = length-drop count places in (
@@ -103,32 +116,105 @@ stands_behind places count first one within before c l = by (cases_lt c.0 count)
         get_or-drop count places (c.0 - count) one ∙ ap (λ (k : ℕ). get_or places k one) at ∙ c.2,
       )
 
+pub behind : (bits first : ℕ) (places : List (ℕ × ℕ)) (count : ℕ) → AreAscending places → count ≤ length places
+    → IsPartitionPoint (λ p. nat_lt (p.0 / 2 ^ bits) (first / 2 ^ bits) ≡ true)
+    (λ p. nat_lt (p.0 / 2 ^ bits) (first / 2 ^ bits) ≡ false) places count
+    → AreAscending (drop count places) × ArePartOf places (drop count places) (λ number. first ≤ number)
+behind bits first places count ascend within point = (
+  IsNonDecreasingBy-drop (λ p. p.0) count places ascend,
+  record {
+    few = omega (arith, length-drop count places);
+    some = λ n all. All-drop (λ p. p.1 < n) count places all;
+    all = λ number place c l. stands_behind bits first places count (number, place) within
+        (λ at d less. point.0 at d (omega arith) less) c l;
+  },
+)
+
 -- a place at an index less than `count` is among the first `count` places
-pub stands_among : (places : List (ℕ × ℕ)) (count : ℕ) (one : ℕ × ℕ) (c : Contains places one)
+stands_among : (places : List (ℕ × ℕ)) (count : ℕ) (one : ℕ × ℕ) (c : Contains places one)
     → count ≤ length places → c.0 < count → Contains (take count places) one
 stands_among places count one c within l =
     let n = length-take count places in (c.0, omega (arith, n, l, within), get_or-take count places c.0 one l ∙ c.2)
 
--- ---- places that are skipped
+-- the first `count` places have each place with a number up to `last`, if the next one has a greater number or there is
+-- none
+pub front : (places : List (ℕ × ℕ)) (count last : ℕ) → AreAscending places → count ≤ length places
+    → ((d : ℕ × ℕ) → count < length places → last < (get_or places count d).0)
+    → ArePartOf places (take count places) (λ number. number ≤ last)
+front places count last up within stop = record {
+  few = omega (arith, length-take count places);
+  some = λ n all. All-take (λ p. p.1 < n) count places all;
+  all = λ number place c l. among number place c l (cases_lt c.0 count);
+} where
+  among : (number place : ℕ) (c : Contains places (number, place)) → number ≤ last
+      → ((c.0 < count) ⊎ (count ≤ c.0)) → Contains (take count places) (number, place)
+  among number place c l (inl less) = stands_among places count (number, place) c within less
+  among number place c l (inr more) =
+      let is = c.1 in
+      let above = stop (number, place) (omega (arith, more, is)) in
+      let rises = up count c.0 (number, place) more is in
+      let e = ap (λ (p : ℕ × ℕ). p.0) c.2 in absurd (omega (arith, above, rises, e, l))
 
-pub passed_over : (entry : Entry) (places found : List (ℕ × ℕ)) (sought : List Sought) (i j : ℕ)
-    → ((at : ℕ) (d : Sought) → at < length sought → Contains places (number_of (get_or sought at d).address, at))
-    → ((address : IpAddr) (place : ℕ) → IsTrue (has entry address) → Contains places (number_of address, place)
-    → length found ≤ 64 → Contains found (number_of address, place))
-    → ((number place : ℕ) → length found ≤ 64 → Contains found (number, place) → i ≤ place → j ≤ place)
-    → (64 < length found → j ≡ i)
-    → (p : ℕ) (d : Sought) → i ≤ p → p < j → p < length sought
-    → has entry (get_or sought p d).address ≡ false
-passed_over entry places found sought i j each finds least many p d low less within =
+-- ---- the places of what an entry has
+
+pub are_found : (entry : Entry) (of_v6 : Bool) (sought : List Sought) (places found : List (ℕ × ℕ))
+    (unsorted sorted : List ℕ) (low high : ℕ) → of_v6 ≡ is_v6 (ends_of entry).0 → low ≡ number_of (ends_of entry).0
+    → high ≡ number_of (ends_of entry).1 → ArePlacesOf of_v6 sought places
+    → ArePartOf places found (λ number. (low ≤ number) × (number ≤ high)) → unsorted ≡ map (λ place. place.1) found → IsPermutation unsorted sorted → IsSorted nat_cmp sorted
+    → AreFound entry sought sorted
+are_found entry of_v6 sought places found unsorted sorted low high family first last are part put moved sort = record {
+  ascend = IsNonDecreasingBy-from_sort (λ n. n) sorted sort;
+  within = All-permutation (λ n. n < length sought) unsorted sorted moved
+      (subst (All (λ n. n < length sought)) (sym put)
+      (All-map (λ n. n < length sought) (λ (place : ℕ × ℕ). place.1) found (part.some (length sought) are.within)));
+  each = λ at d l h.
+      let address = (get_or sought at d).address in
+      let ends = within_ends entry address h in
+      let above = ends.1 in
+      let below = ends.2 in
+      let c = are.each at d l (ends.0 ∙ sym family) in
+      Contains-permutation unsorted sorted at moved
+      (subst (λ (ns : List ℕ). Contains ns at) (sym put)
+      (map_contains (λ (place : ℕ × ℕ). place.1) found (number_of address, at)
+      (part.all (number_of address) at c (omega (arith, first, above), omega (arith, last, below)))));
+}
+
+-- ---- what is passed over
+
+-- between the places up to one and those from the next on stands no place of an address that the entry has
+pub passed_over : (entry : Entry) (sought : List Sought) (places : List ℕ) (at i j : ℕ)
+    → AreFound entry sought places → ((k d : ℕ) → k < at → get_or places k d < i)
+    → ((k d : ℕ) → at ≤ k → k < length places → j ≤ get_or places k d)
+    → (p : ℕ) (d : Sought) → i ≤ p → p < j → p < length sought → has entry (get_or sought p d).address ≡ false
+passed_over entry sought places at i j are before behind p d low less within =
     by (has entry (get_or sought p d).address) refl where
       by : (b : Bool) → has entry (get_or sought p d).address ≡ b → has entry (get_or sought p d).address ≡ false
       by false e = e
-      by true e = few (cases_lt 64 (length found)) where
-        few : ((64 < length found) ⊎ (length found ≤ 64)) → has entry (get_or sought p d).address ≡ false
-        few (inl more) = let same = many more in absurd (omega (arith, low, less, same))
-        few (inr is) =
-            let l = least (number_of (get_or sought p d).address) p is
-            (finds (get_or sought p d).address p e (each p d within) is) low in absurd (omega (arith, l, less))
+      by true e = at_last (are.each p d within e) where
+        at_last : Contains places p → has entry (get_or sought p d).address ≡ false
+        at_last c = there (cases_lt c.0 at) where
+          there : ((c.0 < at) ⊎ (at ≤ c.0)) → has entry (get_or sought p d).address ≡ false
+          there (inl sooner) = let b = before c.0 p sooner in let is = c.2 in absurd (omega (arith, b, is, low))
+          there (inr later) =
+              let b = behind c.0 p later c.1 in let is = c.2 in absurd (omega (arith, b, is, less))
+
+-- the places after one are not before it
+pub not_sooner : (places : List ℕ) (at : ℕ) → IsNonDecreasing places → at < length places
+    → (k d : ℕ) → at ≤ k → k < length places → get_or places at 0 ≤ get_or places k d
+not_sooner places at up within k d l m =
+    let rises = up at k d l m in
+    let same = get_or_default places at d 0 within in omega (arith, rises, same)
+
+-- those up to it are before the next
+pub before_more : (places : List ℕ) (at next : ℕ) → at < length places
+    → ((k d : ℕ) → k < at → get_or places k d < next) → next ≤ get_or places at 0
+    → (k d : ℕ) → k < at + 1 → get_or places k d < get_or places at 0 + 1
+before_more places at next within before l k d less = by (cases_lt k at) where
+  by : ((k < at) ⊎ (at ≤ k)) → get_or places k d < get_or places at 0 + 1
+  by (inl sooner) = let b = before k d sooner in omega (arith, b, l)
+  by (inr later) =
+      let is : k ≡ at = omega (arith, later, less) in
+      let same = ap (λ (n : ℕ). get_or places n d) is ∙ get_or_default places at d 0 within in omega (arith, same)
 
 -- the elements between two places contribute nothing
 pub skipped : {X Y : Type 0} (f : X → List Y) (xs : List X) (i j : ℕ) → i ≤ j
@@ -157,45 +243,74 @@ of_map f g (x ∷ xs) = ap (λ ys. f (g x) ++ ys) (of_map f g xs)
 
 -- ---- places, one after the other
 
-pub placed_more : (sought : List Sought) (places : List (ℕ × ℕ)) (place n : ℕ) (one : Sought)
-    → ((at : ℕ) (d : Sought) → at < place → Contains places (number_of (get_or sought at d).address, at))
-    → place < length sought → one ≡ get_or sought place one → n ≡ number_of one.address
-    → (at : ℕ) (d : Sought) → at < place + 1
-    → Contains (places ++ (n, place) ∷ []) (number_of (get_or sought at d).address, at)
-placed_more sought places place n one h within is e at d l = by (cases_lt at place) where
-  by : ((at < place) ⊎ (place ≤ at)) → Contains (places ++ (n, place) ∷ []) (number_of (get_or sought at d).address, at)
-  by (inl less) = Contains-append_left places ((n, place) ∷ []) (number_of (get_or sought at d).address, at) (h at d less)
-  by (inr more) =
-      let same : at ≡ place = omega (arith, l, more) in
-      let here : get_or sought at d ≡ one =
-      ap (λ (k : ℕ). get_or sought k d) same ∙ get_or_default sought place d one within ∙ sym is in
-      subst (λ (p : ℕ × ℕ). Contains (places ++ (n, place) ∷ []) p)
-      (ap (λ (m : ℕ). (m, place)) (e ∙ ap (λ (s : Sought). number_of s.address) (sym here))
-      ∙ ap (λ (k : ℕ). (number_of (get_or sought at d).address, k)) (sym same))
-      (Contains-append_right places ((n, place) ∷ []) (n, place) (0, omega arith, refl))
+-- of so many of the addresses that are sought, those of a family have these places
+pub record ArePlacesUpTo (of_v6 : Bool) (sought : List Sought) (places : List (ℕ × ℕ)) (count : ℕ) : Type 0 where
+  pub few : length places ≤ count
+  pub within : All (λ place. place.1 < count) places
+  pub each : (at : ℕ) (d : Sought) → at < count → is_v6 (get_or sought at d).address ≡ of_v6
+      → Contains places (number_of (get_or sought at d).address, at)
 
-pub all_placed : (sought : List Sought) (places sorted : List (ℕ × ℕ)) (place : ℕ) → length sought ≤ place
-    → ((at : ℕ) (d : Sought) → at < place → Contains places (number_of (get_or sought at d).address, at))
-    → IsPermutation places sorted → IsSorted place_cmp sorted → ArePlacesOf sought sorted
-all_placed sought places sorted place l h same order = record {
-  ascend = sorted_places sorted order;
-  each = λ at d m. Contains-permutation places sorted (number_of (get_or sought at d).address, at) same (h at d (omega (arith, l, m)));
+below_next : (places : List (ℕ × ℕ)) (count : ℕ) → All (λ place. place.1 < count) places
+    → All (λ place. place.1 < count + 1) places
+below_next places count h k d l = let less = h k d l in omega (arith, less)
+
+pub placed_none : (of_v6 : Bool) (sought : List Sought) → ArePlacesUpTo of_v6 sought [] 0
+placed_none of_v6 sought = record {
+  few = omega arith;
+  within = λ k d l. absurd (omega (arith, l));
+  each = λ at d l family. absurd (omega (arith, l));
 }
 
--- the first `count` places have each place with a number up to `last`, if the next one has a greater number or there is
--- none
-pub are_among : (places : List (ℕ × ℕ)) (count last : ℕ) → AreAscending places → count ≤ length places
-    → ((d : ℕ × ℕ) → count < length places → length (take count places) ≤ 64 → last < (get_or places count d).0)
-    → (number place : ℕ) → Contains places (number, place) → number ≤ last → length (take count places) ≤ 64
-    → Contains (take count places) (number, place)
-are_among places count last up within stop number place c l few = by (cases_lt c.0 count) where
-  by : ((c.0 < count) ⊎ (count ≤ c.0)) → Contains (take count places) (number, place)
-  by (inl less) = stands_among places count (number, place) c within less
-  by (inr more) =
-      let is = c.1 in
-      let above = stop (number, place) (omega (arith, more, is)) few in
-      let rises = up count c.0 (number, place) more is in
-      let e = ap (λ (p : ℕ × ℕ). p.0) c.2 in absurd (omega (arith, above, rises, e, l))
+pub placed_more : (of_v6 : Bool) (sought : List Sought) (places : List (ℕ × ℕ)) (count n : ℕ) (one : Sought)
+    → ArePlacesUpTo of_v6 sought places count → count < length sought → one ≡ get_or sought count one
+    → n ≡ number_of one.address → ArePlacesUpTo of_v6 sought (places ++ (n, count) ∷ []) (count + 1)
+placed_more of_v6 sought places count n one h within is e = record {
+  few = omega (arith, length-append places ((n, count) ∷ []), h.few);
+  within = All-push (λ place. place.1 < count + 1) places (n, count) (below_next places count h.within) (omega arith);
+  each = λ at d l family. by at d l family (cases_lt at count);
+} where
+  by : (at : ℕ) (d : Sought) → at < count + 1 → is_v6 (get_or sought at d).address ≡ of_v6
+      → ((at < count) ⊎ (count ≤ at)) → Contains (places ++ (n, count) ∷ []) (number_of (get_or sought at d).address, at)
+  by at d l family (inl less) =
+      Contains-append_left places ((n, count) ∷ []) (number_of (get_or sought at d).address, at) (h.each at d less family)
+  by at d l family (inr more) =
+      let same : at ≡ count = omega (arith, l, more) in
+      let here : get_or sought at d ≡ one =
+      ap (λ (k : ℕ). get_or sought k d) same ∙ get_or_default sought count d one within ∙ sym is in
+      subst (λ (p : ℕ × ℕ). Contains (places ++ (n, count) ∷ []) p)
+      (ap (λ (m : ℕ). (m, count)) (e ∙ ap (λ (s : Sought). number_of s.address) (sym here))
+      ∙ ap (λ (k : ℕ). (number_of (get_or sought at d).address, k)) (sym same))
+      (Contains-append_right places ((n, count) ∷ []) (n, count) (0, omega arith, refl))
+
+-- an address of the other family has no place
+pub placed_other : (of_v6 : Bool) (sought : List Sought) (places : List (ℕ × ℕ)) (count : ℕ) (one : Sought)
+    → ArePlacesUpTo of_v6 sought places count → count < length sought → one ≡ get_or sought count one
+    → ¬ (is_v6 one.address ≡ of_v6) → ArePlacesUpTo of_v6 sought places (count + 1)
+placed_other of_v6 sought places count one h within is other = record {
+  few = omega (arith, h.few);
+  within = below_next places count h.within;
+  each = λ at d l family. by at d l family (cases_lt at count);
+} where
+  by : (at : ℕ) (d : Sought) → at < count + 1 → is_v6 (get_or sought at d).address ≡ of_v6
+      → ((at < count) ⊎ (count ≤ at)) → Contains places (number_of (get_or sought at d).address, at)
+  by at d l family (inl less) = h.each at d less family
+  by at d l family (inr more) =
+      let same : at ≡ count = omega (arith, l, more) in
+      let here : get_or sought at d ≡ one =
+      ap (λ (k : ℕ). get_or sought k d) same ∙ get_or_default sought count d one within ∙ sym is in
+      absurd (other (ap (λ (s : Sought). is_v6 s.address) (sym here) ∙ family))
+
+pub all_placed : (of_v6 : Bool) (sought : List Sought) (places sorted : List (ℕ × ℕ)) (count : ℕ)
+    → count ≡ length sought → ArePlacesUpTo of_v6 sought places count
+    → IsPermutation places sorted → IsSorted place_cmp sorted → ArePlacesOf of_v6 sought sorted
+all_placed of_v6 sought places sorted count is h same order = record {
+  ascend = sorted_places sorted order;
+  few = omega (arith, length_permutation places sorted same, h.few, is);
+  within = All-permutation (λ p. p.1 < length sought) places sorted same
+      (subst (λ (n : ℕ). All (λ (p : ℕ × ℕ). p.1 < n) places) is h.within);
+  each = λ at d less family. Contains-permutation places sorted (number_of (get_or sought at d).address, at) same
+      (h.each at d (omega (arith, is, less)) family);
+}
 
 -- ---- addresses
 

@@ -9,7 +9,7 @@ use Rattle.std.proofs.lemmas.Bool.{eqb-false, eqb-true, le-ltb, ltb-false, ne_eq
 use Rattle.std.proofs.lemmas.Option.{none-some}
 use Rattle.program.specs.Words.{count}
 use Rattle.options.specs.Faults.{are_both, of_pair, pair_fault}
-use Rattle.options.specs.Given.{files_of, is_given}
+use Rattle.options.specs.Given.{is_given}
 use Rattle.options.specs.Grammar.{SayWhatIsRead}
 use Rattle.options.specs.declared.faults.Fault.{Fault}
 use Rattle.options.specs.declared.items.Item.{Item}
@@ -17,6 +17,7 @@ use Rattle.options.specs.declared.items.Item.TheVariants as says
 use Rattle.options.specs.declared.table.Pair.{Pair}
 use Rattle.options.specs.declared.table.Row.{Row}
 use Rattle.options.specs.declared.table.Table.{Table}
+use Rattle.cidr_merge.specs.NamedLists.{lists_of}
 use Rattle.cidr_merge.specs.CommandLines.{asked_for, command_if, command_of, first_said, second_said, unless}
 use Rattle.cidr_merge.specs.Faults.{cannot_print, fault_of, files_among, from_of, files_fault, is_exported, is_value, item_fault, items_fault, lacks_json, lacks_prefix, option_fault, sides_fault, takes, times_named, together_fault, value_fault, has_lines, has_sets, has_table}
 use Rattle.cidr_merge.specs.Forms.{form_of}
@@ -320,9 +321,9 @@ module _ {Z : Type 0} (table : Table) (name : String Z) (others : List (String Z
       → command_if table (string_bytes name) called others ≡ Ok (command, names) → AskFor table (name ∷ others) command names
   asks None is command names e = absurd (let q = e in cc)
   asks (Some task) is command names e =
-      let u = unless_ok (fault_of table task (string_bytes name) (count (codes "--") others) (first ++ second) (length (files_of first)) (files_of first ++ from_of task (first ++ second) ++ files_of second))
-      (asked_for task (first ++ second) (length (files_of first))) command (files_of first ++ from_of task (first ++ second) ++ files_of second) names e in
-      let r = to_right table task (string_bytes name) (count (codes "--") others) (first ++ second) (files_of first) (files_of second) u.0 in record {
+      let u = unless_ok (fault_of table task (string_bytes name) (count (codes "--") others) (first ++ second) (length (lists_of first)) (lists_of first ++ from_of task (first ++ second) ++ lists_of second))
+      (asked_for task (first ++ second) (length (lists_of first))) command (lists_of first ++ from_of task (first ++ second) ++ lists_of second) names e in
+      let r = to_right table task (string_bytes name) (count (codes "--") others) (first ++ second) (lists_of first) (lists_of second) u.0 in record {
         name = name;
         others = others;
         task = task;
@@ -337,8 +338,8 @@ module _ {Z : Type 0} (table : Table) (name : String Z) (others : List (String Z
       }
 
   abbrev said_as : Task → List Item → List Item → Result (Command × List (List ℕ)) Fault
-  said_as task one other = unless (fault_of table task (string_bytes name) (count (codes "--") others) (one ++ other) (length (files_of one)) (files_of one ++ from_of task (one ++ other) ++ files_of other))
-      (asked_for task (one ++ other) (length (files_of one))) (files_of one ++ from_of task (one ++ other) ++ files_of other)
+  said_as task one other = unless (fault_of table task (string_bytes name) (count (codes "--") others) (one ++ other) (length (lists_of one)) (lists_of one ++ from_of task (one ++ other) ++ lists_of other))
+      (asked_for task (one ++ other) (length (lists_of one))) (lists_of one ++ from_of task (one ++ other) ++ lists_of other)
 
   taken : (command : Command) (names : List (List ℕ)) → AskFor table (name ∷ others) command names → command_of table (name ∷ others) ≡ Ok (command, names)
   taken command names a =
@@ -347,7 +348,7 @@ module _ {Z : Type 0} (table : Table) (name : String Z) (others : List (String Z
       let called = subst (λ (w : String Z). task_called (string_bytes w) ≡ Some a.task) same_name a.called in
       let s = sides_said table.rows.now (is_two_sided a.task) others a.first a.second reads others_read
       (subst (λ ws. SaySides table.rows.now (is_two_sided a.task) ws a.first a.second) same_others a.say) in
-      let none = untold table a.task (string_bytes name) (count (codes "--") others) (a.first ++ a.second) (files_of a.first) (files_of a.second) s.dashes a.right in
+      let none = untold table a.task (string_bytes name) (count (codes "--") others) (a.first ++ a.second) (lists_of a.first) (lists_of a.second) s.dashes a.right in
       let told : said_as a.task a.first a.second ≡ Ok (command, names) = rw (none, sym a.asked, sym a.files) refl in
       ap (λ (t : Option Task). command_if table (string_bytes name) t others) called
       ∙ sym (ap (λ (o : List Item). said_as a.task o second) s.firsts) ∙ sym (ap (λ (o : List Item). said_as a.task a.first o) s.seconds) ∙ told
@@ -384,12 +385,12 @@ sides_by table name others None request names e = absurd (let q = e in cc)
 sides_by table name others (Some task) request names e =
     let first = first_said table.rows.now others in
     let second = second_said table.rows.now others in
-    let u = unless_ok (fault_of table task (string_bytes name) (count (codes "--") others) (first ++ second) (length (files_of first)) (files_of first ++ from_of task (first ++ second) ++ files_of second))
-    (asked_for task (first ++ second) (length (files_of first))) (commands.Merge request) (files_of first ++ from_of task (first ++ second) ++ files_of second) names e in
-    let e : names ≡ files_of first ++ files_of second =
-    u.2 ∙ ap (λ (f : List (List ℕ)). files_of first ++ f ++ files_of second) (no_from task (first ++ second) (length (files_of first)) request u.1)
-    ∙ ap (λ (f : List (List ℕ)). f ++ files_of second) (append-nil (files_of first)) in
-    rw (has_middle task (first ++ second) (length (files_of first)) request u.1, e) (take-append_seam (files_of first) (files_of second), drop-append_seam (files_of first) (files_of second))
+    let u = unless_ok (fault_of table task (string_bytes name) (count (codes "--") others) (first ++ second) (length (lists_of first)) (lists_of first ++ from_of task (first ++ second) ++ lists_of second))
+    (asked_for task (first ++ second) (length (lists_of first))) (commands.Merge request) (lists_of first ++ from_of task (first ++ second) ++ lists_of second) names e in
+    let e : names ≡ lists_of first ++ lists_of second =
+    u.2 ∙ ap (λ (f : List (List ℕ)). lists_of first ++ f ++ lists_of second) (no_from task (first ++ second) (length (lists_of first)) request u.1)
+    ∙ ap (λ (f : List (List ℕ)). f ++ lists_of second) (append-nil (lists_of first)) in
+    rw (has_middle task (first ++ second) (length (lists_of first)) request u.1, e) (take-append_seam (lists_of first) (lists_of second), drop-append_seam (lists_of first) (lists_of second))
 
 pub sides_cut : {Z : Type 0} (table : Table) (words : List (String Z)) → SidesAreCut table words
 sides_cut table [] request names e = absurd (let q = e in cc)

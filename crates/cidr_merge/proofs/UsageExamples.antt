@@ -88,7 +88,7 @@ pub options_of_others : {Z : Type 0}
     × Have Z (codes "check" ∷ codes "a" ∷ codes "--format=x" ∷ []) (codes "--format: " ++ no_option tasks.Check)
     × Have Z (codes "common" ∷ codes "--quiet" ∷ []) (codes "--quiet: taken only once, as the first word")
     × Have Z (codes "union" ∷ codes "a" ∷ codes "--help" ∷ []) (codes "--help: taken only alone")
-    × Have Z (codes "overlaps" ∷ codes "-x" ∷ []) (codes "-x: not an option of overlaps; it takes none")
+    × Have Z (codes "overlaps" ∷ codes "-x" ∷ []) (codes "-x: not an option of overlaps; it takes -e TEXT")
     × Have Z (codes "split" ∷ codes "a" ∷ codes "--skip-bad" ∷ []) (codes "split: no --prefix N")
     × Have Z (codes "split" ∷ codes "--prefix" ∷ codes "129" ∷ []) (codes "129: " ++ problem_at table.rows.now prefix)
 options_of_others = (

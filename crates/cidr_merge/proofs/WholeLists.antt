@@ -1,15 +1,17 @@
 -- How whole lists are read.
 use Rattle.std.proofs.Common.{◌≡◌, ◌+◌, ◌<◌, ◌∙◌, ℕ, List, [], ◌∷◌, ◌++◌, refl, sym, ap}
 use Rattle.std.proofs.Common.{subst, arith, length, map, take, drop, get_or, length-take}
-use Rattle.std.specs.Prelude.{String}
+use Rattle.std.specs.Prelude.{Option, None, Some, String}
 use Rattle.std.specs.String.{string_bytes}
 use Rattle.std.proofs.lemmas.List.{map-append, length-map}
-use Rattle.lists.specs.Bytes.{IsAllOf, BytesStop}
+use Rattle.lists.specs.Bytes.{BytesStop}
 use Rattle.lists.specs.KnownLists.{KnownLists}
 use Rattle.lists.specs.declared.bytes.BytesFault.{BytesFault}
 use Rattle.lists.specs.declared.bytes.BytesFault.TheVariants as bytes
 use Rattle.lists.specs.declared.named.ReadFault.{ReadFault}
-use Rattle.cidr_merge.specs.Texts.{AreTexts, TextStops, TextsStop}
+use Rattle.lists.specs.declared.named.ReadFault.TheVariants.{OutOfMemory}
+use Rattle.cidr_merge.specs.NamedLists.{text_in}
+use Rattle.cidr_merge.specs.Texts.{AreTexts, FileStops, IsText, StopsAs, TextStops, TextsStop}
 use Rattle.cidr_merge.specs.Private.ReadErrors.{not_read}
 use Rattle.cidr_merge.proofs.Places.{up_to_next, cut_at}
 
@@ -17,18 +19,25 @@ use Rattle.cidr_merge.proofs.Places.{up_to_next, cut_at}
 
 -- a list was not read
 pub text_stops : (known : KnownLists) (name : List ℕ) (number most : ℕ) (fault : BytesFault)
-    → BytesStop known name most fault → TextStops known number name (not_read number fault)
+    → BytesStop known name most fault → FileStops known number name (not_read number fault)
 text_stops known name number most (bytes.Open cause) h = (refl, h.0, h.1)
 text_stops known name number most bytes.Read h = (refl, h.0, h.1)
 text_stops known name number most bytes.Length h = tt
 text_stops known name number most bytes.OutOfMemory h = tt
+
+-- memory may run out for any
+pub no_memory : (known : KnownLists) (number : ℕ) (name : List ℕ) → TextStops known number name OutOfMemory
+no_memory known number name = by (text_in name) where
+  by : (given : Option (List ℕ)) → StopsAs given known number name OutOfMemory
+  by (Some text) = refl
+  by None = tt
 
 -- ---- lists in turn
 
 -- one more list was read
 texts_more : {Z : Type 0} (known : KnownLists) (names : List (String Z)) (texts : List (List ℕ))
     (name : String Z) (text : List ℕ) → AreTexts known names texts
-    → IsAllOf known (string_bytes name) text
+    → IsText known (string_bytes name) text
     → AreTexts known (names ++ name ∷ []) (texts ++ text ∷ [])
 texts_more known [] [] name text h k = (k, tt)
 texts_more known [] (other ∷ texts) name text h k = absurd h
@@ -55,7 +64,7 @@ as_many_held known names texts items held e h =
 pub texts_on : {Z : Type 0} (known : KnownLists) (names : List (String Z)) (place : ℕ)
     (name : String Z) (texts : List (List ℕ)) (text : List ℕ) → place < length names
     → name ≡ get_or names place name
-    → AreTexts known (take place names) texts → IsAllOf known (string_bytes name) text
+    → AreTexts known (take place names) texts → IsText known (string_bytes name) text
     → AreTexts known (take (place + 1) names) (texts ++ text ∷ [])
 texts_on known names place name texts text l is h k =
     subst (λ ns. AreTexts known ns (texts ++ text ∷ []))
@@ -65,13 +74,13 @@ texts_on known names place name texts text l is h k =
 pub text_more : {Z X : Type 0} (items : X → List ℕ) (known : KnownLists) (names : List (String Z))
     (place : ℕ) (name : String Z) (word : List ℕ) (texts : List X) (text : X) → place < length names
     → name ≡ get_or names place name → word ≡ string_bytes name
-    → AreTexts known (take place names) (map items texts) → IsAllOf known word (items text)
+    → AreTexts known (take place names) (map items texts) → IsText known word (items text)
     → AreTexts known (take (place + 1) names) (map items (texts ++ text ∷ []))
 text_more items known names place name word texts text l is w h k =
     subst (λ (ts : List (List ℕ)). AreTexts known (take (place + 1) names) ts)
     (sym (map-append items texts (text ∷ [])))
     (texts_on known names place name (map items texts) (items text) l is h
-    (subst (λ (n : List ℕ). IsAllOf known n (items text)) w k))
+    (subst (λ (n : List ℕ). IsText known n (items text)) w k))
 
 -- the list at a place was not read
 pub texts_stop : {Z : Type 0} (known : KnownLists) (number place at : ℕ) (names : List (String Z))

@@ -4,7 +4,7 @@ use Rattle.std.specs.Prelude.{if◌then◌else◌, codes, String}
 use Rattle.std.specs.String.{string_bytes}
 use Rattle.program.specs.Words.{count}
 use Rattle.options.specs.Faults.{about}
-use Rattle.options.specs.Given.{files_of, is_given}
+use Rattle.options.specs.Given.{is_given}
 use Rattle.options.specs.Items.{items_of}
 use Rattle.options.specs.declared.faults.Fault.{Fault}
 use Rattle.options.specs.declared.faults.Subject.TheVariants as subjects
@@ -12,6 +12,7 @@ use Rattle.options.specs.declared.items.Item.{Item}
 use Rattle.options.specs.declared.items.Mode.TheVariants as modes
 use Rattle.options.specs.declared.table.Row.{Row}
 use Rattle.options.specs.declared.table.Table.{Table}
+use Rattle.cidr_merge.specs.NamedLists.{lists_of}
 use Rattle.cidr_merge.specs.Faults.{fault_of, from_of, no_task_fault}
 use Rattle.cidr_merge.specs.Forms.{form_of, shape_of, length_of}
 use Rattle.cidr_merge.specs.Options as own
@@ -92,10 +93,10 @@ abbrev pub command_for : {Z : Type 0} → Table → List ℕ → Task → List (
 command_for table name task others =
     command_by table name task (count (codes "--") others)
     (first_said table.rows.now others ++ second_said table.rows.now others)
-    (length (files_of (first_said table.rows.now others)))
-    (files_of (first_said table.rows.now others)
+    (length (lists_of (first_said table.rows.now others)))
+    (lists_of (first_said table.rows.now others)
     ++ from_of task (first_said table.rows.now others ++ second_said table.rows.now others)
-    ++ files_of (second_said table.rows.now others))
+    ++ lists_of (second_said table.rows.now others))
 
 -- the same, or a fault if the first word names no task
 abbrev pub command_if : {Z : Type 0} → Table → List ℕ → Option Task → List (String Z)

@@ -1,19 +1,19 @@
 -- Laws: no other text names a task, an option or a form; and what a line or an entry means can be computed.
-use Rattle.std.specs.Prelude.{◌≡◌, ◌≢◌, ◌↔◌, ℕ, Bool, List, Option, None, Some, Result, Ok, false, drop}
+use Rattle.std.specs.Prelude.{◌≡◌, ◌≢◌, ◌↔◌, ℕ, Bool, List, [], Option, None, Some, Result, Ok, false, drop}
 use Rattle.std.specs.Prelude.{take, codes, IsTrue, String}
 use Rattle.ipnetwork_addr.specs.declared.ip.IpAddr.{IpAddr}
 use Rattle.lists.specs.Entries.{ReadsEntry}
 use Rattle.lists.specs.Lists.{Names}
 use Rattle.lists.specs.declared.entry.Entry.{Entry}
 use Rattle.lists.specs.declared.entry.EntryFault.{EntryFault}
+use Rattle.cidr_merge.specs.NamedLists.{lists_of}
 use Rattle.cidr_merge.specs.Finds.{has}
 use Rattle.cidr_merge.specs.Forms.{form_called}
 use Rattle.cidr_merge.specs.NumberedLines.{reading_of}
 use Rattle.cidr_merge.specs.Tasks.{task_called}
-use Rattle.options.specs.Table.{named}
+use Rattle.options.specs.Table.{lettered, named}
 use Rattle.options.specs.declared.table.Row.{Row}
 use Rattle.options.specs.declared.table.Table.{Table}
-use Rattle.options.specs.Given.{files_of}
 use Rattle.cidr_merge.specs.CommandLines.{command_of, first_said, second_said}
 use Rattle.cidr_merge.specs.Faults.{takes}
 use Rattle.cidr_merge.specs.declared.command_line.Command.TheVariants as commands
@@ -34,19 +34,27 @@ abbrev pub is_of : Task → Option ℕ → Bool
 is_of task None = false
 is_of task (Some row) = takes task row
 
--- no text but these ten is an option of a merge
-abbrev pub NoOtherOption : List Row → Type 0
-NoOtherOption rows =
-    (operation : Operation) (text : List ℕ) → text ≢ codes "--ranges" → text ≢ codes "--count"
+-- no text but these ten is the long name of an option of a merge
+abbrev pub NoOtherName : List Row → Type 0
+NoOtherName rows =
+    (operation : Operation) (text : List ℕ) → text ≢ [] → text ≢ codes "--ranges" → text ≢ codes "--count"
     → text ≢ codes "--format" → text ≢ codes "--set" → text ≢ codes "--table" → text ≢ codes "--skip-bad"
     → text ≢ codes "--json" → text ≢ codes "--strict" → text ≢ codes "--line-prefix" → text ≢ codes "--line-suffix"
     → is_of (tasks.Merge operation) (named text rows) ≡ false
 
--- the lists of the two sides of a request are the FILEs before the first `--` and those after it
+-- no letter but `e` (byte 101) is the letter of an option of a merge
+abbrev pub NoOtherLetter : List Row → Type 0
+NoOtherLetter rows = (operation : Operation) (letter : ℕ) → letter ≢ 101
+    → is_of (tasks.Merge operation) (lettered letter rows) ≡ false
+
+abbrev pub NoOtherOption : List Row → Type 0
+NoOtherOption rows = NoOtherName rows × NoOtherLetter rows
+
+-- the lists of the two sides of a request are those named before the first `--` and those named after it
 abbrev pub AreCut : {Z : Type 0} → Table → List (String Z) → Request → List (List ℕ) → Type 0
 AreCut table words request names =
-    (take request.middle names ≡ files_of (first_said table.rows.now (drop 1 words)))
-    × (drop request.middle names ≡ files_of (second_said table.rows.now (drop 1 words)))
+    (take request.middle names ≡ lists_of (first_said table.rows.now (drop 1 words)))
+    × (drop request.middle names ≡ lists_of (second_said table.rows.now (drop 1 words)))
 
 abbrev pub SidesAreCut : {Z : Type 0} → Table → List (String Z) → Type 0
 SidesAreCut table words = (request : Request) (names : List (List ℕ))

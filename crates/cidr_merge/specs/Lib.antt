@@ -12,6 +12,7 @@ pub mod Finds
 pub mod InspectionRuns
 pub mod Forms
 pub mod Laws
+pub mod NamedLists
 pub mod NumberedLines
 pub mod Options
 pub mod Overlaps

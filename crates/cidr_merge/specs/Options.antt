@@ -1,6 +1,6 @@
 -- The options of the command line, and which of them each task takes.
 use Rattle.std.specs.Prelude.{ℕ, true, List, [], ◌∷◌, codes}
-use Rattle.options.specs.Table.{Entry, IsTable, long_flag, alone, long}
+use Rattle.options.specs.Table.{Entry, IsTable, long_flag, alone, long, valued}
 use Rattle.options.specs.declared.table.Kind.TheVariants as kinds
 use Rattle.options.specs.declared.table.Table.{Table}
 use Rattle.cidr_merge.specs.declared.tasks.Task.{Task}
@@ -43,6 +43,9 @@ prefix = 10
 abbrev pub from : ℕ
 from = 11
 
+abbrev pub text : ℕ
+text = 12
+
 -- the message for a value of `--set` or `--table` that is not a name
 abbrev pub no_name : List ℕ
 no_name = codes "not a name of 1 to 22 letters, digits, _, - and ., the first a letter"
@@ -58,6 +61,7 @@ entries =
     ∷ long (codes "--line-prefix") kinds.Text true [] ∷ long (codes "--line-suffix") kinds.Text true []
     ∷ long (codes "--prefix") kinds.Text true (codes "not a prefix length, 0 to 128")
     ∷ long (codes "--from") kinds.File true []
+    ∷ valued (codes "e") kinds.Text []
     ∷ alone (codes "--help") (codes "taken only alone")
     ∷ alone (codes "--version") (codes "taken only alone")
     ∷ alone (codes "--quiet") (codes "taken only once, as the first word") ∷ []
@@ -81,10 +85,10 @@ IsOptions options = IsTable options entries pairs [] []
 -- the options that a task takes, by the indices of their rows
 abbrev pub taken : Task → List ℕ
 taken (tasks.Merge operation) =
-    ranges ∷ count ∷ format ∷ set ∷ table ∷ before ∷ after ∷ skip_bad ∷ json ∷ strict ∷ []
+    text ∷ ranges ∷ count ∷ format ∷ set ∷ table ∷ before ∷ after ∷ skip_bad ∷ json ∷ strict ∷ []
 taken tasks.List =
-    ranges ∷ count ∷ format ∷ set ∷ table ∷ before ∷ after ∷ skip_bad ∷ json ∷ strict ∷ []
-taken tasks.Split = prefix ∷ before ∷ after ∷ skip_bad ∷ json ∷ strict ∷ []
-taken tasks.Check = strict ∷ []
-taken tasks.Overlaps = []
-taken tasks.Find = from ∷ []
+    text ∷ ranges ∷ count ∷ format ∷ set ∷ table ∷ before ∷ after ∷ skip_bad ∷ json ∷ strict ∷ []
+taken tasks.Split = text ∷ prefix ∷ before ∷ after ∷ skip_bad ∷ json ∷ strict ∷ []
+taken tasks.Check = text ∷ strict ∷ []
+taken tasks.Overlaps = text ∷ []
+taken tasks.Find = text ∷ from ∷ []

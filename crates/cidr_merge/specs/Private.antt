@@ -1,7 +1,7 @@
 -- The contracts of private functions, and the meaning of private fields in contracts.
 pub mod Entries
 pub mod LinesLeft
-pub mod Numbers
+pub mod SoughtPlaces
 pub mod Printing
 pub mod Reported
 pub mod Sweeps

@@ -5,7 +5,7 @@ use Rattle.std.specs.List.{AllByRecursion}
 use Rattle.std.specs.Option.{is_some}
 use Rattle.std.specs.String.{string_bytes}
 use Rattle.options.specs.Faults.{are_both}
-use Rattle.options.specs.Given.{files_of, is_given}
+use Rattle.options.specs.Given.{is_given}
 use Rattle.options.specs.Grammar.{Says}
 use Rattle.options.specs.declared.items.Item.{Item}
 use Rattle.options.specs.declared.items.Item.TheVariants as says
@@ -13,8 +13,10 @@ use Rattle.options.specs.declared.table.Pair.{Pair}
 use Rattle.options.specs.declared.table.Row.{Row}
 use Rattle.options.specs.declared.table.Table.{Table}
 use Rattle.program.specs.Words.{count}
+use Rattle.cidr_merge.specs.NamedLists.{lists_of}
 use Rattle.cidr_merge.specs.CommandLines.{asked_for, command_of}
-use Rattle.cidr_merge.specs.Faults.{is_exported, files_among, from_of, has_lines, has_sets, has_table, takes, times_named}
+use Rattle.cidr_merge.specs.Faults.{is_exported, files_among, from_of, has_lines, has_sets, has_table, takes}
+use Rattle.cidr_merge.specs.Faults.{times_named}
 use Rattle.cidr_merge.specs.Forms.{form_called, form_of, prefix_in}
 use Rattle.cidr_merge.specs.Options as own
 use Rattle.cidr_merge.specs.SetNames.{is_set_name}
@@ -79,9 +81,9 @@ pub record AskFor {Z : Type 0} (table : Table) (words : List (String Z)) (comman
   pub cut : words ≡ name ∷ others
   pub called : task_called (string_bytes name) ≡ Some task
   pub say : SaySides table.rows.now (is_two_sided task) others first second
-  pub right : AreRight table task (first ++ second) (files_of first) (files_of second)
-  pub asked : command ≡ asked_for task (first ++ second) (length (files_of first))
-  pub files : names ≡ files_of first ++ from_of task (first ++ second) ++ files_of second
+  pub right : AreRight table task (first ++ second) (lists_of first) (lists_of second)
+  pub asked : command ≡ asked_for task (first ++ second) (length (lists_of first))
+  pub files : names ≡ lists_of first ++ from_of task (first ++ second) ++ lists_of second
 
 -- words are accepted exactly if they are valid, and then give the command and the FILEs that they ask for
 abbrev pub RightWordsAreTaken : {Z : Type 0} → Table → List (String Z) → Type 0

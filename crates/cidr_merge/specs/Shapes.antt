@@ -1,11 +1,13 @@
 -- The formats of lists, and the result of reading one list.
-use Rattle.std.specs.Prelude.{◌≡◌, ℕ, true, false, List}
+use Rattle.std.specs.Prelude.{◌≡◌, ℕ, true, false, List, Option, None, Some}
+use Rattle.std.specs.Str.Lines.{lines}
 use Rattle.lists.specs.Documents.{ReadsDocument, StopsAtDocument}
 use Rattle.lists.specs.KnownLists.{KnownLists}
-use Rattle.lists.specs.Lists.{ReadLists}
-use Rattle.lists.specs.Reading.{ReadsList, StopsAt}
+use Rattle.lists.specs.Lists.{ReadLists, TakesLines, at_list}
+use Rattle.lists.specs.Reading.{ReadsList, StopsAt, StopsAtText}
 use Rattle.lists.specs.Refusals.{Refused}
 use Rattle.lists.specs.declared.named.ReadFault.{ReadFault}
+use Rattle.cidr_merge.specs.NamedLists.{text_in}
 use Rattle.cidr_merge.specs.declared.shapes.Shape.{Shape}
 use Rattle.cidr_merge.specs.declared.shapes.Shape.TheVariants.{Lines, Json, StrictJson}
 
@@ -26,9 +28,13 @@ ReadsBy Json known number name before after = ReadsDocument known false number n
 ReadsBy StrictJson known number name before after =
     ReadsDocument known true number name before after
 
+-- of a TEXT the lines are taken, whatever the shape of FILEs
+abbrev pub ReadsAs : Option (List ℕ) → Source → ℕ → List ℕ → ReadLists → ReadLists → Type 0
+ReadsAs (Some text) source number name before after = TakesLines (at_list before number) (lines text) after
+ReadsAs None source number name before after = ReadsBy source.shape source.known number name before after
+
 abbrev pub ReadsOne : Source → ℕ → List ℕ → ReadLists → ReadLists → Type 0
-ReadsOne source number name before after =
-    ReadsBy source.shape source.known number name before after
+ReadsOne source number name before after = ReadsAs (text_in name) source number name before after
 
 -- the reading stops at this list
 abbrev pub StopsBy : Shape → KnownLists → ℕ → List ℕ → ReadLists → ReadFault → Refused → Type 0
@@ -41,6 +47,11 @@ StopsBy StrictJson known number name before fault refused =
     (after : ReadLists) × StopsAtDocument known true number name before fault after
     × (refused ≡ after.refused)
 
+abbrev pub StopsAs : Option (List ℕ) → Source → ℕ → List ℕ → ReadLists → ReadFault → Refused → Type 0
+StopsAs (Some text) source number name before fault refused = StopsAtText number text before fault refused
+StopsAs None source number name before fault refused =
+    StopsBy source.shape source.known number name before fault refused
+
 abbrev pub StopsOne : Source → ℕ → List ℕ → ReadLists → ReadFault → Refused → Type 0
 StopsOne source number name before fault refused =
-    StopsBy source.shape source.known number name before fault refused
+    StopsAs (text_in name) source number name before fault refused

@@ -27,13 +27,14 @@ is_two_sided task = false
 
 -- the message for a word that begins with a `-` and is no option of a task
 abbrev pub no_option : Task → List ℕ
-no_option tasks.Split = codes "not an option of split; it takes --prefix N, --line-prefix TEXT, --line-suffix TEXT, "
-    ++ codes "--skip-bad, --json and --strict"
-no_option tasks.Check = codes "not an option of check; it takes --strict"
-no_option tasks.Overlaps = codes "not an option of overlaps; it takes none"
-no_option tasks.Find = codes "not an option of find; it takes --from FILE"
-no_option task = codes "not an option of union, common, minus, differ or list; they take --ranges, --count, "
-    ++ codes "--format FORM, --set NAME, --table NAME, --line-prefix TEXT, --line-suffix TEXT, --skip-bad, --json and --strict"
+no_option tasks.Split = codes "not an option of split; it takes -e TEXT, --prefix N, --line-prefix TEXT, "
+    ++ codes "--line-suffix TEXT, --skip-bad, --json and --strict"
+no_option tasks.Check = codes "not an option of check; it takes -e TEXT and --strict"
+no_option tasks.Overlaps = codes "not an option of overlaps; it takes -e TEXT"
+no_option tasks.Find = codes "not an option of find; it takes -e TEXT and --from FILE"
+no_option task = codes "not an option of union, common, minus, differ or list; they take -e TEXT, --ranges, --count, "
+    ++ codes "--format FORM, --set NAME, --table NAME, --line-prefix TEXT, --line-suffix TEXT, --skip-bad, "
+    ++ codes "--json and --strict"
 
 -- the messages for a `--` of a task with one side, and for a `--` with nothing before it
 abbrev pub one_side : List ℕ

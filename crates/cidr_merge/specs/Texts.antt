@@ -1,33 +1,50 @@
 -- The bytes of whole lists.
-use Rattle.std.specs.Prelude.{◌≡◌, ℕ, ◌+◌, true, false, List, [], ◌∷◌, ◌++◌, length, String}
+use Rattle.std.specs.Prelude.{◌≡◌, ℕ, ◌+◌, true, false, List, [], ◌∷◌, ◌++◌, length, Option, None, Some, String}
 use Rattle.std.specs.String.{string_bytes}
 use Rattle.lists.specs.Bytes.{IsAllOf}
 use Rattle.lists.specs.KnownLists.{KnownLists}
+use Rattle.cidr_merge.specs.NamedLists.{text_in}
 use Rattle.lists.specs.declared.named.ReadFault.{ReadFault}
 use Rattle.lists.specs.declared.named.ReadFault.TheVariants.{Open, Read, Length, NotJson}
 use Rattle.lists.specs.declared.named.ReadFault.TheVariants.{OutOfMemory}
+
+-- these are the bytes of the list of this name: the TEXT itself, or all bytes of the FILE
+abbrev pub IsTextAs : Option (List ℕ) → KnownLists → List ℕ → List ℕ → Type 0
+IsTextAs (Some given) known name text = text ≡ given
+IsTextAs None known name text = IsAllOf known name text
+
+abbrev pub IsText : KnownLists → List ℕ → List ℕ → Type 0
+IsText known name text = IsTextAs (text_in name) known name text
 
 -- these are the bytes of the lists of these names, in order
 abbrev pub AreTexts : {Z : Type 0} → KnownLists → List (String Z) → List (List ℕ) → Type 0
 AreTexts known [] [] = Unit {0}
 AreTexts known (name ∷ names) (text ∷ texts) =
-    IsAllOf known (string_bytes name) text × AreTexts known names texts
+    IsText known (string_bytes name) text × AreTexts known names texts
 AreTexts known [] (text ∷ texts) = ⊥
 AreTexts known (name ∷ names) [] = ⊥
 
--- the list of this name cannot be read to its end; the fault has its number
-abbrev pub TextStops : KnownLists → ℕ → List ℕ → ReadFault → Type 0
+-- the FILE of this name cannot be read to its end; the fault has its number
+abbrev pub FileStops : KnownLists → ℕ → List ℕ → ReadFault → Type 0
 -- it is not opened, for this cause
-TextStops known number name (Open place cause) =
+FileStops known number name (Open place cause) =
     (place ≡ number) × known.may_open name false × known.may_miss name cause
 -- a read of it fails
-TextStops known number name (Read place) =
+FileStops known number name (Read place) =
     (place ≡ number) × known.may_open name true × known.may_fail name
 -- it may have any length and any text
-TextStops known number name (Length place) = ⊥
-TextStops known number name (NotJson place line) = ⊥
+FileStops known number name (Length place) = ⊥
+FileStops known number name (NotJson place line) = ⊥
 -- memory runs out for it
-TextStops known number name OutOfMemory = Unit {0}
+FileStops known number name OutOfMemory = Unit {0}
+
+-- nor is that of a TEXT: only memory runs out for it
+abbrev pub StopsAs : Option (List ℕ) → KnownLists → ℕ → List ℕ → ReadFault → Type 0
+StopsAs (Some given) known number name fault = fault ≡ OutOfMemory
+StopsAs None known number name fault = FileStops known number name fault
+
+abbrev pub TextStops : KnownLists → ℕ → List ℕ → ReadFault → Type 0
+TextStops known number name fault = StopsAs (text_in name) known number name fault
 
 -- the lists of these names, the first of which has this number, are read up to one that cannot be
 -- read

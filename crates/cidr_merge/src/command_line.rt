@@ -2,20 +2,22 @@
 ghost use Rattle.std.specs.Prelude.{◌≡◌, ◌≤◌, ◌+◌, ◌++◌, ℕ, length, map, IfOk, OnOk};
 ghost use Rattle.std.specs.String.{string_bytes};
 ghost use Rattle.cidr_merge.specs.Faults.{from_of};
-ghost use Rattle.cidr_merge.specs.CommandLines.{request_of, inspection_of, asked_for, command_for, command_of, told_of};
-ghost use Rattle.cidr_merge.specs.CommandLines.{sets_by, sets_of};
-ghost use Rattle.cidr_merge.specs.Forms.{form_called, form_of, shape_of, without_plus, prefix_in, length_of};
+ghost use Rattle.cidr_merge.specs.CommandLines.{request_of, inspection_of, asked_for};
+ghost use Rattle.cidr_merge.specs.CommandLines.{command_for, command_of, told_of, sets_by, sets_of};
+ghost use Rattle.cidr_merge.specs.Forms.{form_called, form_of, shape_of, without_plus};
+ghost use Rattle.cidr_merge.specs.Forms.{prefix_in, length_of};
 ghost use Rattle.cidr_merge.specs.Private.Words.{IsCommandWithin};
 
 use crate::exports::Export;
 use crate::faults::{fault_of, from_count, no_task_fault};
+use crate::named_lists::lists_of;
 use crate::rows::{COUNT, FORMAT, FROM, JSON, PREFIX, RANGES, SKIP_BAD, STRICT, table};
 use crate::set_names::{SetNames, names_of};
 use crate::shapes::Shape;
 use crate::tasks::{Task, task_called};
 use crate::words::{before_dashes, behind_dashes};
 use options::faults::{Fault, Subject, about};
-use options::given::{files_of, is_given, value_of};
+use options::given::{is_given, value_of};
 use options::items::Item;
 use options::reading::items_of;
 use options::table::Table;
@@ -147,10 +149,10 @@ fn command_for<'a>(
         (λ all. IsCommandWithin (length all.names.items) all.command)) }
 {
     let mut items = items_of(alloc, table.rows, before_dashes(others))?;
-    let mut names = files_of(alloc, items.as_slice())?;
+    let mut names = lists_of(alloc, items.as_slice())?;
     let middle = names.len();
     let mut behind = items_of(alloc, table.rows, behind_dashes(others))?;
-    let mut second = files_of(alloc, behind.as_slice())?;
+    let mut second = lists_of(alloc, behind.as_slice())?;
     items.append(&mut behind)?;
     add_from(alloc, task, items.as_slice(), &mut names)?;
     names.append(&mut second)?;

@@ -40,7 +40,8 @@ fn print_block<A: Address, W: Write>(
     block: Network<A>,
     output: &mut Output<'_, W>,
 ) -> Result<(), RunFault>
-    ensures text { OnOk result (Prints output.old output.new (pieces_text names.now A.family length block)) }
+    ensures text { OnOk result (Prints output.old output.new
+        (pieces_text names.now A.family length block)) }
     ensures failed { output.new.failed ≡ (output.old.failed || is_err result) }
 {
     let Some(mut pieces) = subnets(block, length) else {

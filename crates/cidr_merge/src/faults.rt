@@ -1,7 +1,11 @@
 //! What is wrong with the words of a command line.
 ghost use Rattle.std.specs.Prelude.{◌≡◌, ◌≤◌, ◌+◌, length, map};
 ghost use Rattle.std.specs.String.{string_bytes};
-ghost use Rattle.cidr_merge.specs.Faults.{at, problem_of_row, no_task_fault, takes, option_fault, is_value, value_fault, item_fault, items_fault, lacks_json, lacks_prefix, cannot_print, has_sets, has_table, has_lines, names_fault, together_fault, sides_fault, files_fault, files_among, from_of, fault_of};
+ghost use Rattle.cidr_merge.specs.Faults.{at, problem_of_row, no_task_fault, takes, option_fault};
+ghost use Rattle.cidr_merge.specs.Faults.{is_value, value_fault, item_fault, items_fault};
+ghost use Rattle.cidr_merge.specs.Faults.{lacks_json, lacks_prefix, cannot_print, has_sets};
+ghost use Rattle.cidr_merge.specs.Faults.{has_table, has_lines, names_fault, together_fault};
+ghost use Rattle.cidr_merge.specs.Faults.{sides_fault, files_fault, files_among, from_of, fault_of};
 
 use crate::command_line::{Form, Operation, form_called, form_of, prefix_in};
 use crate::exports::Export;

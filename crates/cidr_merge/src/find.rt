@@ -5,19 +5,19 @@ ghost use Rattle.program.specs.Messages.{Reports};
 ghost use Rattle.cidr_merge.specs.FindRuns.{EndsFind, EndsReadingAll, EndsSearching};
 ghost use Rattle.cidr_merge.specs.FindRuns.{sought_fault_text};
 ghost use Rattle.cidr_merge.specs.FindWords.{AreAddresses, with_addresses};
-ghost use Rattle.cidr_merge.specs.Private.LinesLeft.{sought_as, sought_in};
-ghost use Rattle.cidr_merge.specs.Private.Numbers.{ArePlacesOf};
+ghost use Rattle.cidr_merge.specs.Private.LinesLeft.{sought_in};
+ghost use Rattle.cidr_merge.specs.Private.SoughtPlaces.{AreQuery};
 ghost use Rattle.cidr_merge.specs.SoughtLines.{lists_others, lists_sought};
 
 use crate::context::Context;
 use crate::faults::at;
 use crate::findings::either;
 use crate::help::{PROGRAM, USAGE};
-use crate::numbers::{Place, places_of};
 use crate::query::{Query, QueryFault, addresses_of};
 use crate::reading::refuse_lists;
 use crate::searching::search_lists;
-use crate::sought::{Sought, add_lines, sought_in_words, tell_others};
+use crate::sought::{add_lines, sought_in_words, tell_others};
+use crate::sought_places::places_of;
 use crate::texts::{WholeLists, texts_of};
 use ipnetwork::IpAddr;
 use lines::output::Output;
@@ -47,7 +47,8 @@ pub(crate) fn find<L: OpenLists, W: Write, E: Write>(
 ) -> u8
     requires { middle + from ≤ length context.now.names.now }
     ensures { EndsFind PROGRAM.now USAGE.now rows.now (L.known context.now.lists.now)
-        context.now.names.now middle from (ending output.old output.new errors.old errors.new result) }
+        context.now.names.now middle from
+        (ending output.old output.new errors.old errors.new result) }
 {
     match addresses_of(context.alloc, &context.names[..middle], 0) {
         Ok(addresses) => find_all(middle, from, addresses.as_slice(), context, output, errors),
@@ -106,53 +107,60 @@ fn find_all<L: OpenLists, W: Write, E: Write>(
         texts: list_texts,
     };
     match all_sought(context.alloc, &context.names[..middle], addresses, &froms) {
-        Ok((sought, places)) => {
-            let query = Query {
-                sought: sought.as_slice(),
-                places: places.as_slice(),
-            };
-            search(&query, &froms, &lists, output, errors)
+        Ok((query, mut buffer)) => {
+            search(
+                &query,
+                buffer.as_mut_slice(),
+                &froms,
+                &lists,
+                output,
+                errors,
+            )
         }
         Err(_) => refuse_lists(context.names, ReadFault::OutOfMemory, errors),
     }
 }
 
-// The addresses that words name, and those of lists, with their places.
+// The addresses that words name, and those of lists, and a buffer for as many places.
 fn all_sought(
     alloc: Global,
     words: &[String],
     addresses: &[IpAddr],
     froms: &WholeLists<'_>,
-) -> Result<(Vec<Sought>, Vec<Place>), AllocError>
+) -> Result<(Query, Vec<usize>), AllocError>
     requires { length addresses.now ≡ length words.now }
-    ensures sought { IfOk result (λ all. map sought_as all.0.items
-        ≡ with_addresses words.now addresses.now
+    ensures sought { IfOk result (λ all. sought_in all.0 ≡ with_addresses words.now addresses.now
         ++ lists_sought (map (λ text. text.items) froms.now.texts.now)) }
-    ensures places { IfOk result (λ all. ArePlacesOf all.0.items all.1.items) }
+    ensures query { IfOk result (λ all. AreQuery all.0) }
+    ensures room { IfOk result (λ all. length all.0.sought.items ≤ length all.1.items) }
 {
     let mut sought = sought_in_words(alloc, words, addresses)?;
     add_lines(alloc, froms, &mut sought)?;
-    let places = places_of(alloc, sought.as_slice())?;
-    Ok((sought, places))
+    let v4 = places_of(alloc, sought.as_slice(), false)?;
+    let v6 = places_of(alloc, sought.as_slice(), true)?;
+    let buffer = vec![in alloc; 0usize; sought.len()]?;
+    Ok((Query { sought, v4, v6 }, buffer))
 }
 
 // Prints the entries that have a sought address, and reports the refused lines, those of the lists
 // of addresses first.
 fn search<W: Write, E: Write>(
-    query: &Query<'_>,
+    query: &Query,
+    buffer: &mut [usize],
     froms: &WholeLists<'_>,
     lists: &WholeLists<'_>,
     output: &mut Output<'_, W>,
     errors: &mut Output<'_, E>,
 ) -> u8
-    requires { ArePlacesOf query.now.sought.now query.now.places.now }
+    requires query { AreQuery query.now }
+    requires room { length query.now.sought.items ≤ length buffer.old }
     ensures { EndsSearching (sought_in query.now)
         (lists_others froms.now.names.now (map (λ text. text.items) froms.now.texts.now))
         lists.now.names.now (map (λ text. text.items) lists.now.texts.now)
         (ending output.old output.new errors.old errors.new result) }
 {
     let told = tell_others(froms, errors);
-    let reported = search_lists(query, lists, output, errors);
+    let reported = search_lists(query, buffer, lists, output, errors);
     let written = output.finish();
     let status = status(reported.printed, either(told, reported.told));
     end(written, status, errors)

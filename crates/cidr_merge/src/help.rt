@@ -14,8 +14,8 @@ Merges lists of IP networks, and prints the shortest list with exactly the resul
     cidr_merge overlaps FILE..                      wrong entries, and each pair that overlaps
     cidr_merge find [--from FILE] ADDRESS.. -- FILE..  entries that have one; --from: or one of FILE
 
-    --ranges       print FIRST - LAST for each run of addresses
-    --count        print v4 BLOCKS ADDRESSES and v6 BLOCKS ADDRESSES
+    -e TEXT        take this network or range as a FILE, with --json too
+    --ranges       print FIRST - LAST of each run; --count: v4 BLOCKS ADDRESSES, v6 BLOCKS ADDRESSES
     --format FORM  print plain, range, netmask, wildcard, csv, nft, ipset, json or addresses
     --set NAME     for nft and ipset: fill NAME_ipv4 and NAME_ipv6; --table NAME: the table of nft
     --line-prefix TEXT  print TEXT before each line; --line-suffix TEXT: print TEXT after it

@@ -2,18 +2,20 @@
 ghost use Rattle.std.specs.Prelude.{◌≡◌, ◌+◌, ◌^◌, ◌<◌, length, IfOk, IfErr};
 ghost use Rattle.cidr_merge.specs.FindWords.{AreAddresses, StopsAtWord};
 
-use crate::numbers::Place;
 use crate::sought::Sought;
+use crate::sought_places::Place;
 use ipnetwork::IpAddr;
 use std::alloc::Global;
 
 /// The addresses that are sought.
 #[derive(Drop)]
-pub(crate) struct Query<'a> {
+pub(crate) struct Query {
     /// The addresses, in the order in which they are printed.
-    pub sought: &'a [Sought],
-    /// The places of the addresses, in ascending order of their numbers.
-    pub places: &'a [Place],
+    pub sought: Vec<Sought>,
+    /// The places of the IPv4 addresses, in ascending order of their numbers.
+    pub v4: Vec<Place>,
+    /// The places of the IPv6 addresses, in ascending order of their numbers.
+    pub v6: Vec<Place>,
 }
 
 /// Why words are not accepted as addresses.

@@ -3,7 +3,7 @@ ghost use Rattle.std.specs.Prelude.{◌≡◌};
 ghost use Rattle.cidr_merge.specs.Options.{IsOptions, taken};
 
 use crate::tasks::Task;
-use options::table::{Kind, Pair, Row, Table, long, pair};
+use options::table::{Kind, Pair, Row, Table, letter, long, pair};
 
 /// The row of `--ranges`.
 pub(crate) const RANGES: usize = 0;
@@ -41,8 +41,11 @@ pub(crate) const PREFIX: usize = 10;
 /// The row of `--from`.
 pub(crate) const FROM: usize = 11;
 
+/// The row of `-e`.
+pub(crate) const TEXT: usize = 12;
+
 // The options.
-const ROWS: [Row; 15] = [
+const ROWS: [Row; 16] = [
     long!("--ranges", Flag, false, ""),
     long!("--count", Flag, false, ""),
     long!(
@@ -61,6 +64,7 @@ const ROWS: [Row; 15] = [
     long!("--line-suffix", Text, true, ""),
     long!("--prefix", Text, true, "not a prefix length, 0 to 128"),
     long!("--from", File, true, ""),
+    letter!(b'e', Text, ""),
     long!("--help", Alone, false, "taken only alone"),
     long!("--version", Alone, false, "taken only alone"),
     long!(
@@ -104,13 +108,13 @@ pub(crate) fn table() -> Table<'static>
 }
 
 // The options of a merge, a `split` and a `check`, by the indices of their rows.
-const OF_MERGES: [usize; 10] = [
-    RANGES, COUNT, FORMAT, SET, TABLE, BEFORE, AFTER, SKIP_BAD, JSON, STRICT,
+const OF_MERGES: [usize; 11] = [
+    TEXT, RANGES, COUNT, FORMAT, SET, TABLE, BEFORE, AFTER, SKIP_BAD, JSON, STRICT,
 ];
 
-const OF_SPLIT: [usize; 6] = [PREFIX, BEFORE, AFTER, SKIP_BAD, JSON, STRICT];
+const OF_SPLIT: [usize; 7] = [TEXT, PREFIX, BEFORE, AFTER, SKIP_BAD, JSON, STRICT];
 
-const OF_CHECK: [usize; 1] = [STRICT];
+const OF_CHECK: [usize; 2] = [TEXT, STRICT];
 
 /// The options that a task takes, by the indices of their rows.
 pub(crate) fn taken(task: Task) -> &'static [usize]
@@ -120,7 +124,7 @@ pub(crate) fn taken(task: Task) -> &'static [usize]
         Task::Merge(_) | Task::List => &OF_MERGES,
         Task::Split => &OF_SPLIT,
         Task::Check => &OF_CHECK,
-        Task::Overlaps => &[],
-        Task::Find => &[FROM],
+        Task::Overlaps => &[TEXT],
+        Task::Find => &[TEXT, FROM],
     }
 }

@@ -1,5 +1,5 @@
 //! Searches lists for addresses.
-ghost use Rattle.std.specs.Prelude.{map};
+ghost use Rattle.std.specs.Prelude.{◌≤◌, length, map};
 ghost use Rattle.std.specs.List.{flat_map};
 ghost use Rattle.program.specs.Messages.{Reports};
 ghost use Rattle.cidr_merge.specs.Finds.{has_text, lists_matches, lists_refusals, match_lines};
@@ -7,14 +7,14 @@ ghost use Rattle.cidr_merge.specs.Finds.{matches_by, refusals_by};
 ghost use Rattle.cidr_merge.specs.NumberedLines.{said_by};
 ghost use Rattle.cidr_merge.specs.Private.Reported.{TellsFound};
 ghost use Rattle.cidr_merge.specs.Private.LinesLeft.{sought_as, sought_in};
-ghost use Rattle.cidr_merge.specs.Private.Numbers.{ArePlacesOf};
+ghost use Rattle.cidr_merge.specs.Private.SoughtPlaces.{AreFound, AreQuery};
 
 use crate::entry_match::{entry_of, has_address};
 use crate::findings::{either, tell_line, tell_wrong};
 use crate::numbered_lines::{Line, NumberedLines};
-use crate::numbers::{next_place, places_in};
 use crate::query::Query;
 use crate::sought::Sought;
+use crate::sought_places::put_found;
 use crate::texts::WholeLists;
 use lines::output::Output;
 use lists::Entry;
@@ -31,12 +31,14 @@ pub(crate) struct Reported {
 
 /// Prints the entries of lists that have sought addresses, and reports the refused lines.
 pub(crate) fn search_lists<W: Write, E: Write>(
-    query: &Query<'_>,
+    query: &Query,
+    buffer: &mut [usize],
     lists: &WholeLists<'_>,
     output: &mut Output<'_, W>,
     errors: &mut Output<'_, E>,
 ) -> Reported
-    requires { ArePlacesOf query.now.sought.now query.now.places.now }
+    requires query { AreQuery query.now }
+    requires room { length query.now.sought.items ≤ length buffer.old }
     ensures printed { TellsFound (lists_matches (sought_in query.now) lists.now.names.now
         (map (λ text. text.items) lists.now.texts.now)) output.old output.new result.printed }
     ensures told { TellsFound (lists_refusals lists.now.names.now
@@ -46,7 +48,7 @@ pub(crate) fn search_lists<W: Write, E: Write>(
     let mut told = false;
     let mut lines = NumberedLines::of(lists);
     while let Some(line) = lines.next() {
-        let more = search_line(query, &line, output, errors);
+        let more = search_line(query, buffer, &line, output, errors);
         printed = either(printed, more.printed);
         told = either(told, more.told);
     }
@@ -55,12 +57,14 @@ pub(crate) fn search_lists<W: Write, E: Write>(
 
 // Searches a line, or reports why it is refused.
 fn search_line<W: Write, E: Write>(
-    query: &Query<'_>,
+    query: &Query,
+    buffer: &mut [usize],
     line: &Line<'_>,
     output: &mut Output<'_, W>,
     errors: &mut Output<'_, E>,
 ) -> Reported
-    requires { ArePlacesOf query.now.sought.now query.now.places.now }
+    requires query { AreQuery query.now }
+    requires room { length query.now.sought.items ≤ length buffer.old }
     ensures printed { TellsFound (matches_by (sought_in query.now) line.now.name.now
         line.now.number line.now.text.now (said_by line.now.text.now))
         output.old output.new result.printed }
@@ -73,7 +77,7 @@ fn search_line<W: Write, E: Write>(
             told: false,
         },
         Ok(Some(entry)) => Reported {
-            printed: print_matches(query, line, &entry, output),
+            printed: print_matches(query, buffer, line, &entry, output),
             told: false,
         },
         Err(fault) => {
@@ -88,23 +92,49 @@ fn search_line<W: Write, E: Write>(
 
 // Prints a line for each of the addresses sought that the entry of a line has.
 fn print_matches<W: Write>(
-    query: &Query<'_>,
+    query: &Query,
+    buffer: &mut [usize],
     line: &Line<'_>,
     entry: &Entry,
     output: &mut Output<'_, W>,
 ) -> bool
-    requires { ArePlacesOf query.now.sought.now query.now.places.now }
+    requires query { AreQuery query.now }
+    requires room { length query.now.sought.items ≤ length buffer.old }
     ensures { TellsFound (flat_map (match_lines line.now.name.now line.now.number line.now.text.now
         entry.now) (sought_in query.now)) output.old output.new result }
 {
-    let places = places_in(query.places, entry);
-    let end = query.sought.len();
+    let count = put_found(query, entry, buffer);
+    print_found(
+        query.sought.as_slice(),
+        &buffer[..count],
+        line,
+        entry,
+        output,
+    )
+}
+
+// Prints a line for each of the addresses at these places that the entry of a line has.
+fn print_found<W: Write>(
+    sought: &[Sought],
+    places: &[usize],
+    line: &Line<'_>,
+    entry: &Entry,
+    output: &mut Output<'_, W>,
+) -> bool
+    requires { AreFound entry.now sought.now places.now }
+    ensures { TellsFound (flat_map (match_lines line.now.name.now line.now.number line.now.text.now
+        entry.now) (map sought_as sought.now)) output.old output.new result }
+{
     let mut printed = false;
-    let mut at = next_place(places, 0, end);
-    while at < end {
-        let more = print_match(&query.sought[at], line, entry, output);
+    let mut next = 0;
+    for at in 0..places.len() {
+        let place = places[at];
+        if place < next {
+            continue;
+        }
+        let more = print_match(&sought[place], line, entry, output);
         printed = either(printed, more);
-        at = next_place(places, at + 1, end);
+        next = place + 1;
     }
     printed
 }

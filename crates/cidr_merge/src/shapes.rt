@@ -1,9 +1,10 @@
 //! The formats of lists, and how a list is read.
 ghost use Rattle.std.specs.Prelude.{◌≡◌, false, OnOk, IfErr};
-ghost use Rattle.cidr_merge.specs.Shapes.{source, ReadsOne, StopsOne};
+ghost use Rattle.cidr_merge.specs.Shapes.{source, ReadsBy, ReadsOne, StopsBy, StopsOne};
 
 use crate::context::Context;
-use lists::{ListReader, OpenLists, ReadFault, read_document, read_named};
+use crate::named_lists::text_in;
+use lists::{ListReader, OpenLists, ReadFault, read_document, read_named, read_text};
 
 /// The format of lists.
 #[derive(Clone, Copy, Debug, PartialEq, Eq)]
@@ -16,8 +17,7 @@ pub enum Shape {
     StrictJson,
 }
 
-/// Opens the list of this name, which is the word at the index `place`, reads it to the end, and
-/// closes it.
+/// Reads the list of this name, which is the word at the index `place`, to the end.
 pub(crate) fn read_one<L: OpenLists>(
     context: &Context<'_, L>,
     shape: Shape,
@@ -29,6 +29,26 @@ pub(crate) fn read_one<L: OpenLists>(
         name.now reader.old reader.new) }
     ensures memory { OnOk result (reader.new.is_out_of_memory ≡ false) }
     ensures stopped { IfErr result (λ fault. StopsOne (source (L.known context.now.lists.now) shape)
+        place name.now reader.old fault reader.new.refused) }
+{
+    match text_in(name) {
+        Some(text) => read_text(text, place, reader),
+        None => read_file(context, shape, name, place, reader),
+    }
+}
+
+// Opens the FILE of this name, reads it to the end, and closes it.
+fn read_file<L: OpenLists>(
+    context: &Context<'_, L>,
+    shape: Shape,
+    name: &str,
+    place: usize,
+    reader: &mut ListReader,
+) -> Result<(), ReadFault>
+    ensures read { OnOk result (ReadsBy shape (L.known context.now.lists.now) place
+        name.now reader.old reader.new) }
+    ensures memory { OnOk result (reader.new.is_out_of_memory ≡ false) }
+    ensures stopped { IfErr result (λ fault. StopsBy shape (L.known context.now.lists.now)
         place name.now reader.old fault reader.new.refused) }
 {
     let lists = context.lists;

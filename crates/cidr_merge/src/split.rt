@@ -71,7 +71,8 @@ fn write_split<W: Write>(
     sets: &Sets,
     output: &mut Output<'_, W>,
 ) -> Result<(), RunFault>
-    ensures written { OnOk result (Writes output.old output.new (split_text names.now length sets.now)) }
+    ensures written { OnOk result (Writes output.old output.new
+        (split_text names.now length sets.now)) }
     ensures failed { output.new.failed ≡ is_err result }
 {
     print_pieces(names, length, &sets.v4, output)?;

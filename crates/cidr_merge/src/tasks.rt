@@ -56,17 +56,17 @@ pub(crate) fn no_option(task: Task) -> &'static str
 {
     match task {
         Task::Merge(_) | Task::List => {
-            "not an option of union, common, minus, differ or list; they take --ranges, --count, \
-             --format FORM, --set NAME, --table NAME, --line-prefix TEXT, --line-suffix TEXT, --skip-bad, \
-             --json and --strict"
+            "not an option of union, common, minus, differ or list; they take -e TEXT, --ranges, \
+             --count, --format FORM, --set NAME, --table NAME, --line-prefix TEXT, \
+             --line-suffix TEXT, --skip-bad, --json and --strict"
         }
         Task::Split => {
-            "not an option of split; it takes --prefix N, --line-prefix TEXT, --line-suffix TEXT, --skip-bad, \
-             --json and --strict"
+            "not an option of split; it takes -e TEXT, --prefix N, --line-prefix TEXT, \
+             --line-suffix TEXT, --skip-bad, --json and --strict"
         }
-        Task::Check => "not an option of check; it takes --strict",
-        Task::Overlaps => "not an option of overlaps; it takes none",
-        Task::Find => "not an option of find; it takes --from FILE",
+        Task::Check => "not an option of check; it takes -e TEXT and --strict",
+        Task::Overlaps => "not an option of overlaps; it takes -e TEXT",
+        Task::Find => "not an option of find; it takes -e TEXT and --from FILE",
     }
 }
 

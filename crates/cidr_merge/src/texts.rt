@@ -1,10 +1,11 @@
 //! Reads whole lists.
 ghost use Rattle.std.specs.Prelude.{◌≡◌, ◌+◌, ◌^◌, ◌<◌, length, map, IfOk, IfErr};
 ghost use Rattle.lists.specs.Bytes.{IsAllOf};
-ghost use Rattle.cidr_merge.specs.Texts.{AreTexts, TextStops, TextsStop};
+ghost use Rattle.cidr_merge.specs.Texts.{AreTexts, FileStops, IsText, TextStops, TextsStop};
 ghost use Rattle.cidr_merge.specs.Private.ReadErrors.{not_read};
 
 use crate::context::Context;
+use crate::named_lists::text_in;
 use lists::{BytesFault, OpenLists, ReadFault, read_bytes};
 
 /// The names and the bytes of lists.
@@ -48,8 +49,26 @@ fn text_of<L: OpenLists>(
     name: &str,
     place: usize,
 ) -> Result<Vec<u8>, ReadFault>
-    ensures ok { IfOk result (λ text. IsAllOf (L.known context.now.lists.now) name.now text.items) }
+    ensures ok { IfOk result (λ text. IsText (L.known context.now.lists.now) name.now text.items) }
     ensures err { IfErr result (TextStops (L.known context.now.lists.now) place name.now) }
+{
+    match text_in(name) {
+        Some(text) => match Vec::from_slice(context.alloc, text.as_bytes()) {
+            Ok(text) => Ok(text),
+            Err(_) => Err(ReadFault::OutOfMemory),
+        },
+        None => file_of(context, name, place),
+    }
+}
+
+// The bytes of the FILE of this name.
+fn file_of<L: OpenLists>(
+    context: &Context<'_, L>,
+    name: &str,
+    place: usize,
+) -> Result<Vec<u8>, ReadFault>
+    ensures ok { IfOk result (λ text. IsAllOf (L.known context.now.lists.now) name.now text.items) }
+    ensures err { IfErr result (FileStops (L.known context.now.lists.now) place name.now) }
 {
     match read_bytes(context.alloc, context.lists, name, usize::MAX) {
         Ok(text) => Ok(text),

@@ -6,13 +6,14 @@ use fosibegan::plain_std::vec::Vec;
 use fosibegan::plain_std::string::String;
 use crate::exports::Export;
 use crate::faults::{fault_of, from_count, no_task_fault};
+use crate::named_lists::lists_of;
 use crate::rows::{COUNT, FORMAT, FROM, JSON, PREFIX, RANGES, SKIP_BAD, STRICT, table};
 use crate::set_names::{SetNames, names_of};
 use crate::shapes::Shape;
 use crate::tasks::{Task, task_called};
 use crate::words::{before_dashes, behind_dashes};
 use cidr_programs::options::faults::{Fault, Subject, about};
-use cidr_programs::options::given::{files_of, is_given, value_of};
+use cidr_programs::options::given::{is_given, value_of};
 use cidr_programs::options::items::Item;
 use cidr_programs::options::reading::items_of;
 use cidr_programs::options::table::Table;
@@ -130,10 +131,10 @@ fn command_for<'a>(
     others: &'a [String],
 ) -> Result<Result<Asked<'a>, Fault<'a>>, AllocError> {
     let mut items = items_of(alloc, table.rows, before_dashes(others))?;
-    let mut names = files_of(alloc, items.as_slice())?;
+    let mut names = lists_of(alloc, items.as_slice())?;
     let middle = names.len();
     let mut behind = items_of(alloc, table.rows, behind_dashes(others))?;
-    let mut second = files_of(alloc, behind.as_slice())?;
+    let mut second = lists_of(alloc, behind.as_slice())?;
     items.append(&mut behind)?;
     add_from(alloc, task, items.as_slice(), &mut names)?;
     names.append(&mut second)?;

@@ -4,15 +4,16 @@
 
 use fosibegan::plain_std::vec::Vec;
 use fosibegan::plain_std::string::String;
+use fosibegan::plain_std::vec;
 use crate::context::Context;
 use crate::faults::at;
 use crate::findings::either;
 use crate::help::{PROGRAM, USAGE};
-use crate::numbers::{Place, places_of};
 use crate::query::{Query, QueryFault, addresses_of};
 use crate::reading::refuse_lists;
 use crate::searching::search_lists;
-use crate::sought::{Sought, add_lines, sought_in_words, tell_others};
+use crate::sought::{add_lines, sought_in_words, tell_others};
+use crate::sought_places::places_of;
 use crate::texts::{WholeLists, texts_of};
 use fosibegan::ipnetwork::IpAddr;
 use cidr_programs::lines::output::Output;
@@ -88,41 +89,47 @@ fn find_all<L: OpenLists, W: Write, E: Write>(
         texts: list_texts,
     };
     match all_sought(context.alloc, &context.names[..middle], addresses, &froms) {
-        Ok((sought, places)) => {
-            let query = Query {
-                sought: sought.as_slice(),
-                places: places.as_slice(),
-            };
-            search(&query, &froms, &lists, output, errors)
+        Ok((query, mut buffer)) => {
+            search(
+                &query,
+                buffer.as_mut_slice(),
+                &froms,
+                &lists,
+                output,
+                errors,
+            )
         }
         Err(_) => refuse_lists(context.names, ReadFault::OutOfMemory, errors),
     }
 }
 
-// The addresses that words name, and those of lists, with their places.
+// The addresses that words name, and those of lists, and a buffer for as many places.
 fn all_sought(
     alloc: Global,
     words: &[String],
     addresses: &[IpAddr],
     froms: &WholeLists<'_>,
-) -> Result<(Vec<Sought>, Vec<Place>), AllocError> {
+) -> Result<(Query, Vec<usize>), AllocError> {
     let mut sought = sought_in_words(alloc, words, addresses)?;
     add_lines(alloc, froms, &mut sought)?;
-    let places = places_of(alloc, sought.as_slice())?;
-    Ok((sought, places))
+    let v4 = places_of(alloc, sought.as_slice(), false)?;
+    let v6 = places_of(alloc, sought.as_slice(), true)?;
+    let buffer = vec![in alloc; 0usize; sought.len()]?;
+    Ok((Query { sought, v4, v6 }, buffer))
 }
 
 // Prints the entries that have a sought address, and reports the refused lines, those of the lists
 // of addresses first.
 fn search<W: Write, E: Write>(
-    query: &Query<'_>,
+    query: &Query,
+    buffer: &mut [usize],
     froms: &WholeLists<'_>,
     lists: &WholeLists<'_>,
     output: &mut Output<'_, W>,
     errors: &mut Output<'_, E>,
 ) -> u8 {
     let told = tell_others(froms, errors);
-    let reported = search_lists(query, lists, output, errors);
+    let reported = search_lists(query, buffer, lists, output, errors);
     let written = output.finish();
     let status = status(reported.printed, either(told, reported.told));
     end(written, status, errors)

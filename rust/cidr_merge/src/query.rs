@@ -4,17 +4,19 @@
 
 use fosibegan::plain_std::vec::Vec;
 use fosibegan::plain_std::string::String;
-use crate::numbers::Place;
 use crate::sought::Sought;
+use crate::sought_places::Place;
 use fosibegan::ipnetwork::IpAddr;
 use fosibegan::plain_std::alloc::Global;
 
 /// The addresses that are sought.
-pub(crate) struct Query<'a> {
+pub(crate) struct Query {
     /// The addresses, in the order in which they are printed.
-    pub sought: &'a [Sought],
-    /// The places of the addresses, in ascending order of their numbers.
-    pub places: &'a [Place],
+    pub sought: Vec<Sought>,
+    /// The places of the IPv4 addresses, in ascending order of their numbers.
+    pub v4: Vec<Place>,
+    /// The places of the IPv6 addresses, in ascending order of their numbers.
+    pub v6: Vec<Place>,
 }
 
 /// Why words are not accepted as addresses.

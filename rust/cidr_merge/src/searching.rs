@@ -5,9 +5,9 @@
 use crate::entry_match::{entry_of, has_address};
 use crate::findings::{either, tell_line, tell_wrong};
 use crate::numbered_lines::{Line, NumberedLines};
-use crate::numbers::{next_place, places_in};
 use crate::query::Query;
 use crate::sought::Sought;
+use crate::sought_places::put_found;
 use crate::texts::WholeLists;
 use cidr_programs::lines::output::Output;
 use cidr_programs::lists::Entry;
@@ -24,7 +24,8 @@ pub(crate) struct Reported {
 
 /// Prints the entries of lists that have sought addresses, and reports the refused lines.
 pub(crate) fn search_lists<W: Write, E: Write>(
-    query: &Query<'_>,
+    query: &Query,
+    buffer: &mut [usize],
     lists: &WholeLists<'_>,
     output: &mut Output<'_, W>,
     errors: &mut Output<'_, E>,
@@ -33,7 +34,7 @@ pub(crate) fn search_lists<W: Write, E: Write>(
     let mut told = false;
     let mut lines = NumberedLines::of(lists);
     while let Some(line) = lines.next() {
-        let more = search_line(query, &line, output, errors);
+        let more = search_line(query, buffer, &line, output, errors);
         printed = either(printed, more.printed);
         told = either(told, more.told);
     }
@@ -42,7 +43,8 @@ pub(crate) fn search_lists<W: Write, E: Write>(
 
 // Searches a line, or reports why it is refused.
 fn search_line<W: Write, E: Write>(
-    query: &Query<'_>,
+    query: &Query,
+    buffer: &mut [usize],
     line: &Line<'_>,
     output: &mut Output<'_, W>,
     errors: &mut Output<'_, E>,
@@ -53,7 +55,7 @@ fn search_line<W: Write, E: Write>(
             told: false,
         },
         Ok(Some(entry)) => Reported {
-            printed: print_matches(query, line, &entry, output),
+            printed: print_matches(query, buffer, line, &entry, output),
             told: false,
         },
         Err(fault) => {
@@ -68,19 +70,40 @@ fn search_line<W: Write, E: Write>(
 
 // Prints a line for each of the addresses sought that the entry of a line has.
 fn print_matches<W: Write>(
-    query: &Query<'_>,
+    query: &Query,
+    buffer: &mut [usize],
     line: &Line<'_>,
     entry: &Entry,
     output: &mut Output<'_, W>,
 ) -> bool {
-    let places = places_in(query.places, entry);
-    let end = query.sought.len();
+    let count = put_found(query, entry, buffer);
+    print_found(
+        query.sought.as_slice(),
+        &buffer[..count],
+        line,
+        entry,
+        output,
+    )
+}
+
+// Prints a line for each of the addresses at these places that the entry of a line has.
+fn print_found<W: Write>(
+    sought: &[Sought],
+    places: &[usize],
+    line: &Line<'_>,
+    entry: &Entry,
+    output: &mut Output<'_, W>,
+) -> bool {
     let mut printed = false;
-    let mut at = next_place(places, 0, end);
-    while at < end {
-        let more = print_match(&query.sought[at], line, entry, output);
+    let mut next = 0;
+    for at in 0..places.len() {
+        let place = places[at];
+        if place < next {
+            continue;
+        }
+        let more = print_match(&sought[place], line, entry, output);
         printed = either(printed, more);
-        at = next_place(places, at + 1, end);
+        next = place + 1;
     }
     printed
 }

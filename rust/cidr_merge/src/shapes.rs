@@ -3,7 +3,8 @@
 //! The formats of lists, and how a list is read.
 
 use crate::context::Context;
-use cidr_programs::lists::{ListReader, OpenLists, ReadFault, read_document, read_named};
+use crate::named_lists::text_in;
+use cidr_programs::lists::{ListReader, OpenLists, ReadFault, read_document, read_named, read_text};
 
 /// The format of lists.
 #[derive(Clone, Copy, Debug, PartialEq, Eq)]
@@ -16,9 +17,22 @@ pub enum Shape {
     StrictJson,
 }
 
-/// Opens the list of this name, which is the word at the index `place`, reads it to the end, and
-/// closes it.
+/// Reads the list of this name, which is the word at the index `place`, to the end.
 pub(crate) fn read_one<L: OpenLists>(
+    context: &Context<'_, L>,
+    shape: Shape,
+    name: &str,
+    place: usize,
+    reader: &mut ListReader,
+) -> Result<(), ReadFault> {
+    match text_in(name) {
+        Some(text) => read_text(text, place, reader),
+        None => read_file(context, shape, name, place, reader),
+    }
+}
+
+// Opens the FILE of this name, reads it to the end, and closes it.
+fn read_file<L: OpenLists>(
     context: &Context<'_, L>,
     shape: Shape,
     name: &str,

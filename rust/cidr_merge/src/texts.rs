@@ -5,6 +5,7 @@
 use fosibegan::plain_std::vec::Vec;
 use fosibegan::plain_std::string::String;
 use crate::context::Context;
+use crate::named_lists::text_in;
 use cidr_programs::lists::{BytesFault, OpenLists, ReadFault, read_bytes};
 
 /// The names and the bytes of lists.
@@ -36,6 +37,21 @@ pub(crate) fn texts_of<L: OpenLists>(
 
 // Returns the bytes of the list of this name, which is the word at the index `place`.
 fn text_of<L: OpenLists>(
+    context: &Context<'_, L>,
+    name: &str,
+    place: usize,
+) -> Result<Vec<u8>, ReadFault> {
+    match text_in(name) {
+        Some(text) => match Vec::from_slice(context.alloc, text.as_bytes()) {
+            Ok(text) => Ok(text),
+            Err(_) => Err(ReadFault::OutOfMemory),
+        },
+        None => file_of(context, name, place),
+    }
+}
+
+// The bytes of the FILE of this name.
+fn file_of<L: OpenLists>(
     context: &Context<'_, L>,
     name: &str,
     place: usize,

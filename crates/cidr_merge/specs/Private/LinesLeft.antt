@@ -24,4 +24,4 @@ sought_as one = (one.text.items, one.address)
 
 -- the texts and addresses that are sought
 abbrev pub sought_in : Query → List (List ℕ × IpAddr)
-sought_in query = map sought_as query.sought.now
+sought_in query = map sought_as query.sought.items

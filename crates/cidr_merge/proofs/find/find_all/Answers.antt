@@ -44,7 +44,6 @@ returns-in-Ok-all_sought g c = searched (g.L.OpenLists.known c.args.context.now.
     (take_rest c.args.context.now.names.now c.args.middle) c.requires.words c.in-Ok.ensures.ok c.args.addresses.now
     (ending c.args.output.now c.search.new.output c.args.errors.now c.search.new.errors c.search.result)
     (rw (
-      c.as_slice-in-Ok-all_sought.ensures.value,
       c.in-Ok-all_sought.ensures.sought,
       c.split_at.ensures.front,
       c.split_at.ensures.back,

@@ -1,7 +1,8 @@
 use Rattle.std.proofs.Common.{◌+◌, List, ℕ, arith, map, refl, subst, sym, take}
+use Rattle.std.specs.String.{string_bytes}
 use Rattle.lists.specs.declared.named.ReadFault.TheVariants.{OutOfMemory}
 use Rattle.cidr_merge.specs.Texts.{AreTexts, TextStops}
-use Rattle.cidr_merge.proofs.WholeLists.{text_more, texts_stop}
+use Rattle.cidr_merge.proofs.WholeLists.{no_memory, text_more, texts_stop}
 use Rattle.cidr_merge.proofs.texts.texts_of.Goals as goal
 
 pub loop-place-preserved : goal.loop-place-preserved
@@ -28,6 +29,8 @@ returns-in-Err-clause-err g c =
 
 pub returns-in_default-clause-err : goal.returns-in_default-clause-err
 returns-in_default-clause-err g c =
-    texts_stop (g.L.OpenLists.known c.args.context.now.lists.now) c.args.first c.loop-place.place
-    (c.args.first + c.loop-place.place) c.args.names.now c.index-names-place.result _ OutOfMemory
-    (omega arith) c.index-names-place.is c.loop-place.invariant refl tt
+    let known = g.L.OpenLists.known c.args.context.now.lists.now in
+    let at = c.args.first + c.loop-place.place in
+    texts_stop known c.args.first c.loop-place.place at c.args.names.now c.index-names-place.result _ OutOfMemory
+    (omega arith) c.index-names-place.is c.loop-place.invariant refl
+    (no_memory known at (string_bytes c.index-names-place.result))

@@ -7,7 +7,7 @@ use Rattle.lists.specs.declared.named.ReadFault.{ReadFault}
 use Rattle.cidr_merge.specs.Shapes.{StopsBy}
 use Rattle.cidr_merge.specs.declared.shapes.Shape.{Shape}
 use Rattle.cidr_merge.specs.declared.shapes.Shape.TheVariants.{Json, StrictJson}
-use Rattle.cidr_merge.proofs.shapes.read_one.Goals as goal
+use Rattle.cidr_merge.proofs.shapes.read_file.Goals as goal
 
 -- the reader has the refused lines
 json_stops : {T : Type 0} (known : KnownLists) (shape : Shape) (place : ℕ) (name : List ℕ)

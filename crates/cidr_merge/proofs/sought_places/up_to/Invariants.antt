@@ -1,5 +1,5 @@
 use Rattle.std.proofs.Common.{◌≤◌, ◌-◌, length}
-use Rattle.cidr_merge.proofs.numbers.few_up_to.Given as goal
+use Rattle.cidr_merge.proofs.sought_places.up_to.Given as goal
 
 abbrev pub invariant-loop-count : goal.invariant-loop-count
 invariant-loop-count l = l.count ≤ length l.places

@@ -1,0 +1,5 @@
+use Rattle.cidr_merge.proofs.Passed.{ArePlacesUpTo}
+use Rattle.cidr_merge.proofs.sought_places.places_of.Given as goal
+
+abbrev pub invariant-loop-place : goal.invariant-loop-place
+invariant-loop-place l = ArePlacesUpTo l.of_v6 l.sought l.places.items l.place
