@@ -88,12 +88,12 @@ letters_and_values = refl
 pub next_words : map (free_mode rows) (codes "-wf" ∷ codes "-wf1" ∷ codes "--group" ∷ codes "--last" ∷ []) ≡ modes.Value 6 ∷ modes.Free ∷ modes.Value 14 ∷ modes.Free ∷ []
 next_words = refl
 
--- of two wrong words the first is told, and a wrong value before a wrong word; and of right ones those that do not go together
+-- of two wrong words the first is told, and a wrong value before a wrong word; and of right ones those that do not go together, but not two lists
 pub wrong_words : map (fault_by rows (pairs_of pairs) (6 ∷ 14 ∷ []) (codes "neither -f nor --group is given"))
     ((says.Joined 2 (codes "0") (codes "-k0") ∷ says.Unknown (codes "--lastwins") ∷ []) ∷ (says.Value 14 (codes "33,0") ∷ says.Unknown (codes "--lastwins") ∷ [])
     ∷ (says.Value 6 (codes "a") ∷ says.Value 6 (codes "a") ∷ []) ∷ (says.Value 14 (codes "0,0") ∷ says.Flag 11 ∷ []) ∷ (says.Flag 10 ∷ says.Flag 13 ∷ []) ∷ [] ∷ (says.Value 6 (codes "a") ∷ says.Flag 10 ∷ []) ∷ [])
     ≡ Some (about (subjects.Word (codes "-k0")) (codes "not a field number")) ∷ Some (about (subjects.Value 14 (codes "33,0")) (codes "not N,M with N up to 32 and M up to 128"))
-    ∷ together (codes "-f is given more than once") ∷ together (codes "--group goes with none of -f, --network, --last-wins, --skip-bad and --zero") ∷ together (codes "--last does not go with --tally")
+    ∷ None ∷ together (codes "--group goes with none of -f, --network, --last-wins, --skip-bad and --zero") ∷ together (codes "--last does not go with --tally")
     ∷ together (codes "neither -f nor --group is given") ∷ None ∷ []
 wrong_words = refl
 

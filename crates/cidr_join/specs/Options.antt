@@ -43,12 +43,11 @@ entries = rows.shared
     ∷ long (codes "--bad") kinds.Rule true (codes "not drop, keep, stop or report")
     ∷ long_flag (codes "--zero") ∷ long_flag (codes "--skip-bad") ∷ long_flag (codes "--networks") ∷ []
 
--- which of them do not go together: those that say where addresses are looked for, `--tally` with `--last`, a second
--- `-f`, and `--group` with `-f` or what says something of its list. Of several such pairs the first is told
+-- which of them do not go together: those that say where addresses are looked for, `--tally` with `--last`, and
+-- `--group` with `-f` or what says something of its lists. Of several such pairs the first is told
 abbrev pub pairs : List (ℕ × ℕ × List ℕ)
 pairs = rows.together
     ++ (tally, last, codes "--last does not go with --tally")
-    ∷ (rows.list, rows.list, codes "-f is given more than once")
     ∷ (group, rows.list, codes "--group goes with none of -f, --network, --last-wins, --skip-bad and --zero")
     ∷ (group, network, codes "--group goes with none of -f, --network, --last-wins, --skip-bad and --zero")
     ∷ (group, last_wins, codes "--group goes with none of -f, --network, --last-wins, --skip-bad and --zero")

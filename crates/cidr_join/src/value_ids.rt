@@ -158,8 +158,8 @@ fn number_each<'a, N: OfEither>(
     RouteIndex::from_table(alloc, numbers)
 }
 
-// Puts an item behind others.
-fn put<T: Drop>(items: &mut Vec<T>, item: T) -> Result<(), AllocError>
+/// Puts an item behind others.
+pub(crate) fn put<T: Drop>(items: &mut Vec<T>, item: T) -> Result<(), AllocError>
     ensures { OnOk result (items.new.items ≡ items.old.items ++ item ∷ []) }
 {
     items.push(item)?;

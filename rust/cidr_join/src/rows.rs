@@ -52,12 +52,11 @@ const ROWS: [Row; 19] = log_rows![
     long!("--networks", Flag, false, ""),
 ];
 
-// Which do not go together, and that `-f` is given once at the most.
-const PAIRS: [Pair; 12] = log_pairs![
+// Which do not go together.
+const PAIRS: [Pair; 11] = log_pairs![
     [],
     [
         pair!(TALLY, LAST, "--last does not go with --tally"),
-        pair!(LIST, LIST, "-f is given more than once"),
         pair!(
             GROUP,
             LIST,

@@ -123,8 +123,8 @@ fn number_each<'a, N: OfEither>(
     RouteIndex::from_table(alloc, numbers)
 }
 
-// Puts an item behind others.
-fn put<T>(items: &mut Vec<T>, item: T) -> Result<(), AllocError> {
+/// Puts an item behind others.
+pub(crate) fn put<T>(items: &mut Vec<T>, item: T) -> Result<(), AllocError> {
     items.push(item)?;
     Ok(())
 }
