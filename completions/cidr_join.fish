@@ -1,7 +1,7 @@
 # Completion of fish for cidr_join: its options, and files.
 complete -c cidr_join -s f -r -F -d "Read networks and ranges from a file"
-complete -c cidr_join -l last-wins -d "A network that the list has twice gets its last value"
-complete -c cidr_join -l skip-bad -d "Report refused lines of the list and use the others"
+complete -c cidr_join -l last-wins -d "A network that the lists have twice gets its last value"
+complete -c cidr_join -l skip-bad -d "Report refused lines of the lists and use the others"
 complete -c cidr_join -s k -x -d "The address is field N"
 complete -c cidr_join -s d -x -d "Every single CHAR separates fields"
 complete -c cidr_join -s w -d "Runs of spaces and tabs separate fields"

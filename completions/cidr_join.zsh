@@ -2,8 +2,8 @@
 # Completion of zsh for cidr_join: its options, and files.
 _arguments \
     '*-f[read networks and ranges from a file]:list:_files' \
-    '*--last-wins[a network that the list has twice gets its last value]' \
-    '*--skip-bad[report refused lines of the list and use the others]' \
+    '*--last-wins[a network that the lists have twice gets its last value]' \
+    '*--skip-bad[report refused lines of the lists and use the others]' \
     '*-k[the address is field N]:number: ' \
     '*-d[every single CHAR separates fields]:character: ' \
     '*-w[runs of spaces and tabs separate fields]' \

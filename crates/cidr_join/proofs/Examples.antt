@@ -94,7 +94,7 @@ pub wrong_words : map (fault_by rows (pairs_of pairs) (6 ∷ 14 ∷ []) (codes "
     ((says.Joined 2 (codes "0") (codes "-k0") ∷ says.Unknown (codes "--lastwins") ∷ []) ∷ (says.Value 14 (codes "33,0") ∷ says.Unknown (codes "--lastwins") ∷ [])
     ∷ (says.Value 6 (codes "a") ∷ says.Value 6 (codes "a") ∷ []) ∷ (says.Value 14 (codes "0,0") ∷ says.Flag 11 ∷ []) ∷ (says.Flag 10 ∷ says.Flag 13 ∷ []) ∷ [] ∷ (says.Value 6 (codes "a") ∷ says.Flag 10 ∷ []) ∷ [])
     ≡ Some (about (subjects.Word (codes "-k0")) (codes "not a field number")) ∷ Some (about (subjects.Value 14 (codes "33,0")) (codes "not N,M with N up to 32 and M up to 128"))
-    ∷ together (codes "-f is given more than once") ∷ together (codes "--group goes with none of -f, --network, --last-wins, --skip-bad and --zero") ∷ together (codes "--last does not go with --tally")
+    ∷ None ∷ together (codes "--group goes with none of -f, --network, --last-wins, --skip-bad and --zero") ∷ together (codes "--last does not go with --tally")
     ∷ together (codes "neither -f nor --group is given") ∷ None ∷ []
 wrong_words = refl
 

@@ -3,6 +3,7 @@ pub mod Examples
 pub mod Joining
 pub mod LawExamples
 pub mod Listing
+pub mod ListsInTurn
 pub mod LogParts
 pub mod LogsInTurn
 pub mod LongestOver

@@ -16,7 +16,7 @@ use Rattle.program.proofs.Reported.{tells_more, tells_same}
 use Rattle.cidr_join.specs.Entries.{cause_text}
 use Rattle.cidr_join.specs.Reported.{first_refused_text, refused_text, EndsList}
 use Rattle.cidr_join.specs.Routes.{Keeps}
-use Rattle.cidr_join.specs.Takes.{Refused, Listed, nothing_listed, left_out, TakesLine, LineFails, TakesNext, TakesLines}
+use Rattle.cidr_join.specs.Takes.{Refused, Listed, listed_from, left_out, TakesLine, LineFails, TakesNext, TakesLines}
 use Rattle.cidr_join.specs.Private.Listing.{nothing_taken, TellsFirst, IsListed, ListsNext, FailsNext, EndsLines}
 use Rattle.cidr_join.specs.declared.line.Cause.{Cause}
 use Rattle.cidr_join.specs.declared.list.Listing.{Listing}
@@ -107,15 +107,15 @@ abbrev pub parts : List ℕ → List (List ℕ)
 parts text = slice_split (λ b. b == 10) text
 
 -- the lines up to a position were taken
-abbrev pub Taken : {E : Type 0} → List ℕ → ListRules → List ℕ → ℕ → Written E → Written E → Listing → Type 0
-Taken name rules text at begun now listing = (first : List (List ℕ)) × (parts text ≡ first ++ parts (drop at text)) × (listed : Listed)
-    × TakesLines rules nothing_listed first listed × IsListed name begun now listing listed
+abbrev pub Taken : {E : Type 0} → List ℕ → ListRules → Networks → List ℕ → ℕ → Written E → Written E → Listing → Type 0
+Taken name rules before text at begun now listing = (first : List (List ℕ)) × (parts text ≡ first ++ parts (drop at text)) × (listed : Listed)
+    × TakesLines rules (listed_from before) first listed × IsListed name begun now listing listed
 
-module _ {E : Type 0} (name : List ℕ) (rules : ListRules) (text : List ℕ) (at : ℕ) (begun errors told : Written E) (listing now : Listing)
-    (taken : Taken name rules text at begun errors listing) where
+module _ {E : Type 0} (name : List ℕ) (rules : ListRules) (before : Networks) (text : List ℕ) (at : ℕ) (begun errors told : Written E) (listing now : Listing)
+    (taken : Taken name rules before text at begun errors listing) where
   -- a line that has a fault
   stops : (line : List ℕ) (others : List (List ℕ)) → parts text ≡ taken.0 ++ line ∷ others → (fault : TakeFault) → FailsNext rules line errors told listing now fault
-      → EndsLines name rules (parts text) begun told now (Err fault)
+      → EndsLines name rules before (parts text) begun told now (Err fault)
   stops line others cut fault h =
       let listed = taken.2 in
       let is = taken.4 in (
@@ -147,13 +147,13 @@ module _ {E : Type 0} (name : List ℕ) (rules : ListRules) (text : List ℕ) (a
     unfolding here
     cut = taken.1 ∙ ap (λ l. taken.0 ++ l) (parts_from 10 text at end next)
 
-    pub line_more : ListsNext name rules (take (end - at) (drop at text)) errors told listing now → Taken name rules text (end + 1) begun told now
+    pub line_more : ListsNext name rules (take (end - at) (drop at text)) errors told listing now → Taken name rules before text (end + 1) begun told now
     unfolding here
     line_more lists =
         let h = lists begun taken.2 taken.4 in
-        (taken.0 ++ here ∷ [], cut ∙ sym (append_assoc taken.0 (here ∷ []) (parts (drop (end + 1) text))), h.0, takes_more rules nothing_listed taken.2 h.0 taken.0 here taken.3 h.1, h.2)
+        (taken.0 ++ here ∷ [], cut ∙ sym (append_assoc taken.0 (here ∷ []) (parts (drop (end + 1) text))), h.0, takes_more rules (listed_from before) taken.2 h.0 taken.0 here taken.3 h.1, h.2)
 
-    pub line_stops : (fault : TakeFault) → FailsNext rules (take (end - at) (drop at text)) errors told listing now fault → EndsLines name rules (parts text) begun told now (Err fault)
+    pub line_stops : (fault : TakeFault) → FailsNext rules (take (end - at) (drop at text)) errors told listing now fault → EndsLines name rules before (parts text) begun told now (Err fault)
     unfolding here
     line_stops fault h = stops here (parts (drop (end + 1) text)) cut fault h
 
@@ -163,23 +163,23 @@ module _ {E : Type 0} (name : List ℕ) (rules : ListRules) (text : List ℕ) (a
     last_cut = taken.1 ∙ ap (λ l. taken.0 ++ l) (part_from 10 text at absent)
 
     pub all_taken : (result : Result (Unit {0}) TakeFault) → OnOk result (ListsNext name rules (take (length text - at) (drop at text)) errors told listing now)
-        → IfErr result (FailsNext rules (take (length text - at) (drop at text)) errors told listing now) → EndsLines name rules (parts text) begun told now result
+        → IfErr result (FailsNext rules (take (length text - at) (drop at text)) errors told listing now) → EndsLines name rules before (parts text) begun told now result
     all_taken (Ok done) lists fails =
         let h = subst (λ (l : List ℕ). ListsNext name rules l errors told listing now) (take_rest text at) lists begun taken.2 taken.4 in (
           h.0,
-          subst (λ (ls : List (List ℕ)). TakesLines rules nothing_listed ls h.0) (sym last_cut) (takes_more rules nothing_listed taken.2 h.0 taken.0 (drop at text) taken.3 h.1),
+          subst (λ (ls : List (List ℕ)). TakesLines rules (listed_from before) ls h.0) (sym last_cut) (takes_more rules (listed_from before) taken.2 h.0 taken.0 (drop at text) taken.3 h.1),
           h.2,
         )
     all_taken (Err fault) lists fails =
         stops (drop at text) [] last_cut fault (subst (λ (l : List ℕ). FailsNext rules l errors told listing now fault) (take_rest text at) fails)
 
 -- no line was taken
-pub none_taken : {E : Type 0} (name : List ℕ) (rules : ListRules) (text : List ℕ) (errors : Written E) (listing : Listing) → listing ≡ nothing_taken → Reports errors errors []
-    → Taken name rules text 0 errors errors listing
-none_taken name rules text errors listing is silent = (
+pub none_taken : {E : Type 0} (name : List ℕ) (rules : ListRules) (before : Networks) (text : List ℕ) (errors : Written E) (listing : Listing) → listing ≡ nothing_taken before → Reports errors errors []
+    → Taken name rules before text 0 errors errors listing
+none_taken name rules before text errors listing is silent = (
   [],
   refl,
-  nothing_listed,
+  listed_from before,
   refl,
   record {
     networks = ap (λ (l : Listing). l.networks) is;
@@ -190,10 +190,8 @@ none_taken name rules text errors listing is silent = (
 
 -- ---- the list
 
-pub list_read : {E : Type 0} (name : List ℕ) (rules : ListRules) (lines : List (List ℕ)) (begun errors told : Written E) (listing : Listing)
-    → EndsLines name rules lines begun errors listing (Ok tt) → Reports errors told (more_text (listing.skipped - 100)) → EndsList name rules lines begun told (Ok listing.networks)
-list_read name rules lines begun errors told listing h more = (h.0, h.1, h.2.networks, tells_all name begun errors told h.0.refused listing.skipped h.2.first more)
-
-pub list_stops : {E : Type 0} (name : List ℕ) (rules : ListRules) (lines : List (List ℕ)) (begun errors told : Written E) (listing : Listing) (fault : TakeFault)
-    → EndsLines name rules lines begun errors listing (Err fault) → Reports errors told (more_text (listing.skipped - 100)) → EndsList name rules lines begun told (Err fault)
-list_stops name rules lines begun errors told listing fault h more = (h.0, h.1, tells_all name begun errors told h.0 listing.skipped h.2 more)
+pub list_ends : {E : Type 0} (name : List ℕ) (rules : ListRules) (before : Networks) (lines : List (List ℕ)) (begun errors told : Written E) (listing : Listing) (result : Result (Unit {0}) TakeFault)
+    → EndsLines name rules before lines begun errors listing result → Reports errors told (more_text (listing.skipped - 100))
+    → EndsList name rules before lines begun told listing.networks result
+list_ends name rules before lines begun errors told listing (Ok done) h more = (h.0, h.1, h.2.networks, tells_all name begun errors told h.0.refused listing.skipped h.2.first more)
+list_ends name rules before lines begun errors told listing (Err fault) h more = (h.0, h.1, tells_all name begun errors told h.0 listing.skipped h.2 more)

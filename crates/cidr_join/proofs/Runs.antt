@@ -1,30 +1,28 @@
 -- How a run ends.
-use Rattle.std.proofs.Common.{◌≡◌, ◌∙◌, ◌==◌, ◌+◌, ◌++◌, ◌∷◌, [], ◌||◌, ℕ, List, Bool, true, false, true≢false, refl, sym, ap, subst, inl, inr, length, map, take, drop, append_assoc, codes}
-use Rattle.std.specs.Prelude.{Option, None, Result, Ok, Err, OnOk, OnErr, IsTrue, is_err, String}
-use Rattle.std.specs.List.{slice_split}
+use Rattle.std.proofs.Common.{◌≡◌, ◌∙◌, ◌+◌, ◌++◌, ◌∷◌, [], ◌||◌, ℕ, List, Bool, true, false, true≢false, refl, sym, ap, subst, inl, inr, length, map, take, drop, append_assoc, codes}
+use Rattle.std.specs.Prelude.{Option, None, Result, OnOk, OnErr, IsTrue, is_err, String}
 use Rattle.std.specs.String.{string_bytes}
 use Rattle.std.specs.Io.KnownBytes.{Appends}
 use Rattle.lines.specs.Outputs.{Written, AppendsBeginning, FailsIn}
 use Rattle.program.proofs.LogNames.{some_first, names_apart, names_behind}
 use Rattle.program.proofs.LogStops.{told_log, written_behind, failed_behind, wrote_behind, wrote_same}
 use Rattle.program.proofs.Reported.{tells_more, tells_same}
-use Rattle.program.specs.Endings.{Ending, ending, Refuses, HasTold, HasWritten, status_of, end_text}
+use Rattle.program.specs.Endings.{Ending, ending, IsSilent, Refuses, HasTold, HasWritten, status_of, end_text}
 use Rattle.program.specs.LogFaults.{log_fault_text, IfWrite, Wrote, HandsOn, StopsBy}
 use Rattle.program.specs.Messages.{Reports}
-use Rattle.lists.specs.Bytes.{IsAllOf, BytesStop}
 use Rattle.lists.specs.KnownLists.{KnownLists}
-use Rattle.lists.specs.declared.bytes.BytesFault.{BytesFault}
 use Rattle.cidr_join.specs.Addressed.{seen_of, seen_by}
 use Rattle.cidr_join.specs.Joins.{Joins}
 use Rattle.program.specs.LogLines.{LogLine}
 use Rattle.cidr_join.specs.Logs.{EndsRunBy}
 use Rattle.program.specs.Logs.{HaltsBy}
-use Rattle.cidr_join.specs.Routes.{Values}
-use Rattle.cidr_join.specs.Runs.{StopsAtLog, JoinsAll, EndsLogs, EndsAsked, EndsFinding, EndsGrouping, EndsJoining, EndsFiles, answers_of, join_of, list_name, lengths_of, rules_of}
+use Rattle.cidr_join.specs.Lists.{NamedText, AreRead, StopsAtList, TakesLists, lists_of}
+use Rattle.cidr_join.specs.Routes.{Values, no_networks}
+use Rattle.cidr_join.specs.Runs.{StopsAtLog, JoinsAll, EndsLogs, EndsAsked, EndsFinding, EndsGrouping, EndsJoining, EndsFiles, answers_of, join_of, lengths_of, rules_of}
 use Rattle.cidr_join.specs.TallyRuns.{EndsTally, status_by}
 use Rattle.cidr_join.specs.Stands.{stand, begun}
 use Rattle.cidr_join.specs.Stops.{JoinsLines, WritesBeginning}
-use Rattle.cidr_join.specs.Reported.{EndsList, bytes_fault_text, take_fault_text}
+use Rattle.cidr_join.specs.Private.Listing.{TellsUnread}
 use Rattle.cidr_join.specs.Private.Runs.{JoinsNames}
 use Rattle.cidr_join.specs.declared.answers.Answers.{Answers}
 use Rattle.options.specs.Given.{is_given, inputs_of}
@@ -32,7 +30,6 @@ use Rattle.options.specs.declared.items.Item.{Item}
 use Rattle.cidr_join.specs.Options as own
 use Rattle.cidr_join.specs.declared.join.Join.{Join}
 use Rattle.cidr_join.specs.declared.lengths.Lengths.{Lengths}
-use Rattle.cidr_join.specs.declared.list.TakeFault.{TakeFault}
 use Rattle.program.specs.declared.log_fault.LogFault.{LogFault}
 use Rattle.program.specs.declared.log_fault.LogFault.TheVariants as faults
 use Rattle.cidr_join.specs.declared.routes.Networks.{Networks}
@@ -146,16 +143,14 @@ all_by {W} join known names missed end mid between written f ok err failed two t
 
 -- ---- the run
 
-module _ {W E : Type 0} (known : KnownLists) (items : List Item) (end : Ending W E) (name : List ℕ) (same : name ≡ list_name items) where
-  -- the list was read
-  pub joined_to : (text : List ℕ) → IsAllOf known name text → EndsJoining known items name text end → EndsGrouping None known items end
-  joined_to text all h =
-      inr (text, subst (λ (n : List ℕ). IsAllOf known n text) same all, subst (λ (n : List ℕ). EndsJoining known items n text end) same h)
+module _ {W E : Type 0} (known : KnownLists) (items : List Item) (end : Ending W E) where
+  -- the lists were read
+  pub joined_to : (lists : List NamedText) → AreRead known (lists_of items) lists → EndsJoining known items lists end → EndsGrouping None known items end
+  joined_to lists read h = inr (lists, read, h)
 
-  -- the list was not read
-  pub not_read : (fault : BytesFault) → BytesStop known name 1073741824 fault → Refuses (bytes_fault_text name fault) end → EndsGrouping None known items end
-  not_read fault stops h =
-      inl (fault, subst (λ (n : List ℕ). BytesStop known n 1073741824 fault) same stops, subst (λ (n : List ℕ). Refuses (bytes_fault_text n fault) end) same h)
+  -- a list was not read
+  pub not_read : TellsUnread known (lists_of items) end.errors end.errors_after → IsSilent end → EndsGrouping None known items end
+  not_read h silent = inl (h.0, h.1, (silent, h.2))
 
 pub same_routes : (routes : Routes) (networks : Networks) → routes.v4 ≡ networks.v4 → routes.v6 ≡ networks.v6 → routes ≡ record { v4 = networks.v4; v6 = networks.v6 }
 same_routes routes networks a b =
@@ -163,32 +158,27 @@ same_routes routes networks a b =
       with_both : Values → Values → Routes
       with_both v4 v6 = record { v4 = v4; v6 = v6 }
 
--- the networks that decide what is printed were read, and the logs were joined to them
-module _ {W E : Type 0} (known : KnownLists) (items : List Item) (name text : List ℕ) (end : Ending W E) (told : Written E) (networks : Networks)
-    (read : EndsList name (rules_of items) (slice_split (λ b. b == 10) text) end.errors told (Ok networks)) where
-  pub taken : (by : Answers) → by ≡ answers_of items networks → EndsFinding known items by (record end { errors = told }) → EndsJoining known items name text end
-  taken by same (inl h) = (read.0.refused, told, read.3, inr (inl h))
-  taken by same (inr h) = (
-    read.0.refused,
-    told,
-    read.3,
-    inr (inr (
-      read.0,
-      read.1,
-      refl,
-      subst (λ (a : Answers). EndsAsked (is_given items own.tally) (join_of items a) known (inputs_of items) (record end { errors = told })) (same ∙ ap (answers_of items) read.2) h,
-    )),
-  )
+module _ {W E : Type 0} (known : KnownLists) (items : List Item) (lists : List NamedText) (end : Ending W E) where
+  module _ (networks : Networks) (told : Written E) (taken : (text : List ℕ) × TakesLists (rules_of items) no_networks lists networks text × Reports end.errors told text) where
+    -- the networks that decide what is printed were read, and the logs were joined to them
+    pub joined_by : (by : Answers) → by ≡ answers_of items networks → EndsFinding known items by (record end { errors = told }) → EndsJoining known items lists end
+    joined_by by same (inl h) = inr (networks, taken.0, told, taken.1, taken.2, inl h)
+    joined_by by same (inr h) = inr (
+      networks,
+      taken.0,
+      told,
+      taken.1,
+      taken.2,
+      inr (subst (λ (a : Answers). EndsAsked (is_given items own.tally) (join_of items a) known (inputs_of items) (record end { errors = told })) same h),
+    )
 
-  -- there was no memory to index them
-  pub not_indexed : Refuses (codes "out of memory\n") (record end { errors = told }) → EndsJoining known items name text end
-  not_indexed h = (read.0.refused, told, read.3, inr (inl h))
+    -- there was no memory to index them
+    pub not_indexed : Refuses (codes "out of memory\n") (record end { errors = told }) → EndsJoining known items lists end
+    not_indexed h = inr (networks, taken.0, told, taken.1, taken.2, inl h)
 
--- the list was not read to its end
-pub not_taken : {W E : Type 0} (known : KnownLists) (items : List Item) (name text : List ℕ) (end : Ending W E) (told : Written E) (fault : TakeFault)
-    → EndsList name (rules_of items) (slice_split (λ b. b == 10) text) end.errors told (Err fault) → Refuses (take_fault_text name fault) (record end { errors = told })
-    → EndsJoining known items name text end
-not_taken known items name text end told fault read h = (read.0, told, read.2, inl (fault, read.1, h))
+  -- the lines of a list were not taken to its end
+  pub not_taken : (text : List ℕ) × StopsAtList (rules_of items) no_networks lists text × Reports end.errors end.errors_after text → IsSilent end → EndsJoining known items lists end
+  not_taken h silent = inl (h.0, h.1, (silent, h.2))
 
 -- whether lines are grouped
 pub by_group : {W E : Type 0} (known : KnownLists) (items : List Item) (end : Ending W E) (group : Option Lengths) → lengths_of items ≡ group → EndsGrouping group known items end

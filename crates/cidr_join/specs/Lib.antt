@@ -5,6 +5,7 @@ pub mod Entries
 pub mod Groups
 pub mod Joins
 pub mod Laws
+pub mod Lists
 pub mod Logs
 pub mod Longest
 pub mod Options

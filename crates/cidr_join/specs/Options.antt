@@ -49,7 +49,6 @@ entries = rows.shared
 abbrev pub pairs : List (ℕ × ℕ × List ℕ)
 pairs = rows.together
     ++ (tally, last, codes "--last does not go with --tally")
-    ∷ (rows.list, rows.list, codes "-f is given more than once")
     ∷ (group, rows.list, codes "--group goes with none of -f, --network, --last-wins, --skip-bad and --zero")
     ∷ (group, network, codes "--group goes with none of -f, --network, --last-wins, --skip-bad and --zero")
     ∷ (group, last_wins, codes "--group goes with none of -f, --network, --last-wins, --skip-bad and --zero")

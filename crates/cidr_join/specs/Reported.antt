@@ -9,7 +9,7 @@ use Rattle.program.specs.LogFaults.{line_text}
 use Rattle.program.specs.Messages.{Reports}
 use Rattle.program.specs.Reported.{more_text}
 use Rattle.cidr_join.specs.Entries.{cause_text}
-use Rattle.cidr_join.specs.Takes.{Refused, Listed, nothing_listed, TakesLines, StopsTaking}
+use Rattle.cidr_join.specs.Takes.{Refused, Listed, listed_from, TakesLines, StopsTaking}
 use Rattle.cidr_join.specs.declared.list.ListRules.{ListRules}
 use Rattle.cidr_join.specs.declared.list.TakeFault.{TakeFault}
 use Rattle.cidr_join.specs.declared.routes.Networks.{Networks}
@@ -37,14 +37,15 @@ first_refused_text name refused =
 abbrev pub refused_text : List ℕ → List Refused → List ℕ
 refused_text name refused = first_refused_text name refused ++ more_text (length refused - 100)
 
--- the lines of the list with this name were read, and those that are left out were reported; the others give these
--- networks, or one has the fault
-abbrev pub EndsList : {E : Type 0} → List ℕ → ListRules → List (List ℕ) → Written E → Written E
-    → Result Networks TakeFault → Type 0
-EndsList name rules lines errors told (Ok networks) = (listed : Listed) × TakesLines rules nothing_listed lines listed
-    × (networks ≡ listed.networks) × Reports errors told (refused_text name listed.refused)
-EndsList name rules lines errors told (Err fault) = (refused : List Refused)
-    × StopsTaking rules nothing_listed lines fault refused × Reports errors told (refused_text name refused)
+-- these lines of the list with this name were read after lists with the networks `before`: those that are left out were
+-- reported, and the others and `before` give these networks, or one has the fault
+abbrev pub EndsList : {E : Type 0} → List ℕ → ListRules → Networks → List (List ℕ) → Written E → Written E → Networks
+    → Result (Unit {0}) TakeFault → Type 0
+EndsList name rules before lines errors told after (Ok done) = (listed : Listed)
+    × TakesLines rules (listed_from before) lines listed
+    × (after ≡ listed.networks) × Reports errors told (refused_text name listed.refused)
+EndsList name rules before lines errors told after (Err fault) = (refused : List Refused)
+    × StopsTaking rules (listed_from before) lines fault refused × Reports errors told (refused_text name refused)
 
 abbrev pub take_fault_text : List ℕ → TakeFault → List ℕ
 take_fault_text name fault = route_fault_text name fault.lines fault.fault

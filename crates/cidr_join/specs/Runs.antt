@@ -1,9 +1,7 @@
 -- How a run ends: its exit status, what was written, and what was reported.
 use Rattle.std.specs.Prelude.{◌≡◌, ℕ, ◌&&◌, Bool, not, List, [], ◌∷◌, ◌++◌, true, false, ◌⊎◌, Option}
-use Rattle.std.specs.Prelude.{None, Some, if◌then◌else◌, length, codes, String, ◌==◌}
-use Rattle.std.specs.List.{slice_split}
+use Rattle.std.specs.Prelude.{None, Some, if◌then◌else◌, length, codes, String}
 use Rattle.lines.specs.Outputs.{Written}
-use Rattle.lists.specs.Bytes.{IsAllOf, BytesStop}
 use Rattle.lists.specs.KnownLists.{KnownLists}
 use Rattle.program.specs.Endings.{Ending, Refuses, HasTold}
 use Rattle.program.specs.Messages.{Reports}
@@ -27,15 +25,13 @@ use Rattle.cidr_join.specs.Logs.{JoinsLogs, EndsRunBy}
 use Rattle.program.specs.LogFaults.{log_fault_text, Wrote}
 use Rattle.program.specs.Logs.{HaltsBy}
 use Rattle.cidr_join.specs.TallyRuns.{EndsTally, EndsWith}
-use Rattle.cidr_join.specs.Takes.{Refused, Listed, nothing_listed, TakesLines, StopsTaking}
-use Rattle.cidr_join.specs.Reported.{bytes_fault_text, refused_text, take_fault_text}
-use Rattle.lists.specs.declared.bytes.BytesFault.{BytesFault}
+use Rattle.cidr_join.specs.Lists.{NamedText, AreRead, NotRead, StopsAtList, TakesLists, lists_of}
+use Rattle.cidr_join.specs.Routes.{no_networks}
 use Rattle.cidr_join.specs.declared.answers.Answers.{Answers}
 use Rattle.cidr_join.specs.declared.answers.Answers.TheVariants as answers
 use Rattle.cidr_join.specs.declared.join.Join.{Join}
 use Rattle.cidr_join.specs.declared.lengths.Lengths.{Lengths}
 use Rattle.cidr_join.specs.declared.list.ListRules.{ListRules}
-use Rattle.cidr_join.specs.declared.list.TakeFault.{TakeFault}
 use Rattle.program.specs.declared.log_fault.LogFault.{LogFault}
 use Rattle.cidr_join.specs.declared.routes.Networks.{Networks}
 use Rattle.cidr_join.specs.declared.routes.Routes.{Routes}
@@ -77,11 +73,7 @@ pub record JoinsAll {W E : Type 0} (join : Join) (known : KnownLists) (names : L
 abbrev pub EndsLogs : {W E : Type 0} → Join → KnownLists → List (List ℕ) → Ending W E → Type 0
 EndsLogs join known names end = JoinsAll join known names end ⊎ StopsAtLog join known names end
 
--- the name of the list
-abbrev pub list_name : List Item → List ℕ
-list_name items = value_of items rows.list
-
--- what is printed for addresses by the routes of a list: networks or values
+-- what is printed for addresses by the routes of lists: networks or values
 abbrev pub answers_by : Bool → Routes → Answers
 answers_by network routes = if network then answers.Networks routes else answers.Values routes
 
@@ -115,23 +107,20 @@ rules_of items = record {
   skips = is_given items own.skips_bad;
 }
 
--- how the run ends after these lines of the list were refused and left out: another line ends the run, or memory runs
--- out, and nothing is written; else the logs are joined to its networks, or counted by them
-abbrev pub EndsListed : {W E : Type 0} → KnownLists → List Item → List ℕ → List (List ℕ) → List Refused → Ending W E
-    → Type 0
-EndsListed known items name lines refused end =
-    ((fault : TakeFault) × StopsTaking (rules_of items) nothing_listed lines fault refused
-    × Refuses (take_fault_text name fault) end)
-    ⊎ (Refuses (codes "out of memory\n") end
-    ⊎ ((listed : Listed) × TakesLines (rules_of items) nothing_listed lines listed × (listed.refused ≡ refused)
-    × EndsAsked (is_given items own.tally) (join_of items (answers_of items listed.networks)) known (inputs_of items)
-    end))
+-- how the run ends if the lists have these networks: memory runs out, or the logs are joined to them or counted by them
+abbrev pub EndsListed : {W E : Type 0} → KnownLists → List Item → Networks → Ending W E → Type 0
+EndsListed known items networks end =
+    Refuses (codes "out of memory\n") end
+    ⊎ EndsAsked (is_given items own.tally) (join_of items (answers_of items networks)) known (inputs_of items) end
 
--- how the run ends if the list with this name has these bytes: the lines that are left out are reported first
-abbrev pub EndsJoining : {W E : Type 0} → KnownLists → List Item → List ℕ → List ℕ → Ending W E → Type 0
-EndsJoining {W} {E} known items name text end = (refused : List Refused) × (told : Written E)
-    × Reports end.errors told (refused_text name refused)
-    × EndsListed known items name (slice_split (λ b. b == 10) text) refused (record end { errors = told })
+-- how the run ends if the lists have these names and bytes: a line of one ends the run, and nothing is written; else the
+-- lines that are left out are reported first
+abbrev pub EndsJoining : {W E : Type 0} → KnownLists → List Item → List NamedText → Ending W E → Type 0
+EndsJoining {W} {E} known items lists end =
+    ((text : List ℕ) × StopsAtList (rules_of items) no_networks lists text × Refuses text end)
+    ⊎ ((networks : Networks) × (text : List ℕ) × (told : Written E)
+    × TakesLists (rules_of items) no_networks lists networks text × Reports end.errors told text
+    × EndsListed known items networks (record end { errors = told }))
 
 -- how the run ends if this is printed for addresses: memory runs out, or the logs are joined or counted
 abbrev pub EndsFinding : {W E : Type 0} → KnownLists → List Item → Answers → Ending W E → Type 0
@@ -152,9 +141,8 @@ lengths_of items = both (lengths_in (value_of items own.group))
 abbrev pub EndsGrouping : {W E : Type 0} → Option Lengths → KnownLists → List Item → Ending W E → Type 0
 EndsGrouping (Some lengths) known items end = EndsFinding known items (answers.Blocks lengths) end
 EndsGrouping None known items end =
-    ((fault : BytesFault) × BytesStop known (list_name items) 1073741824 fault
-    × Refuses (bytes_fault_text (list_name items) fault) end)
-    ⊎ ((text : List ℕ) × IsAllOf known (list_name items) text × EndsJoining known items (list_name items) text end)
+    ((text : List ℕ) × ((text ≡ codes "out of memory\n") ⊎ NotRead known (lists_of items) text) × Refuses text end)
+    ⊎ ((lists : List NamedText) × AreRead known (lists_of items) lists × EndsJoining known items lists end)
 
 abbrev pub EndsFiles : {W E : Type 0} → KnownLists → List Item → Ending W E → Type 0
 EndsFiles known items end = EndsGrouping (lengths_of items) known items end

@@ -2,7 +2,7 @@
 use Rattle.std.specs.Prelude.{◌≡◌, ◌⊎◌, ℕ, ◌+◌, List, [], ◌∷◌, ◌++◌, Option, None, Some, if◌then◌else◌}
 use Rattle.lists.specs.declared.entry.Entry.{Entry}
 use Rattle.cidr_join.specs.Entries.{SaysNothing, Says, LineFaults}
-use Rattle.cidr_join.specs.Routes.{no_networks, SetsEntry, EntryHasOne}
+use Rattle.cidr_join.specs.Routes.{SetsEntry, EntryHasOne}
 use Rattle.cidr_join.specs.declared.line.Cause.{Cause}
 use Rattle.cidr_join.specs.declared.line.Cause.TheVariants as causes
 use Rattle.cidr_join.specs.declared.list.ListRules.{ListRules}
@@ -37,8 +37,9 @@ pub record Listed : Type 0 where
   pub networks : Networks
   pub refused : List Refused
 
-abbrev pub nothing_listed : Listed
-nothing_listed = record { lines = 0; networks = no_networks; refused = [] }
+-- before the first line of a list, where there are these networks
+abbrev pub listed_from : Networks → Listed
+listed_from networks = record { lines = 0; networks = networks; refused = [] }
 
 -- why a line with this fault is left out; `None` if it is not, since it is not refused or the rules skip none
 abbrev pub left_out : ListRules → RouteFault → Option Cause

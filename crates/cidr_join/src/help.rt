@@ -4,15 +4,16 @@
 pub(crate) const HELP: &str = "\
 Prints the lines of logs, each with the value that a list gives its address.
 
-    cidr_join [OPTION..] -f LIST [FILE..]
+    cidr_join [OPTION..] -f LIST.. [FILE..]
     cidr_join [OPTION..] --group N,M [FILE..]
 
     -f LIST         read networks (10.0.0.0/8, 10.0.0.1, 2001:db8::/32) and ranges (A - B) from a
                     file, one on each line, followed by a tab, a comma or blanks, and a value. A
-                    line that begins with # or ; is a comment. - is standard input
-    --last-wins     a network that the list has twice gets its last value; without this option, the
-                    second one is refused
-    --skip-bad      report refused lines of the list and use the others; without this option, the
+                    line that begins with # or ; is a comment. - is standard input. Several LISTs,
+                    each after an -f, count as one
+    --last-wins     a network that the lists have twice gets its last value; without this option,
+                    the second one is refused
+    --skip-bad      report refused lines of the lists and use the others; without this option, the
                     first refused line ends the program before any log is read
     -k N            the address is field N; the default is 1
     -d CHAR         every single CHAR separates fields; the default is every space
@@ -56,7 +57,7 @@ follow FILEs; every word after -- is a FILE. Options of one letter can be joined
 value: -wk1, -flist; --bad=keep is --bad keep. A FILE is a name, or - for standard input, which is
 read if no FILE is given. Lines are printed unchanged; a last line without a line feed gets one. A
 line has at most 1,048,576 bytes; a longer one is not printed and counts as one without an address,
-and the first in each FILE is reported. A line of the list has at most 1,024 bytes, and the list
+and the first in each FILE is reported. A line of a LIST has at most 1,024 bytes, and a LIST
 1,073,741,824. A FILE that cannot be opened is reported, and the others are read. A FILE with lines
 of which none has an address in that place is reported too.
 
@@ -81,4 +82,4 @@ pub(crate) const PROGRAM: &str = "cidr_join";
 pub(crate) const USAGE: &str =
     "usage: cidr_join [--after TEXT | [-a] [-k N] [-d CHAR | -w]] [--nth first|last|N] [--mapped] \
      [--networks] [--bad drop|keep|stop|report] [--last | --tally [--zero]] \
-     (-f LIST [--network] [--last-wins] [--skip-bad] | --group N,M) [FILE..]; try --help\n";
+     (-f LIST.. [--network] [--last-wins] [--skip-bad] | --group N,M) [FILE..]; try --help\n";

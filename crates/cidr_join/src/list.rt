@@ -1,11 +1,11 @@
-//! Reads the networks of a list with their values.
+//! Takes the networks of lists with their values.
 ghost use Rattle.std.specs.Prelude.{◌≡◌, ◌==◌, ◌≤◌, ◌<◌, ◌+◌, ◌^◌, IfErr, OnOk};
 ghost use Rattle.std.specs.List.{slice_split};
 ghost use Rattle.program.specs.LogFaults.{line_text};
 ghost use Rattle.program.specs.Messages.{Reports};
 ghost use Rattle.cidr_join.specs.Entries.{cause_text};
 ghost use Rattle.cidr_join.specs.Reported.{EndsList};
-ghost use Rattle.cidr_join.specs.Routes.{IsGoodEntry, SetsEntry, EntryHasOne, IsRefusal, Keeps};
+ghost use Rattle.cidr_join.specs.Routes.{IsGoodEntry, SetsEntry, EntryHasOne, IsRefusal, Keeps, no_networks};
 ghost use Rattle.cidr_join.specs.Takes.{TakesLine, LineFails, left_out};
 ghost use Rattle.cidr_join.specs.Private.Listing.{nothing_taken, EndsLines, ListsNext, FailsNext};
 
@@ -45,38 +45,52 @@ pub struct TakeFault {
 /// is.
 const TOLD_MAX: usize = 100;
 
-/// What was taken of the lines of a list.
+/// What was taken of the lines of lists.
 #[derive(Drop)]
 pub struct Listing<'a> {
     pub(crate) networks: Networks<'a>,
-    // How many lines there were.
+    // How many lines of the last list there were.
     pub(crate) lines: usize,
     // How many of them were refused and left out.
     pub(crate) skipped: usize,
 }
 
-/// Takes the lines of the list with this name by these rules, and returns its networks and values.
-pub(crate) fn networks_of<'a, E: Write>(
-    alloc: Global,
+impl<'a> Listing<'a> {
+    /// The state before the first list.
+    pub(crate) fn new(alloc: Global) -> Listing<'a>
+        ensures { result ≡ nothing_taken no_networks }
+    {
+        Listing {
+            networks: Networks::new(alloc),
+            lines: 0,
+            skipped: 0,
+        }
+    }
+
+    /// Returns the networks of the lists, with their values.
+    pub(crate) fn into_networks(self) -> Networks<'a>
+        ensures { result ≡ self.entry.networks }
+    {
+        self.networks
+    }
+}
+
+/// Takes the lines of the list with this name by these rules, after those of other lists.
+pub(crate) fn take_list<'a, E: Write>(
+    listing: &mut Listing<'a>,
     name: &str,
     text: &'a [u8],
     rules: ListRules,
     errors: &mut Output<'_, E>,
-) -> Result<Networks<'a>, TakeFault>
-    ensures { EndsList name.now rules (slice_split (λ b. b == 10) text.now)
-        errors.old errors.new result }
+) -> Result<(), TakeFault>
+    ensures { EndsList name.now rules listing.old.networks (slice_split (λ b. b == 10) text.now)
+        errors.old errors.new listing.new.networks result }
 {
-    let mut listing = Listing {
-        networks: Networks::new(alloc),
-        lines: 0,
-        skipped: 0,
-    };
-    let end = take_lines(&mut listing, name, text, rules, errors);
+    listing.lines = 0;
+    listing.skipped = 0;
+    let end = take_lines(listing, name, text, rules, errors);
     tell_more(listing.skipped.saturating_sub(TOLD_MAX) as u64, errors);
-    match end {
-        Ok(()) => Ok(listing.networks),
-        Err(fault) => Err(fault),
-    }
+    end
 }
 
 // Takes the lines of the list with this name.
@@ -87,8 +101,8 @@ fn take_lines<'a, E: Write>(
     rules: ListRules,
     errors: &mut Output<'_, E>,
 ) -> Result<(), TakeFault>
-    requires { listing.old ≡ nothing_taken }
-    ensures { EndsLines name.now rules (slice_split (λ b. b == 10) text.now)
+    requires { listing.old ≡ nothing_taken listing.old.networks }
+    ensures { EndsLines name.now rules listing.old.networks (slice_split (λ b. b == 10) text.now)
         errors.old errors.new listing.new result }
 {
     let mut at = 0;

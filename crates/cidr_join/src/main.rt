@@ -16,6 +16,7 @@ mod logs;
 mod longest;
 mod missing;
 mod printing;
+mod reading;
 mod routes;
 mod rows;
 mod run;

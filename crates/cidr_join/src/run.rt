@@ -3,23 +3,24 @@ ghost use Rattle.std.specs.Prelude.{◌≡◌, map};
 ghost use Rattle.std.specs.String.{string_bytes};
 ghost use Rattle.options.specs.Given.{inputs_of};
 ghost use Rattle.program.specs.Endings.{ending};
+ghost use Rattle.cidr_join.specs.Lists.{named_text};
 ghost use Rattle.cidr_join.specs.Runs.{EndsRequest, EndsFiles, EndsAs, EndsFinding, EndsJoining, answers_by, join_of, lacks_tally, lengths_of, rules_of};
 
 use crate::answers::Answers;
 use crate::help::{HELP, PROGRAM, USAGE, VERSION};
 use crate::join::Join;
 use crate::lengths::Lengths;
-use crate::list::{ListRules, networks_of};
+use crate::list::ListRules;
 use crate::logs::join_logs;
 use crate::missing::status;
+use crate::reading::{ReadList, read_lists, take_lists};
 use crate::routes::Routes;
 use crate::rows::{BAD, GROUP, LAST, LAST_WINS, NETWORK, NETWORKS, SKIPS_BAD, TALLY, ZERO, table};
 use crate::tally_logs::tally_logs;
-use crate::telling::{tell_bytes_fault, tell_take_fault};
 use lines::output::Output;
-use lists::{OpenLists, read_bytes};
+use lists::OpenLists;
 use log_programs::areas::area_of;
-use log_programs::rows::{LIST, MAPPED};
+use log_programs::rows::MAPPED;
 use log_programs::without_address::bad_in;
 use options::asking::{About, asked};
 use options::faults::{Subject, about};
@@ -32,9 +33,6 @@ use program::log_reader::BUFFER_LEN;
 use program::memory::refuse_memory;
 use std::alloc::Global;
 use std::io::Write;
-
-/// The most bytes of a list.
-const LIST_MAX: usize = 1_073_741_824;
 
 /// Does what the words after the program's name ask for, and returns the exit status.
 pub(crate) fn run<L: OpenLists, W: Write, E: Write>(
@@ -104,23 +102,10 @@ fn join_files<L: OpenLists, W: Write, E: Write>(
         let answers = Answers::Blocks(lengths);
         return join_by(alloc, items, files, answers, lists, output, errors);
     }
-    let name = value_of(items, LIST);
-    match read_bytes(alloc, lists, name, LIST_MAX) {
-        Ok(text) => join_to(
-            alloc,
-            items,
-            files,
-            name,
-            text.as_slice(),
-            lists,
-            output,
-            errors,
-        ),
-        Err(fault) => {
-            tell_bytes_fault(name, fault, errors);
-            FAILED
-        }
-    }
+    let Some(read) = read_lists(alloc, lists, items, errors) else {
+        return FAILED;
+    };
+    join_to(alloc, items, files, read.as_slice(), lists, output, errors)
 }
 
 // The lengths of the blocks in which lines are grouped, if they are.
@@ -138,22 +123,17 @@ fn join_to<L: OpenLists, W: Write, E: Write>(
     alloc: Global,
     items: &[Item<'_>],
     files: &[String],
-    name: &str,
-    text: &[u8],
+    read: &[ReadList<'_>],
     lists: &L,
     output: &mut Output<'_, W>,
     errors: &mut Output<'_, E>,
 ) -> u8
     requires { map string_bytes files.now ≡ inputs_of items.now }
-    ensures { EndsJoining (L.known lists.now) items.now name.now text.now
+    ensures { EndsJoining (L.known lists.now) items.now (map named_text read.now)
         (ending output.old output.new errors.old errors.new result) }
 {
-    let networks = match networks_of(alloc, name, text, rules_of(items), errors) {
-        Ok(networks) => networks,
-        Err(fault) => {
-            tell_take_fault(name, fault, errors);
-            return FAILED;
-        }
+    let Some(networks) = take_lists(alloc, read, rules_of(items), errors) else {
+        return FAILED;
     };
     let Ok(routes) = Routes::of(alloc, networks) else {
         return refuse_memory(errors);

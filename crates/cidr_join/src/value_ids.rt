@@ -160,8 +160,8 @@ fn number_each<'a, N: OfEither>(
     RouteIndex::from_table(alloc, numbers)
 }
 
-// Adds an item after the others.
-fn put<T: Drop>(items: &mut Vec<T>, item: T) -> Result<(), AllocError>
+/// Adds an item after the others.
+pub(crate) fn put<T: Drop>(items: &mut Vec<T>, item: T) -> Result<(), AllocError>
     ensures { OnOk result (items.new.items ≡ items.old.items ++ item ∷ []) }
 {
     items.push(item)?;

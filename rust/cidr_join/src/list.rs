@@ -1,6 +1,6 @@
 // Written by scripts/plain out of crates/cidr_join/src/list.rt
 
-//! Reads the networks of a list with their values.
+//! Takes the networks of lists with their values.
 
 use crate::line::{Cause, read_route};
 use crate::routes::{Networks, RouteFault, set_one, set_range};
@@ -38,34 +38,44 @@ pub struct TakeFault {
 /// is.
 const TOLD_MAX: usize = 100;
 
-/// What was taken of the lines of a list.
+/// What was taken of the lines of lists.
 pub struct Listing<'a> {
     pub(crate) networks: Networks<'a>,
-    // How many lines there were.
+    // How many lines of the last list there were.
     pub(crate) lines: usize,
     // How many of them were refused and left out.
     pub(crate) skipped: usize,
 }
 
-/// Takes the lines of the list with this name by these rules, and returns its networks and values.
-pub(crate) fn networks_of<'a, E: Write>(
-    alloc: Global,
+impl<'a> Listing<'a> {
+    /// The state before the first list.
+    pub(crate) fn new(alloc: Global) -> Listing<'a> {
+        Listing {
+            networks: Networks::new(alloc),
+            lines: 0,
+            skipped: 0,
+        }
+    }
+
+    /// Returns the networks of the lists, with their values.
+    pub(crate) fn into_networks(self) -> Networks<'a> {
+        self.networks
+    }
+}
+
+/// Takes the lines of the list with this name by these rules, after those of other lists.
+pub(crate) fn take_list<'a, E: Write>(
+    listing: &mut Listing<'a>,
     name: &str,
     text: &'a [u8],
     rules: ListRules,
     errors: &mut Output<'_, E>,
-) -> Result<Networks<'a>, TakeFault> {
-    let mut listing = Listing {
-        networks: Networks::new(alloc),
-        lines: 0,
-        skipped: 0,
-    };
-    let end = take_lines(&mut listing, name, text, rules, errors);
+) -> Result<(), TakeFault> {
+    listing.lines = 0;
+    listing.skipped = 0;
+    let end = take_lines(listing, name, text, rules, errors);
     tell_more(listing.skipped.saturating_sub(TOLD_MAX) as u64, errors);
-    match end {
-        Ok(()) => Ok(listing.networks),
-        Err(fault) => Err(fault),
-    }
+    end
 }
 
 // Takes the lines of the list with this name.

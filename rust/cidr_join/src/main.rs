@@ -22,6 +22,7 @@ mod logs;
 mod longest;
 mod missing;
 mod printing;
+mod reading;
 mod routes;
 mod rows;
 mod run;

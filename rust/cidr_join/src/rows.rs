@@ -52,12 +52,11 @@ const ROWS: [Row; 19] = log_rows![
     long!("--networks", Flag, false, ""),
 ];
 
-// The options that may not be given together; `-f` may be given only once.
-const PAIRS: [Pair; 12] = log_pairs![
+// The options that may not be given together.
+const PAIRS: [Pair; 11] = log_pairs![
     [],
     [
         pair!(TALLY, LAST, "--last does not go with --tally"),
-        pair!(LIST, LIST, "-f is given more than once"),
         pair!(
             GROUP,
             LIST,

@@ -8,17 +8,17 @@ use crate::answers::Answers;
 use crate::help::{HELP, PROGRAM, USAGE, VERSION};
 use crate::join::Join;
 use crate::lengths::Lengths;
-use crate::list::{ListRules, networks_of};
+use crate::list::ListRules;
 use crate::logs::join_logs;
 use crate::missing::status;
+use crate::reading::{ReadList, read_lists, take_lists};
 use crate::routes::Routes;
 use crate::rows::{BAD, GROUP, LAST, LAST_WINS, NETWORK, NETWORKS, SKIPS_BAD, TALLY, ZERO, table};
 use crate::tally_logs::tally_logs;
-use crate::telling::{tell_bytes_fault, tell_take_fault};
 use cidr_programs::lines::output::Output;
-use cidr_programs::lists::{OpenLists, read_bytes};
+use cidr_programs::lists::OpenLists;
 use cidr_programs::log_programs::areas::area_of;
-use cidr_programs::log_programs::rows::{LIST, MAPPED};
+use cidr_programs::log_programs::rows::MAPPED;
 use cidr_programs::log_programs::without_address::bad_in;
 use cidr_programs::options::asking::{About, asked};
 use cidr_programs::options::faults::{Subject, about};
@@ -31,9 +31,6 @@ use cidr_programs::program::log_reader::BUFFER_LEN;
 use cidr_programs::program::memory::refuse_memory;
 use fosibegan::plain_std::alloc::Global;
 use fosibegan::plain_std::io::Write;
-
-/// The most bytes of a list.
-const LIST_MAX: usize = 1_073_741_824;
 
 /// Does what the words after the program's name ask for, and returns the exit status.
 pub(crate) fn run<L: OpenLists, W: Write, E: Write>(
@@ -91,23 +88,10 @@ fn join_files<L: OpenLists, W: Write, E: Write>(
         let answers = Answers::Blocks(lengths);
         return join_by(alloc, items, files, answers, lists, output, errors);
     }
-    let name = value_of(items, LIST);
-    match read_bytes(alloc, lists, name, LIST_MAX) {
-        Ok(text) => join_to(
-            alloc,
-            items,
-            files,
-            name,
-            text.as_slice(),
-            lists,
-            output,
-            errors,
-        ),
-        Err(fault) => {
-            tell_bytes_fault(name, fault, errors);
-            FAILED
-        }
-    }
+    let Some(read) = read_lists(alloc, lists, items, errors) else {
+        return FAILED;
+    };
+    join_to(alloc, items, files, read.as_slice(), lists, output, errors)
 }
 
 // The lengths of the blocks in which lines are grouped, if they are.
@@ -123,18 +107,13 @@ fn join_to<L: OpenLists, W: Write, E: Write>(
     alloc: Global,
     items: &[Item<'_>],
     files: &[String],
-    name: &str,
-    text: &[u8],
+    read: &[ReadList<'_>],
     lists: &L,
     output: &mut Output<'_, W>,
     errors: &mut Output<'_, E>,
 ) -> u8 {
-    let networks = match networks_of(alloc, name, text, rules_of(items), errors) {
-        Ok(networks) => networks,
-        Err(fault) => {
-            tell_take_fault(name, fault, errors);
-            return FAILED;
-        }
+    let Some(networks) = take_lists(alloc, read, rules_of(items), errors) else {
+        return FAILED;
     };
     let Ok(routes) = Routes::of(alloc, networks) else {
         return refuse_memory(errors);

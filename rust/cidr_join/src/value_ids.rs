@@ -125,8 +125,8 @@ fn number_each<'a, N: OfEither>(
     RouteIndex::from_table(alloc, numbers)
 }
 
-// Adds an item after the others.
-fn put<T>(items: &mut Vec<T>, item: T) -> Result<(), AllocError> {
+/// Adds an item after the others.
+pub(crate) fn put<T>(items: &mut Vec<T>, item: T) -> Result<(), AllocError> {
     items.push(item)?;
     Ok(())
 }

@@ -1,18 +1,25 @@
 -- How the lines of a list are taken, step by step.
-use Rattle.std.specs.Prelude.{◌≡◌, ℕ, List, length, None, Result, Ok, Err}
+use Rattle.std.specs.Prelude.{◌≡◌, ◌⊎◌, ℕ, List, length, codes, None, Result, Ok, Err}
 use Rattle.lines.specs.Outputs.{Written}
+use Rattle.lists.specs.KnownLists.{KnownLists}
 use Rattle.program.specs.Messages.{Reports}
+use Rattle.cidr_join.specs.Lists.{NotRead}
 use Rattle.cidr_join.specs.Reported.{first_refused_text}
-use Rattle.cidr_join.specs.Routes.{no_networks}
-use Rattle.cidr_join.specs.Takes.{Refused, Listed, nothing_listed, left_out, LineFails, TakesNext, TakesLines}
+use Rattle.cidr_join.specs.Takes.{Refused, Listed, listed_from, left_out, LineFails, TakesNext, TakesLines}
 use Rattle.cidr_join.specs.Takes.{StopsTaking}
 use Rattle.cidr_join.specs.declared.list.Listing.{Listing}
 use Rattle.cidr_join.specs.declared.list.ListRules.{ListRules}
 use Rattle.cidr_join.specs.declared.list.TakeFault.{TakeFault}
+use Rattle.cidr_join.specs.declared.routes.Networks.{Networks}
 
--- the state before the first line
-abbrev pub nothing_taken : Listing
-nothing_taken = record { networks = no_networks; lines = 0; skipped = 0 }
+-- not all lists with these names were read, or memory ran out; which of the two was reported
+abbrev pub TellsUnread : {E : Type 0} → KnownLists → List (List ℕ) → Written E → Written E → Type 0
+TellsUnread known names errors told = (text : List ℕ) × ((text ≡ codes "out of memory\n") ⊎ NotRead known names text)
+    × Reports errors told text
+
+-- the state before the first line of a list, given the networks of the lists before it
+abbrev pub nothing_taken : Networks → Listing
+nothing_taken networks = record { networks = networks; lines = 0; skipped = 0 }
 
 -- this number of lines was left out, and the first hundred of them were reported
 pub record TellsFirst {E : Type 0} (name : List ℕ) (begun now : Written E) (skipped : ℕ)
@@ -43,9 +50,9 @@ pub record FailsNext {E : Type 0} (rules : ListRules) (line : List ℕ) (errors 
   pub silent : told ≡ errors
 
 -- these lines were taken or left out, or one has the fault
-abbrev pub EndsLines : {E : Type 0} → List ℕ → ListRules → List (List ℕ) → Written E → Written E → Listing
+abbrev pub EndsLines : {E : Type 0} → List ℕ → ListRules → Networks → List (List ℕ) → Written E → Written E → Listing
     → Result (Unit {0}) TakeFault → Type 0
-EndsLines name rules lines errors told listing (Ok done) = (listed : Listed)
-    × TakesLines rules nothing_listed lines listed × IsListed name errors told listing listed
-EndsLines name rules lines errors told listing (Err fault) = (refused : List Refused)
-    × StopsTaking rules nothing_listed lines fault refused × TellsFirst name errors told listing.skipped refused
+EndsLines name rules before lines errors told listing (Ok done) = (listed : Listed)
+    × TakesLines rules (listed_from before) lines listed × IsListed name errors told listing listed
+EndsLines name rules before lines errors told listing (Err fault) = (refused : List Refused)
+    × StopsTaking rules (listed_from before) lines fault refused × TellsFirst name errors told listing.skipped refused

@@ -8,7 +8,7 @@ lines-init g c = record {
   within = omega arith;
   few = omega (arith, ap (λ l. l.lines) c.requires);
   skips = omega (arith, ap (λ l. l.skipped) c.requires);
-  taken = none_taken c.args.name.now c.args.rules c.args.text.now c.args.errors.now c.args.listing.now c.requires (tells_nothing c.args.errors.now);
+  taken = none_taken c.args.name.now c.args.rules c.args.listing.now.networks c.args.text.now c.args.errors.now c.args.listing.now c.requires (tells_nothing c.args.errors.now);
 }
 
 pub lines-preserved : goal.lines-preserved
@@ -16,16 +16,16 @@ lines-preserved g c = record {
   within = omega (arith, c.in-Some.ensures.within);
   few = omega (arith, c.lines.invariant.few, c.in-Some.ensures.behind, c.take_next.ensures.lines);
   skips = c.take_next.ensures.few;
-  taken = line_more c.args.name.now c.args.rules c.args.text.now c.lines.at c.args.errors.now c.lines.errors c.take_next.new.errors c.lines.listing c.take_next.new.listing c.lines.invariant.taken
+  taken = line_more c.args.name.now c.args.rules c.args.listing.now.networks c.args.text.now c.lines.at c.args.errors.now c.lines.errors c.take_next.new.errors c.lines.listing c.take_next.new.listing c.lines.invariant.taken
       c.in-Some.end c.in-Some.ensures c.in_default-take_next.ensures.ok;
 }
 
 pub returns-in-Err : goal.returns-in-Err
 returns-in-Err g c =
-    line_stops c.args.name.now c.args.rules c.args.text.now c.lines.at c.args.errors.now c.lines.errors c.take_next.new.errors c.lines.listing c.take_next.new.listing c.lines.invariant.taken
+    line_stops c.args.name.now c.args.rules c.args.listing.now.networks c.args.text.now c.lines.at c.args.errors.now c.lines.errors c.take_next.new.errors c.lines.listing c.take_next.new.listing c.lines.invariant.taken
     c.in-Some.end c.in-Some.ensures c.in-Err.fault c.in-Err.ensures.err
 
 pub returns : goal.returns
 returns g c =
-    all_taken c.args.name.now c.args.rules c.args.text.now c.lines.at c.args.errors.now c.lines.errors c.take_next-2.new.errors c.lines.listing c.take_next-2.new.listing c.lines.invariant.taken
+    all_taken c.args.name.now c.args.rules c.args.listing.now.networks c.args.text.now c.lines.at c.args.errors.now c.lines.errors c.take_next-2.new.errors c.lines.listing c.take_next-2.new.listing c.lines.invariant.taken
     c.in_default.ensures c.take_next-2.result c.take_next-2.ensures.ok c.take_next-2.ensures.err

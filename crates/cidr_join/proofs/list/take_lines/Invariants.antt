@@ -7,7 +7,7 @@ invariant-lines g l = record {
   within : l.at ≤ length l.text;
   few : l.listing.lines ≤ l.at;
   skips : l.listing.skipped ≤ l.listing.lines;
-  taken : Taken l.name l.rules l.text l.at l.initial.errors l.errors l.listing;
+  taken : Taken l.name l.rules l.initial.listing.networks l.text l.at l.initial.errors l.errors l.listing;
 }
 
 abbrev pub decreases-lines : goal.decreases-lines

@@ -1,0 +1,73 @@
+-- The lists of a run: they are read, and then their lines are taken in turn.
+use Rattle.std.specs.Prelude.{◌≡◌, ◌⊎◌, ◌==◌, ℕ, List, [], ◌∷◌, ◌++◌, if◌then◌else◌}
+use Rattle.std.specs.List.{slice_split}
+use Rattle.lists.specs.Bytes.{IsAllOf, BytesStop}
+use Rattle.lists.specs.KnownLists.{KnownLists}
+use Rattle.lists.specs.declared.bytes.BytesFault.{BytesFault}
+use Rattle.log_programs.specs.Rows as rows
+use Rattle.options.specs.declared.items.Item.{Item}
+use Rattle.options.specs.declared.items.Item.TheVariants as says
+use Rattle.cidr_join.specs.Reported.{bytes_fault_text, refused_text, take_fault_text}
+use Rattle.cidr_join.specs.Takes.{Refused, Listed, listed_from, TakesLines, StopsTaking}
+use Rattle.cidr_join.specs.declared.list.ListRules.{ListRules}
+use Rattle.cidr_join.specs.declared.list.TakeFault.{TakeFault}
+use Rattle.cidr_join.specs.declared.reading.ReadList.{ReadList}
+use Rattle.cidr_join.specs.declared.routes.Networks.{Networks}
+
+-- the name of the list that an option reads, if it is `-f`
+abbrev pub list_by : ℕ → List ℕ → List (List ℕ)
+list_by row name = if row == rows.list then name ∷ [] else []
+
+abbrev pub list_in : Item → List (List ℕ)
+list_in (says.Value row name) = list_by row name
+list_in (says.Joined row name word) = list_by row name
+list_in item = []
+
+-- the names of the lists, in their order
+abbrev pub lists_of : List Item → List (List ℕ)
+lists_of [] = []
+lists_of (item ∷ items) = list_in item ++ lists_of items
+
+-- a list by its name and its bytes
+pub record NamedText : Type 0 where
+  pub name : List ℕ
+  pub text : List ℕ
+
+abbrev pub named_text : ReadList → NamedText
+named_text list = record { name = list.name; text = list.text.items }
+
+-- the lists of these names were read, in turn
+abbrev pub AreRead : KnownLists → List (List ℕ) → List NamedText → Type 0
+AreRead known [] lists = lists ≡ []
+AreRead known (name ∷ names) lists = (text : List ℕ) × (others : List NamedText) × IsAllOf known name text
+    × AreRead known names others × (lists ≡ record { name = name; text = text } ∷ others)
+
+-- one was not, since it has more than 1,073,741,824 bytes or for another cause, and this is reported of it; those
+-- before it were
+abbrev pub NotRead : KnownLists → List (List ℕ) → List ℕ → Type 0
+NotRead known [] told = ⊥
+NotRead known (name ∷ names) told =
+    ((fault : BytesFault) × BytesStop known name 1073741824 fault × (told ≡ bytes_fault_text name fault))
+    ⊎ ((text : List ℕ) × IsAllOf known name text × NotRead known names told)
+
+-- the lines of a list
+abbrev pub lines_of : NamedText → List (List ℕ)
+lines_of list = slice_split (λ b. b == 10) list.text
+
+-- the lines of these lists were taken, in turn: these are the networks then, and this is reported of lines that are
+-- left out
+abbrev pub TakesLists : ListRules → Networks → List NamedText → Networks → List ℕ → Type 0
+TakesLists rules before [] after told = (after ≡ before) × (told ≡ [])
+TakesLists rules before (list ∷ lists) after told = (listed : Listed) × (texts : List ℕ)
+    × TakesLines rules (listed_from before) (lines_of list) listed × TakesLists rules listed.networks lists after texts
+    × (told ≡ refused_text list.name listed.refused ++ texts)
+
+-- a line of one of them has a fault, which is reported after those that are left out before it
+abbrev pub StopsAtList : ListRules → Networks → List NamedText → List ℕ → Type 0
+StopsAtList rules before [] told = ⊥
+StopsAtList rules before (list ∷ lists) told =
+    ((fault : TakeFault) × (refused : List Refused)
+    × StopsTaking rules (listed_from before) (lines_of list) fault refused
+    × (told ≡ refused_text list.name refused ++ take_fault_text list.name fault))
+    ⊎ ((listed : Listed) × (texts : List ℕ) × TakesLines rules (listed_from before) (lines_of list) listed
+    × StopsAtList rules listed.networks lists texts × (told ≡ refused_text list.name listed.refused ++ texts))

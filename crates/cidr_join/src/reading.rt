@@ -1,0 +1,141 @@
+//! Reads the lists of a run, and takes their lines.
+ghost use Rattle.std.specs.Prelude.{◌≡◌, ◌∷◌, ◌++◌, [], List, ℕ, map, MatchOption};
+ghost use Rattle.program.specs.Messages.{Reports};
+ghost use Rattle.cidr_join.specs.Lists.{AreRead, NamedText, StopsAtList, TakesLists, list_by, list_in, lists_of, named_text};
+ghost use Rattle.cidr_join.specs.Private.Listing.{TellsUnread};
+ghost use Rattle.cidr_join.specs.Routes.{no_networks};
+
+use crate::list::{ListRules, Listing, take_list};
+use crate::routes::Networks;
+use crate::telling::{tell_bytes_fault, tell_take_fault};
+use crate::value_ids::put;
+use lines::output::Output;
+use lists::{OpenLists, read_bytes};
+use log_programs::rows::LIST;
+use options::items::{Item, Text};
+use program::messages::tell;
+use std::alloc::Global;
+use std::io::Write;
+
+/// The most bytes of a list.
+const LIST_MAX: usize = 1_073_741_824;
+
+/// A list that was read.
+#[derive(Drop)]
+pub struct ReadList<'a> {
+    /// Its name.
+    pub(crate) name: Text<'a>,
+    /// Its bytes.
+    pub(crate) text: Vec<u8>,
+}
+
+/// Reads the lists that the options name, in their order. If one is not read to its end, the cause
+/// is reported, and there is no answer.
+pub(crate) fn read_lists<'a, L: OpenLists, E: Write>(
+    alloc: Global,
+    lists: &L,
+    items: &[Item<'a>],
+    errors: &mut Output<'_, E>,
+) -> Option<Vec<ReadList<'a>>>
+    ensures { MatchOption result
+        (TellsUnread (L.known lists.now) (lists_of items.now) errors.old errors.new)
+        (λ read. AreRead (L.known lists.now) (lists_of items.now) (map named_text read.items)
+        × (errors.new ≡ errors.old)) }
+{
+    let mut read = Vec::new(alloc);
+    let mut at = 0;
+    'items: while at < items.len() {
+        let Some(()) = read_item(alloc, lists, &items[at], &mut read, errors) else {
+            return None;
+        };
+        at += 1;
+    }
+    Some(read)
+}
+
+// Reads the list that an option names, if it names one. If it is not read to its end, the cause is
+// reported, and there is no answer.
+fn read_item<'a, L: OpenLists, E: Write>(
+    alloc: Global,
+    lists: &L,
+    item: &Item<'a>,
+    read: &mut Vec<ReadList<'a>>,
+    errors: &mut Output<'_, E>,
+) -> Option<()>
+    ensures { MatchOption result
+        (TellsUnread (L.known lists.now) (list_in item.now) errors.old errors.new)
+        (λ _. (more : List NamedText) × AreRead (L.known lists.now) (list_in item.now) more
+        × (map named_text read.new.items ≡ map named_text read.old.items ++ more)
+        × (errors.new ≡ errors.old)) }
+{
+    let Some(name) = list_in(item) else {
+        return Some(());
+    };
+    match read_bytes(alloc, lists, name, LIST_MAX) {
+        Ok(text) => match put(
+            read,
+            ReadList {
+                name: Text::new(name),
+                text,
+            },
+        ) {
+            Ok(()) => Some(()),
+            Err(_) => {
+                tell("out of memory\n", errors);
+                None
+            }
+        },
+        Err(fault) => {
+            tell_bytes_fault(name, fault, errors);
+            None
+        }
+    }
+}
+
+// The name of the list that an option reads, if it is `-f`.
+fn list_in<'a>(item: &Item<'a>) -> Option<&'a str>
+    ensures { MatchOption result (list_in item.now ≡ [])
+        (λ name. list_in item.now ≡ name.now ∷ []) }
+{
+    match item {
+        Item::Value(row, name) | Item::Joined(row, name, _) => list_by(*row, name.as_str()),
+        _ => None,
+    }
+}
+
+// That of an option of this row and value.
+fn list_by(row: usize, name: &str) -> Option<&str>
+    ensures { MatchOption result (list_by row name.now ≡ [])
+        (λ one. list_by row name.now ≡ one.now ∷ []) }
+{
+    if row == LIST { Some(name) } else { None }
+}
+
+/// The networks and values of the lines of the lists, taken in turn by these rules. If a line ends
+/// that, its fault is reported, and there is no answer.
+pub(crate) fn take_lists<'a, E: Write>(
+    alloc: Global,
+    lists: &'a [ReadList<'_>],
+    rules: ListRules,
+    errors: &mut Output<'_, E>,
+) -> Option<Networks<'a>>
+    ensures { MatchOption result
+        ((told : List ℕ) × StopsAtList rules no_networks (map named_text lists.now) told
+        × Reports errors.old errors.new told)
+        (λ networks. (told : List ℕ)
+        × TakesLists rules no_networks (map named_text lists.now) networks told
+        × Reports errors.old errors.new told) }
+{
+    let mut listing = Listing::new(alloc);
+    let mut at = 0;
+    'lists: while at < lists.len() {
+        let list = &lists[at];
+        let name = list.name.as_str();
+        if let Err(fault) = take_list(&mut listing, name, list.text.as_slice(), rules, errors) {
+            tell_take_fault(name, fault, errors);
+            return None;
+        }
+        at += 1;
+    }
+    Some(listing.into_networks())
+}

@@ -1,0 +1,114 @@
+// Written by scripts/plain out of crates/cidr_join/src/reading.rt
+
+//! Reads the lists of a run, and takes their lines.
+
+use fosibegan::plain_std::vec::Vec;
+use crate::list::{ListRules, Listing, take_list};
+use crate::routes::Networks;
+use crate::telling::{tell_bytes_fault, tell_take_fault};
+use crate::value_ids::put;
+use cidr_programs::lines::output::Output;
+use cidr_programs::lists::{OpenLists, read_bytes};
+use cidr_programs::log_programs::rows::LIST;
+use cidr_programs::options::items::{Item, Text};
+use cidr_programs::program::messages::tell;
+use fosibegan::plain_std::alloc::Global;
+use fosibegan::plain_std::io::Write;
+
+/// The most bytes of a list.
+const LIST_MAX: usize = 1_073_741_824;
+
+/// A list that was read.
+pub struct ReadList<'a> {
+    /// Its name.
+    pub(crate) name: Text<'a>,
+    /// Its bytes.
+    pub(crate) text: Vec<u8>,
+}
+
+/// Reads the lists that the options name, in their order. If one is not read to its end, the cause
+/// is reported, and there is no answer.
+pub(crate) fn read_lists<'a, L: OpenLists, E: Write>(
+    alloc: Global,
+    lists: &L,
+    items: &[Item<'a>],
+    errors: &mut Output<'_, E>,
+) -> Option<Vec<ReadList<'a>>> {
+    let mut read = Vec::new(alloc);
+    let mut at = 0;
+    'items: while at < items.len() {
+        let Some(()) = read_item(alloc, lists, &items[at], &mut read, errors) else {
+            return None;
+        };
+        at += 1;
+    }
+    Some(read)
+}
+
+// Reads the list that an option names, if it names one. If it is not read to its end, the cause is
+// reported, and there is no answer.
+fn read_item<'a, L: OpenLists, E: Write>(
+    alloc: Global,
+    lists: &L,
+    item: &Item<'a>,
+    read: &mut Vec<ReadList<'a>>,
+    errors: &mut Output<'_, E>,
+) -> Option<()> {
+    let Some(name) = list_in(item) else {
+        return Some(());
+    };
+    match read_bytes(alloc, lists, name, LIST_MAX) {
+        Ok(text) => match put(
+            read,
+            ReadList {
+                name: Text::new(name),
+                text,
+            },
+        ) {
+            Ok(()) => Some(()),
+            Err(_) => {
+                tell("out of memory\n", errors);
+                None
+            }
+        },
+        Err(fault) => {
+            tell_bytes_fault(name, fault, errors);
+            None
+        }
+    }
+}
+
+// The name of the list that an option reads, if it is `-f`.
+fn list_in<'a>(item: &Item<'a>) -> Option<&'a str> {
+    match item {
+        Item::Value(row, name) | Item::Joined(row, name, _) => list_by(*row, name.as_str()),
+        _ => None,
+    }
+}
+
+// That of an option of this row and value.
+fn list_by(row: usize, name: &str) -> Option<&str> {
+    if row == LIST { Some(name) } else { None }
+}
+
+/// The networks and values of the lines of the lists, taken in turn by these rules. If a line ends
+/// that, its fault is reported, and there is no answer.
+pub(crate) fn take_lists<'a, E: Write>(
+    alloc: Global,
+    lists: &'a [ReadList<'_>],
+    rules: ListRules,
+    errors: &mut Output<'_, E>,
+) -> Option<Networks<'a>> {
+    let mut listing = Listing::new(alloc);
+    let mut at = 0;
+    'lists: while at < lists.len() {
+        let list = &lists[at];
+        let name = list.name.as_str();
+        if let Err(fault) = take_list(&mut listing, name, list.text.as_slice(), rules, errors) {
+            tell_take_fault(name, fault, errors);
+            return None;
+        }
+        at += 1;
+    }
+    Some(listing.into_networks())
+}
