@@ -11,11 +11,11 @@ _arguments \
     '*--nth=[use only this one of the addresses found]:value:(first last)' \
     '*--after=[the address is the first one after the first TEXT in a line]:text: ' \
     '*--mapped[treat an address \:\:ffff\:A.B.C.D of a line as A.B.C.D]' \
-    '*--networks[look up a network in a line too]' \
+    '*--networks[also look up the networks in a line]' \
     '*--last[print the value after the line and a tab]' \
     '*--network[print the network instead of its value]' \
     '*--tally[print for each value the number of lines that have it]' \
-    '*--zero[print the values of the list that no line has too]' \
+    '*--zero[also print the values of the list that no line has]' \
     '*--group=[print before each line the block of length N that has its address]:lengths: ' \
     '*--bad=[a line without an address]:value:(drop keep stop report)' \
     '--quiet[do not show on a terminal how much was read]' \

@@ -2,8 +2,8 @@
 set -l tasks union common minus differ list split check overlaps find
 complete -c cidr_merge -n "not __fish_seen_subcommand_from $tasks" -f -a union -d "The addresses of any of the files"
 complete -c cidr_merge -n "not __fish_seen_subcommand_from $tasks" -f -a common -d "The addresses of both sides"
-complete -c cidr_merge -n "not __fish_seen_subcommand_from $tasks" -f -a minus -d "The addresses of the first side alone"
-complete -c cidr_merge -n "not __fish_seen_subcommand_from $tasks" -f -a differ -d "The addresses of either side alone"
+complete -c cidr_merge -n "not __fish_seen_subcommand_from $tasks" -f -a minus -d "The addresses of only the first side"
+complete -c cidr_merge -n "not __fish_seen_subcommand_from $tasks" -f -a differ -d "The addresses of only one of the sides"
 complete -c cidr_merge -n "not __fish_seen_subcommand_from $tasks" -f -a list -d "Each address of any of the files"
 complete -c cidr_merge -n "not __fish_seen_subcommand_from $tasks" -f -a split -d "The networks of union, in pieces of length N"
 complete -c cidr_merge -n "not __fish_seen_subcommand_from $tasks" -f -a check -d "Wrong entries"

@@ -6,8 +6,8 @@ if (( CURRENT <= at )); then
     _values 'task' \
         'union[the addresses of any of the files]' \
         'common[the addresses of both sides]' \
-        'minus[the addresses of the first side alone]' \
-        'differ[the addresses of either side alone]' \
+        'minus[the addresses of only the first side]' \
+        'differ[the addresses of only one of the sides]' \
         'list[each address of any of the files]' \
         'split[the networks of union, in pieces of length N]' \
         'check[wrong entries]' \

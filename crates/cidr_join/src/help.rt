@@ -27,7 +27,7 @@ Prints the lines of logs, each with the value that a list gives its address.
                     the one that --nth selects; a line without TEXT has none: --after SRC=. Not with
                     -a, -k, -d or -w
     --mapped        treat an address ::ffff:A.B.C.D of a line as A.B.C.D
-    --networks      look up a network in a line (10.1.0.0/16) too, by the longest network of the
+    --networks      also look up the networks in a line (10.1.0.0/16), by the longest network of the
                     list, or the block of --group, that has all its addresses; without this option
                     only its address is looked up
     --last          print the value after the line and a tab, not before it
@@ -36,7 +36,7 @@ Prints the lines of logs, each with the value that a list gives its address.
     --tally         count lines: print for each value the number of lines that have it, a tab and
                     the value, the greatest number first, values with the same number in the order
                     of their bytes. Lines without a value count under a minus sign. Not with --last
-    --zero          print the values of the list that no line has too, or with --network its
+    --zero          also print the values of the list that no line has, or with --network its
                     networks, with the number 0. Only with --tally
     --group N,M     use no list: print before each line the block of length N that has its address,
                     or for IPv6 that of length M: --group 24,64. Not with -f, --network,

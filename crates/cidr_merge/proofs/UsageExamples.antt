@@ -68,7 +68,7 @@ pub sides_before_names : {Z : Type 0}
     × Have Z (codes "union" ∷ [] ∷ codes "--" ∷ codes "b" ∷ []) (codes "--: " ++ one_side)
     × Have Z (codes "differ" ∷ codes "a" ∷ codes "--" ∷ codes "--" ∷ []) (codes "--: only one -- is taken")
     × Have Z (codes "union" ∷ codes "--ranges" ∷ []) (codes "union: no FILE; - is standard input")
-    × Have Z (codes "minus" ∷ codes "a" ∷ []) (codes "minus: no -- with a FILE behind it")
+    × Have Z (codes "minus" ∷ codes "a" ∷ []) (codes "minus: no -- with a FILE after it")
     × Have Z (codes "minus" ∷ [] ∷ codes "--" ∷ codes "--count" ∷ []) (codes "--: no FILE after it")
     × Have Z (codes "find" ∷ codes "--" ∷ codes "a" ∷ []) (codes "--: no ADDRESS before it, and no --from FILE")
 sides_before_names = (
@@ -87,7 +87,7 @@ pub options_of_others : {Z : Type 0}
     → Have Z (codes "union" ∷ codes "--prefix" ∷ []) (codes "--prefix: " ++ no_option (tasks.Merge Union))
     × Have Z (codes "check" ∷ codes "a" ∷ codes "--format=x" ∷ []) (codes "--format: " ++ no_option tasks.Check)
     × Have Z (codes "common" ∷ codes "--quiet" ∷ []) (codes "--quiet: taken only once, as the first word")
-    × Have Z (codes "union" ∷ codes "a" ∷ codes "--help" ∷ []) (codes "--help: taken only alone")
+    × Have Z (codes "union" ∷ codes "a" ∷ codes "--help" ∷ []) (codes "--help: not the only argument")
     × Have Z (codes "overlaps" ∷ codes "-x" ∷ []) (codes "-x: not an option of overlaps; it takes -e TEXT")
     × Have Z (codes "split" ∷ codes "a" ∷ codes "--skip-bad" ∷ []) (codes "split: no --prefix N")
     × Have Z (codes "split" ∷ codes "--prefix" ∷ codes "129" ∷ []) (codes "129: " ++ problem_at table.rows.now prefix)

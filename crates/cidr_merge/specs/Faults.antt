@@ -41,7 +41,7 @@ problem_of_row rows row usual = alone_or (kind_at rows row) (problem_at rows row
 
 -- the problem with a first word that names no task
 abbrev pub unnamed : List ℕ
-unnamed = codes "not an operation; options stand behind one"
+unnamed = codes "not an operation; options come after one"
 
 abbrev pub no_task_of : List Row → List ℕ → Option ℕ → Fault
 no_task_of rows word None = at word unnamed
@@ -153,7 +153,7 @@ abbrev pub sides_fault : Task → List ℕ → ℕ → ℕ → ℕ → Option Fa
 sides_fault task name dashes first second =
     if not (is_two_sided task) then (if nat_lt 0 dashes then Some (at (codes "--") one_side)
     else if first == 0 then Some (at name (codes "no FILE; - is standard input")) else None)
-    else if dashes == 0 then Some (at name (codes "no -- with a FILE behind it"))
+    else if dashes == 0 then Some (at name (codes "no -- with a FILE after it"))
     else if nat_lt 1 dashes then Some (at (codes "--") (codes "only one -- is taken"))
     else if first == 0 then Some (at (codes "--") (no_first task))
     else if second == 0 then Some (at (codes "--") (codes "no FILE after it"))

@@ -62,8 +62,8 @@ entries =
     ∷ long (codes "--prefix") kinds.Text true (codes "not a prefix length, 0 to 128")
     ∷ long (codes "--from") kinds.File true []
     ∷ valued (codes "e") kinds.Text []
-    ∷ alone (codes "--help") (codes "taken only alone")
-    ∷ alone (codes "--version") (codes "taken only alone")
+    ∷ alone (codes "--help") (codes "not the only argument")
+    ∷ alone (codes "--version") (codes "not the only argument")
     ∷ alone (codes "--quiet") (codes "taken only once, as the first word") ∷ []
 
 -- the pairs of options that exclude each other: two output forms, or an option with a value given twice

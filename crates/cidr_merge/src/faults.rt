@@ -43,7 +43,7 @@ pub(crate) fn no_task_fault<'a>(rows: &[Row], word: &'a str) -> Fault<'a>
     if is_plain(word) {
         return at(word, "not an operation");
     }
-    let usual = "not an operation; options stand behind one";
+    let usual = "not an operation; options come after one";
     match named(rows, word) {
         Some(row) => at(word, problem_of_row(rows, row, usual)),
         None => at(word, usual),
@@ -235,7 +235,7 @@ fn sides_fault<'a>(
             None
         }
     } else if dashes == 0 {
-        Some(at(name, "no -- with a FILE behind it"))
+        Some(at(name, "no -- with a FILE after it"))
     } else if dashes > 1 {
         Some(at("--", "only one -- is taken"))
     } else if first == 0 {

@@ -65,8 +65,8 @@ const ROWS: [Row; 16] = [
     long!("--prefix", Text, true, "not a prefix length, 0 to 128"),
     long!("--from", File, true, ""),
     letter!(b'e', Text, ""),
-    long!("--help", Alone, false, "taken only alone"),
-    long!("--version", Alone, false, "taken only alone"),
+    long!("--help", Alone, false, "not the only argument"),
+    long!("--version", Alone, false, "not the only argument"),
     long!(
         "--quiet",
         Alone,

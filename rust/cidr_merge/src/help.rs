@@ -8,8 +8,8 @@ Merges lists of IP networks, and prints the shortest list with exactly the resul
 
     cidr_merge union  [OPTION..] FILE..             the addresses of any of the files
     cidr_merge common [OPTION..] FILE.. -- FILE..   the addresses of both sides
-    cidr_merge minus  [OPTION..] FILE.. -- FILE..   the addresses of the first side alone
-    cidr_merge differ [OPTION..] FILE.. -- FILE..   the addresses of either side alone
+    cidr_merge minus  [OPTION..] FILE.. -- FILE..   the addresses of only the first side
+    cidr_merge differ [OPTION..] FILE.. -- FILE..   the addresses of only one of the sides
     cidr_merge list   [OPTION..] FILE..             each address of any of the files
     cidr_merge split --prefix N [OPTION..] FILE..   the networks of union, in pieces of length N
     cidr_merge check  [--strict] FILE..             wrong entries; --strict: host bits, overlaps too
