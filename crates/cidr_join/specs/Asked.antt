@@ -1,4 +1,4 @@
--- The network of a line for which the list is asked.
+-- The network of a line, as it is looked up in the list.
 use Rattle.std.specs.Prelude.{ℕ, ◌-◌, Bool, List, Option, None, Some, Result, Ok, Err, nat_le, if◌then◌else◌}
 use Rattle.ipnetwork_addr.specs.Either.{unmapped}
 use Rattle.ipnetwork_addr.specs.declared.ip.IpAddr.{IpAddr}
@@ -21,7 +21,7 @@ network_read (Err fault) = None
 abbrev pub named_network : List ℕ → Option IpNetwork
 named_network text = network_read (ip_network_of text)
 
--- what was found in a line, as a network: that which its text names, if networks are looked for, or that of its one
+-- what was found in a line, as a network: the one that its text names, if networks are looked for, or that of its one
 -- address
 abbrev pub network_of : Bool → Spelled → Option IpNetwork
 network_of networks found = if networks then named_network found.text else Some (only found.address)
@@ -30,8 +30,8 @@ abbrev pub network_of_found : Bool → Option Spelled → Option IpNetwork
 network_of_found networks None = None
 network_of_found networks (Some found) = network_of networks found
 
--- the network for which the list is asked: of one whose addresses are all IPv4-mapped that of their IPv4 ones, if the
--- option says so
+-- the network that is looked up: with `--mapped`, a network whose addresses are all IPv4-mapped counts as the network
+-- of their IPv4 addresses
 abbrev pub unmapped_by : IpNetwork → IpAddr → IpNetwork
 unmapped_by network (addresses.V4 address) =
     if nat_le 96 (prefix_of network) then made_of (addresses.V4 address) (prefix_of network - 96) else network

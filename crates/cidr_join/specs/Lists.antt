@@ -1,4 +1,4 @@
--- The lists of a run: they are read, and then their lines are taken in turn.
+-- The lists of a run: all are read, and then their lines are taken in turn.
 use Rattle.std.specs.Prelude.{◌≡◌, ◌⊎◌, ◌==◌, ℕ, List, [], ◌∷◌, ◌++◌, if◌then◌else◌}
 use Rattle.std.specs.List.{slice_split}
 use Rattle.lists.specs.Bytes.{IsAllOf, BytesStop}
@@ -23,12 +23,12 @@ list_in (says.Value row name) = list_by row name
 list_in (says.Joined row name word) = list_by row name
 list_in item = []
 
--- the names of the lists, in their order
+-- the names of the lists, in order
 abbrev pub lists_of : List Item → List (List ℕ)
 lists_of [] = []
 lists_of (item ∷ items) = list_in item ++ lists_of items
 
--- a list by its name and its bytes
+-- a list, by its name and its bytes
 pub record NamedText : Type 0 where
   pub name : List ℕ
   pub text : List ℕ
@@ -36,14 +36,14 @@ pub record NamedText : Type 0 where
 abbrev pub named_text : ReadList → NamedText
 named_text list = record { name = list.name; text = list.text.items }
 
--- the lists of these names were read, in turn
+-- the lists with these names were read, in turn
 abbrev pub AreRead : KnownLists → List (List ℕ) → List NamedText → Type 0
 AreRead known [] lists = lists ≡ []
 AreRead known (name ∷ names) lists = (text : List ℕ) × (others : List NamedText) × IsAllOf known name text
     × AreRead known names others × (lists ≡ record { name = name; text = text } ∷ others)
 
--- one was not, since it has more than 1,073,741,824 bytes or for another cause, and this is reported of it; those
--- before it were
+-- a list with one of these names was not read, because it has more than 1,073,741,824 bytes or for another cause, which
+-- is reported; the lists before it were read
 abbrev pub NotRead : KnownLists → List (List ℕ) → List ℕ → Type 0
 NotRead known [] told = ⊥
 NotRead known (name ∷ names) told =
@@ -54,15 +54,15 @@ NotRead known (name ∷ names) told =
 abbrev pub lines_of : NamedText → List (List ℕ)
 lines_of list = slice_split (λ b. b == 10) list.text
 
--- the lines of these lists were taken, in turn: these are the networks then, and this is reported of lines that are
--- left out
+-- the lines of these lists were taken, in turn: `after` are the networks then, and `told` is reported about the lines
+-- that are left out
 abbrev pub TakesLists : ListRules → Networks → List NamedText → Networks → List ℕ → Type 0
 TakesLists rules before [] after told = (after ≡ before) × (told ≡ [])
 TakesLists rules before (list ∷ lists) after told = (listed : Listed) × (texts : List ℕ)
     × TakesLines rules (listed_from before) (lines_of list) listed × TakesLists rules listed.networks lists after texts
     × (told ≡ refused_text list.name listed.refused ++ texts)
 
--- a line of one of them has a fault, which is reported after those that are left out before it
+-- a line of one of the lists has a fault, which is reported after the lines that are left out before it
 abbrev pub StopsAtList : ListRules → Networks → List NamedText → List ℕ → Type 0
 StopsAtList rules before [] told = ⊥
 StopsAtList rules before (list ∷ lists) told =

@@ -113,8 +113,8 @@ EndsListed known items networks end =
     Refuses (codes "out of memory\n") end
     ⊎ EndsAsked (is_given items own.tally) (join_of items (answers_of items networks)) known (inputs_of items) end
 
--- how the run ends if the lists have these names and bytes: a line of one ends the run, and nothing is written; else the
--- lines that are left out are reported first
+-- how the run ends if the lists have these names and bytes: a line of one ends the run, and nothing is written; else
+-- the lines that are left out are reported first
 abbrev pub EndsJoining : {W E : Type 0} → KnownLists → List Item → List NamedText → Ending W E → Type 0
 EndsJoining {W} {E} known items lists end =
     ((text : List ℕ) × StopsAtList (rules_of items) no_networks lists text × Refuses text end)

@@ -22,7 +22,7 @@ pub(crate) fn network_of(part: &[u8], found: &Found, networks: bool) -> Option<I
     }
 }
 
-// The network that a text names.
+// Returns the network that a text names.
 fn named_network(text: &[u8]) -> Option<IpNetwork>
     ensures { result ≡ named_network text.now }
 {
@@ -33,7 +33,7 @@ fn named_network(text: &[u8]) -> Option<IpNetwork>
     }
 }
 
-/// The network for which the list is asked.
+/// Returns the network that is looked up in the list.
 #[inline(always)]
 pub(crate) fn asked_network(mapped: bool, network: IpNetwork) -> IpNetwork
     ensures { result ≡ asked_network mapped network }
@@ -45,7 +45,7 @@ pub(crate) fn asked_network(mapped: bool, network: IpNetwork) -> IpNetwork
     }
 }
 
-// The IPv4 network of an IPv4-mapped one, or another as it is.
+// Returns the IPv4 network of an IPv4-mapped one, and any other network unchanged.
 fn unmapped_network(network: IpNetwork) -> IpNetwork
     ensures { result ≡ unmapped_network network }
 {

@@ -49,7 +49,7 @@ const TOLD_MAX: usize = 100;
 #[derive(Drop)]
 pub struct Listing<'a> {
     pub(crate) networks: Networks<'a>,
-    // How many lines of the last list there were.
+    // The number of lines of the last list.
     pub(crate) lines: usize,
     // How many of them were refused and left out.
     pub(crate) skipped: usize,

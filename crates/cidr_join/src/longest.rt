@@ -26,7 +26,7 @@ pub(crate) fn longest_over<N: IndexedNetwork, V: Copy>(
     shorter_over(index.table(), network)
 }
 
-// The same of a table, which is asked for the block of each prefix length in turn.
+// Returns the same for a table, which is asked for the block of each prefix length in turn.
 fn shorter_over<N: IndexedNetwork, V: Copy>(table: &PrefixTable<N, V>, network: N) -> Option<(N, V)>
     ensures { FindsOver N.pair N.WIDTH table.now (N.pair network) result }
 {

@@ -17,20 +17,20 @@ use program::messages::tell;
 use std::alloc::Global;
 use std::io::Write;
 
-/// The most bytes of a list.
+/// The greatest number of bytes in a list.
 const LIST_MAX: usize = 1_073_741_824;
 
 /// A list that was read.
 #[derive(Drop)]
 pub struct ReadList<'a> {
-    /// Its name.
+    /// The name of the list.
     pub(crate) name: Text<'a>,
-    /// Its bytes.
+    /// The bytes of the list.
     pub(crate) text: Vec<u8>,
 }
 
-/// Reads the lists that the options name, in their order. If one is not read to its end, the cause
-/// is reported, and there is no answer.
+/// Reads the lists that the options name, in order. If one is not read to its end, the cause is
+/// reported, and `None` is returned.
 pub(crate) fn read_lists<'a, L: OpenLists, E: Write>(
     alloc: Global,
     lists: &L,
@@ -54,7 +54,7 @@ pub(crate) fn read_lists<'a, L: OpenLists, E: Write>(
 }
 
 // Reads the list that an option names, if it names one. If it is not read to its end, the cause is
-// reported, and there is no answer.
+// reported, and `None` is returned.
 fn read_item<'a, L: OpenLists, E: Write>(
     alloc: Global,
     lists: &L,
@@ -92,7 +92,7 @@ fn read_item<'a, L: OpenLists, E: Write>(
     }
 }
 
-// The name of the list that an option reads, if it is `-f`.
+// Returns the name of the list that an option reads, if the option is `-f`.
 fn list_in<'a>(item: &Item<'a>) -> Option<&'a str>
     ensures { MatchOption result (list_in item.now ≡ [])
         (λ name. list_in item.now ≡ name.now ∷ []) }
@@ -103,7 +103,7 @@ fn list_in<'a>(item: &Item<'a>) -> Option<&'a str>
     }
 }
 
-// That of an option of this row and value.
+// Returns the name of the list of an option with this row and value, if the row is that of `-f`.
 fn list_by(row: usize, name: &str) -> Option<&str>
     ensures { MatchOption result (list_by row name.now ≡ [])
         (λ one. list_by row name.now ≡ one.now ∷ []) }
@@ -111,8 +111,8 @@ fn list_by(row: usize, name: &str) -> Option<&str>
     if row == LIST { Some(name) } else { None }
 }
 
-/// The networks and values of the lines of the lists, taken in turn by these rules. If a line ends
-/// that, its fault is reported, and there is no answer.
+/// Takes the lines of the lists in turn, by these rules, and returns their networks and values. If a
+/// line has a fault that ends this, the fault is reported, and `None` is returned.
 pub(crate) fn take_lists<'a, E: Write>(
     alloc: Global,
     lists: &'a [ReadList<'_>],

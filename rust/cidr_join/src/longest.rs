@@ -22,7 +22,7 @@ pub(crate) fn longest_over<N: IndexedNetwork, V: Copy>(
     shorter_over(index.table(), network)
 }
 
-// The same of a table, which is asked for the block of each prefix length in turn.
+// Returns the same for a table, which is asked for the block of each prefix length in turn.
 fn shorter_over<N: IndexedNetwork, V: Copy>(table: &PrefixTable<N, V>, network: N) -> Option<(N, V)> {
     let mut length = network.prefix();
     'shorter: loop {
