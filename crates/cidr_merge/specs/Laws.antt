@@ -34,7 +34,8 @@ abbrev pub is_of : Task → Option ℕ → Bool
 is_of task None = false
 is_of task (Some row) = takes task row
 
--- no text but these ten is the long name of an option of a merge
+-- no text but these ten is the long name of an option of a merge; the empty text, which `-e` has in place of a long
+-- name, is left out
 abbrev pub NoOtherName : List Row → Type 0
 NoOtherName rows =
     (operation : Operation) (text : List ℕ) → text ≢ [] → text ≢ codes "--ranges" → text ≢ codes "--count"
