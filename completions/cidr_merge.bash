@@ -10,19 +10,20 @@ _cidr_merge() {
     local at=1 options=
     [ "${COMP_WORDS[1]}" = --quiet ] && at=2
     if [ "$COMP_CWORD" -le "$at" ]; then
-        COMPREPLY=($(compgen -W "union common minus differ list split check overlaps find --quiet --help --version" -- "$word"))
+        COMPREPLY=($(compgen -W "union common minus differ list split reduce check overlaps find --quiet --help --version" -- "$word"))
         return
     fi
     case "${COMP_WORDS[at]}" in
         union | common | minus | differ | list) options="-e --ranges --count --format --set --table --line-prefix --line-suffix --skip-bad --json --strict" ;;
         split) options="-e --prefix --line-prefix --line-suffix --skip-bad --json --strict" ;;
+        reduce) options="-e --ranges --count --format --set --table --line-prefix --line-suffix --skip-bad --json --strict --most" ;;
         check) options="-e --strict" ;;
         overlaps) options="-e" ;;
         find) options="-e --from" ;;
     esac
     case "$before" in
         --format) COMPREPLY=($(compgen -W "plain range netmask wildcard csv nft ipset json addresses" -- "$word")) ;;
-        --set | --table | --line-prefix | --line-suffix | --prefix | -e) COMPREPLY=() ;;
+        --set | --table | --line-prefix | --line-suffix | --prefix | -e | --most) COMPREPLY=() ;;
         --from) ;;
         *)
             if [[ "$word" == -* ]]; then

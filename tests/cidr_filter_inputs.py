@@ -86,7 +86,7 @@ def every_byte(program, folder):
             wanted = (b"", 2) if refused else ("".join(inside).encode(), 0 if inside else 1)
             output, error, status = run([program, "-f", "byte"], log, folder)
             lines = error.splitlines()
-            told = [line for line in lines if line.startswith(b"byte:") and b": refused " in line]
+            told = [line for line in lines if line.startswith(b"cidr_filter: byte:") and b": refused " in line]
             told = len(lines) == len(told) == refused
             wrong += [] if (output, status) == wanted and told else [(byte, output, error, status)]
         yield f"each byte {place} an entry", not wrong, wrong
@@ -180,7 +180,7 @@ def not_blocking(program, folder):
         got = (got.stdout, got.stderr, got.returncode)
         os.close(reader)
         os.close(writer)
-        yield f"{words}, input that does not block", got == (output, b"-: cannot read\n", 2), got
+        yield f"{words}, input that does not block", got == (output, b"cidr_filter: -: cannot read\n", 2), got
 
 
 WHOLE = (
@@ -285,4 +285,4 @@ def stretches(program, folder):
         log = b"".join(line for _, line in ended[:at]) + b"- refused\n" + b"".join(line for _, line in ended[at:])
         wanted = b"".join(line for first, line in ended[:at] if first == 10)
         got = run([program, *"-f list --bad stop".split()], log, folder)
-        yield f"stretches, stopped behind {at}", got == (wanted, b"-:%d: refused address\n" % (at + 1), 2), got[1:]
+        yield f"stretches, stopped behind {at}", got == (wanted, b"cidr_filter: -:%d: refused address\n" % (at + 1), 2), got[1:]

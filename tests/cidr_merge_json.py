@@ -169,7 +169,7 @@ def documents(program, folder):
         yield f"--json, seed {seed}", run(program, ["union", "--json", "made_up"], folder), (0, union([document]), b"")
         others = [place for place, text in enumerate(strings(document), 1) if entry(text) is None]
         status, output, error = run(program, ["union", "--strict", "--json", "made_up"], folder)
-        places = [int(line.split(b":")[1]) for line in error.splitlines()]
+        places = [int(line.split(b":")[2]) for line in error.splitlines()]
         wanted = (2, b"", others) if others else (0, union([document]), [])
         yield f"--strict, seed {seed}", (status, output, places), wanted
 

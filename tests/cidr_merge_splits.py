@@ -98,4 +98,4 @@ def splits(program, folder):
         yield words, run(program, words.split(), folder), wanted
     with open("/dev/full", "wb") as full:
         done = subprocess.run([program, *"split --prefix 9 --skip-bad made_up".split()], cwd=folder, stdout=full, stderr=subprocess.PIPE)
-    yield "split with a full device", (done.returncode, done.stderr), (2, refused + b"write error\n")
+    yield "split with a full device", (done.returncode, None, done.stderr), (2, None, refused + b"write error\nstandard output: no space left on device\n")

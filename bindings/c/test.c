@@ -180,8 +180,8 @@ static void nothing(void) {
 /* The text of each fault, and of a number that is not one. */
 static void fault_texts(void) {
     static const char *const wanted[] = {"no fault", "more than one slash", "no address",
-                                         "no prefix length of the family", "no room for the text", "no mask",
-                                         "no member of this number", "no family", "no offsets of the column",
+                                         "no prefix length of the family", "no room for the answer", "no mask",
+                                         "no such member or network", "no family", "no offsets of the column",
                                          "no range", "no list of a set", "unknown fault"};
     for (uint32_t fault = 0; fault < 300; fault++) {
         const char *text = wanted[fault < 11 ? fault : 11];

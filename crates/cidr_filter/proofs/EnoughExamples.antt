@@ -6,7 +6,7 @@ use Rattle.program.specs.Endings.{Ending, HasTold, HasWritten}
 use Rattle.program.specs.Logs.{IsFirstOf}
 use Rattle.cidr_filter.specs.Filters.{IsVerdict, is_count, output_of}
 use Rattle.cidr_filter.specs.Logs.{is_enough, GoesOn, count_line}
-use Rattle.cidr_filter.specs.Runs.{EndsLogs, StopsAtLog, most_of, shows_of, is_named, status_by}
+use Rattle.cidr_filter.specs.Runs.{EndsLogs, StopsLogs, most_of, shows_of, is_named, status_by}
 use Rattle.cidr_filter.specs.declared.filter.Filter.{Filter}
 use Rattle.cidr_filter.specs.declared.filter.OutputMode.TheVariants as shows
 use Rattle.cidr_filter.specs.declared.filter.Verdict.TheVariants as verdicts
@@ -100,5 +100,5 @@ pub nothing_told_behind : (goes : Type 0) (output told : List ℕ) (selected : �
 nothing_told_behind goes output told selected h = true≢false h.3
 
 -- nor does a log after it stop the run
-pub no_stop_behind : {W E : Type 0} (known : KnownLists) (names : List (List ℕ)) (end : Ending W E) → (s : StopsAtLog silent known names end) → s.selected ≡ 0
+pub no_stop_behind : {W E : Type 0} (known : KnownLists) (names : List (List ℕ)) (end : Ending W E) → (s : StopsLogs silent known names end) → s.selected ≡ 0
 no_stop_behind known names end s = is_none s.selected s.few

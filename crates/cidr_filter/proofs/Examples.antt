@@ -15,7 +15,7 @@ use Rattle.line_addresses.specs.Fields.{field_of}
 use Rattle.line_addresses.specs.Networks.{named_network, network_in}
 use Rattle.cidr_filter.specs.Filters.{IsListed, IsVerdict, addresses_in, is_selected, is_refused, mark_of, shown_of, output_of}
 use Rattle.program.specs.LogLines.{LogLine, log_lines, ended_lines, content, printed}
-use Rattle.cidr_filter.specs.Matcher.{IsStored, IsLongestBlock, asked, covers_named, unmapped_network}
+use Rattle.cidr_filter.specs.Matcher.{IsStored, IsLongestBlock, asked, covers_named}
 use Rattle.program.specs.LogFaults.{log_fault_text}
 use Rattle.cidr_filter.specs.Logs.{label_of}
 use Rattle.cidr_filter.specs.Addressed.{closed_text, lacking_by}
@@ -167,15 +167,6 @@ pub networks_covered : map (covers_named (V4 (record { address = 0x0a000000; pre
 unfolding digits v6_of gap_below
 networks_covered = refl
 
--- a network of IPv4-mapped addresses is looked up as the network of their IPv4 addresses; a network that has other
--- addresses too is not, nor one whose address is not mapped
-pub mapped_networks : map unmapped_network
-    (V6 (record { address = 0xffff0a010000; prefix = 112 }) ∷ V6 (record { address = 0xffff0a010000; prefix = 96 }) ∷ V6 (record { address = 0xffff0a010000; prefix = 95 })
-    ∷ V6 (record { address = 0x0a010000; prefix = 112 }) ∷ V4 (record { address = 0x0a010000; prefix = 16 }) ∷ [])
-    ≡ V4 (record { address = 0x0a010000; prefix = 16 }) ∷ V4 (record { address = 0x0a010000; prefix = 0 }) ∷ V6 (record { address = 0xffff0a010000; prefix = 95 })
-    ∷ V6 (record { address = 0x0a010000; prefix = 112 }) ∷ V4 (record { address = 0x0a010000; prefix = 16 }) ∷ []
-mapped_networks = refl
-
 -- the second of two addresses is in the lists
 pub second_address_inside : ¬ (IsListed (looking anywhere false) ten) → IsListed (looking anywhere false) (record { text = codes "10.0.0.2"; address = addresses.V4 0x0a000002 })
     → IsVerdict (looking anywhere false) (codes "10.0.0.1 10.0.0.2") (verdicts.Inside None)
@@ -286,16 +277,16 @@ the_second_text = refl
 
 pub what_is_told_of_it : {Z : Type 0} (one two again : String Z) (area : Refusal → ℕ × ℕ) → string_bytes again ≡ codes "-e"
     → area (record { list = 2; line = 1; fault = Entry Prefix }) ≡ (2, 2)
-    → refusals_text (one ∷ two ∷ again ∷ []) area (record { kept = record { list = 2; line = 1; fault = Entry Prefix } ∷ []; more = 2 })
-    ≡ codes "-e:2: refused prefix\n2 more refused lines\n"
+    → refusals_text (codes "cidr_filter") (one ∷ two ∷ again ∷ []) area (record { kept = record { list = 2; line = 1; fault = Entry Prefix } ∷ []; more = 2 })
+    ≡ codes "cidr_filter: -e:2: refused prefix\ncidr_filter: 2 more refused lines\n"
 unfolding digits
 what_is_told_of_it one two again area a e = rw (e, a)
 
-pub a_line_that_ends_the_run : log_fault_text (codes "log") 3 faults.Address ≡ codes "log:4: refused address\n"
+pub a_line_that_ends_the_run : log_fault_text (codes "cidr_filter") (codes "log") 3 faults.Address ≡ codes "cidr_filter: log:4: refused address\n"
 unfolding digits
 a_line_that_ends_the_run = refl
 
-pub a_first_line_that_is_too_long : log_fault_text (codes "-") 0 faults.Length ≡ codes "-:1: refused length\n"
+pub a_first_line_that_is_too_long : log_fault_text (codes "cidr_filter") (codes "-") 0 faults.Length ≡ codes "cidr_filter: -:1: refused length\n"
 unfolding digits
 a_first_line_that_is_too_long = refl
 
@@ -324,11 +315,11 @@ a_log_without_lines = refl
 pub a_missed_log : status_by false true 3 ≡ 2
 a_missed_log = refl
 
-pub a_log_that_fails : log_fault_text (codes "log") 9 faults.Read ≡ codes "log: cannot read\n"
+pub a_log_that_fails : log_fault_text (codes "cidr_filter") (codes "log") 9 faults.Read ≡ codes "cidr_filter: log: cannot read\n"
 a_log_that_fails = refl
 
-pub a_log_past_what_64_bits_count : log_fault_text (codes "log") 9 faults.Endless ≡ codes "log: too long\n"
+pub a_log_past_what_64_bits_count : log_fault_text (codes "cidr_filter") (codes "log") 9 faults.Endless ≡ codes "cidr_filter: log: too long\n"
 a_log_past_what_64_bits_count = refl
 
-pub a_writer_that_fails : log_fault_text (codes "log") 9 faults.Write ≡ codes "write error\n"
+pub a_writer_that_fails : log_fault_text (codes "cidr_filter") (codes "log") 9 faults.Write ≡ codes "cidr_filter: write error\n"
 a_writer_that_fails = refl

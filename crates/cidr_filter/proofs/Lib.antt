@@ -24,6 +24,5 @@ pub mod Stopping
 pub mod Tables
 pub mod Texts
 pub mod Reported
-pub mod Unmapping
 pub mod UsageExamples
 pub mod WholeLines

@@ -5,7 +5,8 @@ use Rattle.std.specs.Io.KnownBytes.{Consumes, IsAtEnd}
 use Rattle.lines.specs.Outputs.{Written, Prints, FailsIn}
 use Rattle.lines.proofs.Putting.{puts_nothing, puts_more, begins_after_puts}
 use Rattle.lists.specs.KnownLists.{KnownLists}
-use Rattle.program.specs.Endings.{ending}
+use Rattle.program.specs.Endings.{Ending, ending, HasTold}
+use Rattle.program.specs.LogFaults.{Wrote}
 use Rattle.program.specs.Messages.{Reports}
 use Rattle.program.proofs.Reported.{tells_more, tells_nothing, tells_same}
 use Rattle.cidr_filter.specs.Addressed.{seen_of, seen_by, ended_by, closed_text}
@@ -14,17 +15,19 @@ use Rattle.program.proofs.Counts.{counts_more, counts_none, counts_from_none}
 use Rattle.program.proofs.LogNames.{all_of, first_of}
 use Rattle.program.specs.LogLines.{LogLine, log_lines, IsWhole}
 use Rattle.program.specs.Logs.{IsAllOf}
+use Rattle.program.specs.declared.log_fault.LogFault.{LogFault}
+use Rattle.program.specs.declared.log_fault.LogFault.TheVariants as faults
 use Rattle.program.specs.declared.log_reader.LogReader.{LogReader}
 use Rattle.cidr_filter.specs.Filters.{is_count, is_silent, name_head, LastIsSelected}
 use Rattle.cidr_filter.specs.Logs.{FiltersLogs, ReadsLog, LeavesLog, MissesLog, count_line, is_enough, filter_for, label_of}
-use Rattle.cidr_filter.specs.Runs.{StopsLogs}
+use Rattle.cidr_filter.specs.Runs.{StopsAtLog, StopsAtCount, StopsLogs}
 use Rattle.cidr_filter.specs.Stands.{Stand, stand, stand_at}
 use Rattle.cidr_filter.specs.Stops.{Ends, Leaves}
 use Rattle.cidr_filter.specs.Private.Runs.{FiltersNames, WritesCount}
 use Rattle.cidr_filter.specs.declared.log.Tally.{Tally}
 use Rattle.cidr_filter.specs.declared.filter.Filter.{Filter}
 use Rattle.lists.specs.declared.opening.OpenFault.{OpenFault}
-use Rattle.cidr_filter.proofs.Enough.{few_first, few_second, enough_behind, not_enough, enough_same, goes_nowhere, went_on, goes_on, goes_so}
+use Rattle.cidr_filter.proofs.Enough.{none_few, few_first, few_second, enough_behind, not_enough, enough_same, goes_nowhere, went_on, goes_on, goes_so}
 use Rattle.log_programs.proofs.Failing.{or_assoc, or_none}
 
 -- ---- one log
@@ -46,6 +49,29 @@ module _ (filter : Filter) (known : KnownLists) where
       → FiltersLogs filter known (name ∷ []) output count text missed
   one_log name output count text missed h = (output, [], count, 0, text, [], missed, false, h, goes_nowhere (is_enough filter.shows count), sym (append-nil output), omega arith, sym (append-nil text), or_none missed missed refl)
 
+  -- a log that ends the run, and no log before it
+  pub stops_first : {W E : Type 0} (name added text : List ℕ) (fault : LogFault) (end : Ending W E) → end.status ≡ 2
+      → StopsAtLog filter known name fault added text ⊎ StopsAtCount filter known name fault added text → Wrote fault end added → HasTold end text → StopsLogs filter known (name ∷ []) end
+  stops_first name added text fault end two stops wrote told = record {
+    before = [];
+    name = name;
+    behind = [];
+    output = [];
+    selected = 0;
+    texts = [];
+    missed = false;
+    fault = fault;
+    added = added;
+    text = text;
+    logs = refl;
+    filters = (refl, refl, refl, refl);
+    few = none_few (is_silent filter.shows);
+    stops = stops;
+    wrote = wrote;
+    told = told;
+    status = two;
+  }
+
   -- the number of lines of a log was written, or could not be
   module _ {W E : Type 0} (name added : List ℕ) (count : ℕ) (text : List ℕ) (missed : Bool) (output mid after : Written W) (was now told : ℕ) (errors before last : Written E)
       (puts : Prints output mid added) (telling : told ≡ min count (2 ^ 64 - 1)) (sum : now ≡ min (was + told) (2 ^ 64 - 1)) (tells : Reports errors before text) where
@@ -58,30 +84,18 @@ module _ (filter : Filter) (known : KnownLists) where
         (subst (λ (t : List ℕ). FailsIn mid after t) (count_same (is_count filter.shows) (label_of filter.named name) told count telling) h)
 
     counted_log : (result : Option Bool)
-        → FiltersLogs filter known (name ∷ []) (added ++ number) count text missed
+        → ReadsLog filter known name (added ++ number) count text missed ⊎ LeavesLog filter known name (added ++ number) count text missed
         → WritesCount result missed (is_count filter.shows) (label_of filter.named name) told (ending mid after before last 2)
         → MatchOption result (StopsLogs filter known (name ∷ []) (ending output after errors last 2))
         (λ is. FiltersNames filter known (name ∷ []) is (stand_at output was) (stand_at after now) errors last)
-    counted_log None all h = inr (record {
-      before = [];
-      name = name;
-      behind = [];
-      output = added ++ number;
-      selected = count;
-      texts = text;
-      missed = missed;
-      logs = refl;
-      filters = all;
-      counts = h.0;
-      wrote = (h.1.0, wrote_number h.1.1);
-      told = tells_more errors before last text (codes "write error\n") tells h.2;
-      status = refl;
-    })
+    counted_log None all h =
+        stops_first name (added ++ number) (text ++ codes "cidr_filter: write error\n") faults.Write (ending output after errors last 2) refl (inr (count, text, missed, all, h.0, refl, refl))
+        (h.1.0, wrote_number h.1.1) (tells_more errors before last text (codes "cidr_filter: write error\n") tells h.2)
     counted_log (Some is) all h = record {
       output = added ++ number;
       count = count;
       text = text;
-      filters = subst (λ (b : Bool). FiltersLogs filter known (name ∷ []) (added ++ number) count text b) (sym h.0) all;
+      filters = subst (λ (b : Bool). FiltersLogs filter known (name ∷ []) (added ++ number) count text b) (sym h.0) (one_log name (added ++ number) count text missed (elim all [ inl read ↦ inl read | inr left ↦ inr (inl left) ]));
       tells = subst (λ (e : Written E). Reports errors e text) (sym h.2) tells;
       puts = puts_more _ _ _ _ _ _ added number puts
           (subst (λ (t : List ℕ). Prints mid after t) (count_same (is_count filter.shows) (label_of filter.named name) told count telling) h.1);
@@ -101,8 +115,7 @@ module _ (filter : Filter) (known : KnownLists) where
         let text = ended_by filter name (seen_of filter (log_lines ends.read)) in
         counted_log name d.added d.count text missed output mid after was now tally.selected errors before last d.goes.0 (counts_from_none 0 tally.selected d.count refl d.goes.1) sum
         (tells_same errors before (ended_by filter name tally.seen) text (ap (ended_by filter name) d.seen) tells) result
-        (one_log name _ d.count text missed
-        (inl (ends.read, all_of known name remained remains has opened ends.read ends.reads ends.end, (d.added, d.filters, refl), refl, d.below, misses ∙ ap (is_missed filter.bad) d.seen))) wrote
+        (inl (ends.read, all_of known name remained remains has opened ends.read ends.reads ends.end, (d.added, d.filters, refl), refl, d.below, misses ∙ ap (is_missed filter.bad) d.seen)) wrote
 
     is_whole : (read : List ℕ) (line : LogLine) → Consumes remained remains read → IsWhole (IsAtEnd remains) line → IsWhole (IsAllOf known name read) line
     is_whole read line reads (inl ended) = inl ended
@@ -122,9 +135,7 @@ module _ (filter : Filter) (known : KnownLists) where
         let text = seen_by filter name (seen_of filter left.first) in
         counted_log name left.added left.count text missed output mid after was now tally.selected errors before last left.goes.0 (counts_from_none 0 tally.selected left.count refl left.goes.1) sum
         (tells_same errors before (seen_by filter name tally.seen) text (ap (seen_by filter name) left.seen) tells) result
-        (one_log name _ left.count text missed
-        (inr
-        (inl (
+        (inr (
           left.hands.read,
           left.first,
           log_lines left.hands.pending,
@@ -135,7 +146,7 @@ module _ (filter : Filter) (known : KnownLists) where
           record { most = left.all.most; last = last_whole left.first left.hands.read left.hands.reads left.all.last },
           refl,
           misses ∙ ap (is_missed filter.bad) left.seen,
-        )))) wrote
+        )) wrote
 
   -- a log that was not opened
   pub name_missed : {E : Type 0} (name : List ℕ) (fault : OpenFault) (old : Stand) (errors told : Written E) → known.may_open name false → known.may_miss name fault → Reports errors told (closed_text name fault)

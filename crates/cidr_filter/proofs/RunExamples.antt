@@ -39,7 +39,7 @@ pub no_greater_number : count_line true [] 18446744073709551616 ≡ codes "18446
 unfolding digits
 no_greater_number = refl
 
-pub no_greater_line : log_fault_text (codes "log") 18446744073709551615 faults.Address ≡ codes "log:18446744073709551615: refused address\n"
+pub no_greater_line : log_fault_text (codes "cidr_filter") (codes "log") 18446744073709551615 faults.Address ≡ codes "cidr_filter: log:18446744073709551615: refused address\n"
 unfolding digits
 no_greater_line = refl
 
@@ -48,7 +48,7 @@ no_number = refl
 
 -- a run that no refused line ends is not silent: memory runs out, or the logs are filtered
 pub not_silent : {W E : Type 0} (known : KnownLists) (items : List Item) (read : ReadLists) (end : Ending W E) → is_stopped_by items read.refused ≡ false → EndsFiltering known items read end
-    → Refuses (codes "out of memory\n") end
+    → Refuses (codes "cidr_filter: out of memory\n") end
     ⊎ ((listed : Matcher) × HoldsRead (question_of items) read listed × EndsLogs (filter_of items listed) known (inputs_of items) end)
 not_silent known items read end none (inl ends) = absurd (true≢false (sym ends.0 ∙ none))
 not_silent known items read end none (inr ends) = ends.1
@@ -151,24 +151,28 @@ module _ (known : KnownLists) (inside : IsVerdict (by false without.Stop) (codes
   })
 
   -- the number of lines of the first log could not be written: the second log is not read
-  pub number_unwritten : IsAllOf known (codes "a") (codes "10.0.0.1\n") → {W E : Type 0} (end : Ending W E) → FailsWriting end (codes "a:1\n") → HasTold end (codes "write error\n") → end.status ≡ 2
+  pub number_unwritten : IsAllOf known (codes "a") (codes "10.0.0.1\n") → {W E : Type 0} (end : Ending W E) → FailsWriting end (codes "a:1\n") → HasTold end (codes "cidr_filter: write error\n") → end.status ≡ 2
       → EndsLogs counted known (codes "a" ∷ codes "b" ∷ []) end
   unfolding address_of digits v6_of gap_below
-  number_unwritten a end wrote told status = inr (inr (record {
+  number_unwritten a end wrote told status = inr (record {
     before = [];
     name = codes "a";
     behind = codes "b" ∷ [];
-    output = codes "a:1\n";
-    selected = 1;
+    output = [];
+    selected = 0;
     texts = [];
     missed = false;
+    fault = faults.Write;
+    added = codes "a:1\n";
+    text = codes "cidr_filter: write error\n";
     logs = refl;
-    filters = (codes "a:1\n", [], 1, 0, [], [], false, false, inl (one_counted (codes "a") a), (refl, refl, refl, refl), refl, refl, refl, refl);
-    counts = refl;
+    filters = (refl, refl, refl, refl);
+    few = refl;
+    stops = inr (1, [], false, inl (one_counted (codes "a") a), refl, refl, refl);
     wrote = wrote;
     told = told;
     status = status;
-  }))
+  })
 
   -- a log that cannot be opened: the others are filtered, and the status is 2
   pub first_log_missed : known.may_open (codes "a") false → known.may_miss (codes "a") causes.Denied → IsAllOf known (codes "b") (codes "10.0.0.1\n") → {W E : Type 0} (end : Ending W E) → HasWritten end (codes "10.0.0.1\n")
@@ -215,8 +219,8 @@ module _ (known : KnownLists) (inside : IsVerdict (by false without.Stop) (codes
 
   -- a log that stops the run after its first line; another log is left
   stopped_behind_a_line : (fault : LogFault) → is_short fault None 1 ≡ true → HaltsBy (EndsRunBy (by false without.Stop)) known (codes "a") (ended (codes "10.0.0.1") ∷ []) fault → {W E : Type 0} (end : Ending W E)
-      → Wrote fault end (codes "10.0.0.1\n") → HasTold end (log_fault_text (codes "a") 1 fault) → end.status ≡ 2 → EndsLogs (by false without.Stop) known (codes "a" ∷ codes "b" ∷ []) end
-  stopped_behind_a_line fault short halts end wrote told status = inr (inl (record {
+      → Wrote fault end (codes "10.0.0.1\n") → HasTold end (log_fault_text (codes "cidr_filter") (codes "a") 1 fault) → end.status ≡ 2 → EndsLogs (by false without.Stop) known (codes "a" ∷ codes "b" ∷ []) end
+  stopped_behind_a_line fault short halts end wrote told status = inr (record {
     before = [];
     name = codes "a";
     behind = codes "b" ∷ [];
@@ -224,23 +228,20 @@ module _ (known : KnownLists) (inside : IsVerdict (by false without.Stop) (codes
     selected = 0;
     texts = [];
     missed = false;
-    lines = ended (codes "10.0.0.1") ∷ [];
-    added = codes "10.0.0.1\n";
-    more = 1;
     fault = fault;
+    added = codes "10.0.0.1\n";
+    text = log_fault_text (codes "cidr_filter") (codes "a") 1 fault;
     logs = refl;
     filters = (refl, refl, refl, refl);
     few = refl;
-    first = (verdicts.Inside None, [], 0, inside, refl, (refl, refl), refl, refl);
-    short = short;
-    halts = halts;
+    stops = inl (ended (codes "10.0.0.1") ∷ [], 1, (verdicts.Inside None, [], 0, inside, refl, (refl, refl), refl, refl), short, halts, refl);
     wrote = wrote;
     told = told;
     status = status;
-  }))
+  })
 
   -- a line ends the run: what comes before it is written
-  pub stopped_at_the_second_line : known.may_open (codes "a") true → IsFirstOf known (codes "a") (codes "10.0.0.1\nbad\n10.0.0.1\n") → {W E : Type 0} (end : Ending W E) → HasWritten end (codes "10.0.0.1\n") → HasTold end (codes "a:2: refused address\n")
+  pub stopped_at_the_second_line : known.may_open (codes "a") true → IsFirstOf known (codes "a") (codes "10.0.0.1\nbad\n10.0.0.1\n") → {W E : Type 0} (end : Ending W E) → HasWritten end (codes "10.0.0.1\n") → HasTold end (codes "cidr_filter: a:2: refused address\n")
       → end.status ≡ 2 → EndsLogs (by false without.Stop) known (codes "a" ∷ codes "b" ∷ []) end
   unfolding digits
   stopped_at_the_second_line opened a end written told status =
@@ -259,7 +260,7 @@ module _ (known : KnownLists) (inside : IsVerdict (by false without.Stop) (codes
 
   -- a read fails: the lines whose line feed was read were filtered, and what follows them is not a line
   pub stopped_by_a_failed_read : known.may_open (codes "a") true → known.may_fail (codes "a") → IsFirstOf known (codes "a") (codes "10.0.0.1\n10.0.0.1") → {W E : Type 0} (end : Ending W E) → HasWritten end (codes "10.0.0.1\n")
-      → HasTold end (codes "a: cannot read\n") → end.status ≡ 2 → EndsLogs (by false without.Stop) known (codes "a" ∷ codes "b" ∷ []) end
+      → HasTold end (codes "cidr_filter: a: cannot read\n") → end.status ≡ 2 → EndsLogs (by false without.Stop) known (codes "a" ∷ codes "b" ∷ []) end
   stopped_by_a_failed_read opened fails a end written told status =
       stopped_behind_a_line faults.Read refl (codes "10.0.0.1\n10.0.0.1", a, refl, opened, fails) end written told status
 

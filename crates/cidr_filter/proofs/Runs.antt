@@ -1,13 +1,12 @@
 -- How a run ends.
-use Rattle.std.proofs.Common.{◌≡◌, ◌+◌, ◌-◌, ◌^◌, ◌<◌, ◌≤◌, ◌++◌, ◌∷◌, ◌∙◌, [], ◌||◌, ◌&&◌, ℕ, List, Bool, true, false, refl, sym, ap, subst, ◌⊎◌, inl, inr, arith, length, min, map, take, drop, take-append-drop, append_assoc, append-nil, decimal, codes}
-use Rattle.std.specs.Prelude.{Option, Result, Ok, Err, OnOk, OnErr, IfErr, IfOk, IsTrue, is_err, if◌then◌else◌, String}
+use Rattle.std.proofs.Common.{◌≡◌, ◌+◌, ◌≤◌, ◌++◌, ◌∷◌, ◌∙◌, [], ◌||◌, ◌&&◌, ℕ, List, Bool, true, false, refl, sym, ap, subst, ◌⊎◌, inl, inr, length, map, take, drop, take-append-drop, append_assoc, append-nil, codes}
+use Rattle.std.specs.Prelude.{Result, Ok, Err, OnOk, OnErr, IfErr, IfOk, IsTrue, is_err, if◌then◌else◌, String}
 use Rattle.std.specs.String.{string_bytes}
 use Rattle.std.specs.Io.KnownBytes.{Appends}
 use Rattle.std.proofs.lemmas.List.{take_all, map-append}
 use Rattle.lists.specs.Lists.{nothing_read}
 use Rattle.lists.specs.Refusals.{Refused, no_refusals}
-use Rattle.lines.specs.Outputs.{Written, Puts, AppendsBeginning, Writes, FailsIn}
-use Rattle.lines.proofs.Putting.{begins_after_puts}
+use Rattle.lines.specs.Outputs.{Written, AppendsBeginning, FailsIn}
 use Rattle.program.proofs.Reported.{tells_same, tells_more}
 use Rattle.program.specs.Endings.{Ending, ending, Refuses, HasTold, HasWritten, status_of, end_text}
 use Rattle.program.specs.Messages.{Reports}
@@ -15,12 +14,11 @@ use Rattle.lists.specs.KnownLists.{KnownLists}
 use Rattle.cidr_filter.specs.Addressed.{seen_of, seen_by}
 use Rattle.cidr_filter.specs.Filters.{Filters, is_silent}
 use Rattle.program.specs.LogLines.{LogLine}
-use Rattle.cidr_filter.specs.Logs.{FiltersLogs, is_enough, EndsRunBy, is_short, filter_for}
-use Rattle.program.specs.Counts.{Counts}
+use Rattle.cidr_filter.specs.Logs.{is_enough, EndsRunBy, is_short, filter_for}
 use Rattle.program.specs.LogFaults.{log_fault_text, IfWrite, Wrote, HandsOn, StopsBy}
 use Rattle.program.specs.Logs.{HaltsBy}
 use Rattle.cidr_filter.specs.Reading.{StopsAtItems, HoldsRead, question_of}
-use Rattle.cidr_filter.specs.Runs.{StopsAtLog, StopsAtCount, StopsLogs, status_by, EndsWith, FiltersAll, EndsLogs, filter_of, is_stopped_by, EndsReading}
+use Rattle.cidr_filter.specs.Runs.{StopsLogs, status_by, EndsWith, FiltersAll, EndsLogs, filter_of, is_stopped_by, EndsReading}
 use Rattle.cidr_filter.specs.Stands.{Stand, stand, stand_at}
 use Rattle.cidr_filter.specs.Stops.{FiltersLines, WritesBeginning}
 use Rattle.program.specs.Reported.{fault_text, refusals_text}
@@ -39,9 +37,9 @@ use Rattle.log_programs.specs.declared.log_stats.LogStats.{LogStats}
 use Rattle.program.proofs.Counts.{counts_from_none}
 use Rattle.program.proofs.LogNames.{some_first, names_behind, names_apart}
 use Rattle.program.proofs.LogReading.{failed_now}
-use Rattle.program.proofs.LogStops.{told_log, puts_then_all, written_behind, failed_behind, wrote_behind, wrote_same}
-use Rattle.cidr_filter.proofs.Enough.{none_few, few_both}
-use Rattle.cidr_filter.proofs.LogsInTurn.{names_both, names_enough, enough_by, logs_both}
+use Rattle.program.proofs.LogStops.{told_log, written_behind, failed_behind, wrote_behind, wrote_same}
+use Rattle.cidr_filter.proofs.Enough.{few_both}
+use Rattle.cidr_filter.proofs.LogsInTurn.{stops_first, names_both, names_enough, enough_by, logs_both}
 use Rattle.log_programs.proofs.Lacking.{same_test}
 use Rattle.cidr_filter.proofs.Spent.{below_within}
 
@@ -67,54 +65,34 @@ module _ {W E : Type 0} (filter : Filter) (known : KnownLists) (name : List ℕ)
 
   -- the first lines of a log were filtered, and then it stopped
   at_log : (fault : LogFault) (added : List ℕ) (more : ℕ) → Filters (filter_for filter name) 0 lines added more → new.seen ≡ seen_of filter lines → is_short fault filter.most more ≡ true
-      → HaltsBy (EndsRunBy (filter_for filter name)) known name lines fault → Wrote fault end ([] ++ added)
-      → Reports between end.errors_after (log_fault_text name new.seen.lines fault) → StopsAtLog filter known (name ∷ []) end
+      → HaltsBy (EndsRunBy (filter_for filter name)) known name lines fault → Wrote fault end added
+      → Reports between end.errors_after (log_fault_text (codes "cidr_filter") name new.seen.lines fault) → StopsLogs filter known (name ∷ []) end
   at_log fault added more filters seen short halts wrote told =
-      record {
-        before = [];
-        name = name;
-        behind = [];
-        output = [];
-        selected = 0;
-        texts = [];
-        missed = false;
-        lines = lines;
-        added = added;
-        more = more;
-        fault = fault;
-        logs = refl;
-        filters = (refl, refl, refl, refl);
-        few = none_few (is_silent filter.shows);
-        first = filters;
-        short = short;
-        halts = halts_same filter known name lines fault halts;
-        wrote = wrote;
-        told = tells_same end.errors end.errors_after _ _ (ap (λ (s : LogStats). seen_by filter name s ++ log_fault_text name (length lines) fault) seen)
-            (tells_more end.errors between end.errors_after (seen_by filter name new.seen) (log_fault_text name (length lines) fault) tells
-            (tells_same between end.errors_after _ _ (told_log name new.seen.lines (length lines) fault (ap (λ (s : LogStats). s.lines) seen)) told));
-        status = two;
-      }
+      stops_first filter known name added _ fault end two (inl (lines, more, filters, short, halts_same filter known name lines fault halts, refl)) wrote
+      (tells_same end.errors end.errors_after _ _ (ap (λ (s : LogStats). seen_by filter name s ++ log_fault_text (codes "cidr_filter") name (length lines) fault) seen)
+      (tells_more end.errors between end.errors_after (seen_by filter name new.seen) (log_fault_text (codes "cidr_filter") name (length lines) fault) tells
+      (tells_same between end.errors_after _ _ (told_log (codes "cidr_filter") name new.seen.lines (length lines) fault (ap (λ (s : LogStats). s.lines) seen)) told)))
 
   -- their output was put, and then what waited was written or not
   handed : (fault : LogFault) → HaltsBy (EndsRunBy (filter_for filter name)) known name lines fault → ((text : List ℕ) → HasWritten end text → Wrote fault end text)
       → (d : FiltersLines (filter_for filter name) start (stand mid new) lines) → is_short fault filter.most d.count ≡ true
-      → HandsOn name new.seen.lines fault (record end { output = mid; errors = between }) → StopsAtLog filter known (name ∷ []) end
+      → HandsOn (codes "cidr_filter") name new.seen.lines fault (record end { output = mid; errors = between }) → StopsLogs filter known (name ∷ []) end
   handed fault halts wrote d short (inl h) =
-      at_log fault d.added d.count d.filters d.seen short halts (wrote ([] ++ d.added) (written_behind end mid d.added d.goes.0 h.0)) h.1
+      at_log fault d.added d.count d.filters d.seen short halts (wrote d.added (written_behind end mid d.added d.goes.0 h.0)) h.1
   handed fault halts wrote d short (inr h) =
       at_log faults.Write d.added d.count d.filters d.seen (below_within filter.most d.count d.below) (some_first (EndsRunBy (filter_for filter name)) known name lines fault halts)
       (failed_behind end mid d.added d.goes.0 h.0) h.1
 
   -- the writer had failed
   had_failed : HaltsBy (EndsRunBy (filter_for filter name)) known name lines faults.Write → IsTrue mid.failed × WritesBeginning (filter_for filter name) start (stand mid new) lines
-      → (end.output_after ≡ mid) × HasTold (record end { output = mid; errors = between }) (codes "write error\n") → StopsAtLog filter known (name ∷ []) end
+      → (end.output_after ≡ mid) × HasTold (record end { output = mid; errors = between }) (codes "cidr_filter: write error\n") → StopsLogs filter known (name ∷ []) end
   had_failed halts d stops =
       at_log faults.Write d.1.added d.1.count d.1.filters d.1.seen d.1.within halts
       (subst (λ (o : Written W). (o.failed ≡ true) × FailsIn end.output o d.1.added) (sym stops.0) (d.0, d.1.beginning)) stops.1
 
   pub name_stops : (fault : LogFault) → HaltsBy (EndsRunBy (filter_for filter name)) known name lines fault
       → IfWrite fault (IsTrue mid.failed × WritesBeginning (filter_for filter name) start (stand mid new) lines) (FiltersLines (filter_for filter name) start (stand mid new) lines)
-      → StopsBy name new.seen.lines fault (record end { output = mid; errors = between }) → StopsAtLog filter known (name ∷ []) end
+      → StopsBy (codes "cidr_filter") name new.seen.lines fault (record end { output = mid; errors = between }) → StopsLogs filter known (name ∷ []) end
   name_stops (faults.Open cause) halts d stops = handed (faults.Open cause) halts (λ text h. h) d d.below stops
   name_stops faults.Read halts d stops = handed faults.Read halts (λ text h. h) d d.below stops
   name_stops faults.Write halts d stops = had_failed halts d stops
@@ -131,7 +109,7 @@ module _ {W E : Type 0} (filter : Filter) (known : KnownLists) (done more rest n
   few_done : is_enough filter.shows f.count ≡ false
   few_done = enough_by filter known done missed false (stand_at end.output was) (stand_at mid now) end.errors between f none few
 
-  stops_behind : StopsAtLog filter known more (record end { output = mid; errors = between }) → StopsAtLog filter known names end
+  pub stops_behind : StopsLogs filter known more (record end { output = mid; errors = between }) → StopsLogs filter known names end
   stops_behind s = record {
     before = done ++ s.before;
     name = s.name;
@@ -140,46 +118,17 @@ module _ {W E : Type 0} (filter : Filter) (known : KnownLists) (done more rest n
     selected = f.count + s.selected;
     texts = f.text ++ s.texts;
     missed = missed || s.missed;
-    lines = s.lines;
-    added = s.added;
-    more = s.more;
     fault = s.fault;
+    added = s.added;
+    text = s.text;
     logs = names_behind done more rest names s.before s.behind s.name e s.logs;
     filters = logs_both filter known done s.before f.output s.output f.count s.selected f.text s.texts missed s.missed few_done f.filters s.filters;
     few = few_both (is_silent filter.shows) f.count s.selected few_done s.few;
-    first = s.first;
-    short = s.short;
-    halts = s.halts;
+    stops = s.stops;
     wrote = wrote_same s.fault end _ _ (sym (append_assoc f.output s.output s.added)) (wrote_behind s.fault end mid between f.output (s.output ++ s.added) f.puts s.wrote);
-    told =
-        let stop = seen_by filter s.name (seen_of filter s.lines) ++ log_fault_text s.name (length s.lines) s.fault in
-        tells_same end.errors end.errors_after _ _ (sym (append_assoc f.text s.texts stop)) (tells_more end.errors between end.errors_after f.text (s.texts ++ stop) f.tells s.told);
+    told = tells_same end.errors end.errors_after _ _ (sym (append_assoc f.text s.texts s.text)) (tells_more end.errors between end.errors_after f.text (s.texts ++ s.text) f.tells s.told);
     status = s.status;
   }
-
-  count_behind : StopsAtCount filter known more (record end { output = mid; errors = between }) → StopsAtCount filter known names end
-  count_behind s = record {
-    before = done ++ s.before;
-    name = s.name;
-    behind = s.behind ++ rest;
-    output = f.output ++ s.output;
-    selected = f.count + s.selected;
-    texts = f.text ++ s.texts;
-    missed = missed || s.missed;
-    logs = names_behind done more rest names s.before s.behind s.name e s.logs;
-    filters = subst (λ (n : List (List ℕ)). FiltersLogs filter known n (f.output ++ s.output) (f.count + s.selected) (f.text ++ s.texts) (missed || s.missed)) (sym (append_assoc done s.before (s.name ∷ [])))
-        (logs_both filter known done (s.before ++ s.name ∷ []) f.output s.output f.count s.selected f.text s.texts missed s.missed few_done f.filters s.filters);
-    counts = s.counts;
-    wrote = (s.wrote.0, begins_after_puts _ _ _ _ _ f.output s.output f.puts s.wrote.1);
-    told =
-        tells_same end.errors end.errors_after _ _ (sym (append_assoc f.text s.texts (codes "write error\n")))
-        (tells_more end.errors between end.errors_after f.text (s.texts ++ codes "write error\n") f.tells s.told);
-    status = s.status;
-  }
-
-  pub stops_behind_names : StopsLogs filter known more (record end { output = mid; errors = between }) → StopsLogs filter known names end
-  stops_behind_names (inl s) = inl (stops_behind s)
-  stops_behind_names (inr s) = inr (count_behind s)
 
 -- ---- one file more
 
@@ -217,7 +166,7 @@ module _ {Z : Type 0} (filter : Filter) (known : KnownLists) (files : List (Stri
       → StopsLogs filter known (map string_bytes files) (ending output after errors told 2)
   one_stops {W} {E} i name missed output mid after errors between told was now more none few f s =
       let end : Ending W E = ending output after errors told 2 in
-      stops_behind_names filter known (map string_bytes (take i files)) (name ∷ []) (map string_bytes (drop (i + 1) files)) (map string_bytes files) missed end mid between was now
+      stops_behind filter known (map string_bytes (take i files)) (name ∷ []) (map string_bytes (drop (i + 1) files)) (map string_bytes files) missed end mid between was now
       (names_apart files i name more) none few f s
 
 -- ---- all logs
@@ -227,7 +176,7 @@ module _ {W E T F : Type 0} (filter : Filter) (known : KnownLists) (names : List
   -- what waits was written, or the writer failed
   ended : (written : Result T F) (status : ℕ) → OnOk written (Appends mid.holds end.output_after.holds mid.waits) → OnErr written (AppendsBeginning mid.holds end.output_after.holds mid.waits)
       → end.output_after.failed ≡ (mid.failed || is_err written) → status ≡ status_by (is_enough filter.shows told) missed told → end.status ≡ status_of written status
-      → Reports between end.errors_after (end_text written) → EndsWith filter f.output f.count f.text missed end
+      → Reports between end.errors_after (end_text (codes "cidr_filter") written) → EndsWith filter f.output f.count f.text missed end
   ended (Ok done) status ok err failed st two last = inl (
     written_behind end mid f.output f.puts (subst (Appends mid.holds end.output_after.holds) (sym (append-nil mid.waits)) ok),
     tells_same end.errors end.errors_after (f.text ++ []) f.text (append-nil f.text) (tells_more end.errors between end.errors_after f.text [] f.tells last),
@@ -239,13 +188,13 @@ module _ {W E T F : Type 0} (filter : Filter) (known : KnownLists) (names : List
       failed_now end.output_after.failed mid.failed failed,
       subst (AppendsBeginning mid.holds end.output_after.holds) (sym (append-nil mid.waits)) err,
     ),
-    tells_more end.errors between end.errors_after f.text (codes "write error\n") f.tells last,
+    tells_more end.errors between end.errors_after f.text (codes "cidr_filter: write error\n") f.tells last,
     two,
   )
 
   pub all_ended : (written : Result T F) (status : ℕ) → OnOk written (Appends mid.holds end.output_after.holds mid.waits) → OnErr written (AppendsBeginning mid.holds end.output_after.holds mid.waits)
       → end.output_after.failed ≡ (mid.failed || is_err written) → status ≡ status_by (is_enough filter.shows told) missed told → end.status ≡ status_of written status
-      → Reports between end.errors_after (end_text written) → FiltersAll filter known names end
+      → Reports between end.errors_after (end_text (codes "cidr_filter") written) → FiltersAll filter known names end
   all_ended written status ok err failed st two tells = record {
     output = f.output;
     selected = f.count;
@@ -258,10 +207,10 @@ module _ {W E T F : Type 0} (filter : Filter) (known : KnownLists) (names : List
 -- ---- the run
 
 module _ {Z W E : Type 0} (known : KnownLists) (items : List Item) (names : List (String Z)) (refused : Refused) (end : Ending W E) (told : Written E)
-    (tells : Reports end.errors told (refusals_text names (in_option items) refused)) where
+    (tells : Reports end.errors told (refusals_text (codes "cidr_filter") names (in_option items) refused)) where
   -- the reading stopped
   pub reading_stopped : {T : Type 0} (result : Result T ReadFault) (fault : ReadFault) → result ≡ Err fault → IfErr result (λ f. StopsAtItems known 0 items (nothing_read no_refusals) f refused)
-      → Refuses (fault_text names fault) (record end { errors = told }) → EndsReading known items names end
+      → Refuses (fault_text (codes "cidr_filter") names fault) (record end { errors = told }) → EndsReading known items names end
   reading_stopped {T} result fault is stops h =
       (refused, told, tells, inl (fault, subst (λ (r : Result T ReadFault). IfErr r (λ f. StopsAtItems known 0 items (nothing_read no_refusals) f refused)) is stops, h))
 
@@ -279,11 +228,11 @@ module _ {Z W E : Type 0} (known : KnownLists) (items : List Item) (names : List
 
     module _ (stops : Bool) (e : stops ≡ is_stopped_by items refused) (none : stops ≡ false) where
       -- no refused line ends the run, and the filtering ended
-      goes_on : Refuses (codes "out of memory\n") (record end { errors = told }) ⊎ ((held : Matcher) × HoldsRead (question_of items) was_read.read held
+      goes_on : Refuses (codes "cidr_filter: out of memory\n") (record end { errors = told }) ⊎ ((held : Matcher) × HoldsRead (question_of items) was_read.read held
           × EndsLogs (filter_of items held) known (inputs_of items) (record end { errors = told })) → EndsReading known items names end
       goes_on h = (refused, told, tells, inr (was_read.read, was_read.is_read, was_read.refused_lines, inr (by_lines stops e false none, h)))
 
-      pub memory_ran_out : Refuses (codes "out of memory\n") (record end { errors = told }) → EndsReading known items names end
+      pub memory_ran_out : Refuses (codes "cidr_filter: out of memory\n") (record end { errors = told }) → EndsReading known items names end
       memory_ran_out h = goes_on (inl h)
 
       pub logs_filtered : (held : Matcher) → listed ≡ Ok held → EndsLogs (filter_of items held) known (inputs_of items) (record end { errors = told })

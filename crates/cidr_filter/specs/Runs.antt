@@ -23,7 +23,7 @@ use Rattle.cidr_filter.specs.Addressed.{seen_of, seen_by}
 use Rattle.cidr_filter.specs.Filters.{Filters, is_count}
 use Rattle.program.specs.LogFaults.{log_fault_text, FailsWriting, Wrote}
 use Rattle.program.specs.Logs.{HaltsBy}
-use Rattle.cidr_filter.specs.Logs.{FiltersLogs, is_enough, EndsRunBy, is_short, filter_for}
+use Rattle.cidr_filter.specs.Logs.{FiltersLogs, ReadsLog, LeavesLog, is_enough, EndsRunBy, is_short, filter_for}
 use Rattle.cidr_filter.specs.Reading.{IsReadOf, StopsAtItems, HoldsRead, question_of}
 use Rattle.cidr_filter.specs.Options as own
 use Rattle.cidr_filter.specs.Options.{IsOptions}
@@ -36,11 +36,27 @@ use Rattle.cidr_filter.specs.declared.filter.OutputMode.{OutputMode}
 use Rattle.cidr_filter.specs.declared.filter.OutputMode.TheVariants as shows
 use Rattle.cidr_filter.specs.declared.matcher.Matcher.{Matcher}
 use Rattle.program.specs.declared.log_fault.LogFault.{LogFault}
+use Rattle.program.specs.declared.log_fault.LogFault.TheVariants as faults
 
--- a log that was opened was not filtered to its end, and ended the run. The logs before it and its first lines were
--- filtered, and their outputs were written. The reports about those logs and lines were written, and then the cause.
--- The status is 2
-pub record StopsAtLog {W E : Type 0} (filter : Filter) (known : KnownLists) (names : List (List ℕ))
+-- the log with this name, which was opened, ended the run by this fault: the output of its first lines, which were
+-- filtered, and what is reported about them, the cause last
+abbrev pub StopsAtLog : Filter → KnownLists → List ℕ → LogFault → List ℕ → List ℕ → Type 0
+StopsAtLog filter known name fault output text = (lines : List LogLine) × (selected : ℕ)
+    × Filters (filter_for filter name) 0 lines output selected × (is_short fault filter.most selected ≡ true)
+    × HaltsBy (EndsRunBy filter) known name lines fault
+    × (text ≡ seen_by filter name (seen_of filter lines)
+    ++ log_fault_text (codes "cidr_filter") name (length lines) fault)
+
+-- the log with this name was filtered, but the count at its end could not be written: the output of the log, with the
+-- count, and what is reported about it, the write error last
+abbrev pub StopsAtCount : Filter → KnownLists → List ℕ → LogFault → List ℕ → List ℕ → Type 0
+StopsAtCount filter known name fault output text = (selected : ℕ) × (told : List ℕ) × (missed : Bool)
+    × (ReadsLog filter known name output selected told missed ⊎ LeavesLog filter known name output selected told missed)
+    × (is_count filter.shows ≡ true) × (fault ≡ faults.Write) × (text ≡ told ++ codes "cidr_filter: write error\n")
+
+-- a log, or the count at its end, ended the run after the logs before it were filtered. The outputs of all these were
+-- written, or, if a write failed, a beginning of them; what is reported about them was reported; and the status is 2
+pub record StopsLogs {W E : Type 0} (filter : Filter) (known : KnownLists) (names : List (List ℕ))
     (end : Ending W E) : Type 0 where
   pub before : List (List ℕ)
   pub name : List ℕ
@@ -49,43 +65,16 @@ pub record StopsAtLog {W E : Type 0} (filter : Filter) (known : KnownLists) (nam
   pub selected : ℕ
   pub texts : List ℕ
   pub missed : Bool
-  pub lines : List LogLine
-  pub added : List ℕ
-  pub more : ℕ
   pub fault : LogFault
+  pub added : List ℕ
+  pub text : List ℕ
   pub logs : names ≡ before ++ name ∷ behind
   pub filters : FiltersLogs filter known before output selected texts missed
   pub few : is_enough filter.shows selected ≡ false
-  pub first : Filters (filter_for filter name) 0 lines added more
-  pub short : is_short fault filter.most more ≡ true
-  pub halts : HaltsBy (EndsRunBy filter) known name lines fault
+  pub stops : StopsAtLog filter known name fault added text ⊎ StopsAtCount filter known name fault added text
   pub wrote : Wrote fault end (output ++ added)
-  pub told : HasTold end (texts ++ (seen_by filter name (seen_of filter lines)
-      ++ log_fault_text name (length lines) fault))
+  pub told : HasTold end (texts ++ text)
   pub status : end.status ≡ 2
-
--- the count at the end of the log with this name could not be written. This log and those before it were filtered, the
--- writer took a beginning of their outputs, and a write error was reported after the reports about them. The status
--- is 2
-pub record StopsAtCount {W E : Type 0} (filter : Filter) (known : KnownLists) (names : List (List ℕ))
-    (end : Ending W E) : Type 0 where
-  pub before : List (List ℕ)
-  pub name : List ℕ
-  pub behind : List (List ℕ)
-  pub output : List ℕ
-  pub selected : ℕ
-  pub texts : List ℕ
-  pub missed : Bool
-  pub logs : names ≡ before ++ name ∷ behind
-  pub filters : FiltersLogs filter known (before ++ name ∷ []) output selected texts missed
-  pub counts : is_count filter.shows ≡ true
-  pub wrote : FailsWriting end output
-  pub told : HasTold end (texts ++ codes "write error\n")
-  pub status : end.status ≡ 2
-
--- a log, or the number of its selected lines, ended the run
-abbrev pub StopsLogs : {W E : Type 0} → Filter → KnownLists → List (List ℕ) → Ending W E → Type 0
-StopsLogs filter known names end = StopsAtLog filter known names end ⊎ StopsAtCount filter known names end
 
 -- the exit status: 0 if `-q` ended the run at a selected line; else 2 if a log could not be opened or a line is missed;
 -- else 0 if a line was selected, and 1 if none was
@@ -97,7 +86,7 @@ abbrev pub EndsWith : {W E : Type 0} → Filter → List ℕ → ℕ → List �
 EndsWith filter output selected texts missed end =
     (HasWritten end output × HasTold end texts
     × (end.status ≡ status_by (is_enough filter.shows selected) missed selected))
-    ⊎ (FailsWriting end output × HasTold end (texts ++ codes "write error\n") × (end.status ≡ 2))
+    ⊎ (FailsWriting end output × HasTold end (texts ++ codes "cidr_filter: write error\n") × (end.status ≡ 2))
 
 -- each log was filtered to its end, or left, or could not be opened
 pub record FiltersAll {W E : Type 0} (filter : Filter) (known : KnownLists) (names : List (List ℕ))
@@ -168,7 +157,7 @@ is_stopped_by items refused = was_refused refused && not (is_given items own.ski
 abbrev pub EndsFiltering : {W E : Type 0} → KnownLists → List Item → ReadLists → Ending W E → Type 0
 EndsFiltering known items read end =
     ((is_stopped_by items read.refused ≡ true) × Refuses [] end)
-    ⊎ ((is_stopped_by items read.refused ≡ false) × (Refuses (codes "out of memory\n") end
+    ⊎ ((is_stopped_by items read.refused ≡ false) × (Refuses (codes "cidr_filter: out of memory\n") end
     ⊎ ((listed : Matcher) × HoldsRead (question_of items) read listed
     × EndsLogs (filter_of items listed) known (inputs_of items) end)))
 
@@ -177,13 +166,13 @@ EndsFiltering known items read end =
 abbrev pub StopsReading : {Z W E : Type 0} → KnownLists → List Item → List (String Z) → Refused → Ending W E → Type 0
 StopsReading known items names refused end =
     (fault : ReadFault) × StopsAtItems known 0 items (nothing_read no_refusals) fault refused
-    × Refuses (fault_text names fault) end
+    × Refuses (fault_text (codes "cidr_filter") names fault) end
 
 -- the refused lines of the lists were reported; then the reading stopped and the cause was reported, or the logs were
 -- filtered
 abbrev pub EndsReading : {Z W E : Type 0} → KnownLists → List Item → List (String Z) → Ending W E → Type 0
 EndsReading {Z} {W} {E} known items names end = (refused : Refused) × (told : Written E)
-    × Reports end.errors told (refusals_text names (in_option items) refused)
+    × Reports end.errors told (refusals_text (codes "cidr_filter") names (in_option items) refused)
     × (StopsReading known items names refused (record end { errors = told })
     ⊎ ((read : ReadLists) × IsReadOf known items read × (read.refused ≡ refused)
     × EndsFiltering known items read (record end { errors = told })))
@@ -191,7 +180,7 @@ EndsReading {Z} {W} {E} known items names end = (refused : Refused) × (told : W
 -- the run does what the items ask for, unless there is no memory for the names of the lists and logs
 abbrev pub EndsRequest : {W E : Type 0} → KnownLists → List Item → Ending W E → Type 0
 EndsRequest known items end =
-    Refuses (codes "out of memory\n") end
+    Refuses (codes "cidr_filter: out of memory\n") end
     ⊎ ((names : List (String Global)) × (map string_bytes names ≡ map told_name items)
     × EndsReading known items names end)
 

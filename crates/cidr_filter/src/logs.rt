@@ -20,7 +20,7 @@ use log_programs::telling::{is_missed, tell_closed, tell_lacking, tell_seen};
 use program::ending::{FAILED, end};
 use program::log_fault::stop;
 use program::log_reader::LogReader;
-use program::messages::tell;
+use program::messages::tell_of;
 use std::io::Write;
 use std::mem::replace;
 
@@ -49,7 +49,8 @@ pub(crate) fn filter_logs<'a, L: OpenLists, W: Write, E: Write>(
         Some(missed) => {
             let written = output.finish();
             let is_enough = is_enough(is_silent, selected);
-            end(written, status(is_enough, missed, selected), errors)
+            let status = status(is_enough, missed, selected);
+            end(PROGRAM, written, status, errors)
         }
         None => FAILED,
     }
@@ -179,7 +180,7 @@ fn filter_one<'a, L: OpenLists, W: Write, E: Write>(
             write_count(counts, label, tally.selected, is_missed, output, errors)
         }
         Err(fault) => {
-            stop(name, fault, seen.lines, output, errors);
+            stop(PROGRAM, name, fault, seen.lines, output, errors);
             None
         }
     }
@@ -201,7 +202,7 @@ fn write_count<W: Write, E: Write>(
     match put_count(counts, label, selected, output) {
         Ok(()) => Some(is_missed),
         Err(_) => {
-            tell("write error\n", errors);
+            tell_of(PROGRAM, ": write error\n", errors);
             None
         }
     }

@@ -68,10 +68,10 @@ fn filter<L: OpenLists, W: Write, E: Write>(
         (ending output.old output.new errors.old errors.new result) }
 {
     let Ok(names) = names_of(alloc, items) else {
-        return refuse_memory(errors);
+        return refuse_memory(PROGRAM, errors);
     };
     let Ok(files) = inputs_of(alloc, items) else {
-        return refuse_memory(errors);
+        return refuse_memory(PROGRAM, errors);
     };
     filter_files(
         alloc,
@@ -102,19 +102,19 @@ fn filter_files<L: OpenLists, W: Write, E: Write>(
 {
     let question = question_of(items);
     let (listed, refusals, read) = read_listed(alloc, lists, items, question);
-    tell_refusals(names, &InOptions { items }, &refusals, errors);
+    tell_refusals(PROGRAM, names, &InOptions { items }, &refusals, errors);
     if let Err(fault) = read {
-        tell_fault(names, fault, errors);
+        tell_fault(PROGRAM, names, fault, errors);
         return FAILED;
     }
     if is_stopped_by(items, &refusals) {
         return FAILED;
     }
     let Ok(listed) = listed else {
-        return refuse_memory(errors);
+        return refuse_memory(PROGRAM, errors);
     };
     let Ok(mut buffer) = vec![in alloc; 0u8; BUFFER_LEN] else {
-        return refuse_memory(errors);
+        return refuse_memory(PROGRAM, errors);
     };
     let mut filter = filter_of(items, files, listed);
     filter_logs(

@@ -29,11 +29,11 @@ failed_now now false e = e
 pub ends_with : {W E T F : Type 0} (written : Result T F) (end : Ending W E) (text told : List ℕ) (status : ℕ) (was : Bool) (between : Written E)
     → OnOk written (Writes end.output end.output_after text) → OnErr written (FailsIn end.output end.output_after text)
     → end.output_after.failed ≡ (was || is_err written) → end.status ≡ status_of written status
-    → Reports end.errors between told → Reports between end.errors_after (end_text written) → EndsWith text told status end
+    → Reports end.errors between told → Reports between end.errors_after (end_text (codes "cidr_info") written) → EndsWith text told status end
 ends_with (Ok done) end text told status was between ok err failed is before tells =
     inl (ok, tells_same end.errors end.errors_after (told ++ []) told (append-nil told) (tells_more end.errors between end.errors_after told [] before tells), is)
 ends_with (Err fault) end text told status was between ok err failed is before tells =
-    inr ((failed_now end.output_after.failed was failed, err), tells_more end.errors between end.errors_after told (codes "write error\n") before tells, is)
+    inr ((failed_now end.output_after.failed was failed, err), tells_more end.errors between end.errors_after told (codes "cidr_info: write error\n") before tells, is)
 
 -- nothing is wrong with the words, and what they ask for was done
 pub done_right : {W E : Type 0} (table : Table) (program usage : List ℕ) (known : KnownLists) (items : List Item) (end : Ending W E)

@@ -6,6 +6,7 @@ use Rattle.ipnetwork_addr.specs.declared.ip.IpAddr.{IpAddr}
 use Rattle.ipnetwork.specs.declared.ip_network.IpNetwork.{IpNetwork}
 use Rattle.ipnetwork_family.specs.NetworkText.{slashes, before_slash}
 use Rattle.lists.specs.Encodings.{encoding_of, encoding_text}
+use Rattle.lists.specs.Opening.{open_fault_text}
 use Rattle.lists.specs.declared.encoding.Encoding.{Encoding}
 use Rattle.lists.specs.declared.bytes.BytesFault.{BytesFault}
 use Rattle.lists.specs.declared.bytes.BytesFault.TheVariants as faults
@@ -52,7 +53,7 @@ refusals_text all = flat_map (λ said. if_refused said said.network) all
 
 -- what is reported if standard input was not read
 abbrev pub input_fault_text : BytesFault → List ℕ
-input_fault_text (faults.Open cause) = codes "cidr_info: -: cannot open\n"
+input_fault_text (faults.Open cause) = codes "cidr_info: -" ++ open_fault_text cause
 input_fault_text faults.Read = codes "cidr_info: -: cannot read\n"
-input_fault_text faults.Length = codes "cidr_info: -: too long\n"
-input_fault_text faults.OutOfMemory = codes "out of memory\n"
+input_fault_text faults.Length = codes "cidr_info: -: more than 1,073,741,824 bytes\n"
+input_fault_text faults.OutOfMemory = codes "cidr_info: out of memory\n"

@@ -79,7 +79,7 @@ answer_text items all =
 -- beginning of what waited and of `text`, `told` and a write error were reported, and the exit status is 2
 abbrev pub EndsWith : {W E : Type 0} → List ℕ → List ℕ → ℕ → Ending W E → Type 0
 EndsWith text told status end = (HasWritten end text × HasTold end told × (end.status ≡ status))
-    ⊎ (FailsWriting end text × HasTold end (told ++ codes "write error\n") × (end.status ≡ 2))
+    ⊎ (FailsWriting end text × HasTold end (told ++ codes "cidr_info: write error\n") × (end.status ≡ 2))
 
 -- the run wrote the answer to these texts, reported those that name no network, and has their exit status, or the
 -- writer failed
@@ -89,7 +89,8 @@ EndsSaid items all end = EndsWith (answer_text items all) (refusals_text all) (s
 -- the run reported that memory ran out, or it answered the words of the command line, with the lines of this input in
 -- the place of each `-`
 abbrev pub EndsAnswering : {W E : Type 0} → List Item → List ℕ → Ending W E → Type 0
-EndsAnswering items input end = Refuses (codes "out of memory\n") end ⊎ EndsSaid items (words_said input items) end
+EndsAnswering items input end =
+    Refuses (codes "cidr_info: out of memory\n") end ⊎ EndsSaid items (words_said input items) end
 
 -- these bytes are all of standard input if a word asks for it, and none otherwise
 abbrev pub IsInput : KnownLists → List Item → List ℕ → Type 0
@@ -117,6 +118,6 @@ EndsItems table program usage known items end =
 abbrev pub EndsAs : {Z W E : Type 0} → List ℕ → List ℕ → List ℕ → List ℕ → KnownLists → List (String Z) → Ending W E
     → Type 0
 EndsAs program help version usage known words end =
-    (table : Table) × IsOptions table × EndsRun help version words
-    (Refuses (codes "out of memory\n") end
+    (table : Table) × IsOptions table × EndsRun program help version words
+    (Refuses (program ++ codes ": out of memory\n") end
     ⊎ EndsItems table program usage known (items_of table.rows.now modes.Free words) end) end

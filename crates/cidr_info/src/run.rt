@@ -45,10 +45,10 @@ pub(crate) fn run<L: OpenLists, W: Write, E: Write>(
 {
     let table = table();
     if let Some(text) = text_asked(HELP, VERSION, words) {
-        return print_text(text, output, errors);
+        return print_text(PROGRAM, text, output, errors);
     }
     let Ok(items) = items_of(alloc, table.rows, words) else {
-        return refuse_memory(errors);
+        return refuse_memory(PROGRAM, errors);
     };
     if let Some(fault) = fault_of(&table, items.as_slice()) {
         return refuse(PROGRAM, USAGE, table.rows, &fault, errors);
@@ -137,13 +137,13 @@ fn answer<W: Write, E: Write>(
         (ending output.old output.new errors.old errors.new result) }
 {
     let Ok(all) = words_said(alloc, items, input) else {
-        return refuse_memory(errors);
+        return refuse_memory(PROGRAM, errors);
     };
     let all = all.as_slice();
     tell_refusals(all, errors);
     let status = status_of(outer_of(items), all);
     let written = write_answer(items, all, output);
-    end(written, status, errors)
+    end(PROGRAM, written, status, errors)
 }
 
 // Returns the exit status for these texts: 2 if one of them names no network.

@@ -9,7 +9,8 @@ use crate::said::Said;
 use ipnetwork::{CidrFault, cause, laws};
 use lines::output::Output;
 use lists::{BytesFault, encoding_of};
-use program::messages::{tell, tell_number};
+use program::log_fault::tell_fault_of;
+use program::messages::{tell, tell_number, tell_of};
 use program::usage::tell_shown;
 use std::io::Write;
 
@@ -37,8 +38,7 @@ fn tell_refusal<E: Write>(said: &Said<'_>, errors: &mut Output<'_, E>)
     requires { said.now.network ≡ None }
     ensures { Reports errors.old errors.new (refusal_text said.now) }
 {
-    tell(PROGRAM, errors);
-    tell(": ", errors);
+    tell_of(PROGRAM, ": ", errors);
     tell_place(said, errors);
     tell(": refused ", errors);
     tell(cause_word(said.text()), errors);
@@ -93,9 +93,11 @@ pub(crate) fn tell_input_fault<E: Write>(fault: BytesFault, errors: &mut Output<
     ensures { Reports errors.old errors.new (input_fault_text fault) }
 {
     match fault {
-        BytesFault::Open(_) => tell("cidr_info: -: cannot open\n", errors),
-        BytesFault::Read => tell("cidr_info: -: cannot read\n", errors),
-        BytesFault::Length => tell("cidr_info: -: too long\n", errors),
-        BytesFault::OutOfMemory => tell("out of memory\n", errors),
+        BytesFault::Open(cause) => tell_fault_of(PROGRAM, "-", cause.text(), errors),
+        BytesFault::Read => tell_fault_of(PROGRAM, "-", ": cannot read\n", errors),
+        BytesFault::Length => {
+            tell_fault_of(PROGRAM, "-", ": more than 1,073,741,824 bytes\n", errors);
+        }
+        BytesFault::OutOfMemory => tell_of(PROGRAM, ": out of memory\n", errors),
     }
 }

@@ -1,12 +1,12 @@
 -- Values at which a misreading of the definitions would show.
-use Rattle.std.proofs.Common.{◌≡◌, ℕ, ◌^◌, ◌*◌, ◌+◌, ◌∷◌, [], map, Bool, true, false, refl}
-use Rattle.std.specs.Prelude.{◌++◌, decimal, codes, not, filter, length, nat_lt, List, None, Some}
+use Rattle.std.proofs.Common.{◌≡◌, ℕ, ◌^◌, ◌+◌, ◌∷◌, [], map, Bool, true, false, refl}
+use Rattle.std.specs.Prelude.{◌++◌, decimal, codes, not, filter, length, nat_lt, replicate, List, None, Some}
 use Rattle.std.specs.Fmt.{digits}
-use Rattle.std.specs.List.{range_with_len}
+use Rattle.std.specs.List.{flat_map, range_with_len}
 use Rattle.ipnetwork_addr.specs.declared.ip.IpAddr.TheVariants as addresses
 use Rattle.ipnetwork.specs.declared.ip_network.IpNetwork.TheVariants as families
 use Rattle.cidr_join.specs.Addressed.{lacking_by}
-use Rattle.cidr_join.specs.Asked.{asked_network, only}
+use Rattle.cidr_join.specs.Asked.{only}
 use Rattle.program.specs.LogLines.{ended}
 use Rattle.log_programs.specs.LogStats.{place_of, stats_of}
 use Rattle.log_programs.specs.Seen.{seen_text}
@@ -16,7 +16,7 @@ use Rattle.cidr_join.specs.Entries.{is_blank, is_word, cause_text}
 use Rattle.cidr_join.specs.Groups.{block_in}
 use Rattle.cidr_join.specs.Joins.{is_left_out, is_refused, mark_of, shown_of}
 use Rattle.cidr_join.specs.Options.{entries, pairs}
-use Rattle.cidr_join.specs.Reported.{refused_text}
+use Rattle.cidr_join.specs.Reported.{refused_line, refused_text}
 use Rattle.cidr_join.specs.Runs.{lacks_tally, lack_text}
 use Rattle.cidr_join.specs.Tallies.{row_text}
 use Rattle.options.specs.Faults.{about, together, fault_by}
@@ -120,17 +120,6 @@ pub block_of_networks : map (λ prefix. block_in (record { v4 = 24; v6 = 64 }) (
     ≡ founds.Network (families.V4 (record { address = 167838208; prefix = 24 })) ∷ founds.Nothing ∷ []
 block_of_networks = refl
 
--- ---- networks of lines
-
--- with `--mapped`, ::ffff:10.1.2.3/120 is looked up as 10.1.2.3/24, and a network of other addresses too is unchanged
-pub mapped_networks : map (λ prefix. asked_network true (families.V6 (record { address = 0xffff * 2 ^ 32 + 167838211; prefix = prefix }))) (120 ∷ 96 ∷ 95 ∷ [])
-    ≡ families.V4 (record { address = 167838211; prefix = 24 }) ∷ families.V4 (record { address = 167838211; prefix = 0 }) ∷ families.V6 (record { address = 0xffff * 2 ^ 32 + 167838211; prefix = 95 }) ∷ []
-mapped_networks = refl
-
-pub not_mapped_networks : map (asked_network true) (families.V6 (record { address = 1; prefix = 128 }) ∷ families.V4 (record { address = 1; prefix = 0 }) ∷ [])
-    ≡ families.V6 (record { address = 1; prefix = 128 }) ∷ families.V4 (record { address = 1; prefix = 0 }) ∷ []
-not_mapped_networks = refl
-
 -- ---- lines of lists
 
 -- of the 256 bytes, all but a tab, a space and a comma belong to the word that names a network
@@ -146,9 +135,16 @@ pub causes_in_words : map cause_text (causes.Entry faults.Format ∷ causes.Entr
 causes_in_words = refl
 
 -- the reports about two lines that are left out
-pub refused_lines_are_told : refused_text (codes "list") ((0, causes.Value) ∷ (8, causes.Twice) ∷ []) ≡ codes "list:1: refused value: there is none\nlist:9: refused repetition\n"
+pub refused_lines_are_told : refused_text ((codes "list", 0, causes.Value) ∷ (codes "more", 8, causes.Twice) ∷ [])
+    ≡ codes "cidr_join: list:1: refused value: there is none\ncidr_join: more:9: refused repetition\n"
 unfolding digits
 refused_lines_are_told = refl
+
+-- of the lines of two lists, a hundred are told
+pub a_hundred_are_told : refused_text (replicate 100 (codes "a", 0, causes.Twice) ++ (codes "b", 0, causes.Twice) ∷ (codes "b", 1, causes.Length) ∷ [])
+    ≡ flat_map refused_line (replicate 100 (codes "a", 0, causes.Twice)) ++ codes "cidr_join: 2 more refused lines\n"
+unfolding digits
+a_hundred_are_told = refl
 
 -- ---- what is printed
 

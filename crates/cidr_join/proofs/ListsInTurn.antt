@@ -1,18 +1,20 @@
 -- Lists that are read, and whose lines are taken, in turn.
-use Rattle.std.proofs.Common.{◌≡◌, ℕ, suc, ◌+◌, ◌<◌, ◌++◌, ◌∷◌, ◌∙◌, [], List, refl, sym, ap, subst, inl, inr, arith, length, get_or, drop, drop-cons, append_assoc, append-nil}
+use Rattle.std.proofs.Common.{◌≡◌, ℕ, suc, ◌+◌, ◌-◌, ◌<◌, ◌++◌, ◌∷◌, ◌∙◌, [], List, refl, sym, ap, subst, inl, inr, arith, length, get_or, drop, drop-cons, append_assoc, append-nil, codes}
 use Rattle.std.specs.Prelude.{Ok, Err}
 use Rattle.lines.specs.Outputs.{Written}
 use Rattle.lists.specs.KnownLists.{KnownLists}
 use Rattle.options.specs.declared.items.Item.{Item}
 use Rattle.program.specs.Messages.{Reports}
+use Rattle.program.specs.Reported.{more_text}
 use Rattle.program.proofs.Reported.{tells_more, tells_nothing}
 use Rattle.cidr_join.specs.Lists.{NamedText, AreRead, NotRead, StopsAtList, TakesLists, lines_of, list_in, lists_of}
-use Rattle.cidr_join.specs.Private.Listing.{TellsUnread}
-use Rattle.cidr_join.specs.Reported.{EndsList, refused_text, take_fault_text}
-use Rattle.cidr_join.specs.Routes.{no_networks}
+use Rattle.cidr_join.specs.Private.Listing.{TellsUnread, EndsList, IsListed, nothing_taken}
+use Rattle.cidr_join.specs.Reported.{refused_text, take_fault_text}
+use Rattle.cidr_join.specs.Takes.{Listed, nothing_listed}
+use Rattle.cidr_join.specs.declared.list.Listing.{Listing}
 use Rattle.cidr_join.specs.declared.list.ListRules.{ListRules}
 use Rattle.cidr_join.specs.declared.list.TakeFault.{TakeFault}
-use Rattle.cidr_join.specs.declared.routes.Networks.{Networks}
+use Rattle.cidr_join.proofs.Listing.{tells_all}
 
 -- what is left from a place on begins with what stands there
 pub left_from : {X : Type 0} (items : List X) (at : ℕ) (item : X) → at < length items → item ≡ get_or items at item → drop at items ≡ item ∷ drop (at + 1) items
@@ -64,52 +66,50 @@ module _ (known : KnownLists) where
 -- ---- lists whose lines are taken
 
 module _ (rules : ListRules) where
-  -- what is taken of the lists that are left, or where one of them has a fault, is so of all, behind what was reported
-  pub record TakenSoFar {E : Type 0} (lists left : List NamedText) (networks : Networks) (begun now : Written E) : Type 0 where
-    pub told : List ℕ
-    pub tells : Reports begun now told
-    pub takes : (after : Networks) (texts : List ℕ) → TakesLists rules networks left after texts → TakesLists rules no_networks lists after (told ++ texts)
-    pub stops : (texts : List ℕ) → StopsAtList rules networks left texts → StopsAtList rules no_networks lists (told ++ texts)
+  -- what is taken of the lists that are left, or where one of them has a fault, is so of all
+  pub record TakenSoFar {E : Type 0} (lists left : List NamedText) (listing : Listing) (begun now : Written E) : Type 0 where
+    pub listed : Listed
+    pub is : IsListed begun now listing listed
+    pub takes : (after : Listed) → TakesLists rules listed left after → TakesLists rules nothing_listed lists after
+    pub stops : (told : List ℕ) → StopsAtList rules listed left told → StopsAtList rules nothing_listed lists told
 
-  pub none_taken : {E : Type 0} (lists : List NamedText) (networks : Networks) (errors : Written E) → networks ≡ no_networks → TakenSoFar lists lists networks errors errors
-  none_taken lists networks errors none = record {
-    told = [];
-    tells = tells_nothing errors;
-    takes = λ after texts h. subst (λ (n : Networks). TakesLists rules n lists after texts) none h;
-    stops = λ texts h. subst (λ (n : Networks). StopsAtList rules n lists texts) none h;
+  pub none_taken : {E : Type 0} (lists : List NamedText) (listing : Listing) (errors : Written E) → listing ≡ nothing_taken → TakenSoFar lists lists listing errors errors
+  none_taken lists listing errors none = record {
+    listed = nothing_listed;
+    is = (ap (λ (l : Listing). l.networks) none, record { skips = ap (λ (l : Listing). l.skipped) none; tells = tells_nothing errors });
+    takes = λ after h. h;
+    stops = λ told h. h;
   }
 
-  module _ {E : Type 0} (lists left rest : List NamedText) (list : NamedText) (networks after : Networks) (begun errors mid : Written E) (so_far : TakenSoFar lists left networks begun errors)
+  module _ {E : Type 0} (lists left rest : List NamedText) (list : NamedText) (listing after : Listing) (begun errors mid : Written E) (so_far : TakenSoFar lists left listing begun errors)
       (is : left ≡ list ∷ rest) where
-    pub one_taken : EndsList list.name rules networks (lines_of list) errors mid after (Ok tt) → TakenSoFar lists rest after begun mid
+    pub one_taken : EndsList list.name rules (lines_of list) errors mid listing after (Ok tt) → TakenSoFar lists rest after begun mid
     one_taken h =
-        let text = refused_text list.name h.0.refused in
+        let now = h begun so_far.listed so_far.is in
         record {
-          told = so_far.told ++ text;
-          tells = tells_more begun errors mid so_far.told text so_far.tells h.3;
-          takes = λ last texts t. subst (TakesLists rules no_networks lists last) (sym (append_assoc so_far.told text texts)) (so_far.takes last (text ++ texts)
-              (subst (λ (l : List NamedText). TakesLists rules networks l last (text ++ texts)) (sym is)
-              (h.0, texts, h.1, subst (λ (n : Networks). TakesLists rules n rest last texts) h.2 t, refl)));
-          stops = λ texts t. subst (StopsAtList rules no_networks lists) (sym (append_assoc so_far.told text texts)) (so_far.stops (text ++ texts)
-              (subst (λ (l : List NamedText). StopsAtList rules networks l (text ++ texts)) (sym is)
-              (inr (h.0, texts, h.1, subst (λ (n : Networks). StopsAtList rules n rest texts) h.2 t, refl))));
+          listed = now.0;
+          is = now.2;
+          takes = λ last t. so_far.takes last (subst (λ (l : List NamedText). TakesLists rules so_far.listed l last) (sym is) (now.0, now.1, t));
+          stops = λ told t. so_far.stops told (subst (λ (l : List NamedText). StopsAtList rules so_far.listed l told) (sym is) (inr (now.0, now.1, t)));
         }
 
-    pub one_stops : (fault : TakeFault) (last : Written E) → EndsList list.name rules networks (lines_of list) errors mid after (Err fault) → Reports mid last (take_fault_text list.name fault)
-        → (told : List ℕ) × StopsAtList rules no_networks lists told × Reports begun last told
-    one_stops fault last h tells =
-        let text = refused_text list.name h.0 in
-        let cause = take_fault_text list.name fault in (
-          so_far.told ++ (text ++ cause),
-          so_far.stops (text ++ cause) (subst (λ (l : List NamedText). StopsAtList rules networks l (text ++ cause)) (sym is) (inl (fault, h.0, h.1, refl))),
-          tells_more begun errors last so_far.told (text ++ cause) so_far.tells (tells_more errors mid last text cause h.2 tells),
+    pub one_stops : (fault : TakeFault) (between last : Written E) → EndsList list.name rules (lines_of list) errors mid listing after (Err fault)
+        → Reports mid between (more_text (codes "cidr_join") (after.skipped - 100)) → Reports between last (take_fault_text list.name fault)
+        → (told : List ℕ) × StopsAtList rules nothing_listed lists told × Reports begun last told
+    one_stops fault between last h more tells =
+        let now = h begun so_far.listed so_far.is in
+        let text = refused_text now.0 ++ take_fault_text list.name fault in (
+          text,
+          so_far.stops text (subst (λ (l : List NamedText). StopsAtList rules so_far.listed l text) (sym is) (inl (fault, now.0, now.1, refl))),
+          tells_more begun between last (refused_text now.0) (take_fault_text list.name fault) (tells_all begun mid between now.0 after.skipped now.2 more) tells,
         )
 
-  pub all_taken : {E : Type 0} (lists left : List NamedText) (networks : Networks) (begun now : Written E) → TakenSoFar lists left networks begun now → left ≡ []
-      → (told : List ℕ) × TakesLists rules no_networks lists networks told × Reports begun now told
-  all_taken lists left networks begun now so_far is = (
-    so_far.told,
-    subst (TakesLists rules no_networks lists networks) (append-nil so_far.told)
-        (so_far.takes networks [] (subst (λ (l : List NamedText). TakesLists rules networks l networks []) (sym is) (refl, refl))),
-    so_far.tells,
+  pub all_taken : {E : Type 0} (lists left : List NamedText) (listing : Listing) (begun now told : Written E) → TakenSoFar lists left listing begun now → left ≡ []
+      → Reports now told (more_text (codes "cidr_join") (listing.skipped - 100))
+      → (listed : Listed) × TakesLists rules nothing_listed lists listed × (listing.networks ≡ listed.networks) × Reports begun told (refused_text listed.refused)
+  all_taken lists left listing begun now told so_far is more = (
+    so_far.listed,
+    so_far.takes so_far.listed (subst (λ (l : List NamedText). TakesLists rules so_far.listed l so_far.listed) (sym is) refl),
+    so_far.is.0,
+    tells_all begun now told so_far.listed.refused listing.skipped so_far.is.1 more,
   )

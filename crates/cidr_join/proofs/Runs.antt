@@ -17,7 +17,9 @@ use Rattle.program.specs.LogLines.{LogLine}
 use Rattle.cidr_join.specs.Logs.{EndsRunBy}
 use Rattle.program.specs.Logs.{HaltsBy}
 use Rattle.cidr_join.specs.Lists.{NamedText, AreRead, StopsAtList, TakesLists, lists_of}
-use Rattle.cidr_join.specs.Routes.{Values, no_networks}
+use Rattle.cidr_join.specs.Reported.{refused_text}
+use Rattle.cidr_join.specs.Routes.{Values}
+use Rattle.cidr_join.specs.Takes.{Listed, nothing_listed}
 use Rattle.cidr_join.specs.Runs.{StopsAtLog, JoinsAll, EndsLogs, EndsAsked, EndsFinding, EndsGrouping, EndsJoining, EndsFiles, answers_of, join_of, lengths_of, rules_of}
 use Rattle.cidr_join.specs.TallyRuns.{EndsTally, status_by}
 use Rattle.cidr_join.specs.Stands.{stand, begun}
@@ -44,7 +46,7 @@ module _ {W E : Type 0} (join : Join) (known : KnownLists) (name : List ℕ) (en
     (tells : Reports end.errors between (seen_by join name new)) where
   -- the first lines of a log were joined, and then it stopped
   at_log : (fault : LogFault) (added : List ℕ) → Joins join lines added → new ≡ seen_of join lines → HaltsBy (EndsRunBy join) known name lines fault → Wrote fault end ([] ++ added)
-      → Reports between end.errors_after (log_fault_text name new.lines fault) → StopsAtLog join known (name ∷ []) end
+      → Reports between end.errors_after (log_fault_text (codes "cidr_join") name new.lines fault) → StopsAtLog join known (name ∷ []) end
   at_log fault added joins seen halts wrote told = record {
     before = [];
     name = name;
@@ -60,29 +62,29 @@ module _ {W E : Type 0} (join : Join) (known : KnownLists) (name : List ℕ) (en
     first = joins;
     halts = halts;
     wrote = wrote;
-    told = tells_same end.errors end.errors_after _ _ (ap (λ (s : LogStats). seen_by join name s ++ log_fault_text name (length lines) fault) seen)
-        (tells_more end.errors between end.errors_after (seen_by join name new) (log_fault_text name (length lines) fault) tells
-        (tells_same between end.errors_after _ _ (told_log name new.lines (length lines) fault (ap (λ (s : LogStats). s.lines) seen)) told));
+    told = tells_same end.errors end.errors_after _ _ (ap (λ (s : LogStats). seen_by join name s ++ log_fault_text (codes "cidr_join") name (length lines) fault) seen)
+        (tells_more end.errors between end.errors_after (seen_by join name new) (log_fault_text (codes "cidr_join") name (length lines) fault) tells
+        (tells_same between end.errors_after _ _ (told_log (codes "cidr_join") name new.lines (length lines) fault (ap (λ (s : LogStats). s.lines) seen)) told));
     status = two;
   }
 
   -- their output was put, and then what waited was written or not
   handed : (fault : LogFault) → HaltsBy (EndsRunBy join) known name lines fault → ((text : List ℕ) → HasWritten end text → Wrote fault end text)
-      → JoinsLines join (begun (stand end.output old)) (stand mid new) lines → HandsOn name new.lines fault (record end { output = mid; errors = between }) → StopsAtLog join known (name ∷ []) end
+      → JoinsLines join (begun (stand end.output old)) (stand mid new) lines → HandsOn (codes "cidr_join") name new.lines fault (record end { output = mid; errors = between }) → StopsAtLog join known (name ∷ []) end
   handed fault halts wrote d (inl h) = at_log fault d.added d.joins d.seen halts (wrote ([] ++ d.added) (written_behind end mid d.added d.puts h.0)) h.1
   handed fault halts wrote d (inr h) =
       at_log faults.Write d.added d.joins d.seen (some_first (EndsRunBy join) known name lines fault halts) (failed_behind end mid d.added d.puts h.0) h.1
 
   -- the writer had failed
   had_failed : HaltsBy (EndsRunBy join) known name lines faults.Write → IsTrue mid.failed × WritesBeginning join (begun (stand end.output old)) (stand mid new) lines
-      → (end.output_after ≡ mid) × HasTold (record end { output = mid; errors = between }) (codes "write error\n") → StopsAtLog join known (name ∷ []) end
+      → (end.output_after ≡ mid) × HasTold (record end { output = mid; errors = between }) (codes "cidr_join: write error\n") → StopsAtLog join known (name ∷ []) end
   had_failed halts d stops =
       at_log faults.Write d.1.added d.1.joins d.1.seen halts
       (subst (λ (o : Written W). (o.failed ≡ true) × FailsIn end.output o d.1.added) (sym stops.0) (d.0, d.1.beginning)) stops.1
 
   pub name_stops : (fault : LogFault) → HaltsBy (EndsRunBy join) known name lines fault
       → IfWrite fault (IsTrue mid.failed × WritesBeginning join (begun (stand end.output old)) (stand mid new) lines) (JoinsLines join (begun (stand end.output old)) (stand mid new) lines)
-      → StopsBy name new.lines fault (record end { output = mid; errors = between }) → StopsAtLog join known (name ∷ []) end
+      → StopsBy (codes "cidr_join") name new.lines fault (record end { output = mid; errors = between }) → StopsAtLog join known (name ∷ []) end
   name_stops (faults.Open cause) halts d stops = absurd halts.0
   name_stops faults.Read halts d stops = handed faults.Read halts (λ text h. h) d stops
   name_stops faults.Write halts d stops = had_failed halts d stops
@@ -119,7 +121,7 @@ module _ {Z W E : Type 0} (join : Join) (known : KnownLists) (files : List (Stri
         halts = s.halts;
         wrote = wrote_same s.fault end _ _ (sym (append_assoc f.all s.output s.added)) (wrote_behind s.fault end mid between f.all (s.output ++ s.added) f.is_done s.wrote);
         told =
-            let stop = seen_by join s.name (seen_of join s.lines) ++ log_fault_text s.name (length s.lines) s.fault in
+            let stop = seen_by join s.name (seen_of join s.lines) ++ log_fault_text (codes "cidr_join") s.name (length s.lines) s.fault in
             tells_same errors told _ _ (sym (append_assoc f.text s.texts stop)) (tells_more errors between told f.text (s.texts ++ stop) f.tells s.told);
         status = s.status;
       }
@@ -131,7 +133,7 @@ pub all_by : {W E T F : Type 0} (join : Join) (known : KnownLists) (names : List
     → OnOk written (Appends mid.holds end.output_after.holds mid.waits)
     → OnErr written (AppendsBeginning mid.holds end.output_after.holds mid.waits)
     → end.output_after.failed ≡ (mid.failed || is_err written) → end.status ≡ status_of written (status_by missed)
-    → Reports between end.errors_after (end_text written) → JoinsAll join known names end
+    → Reports between end.errors_after (end_text (codes "cidr_join") written) → JoinsAll join known names end
 all_by {W} join known names missed end mid between written f ok err failed two tells = record {
   output = f.all;
   texts = f.text;
@@ -159,25 +161,21 @@ same_routes routes networks a b =
       with_both v4 v6 = record { v4 = v4; v6 = v6 }
 
 module _ {W E : Type 0} (known : KnownLists) (items : List Item) (lists : List NamedText) (end : Ending W E) where
-  module _ (networks : Networks) (told : Written E) (taken : (text : List ℕ) × TakesLists (rules_of items) no_networks lists networks text × Reports end.errors told text) where
+  module _ (networks : Networks) (told : Written E)
+      (taken : (listed : Listed) × TakesLists (rules_of items) nothing_listed lists listed × (networks ≡ listed.networks) × Reports end.errors told (refused_text listed.refused)) where
     -- the networks that decide what is printed were read, and the logs were joined to them
     pub joined_by : (by : Answers) → by ≡ answers_of items networks → EndsFinding known items by (record end { errors = told }) → EndsJoining known items lists end
-    joined_by by same (inl h) = inr (networks, taken.0, told, taken.1, taken.2, inl h)
-    joined_by by same (inr h) = inr (
-      networks,
-      taken.0,
-      told,
-      taken.1,
-      taken.2,
-      inr (subst (λ (a : Answers). EndsAsked (is_given items own.tally) (join_of items a) known (inputs_of items) (record end { errors = told })) same h),
-    )
+    joined_by by same (inl h) = inr (taken.0, told, taken.1, taken.3, inl h)
+    joined_by by same (inr h) =
+        let are = same ∙ ap (answers_of items) taken.2 in
+        inr (taken.0, told, taken.1, taken.3, inr (subst (λ (a : Answers). EndsAsked (is_given items own.tally) (join_of items a) known (inputs_of items) (record end { errors = told })) are h))
 
     -- there was no memory to index them
-    pub not_indexed : Refuses (codes "out of memory\n") (record end { errors = told }) → EndsJoining known items lists end
-    not_indexed h = inr (networks, taken.0, told, taken.1, taken.2, inl h)
+    pub not_indexed : Refuses (codes "cidr_join: out of memory\n") (record end { errors = told }) → EndsJoining known items lists end
+    not_indexed h = inr (taken.0, told, taken.1, taken.3, inl h)
 
   -- the lines of a list were not taken to its end
-  pub not_taken : (text : List ℕ) × StopsAtList (rules_of items) no_networks lists text × Reports end.errors end.errors_after text → IsSilent end → EndsJoining known items lists end
+  pub not_taken : (text : List ℕ) × StopsAtList (rules_of items) nothing_listed lists text × Reports end.errors end.errors_after text → IsSilent end → EndsJoining known items lists end
   not_taken h silent = inl (h.0, h.1, (silent, h.2))
 
 -- whether lines are grouped

@@ -96,3 +96,6 @@ pub line_has : {T : Type 0} (result : Result T RouteFault) (rules : ListRules) (
     → IfErr result (IsRefusal (EntryHasOne rules.last_wins before entry)) → IfErr result (LineFails rules before line)
 line_has (Ok done) rules before line entry value says h = tt
 line_has (Err fault) rules before line entry value says h = fault_has fault rules before line entry value says h
+
+-- what follows from what a line says
+pub ruleset line_said = (good_entry, line_set, line_has)

@@ -30,14 +30,14 @@ use Rattle.cidr_join.proofs.LogsInTurn.{logs_both}
 module _ (join : Join) (known : KnownLists) where
   -- memory ran out after some logs
   pub ran_out : (before behind : List (List ℕ)) (marks : List (List ℕ)) (texts : List ℕ) (missed : Bool) → MarksLogs join known before marks texts missed
-      → RunsOut join known (before ++ behind) (texts ++ codes "out of memory\n")
+      → RunsOut join known (before ++ behind) (texts ++ codes "cidr_join: out of memory\n")
   ran_out before behind marks texts missed are = record { before = before; behind = behind; earlier = marks; texts = texts; missed = missed; logs = refl; are = are; is = refl }
 
   -- ---- one log
 
   -- a log that was not read to its end: these lines of it were counted
   at_log : (name : List ℕ) (lines : List LogLine) (marks : List (List ℕ)) (fault : LogFault) (seen : LogStats) → Marks join lines marks → HaltsBy (EndsRunBy join) known name lines fault
-      → ended_by_write {T = Unit {0}} (Err fault) ≡ false → seen ≡ seen_of join lines → StopsTally join known (name ∷ []) (seen_by join name seen ++ log_fault_text name seen.lines fault)
+      → ended_by_write {T = Unit {0}} (Err fault) ≡ false → seen ≡ seen_of join lines → StopsTally join known (name ∷ []) (seen_by join name seen ++ log_fault_text (codes "cidr_join") name seen.lines fault)
   at_log name lines marks fault seen first halts reading counted = inl (record {
     before = [];
     name = name;
@@ -53,8 +53,8 @@ module _ (join : Join) (known : KnownLists) where
     first = first;
     halts = halts;
     of_reading = reading;
-    is = ap (λ (s : LogStats). seen_by join name s ++ log_fault_text name seen.lines fault) counted
-        ∙ ap (λ (t : List ℕ). seen_by join name (seen_of join lines) ++ t) (told_log name seen.lines (length lines) fault (ap (λ (s : LogStats). s.lines) counted));
+    is = ap (λ (s : LogStats). seen_by join name s ++ log_fault_text (codes "cidr_join") name seen.lines fault) counted
+        ∙ ap (λ (t : List ℕ). seen_by join name (seen_of join lines) ++ t) (told_log (codes "cidr_join") name seen.lines (length lines) fault (ap (λ (s : LogStats). s.lines) counted));
   })
 
   module _ (founds : List Found) (name : List ℕ) (remained remains : Option (List ℕ)) (has : (input : List ℕ) → known.bytes_of name ≡ Some input → remained ≡ Some input) (opened : known.may_open name true)
@@ -62,7 +62,7 @@ module _ (join : Join) (known : KnownLists) where
     halted : (fault : LogFault) → ended_by_write {T = Unit {0}} (Err fault) ≡ false
         → StopsReading (EndsRunBy join) (CountsLines founds join old new seen) (λ (lines : List LogLine). ⊥) remained remains failed false fault
         → (halts : (lines : List LogLine) × HaltsBy (EndsRunBy join) known name lines fault × CountsLines founds join old new seen lines)
-        → StopsTally join known (name ∷ []) (seen_by join name seen ++ log_fault_text name seen.lines fault)
+        → StopsTally join known (name ∷ []) (seen_by join name seen ++ log_fault_text (codes "cidr_join") name seen.lines fault)
     halted fault reading h halts = at_log name halts.0 halts.2.0 fault seen halts.2.1 halts.1 reading halts.2.3
 
     pub name_stops : (fault : TallyFault) → StopsCounting join (CountsLines founds join old new seen) remained remains failed fault
@@ -95,7 +95,7 @@ module _ (join : Join) (known : KnownLists) where
     first = s.first;
     halts = s.halts;
     of_reading = s.of_reading;
-    is = ap (λ (t : List ℕ). told ++ t) s.is ∙ sym (append_assoc told s.texts (seen_by join s.name (seen_of join s.lines) ++ log_fault_text s.name (length s.lines) s.fault));
+    is = ap (λ (t : List ℕ). told ++ t) s.is ∙ sym (append_assoc told s.texts (seen_by join s.name (seen_of join s.lines) ++ log_fault_text (codes "cidr_join") s.name (length s.lines) s.fault));
   })
   stops_behind done rest names name marks told text missed e f (inr s) = inr (record {
     before = done ++ s.before;
@@ -105,7 +105,7 @@ module _ (join : Join) (known : KnownLists) where
     missed = missed || s.missed;
     logs = e ∙ ap (λ l. done ++ (l ++ rest)) s.logs ∙ ap (λ l. done ++ l) (append_assoc s.before s.behind rest) ∙ sym (append_assoc done s.before (s.behind ++ rest));
     are = logs_both (Marks join) join known done s.before marks s.earlier told s.texts missed s.missed f s.are;
-    is = ap (λ (t : List ℕ). told ++ t) s.is ∙ sym (append_assoc told s.texts (codes "out of memory\n"));
+    is = ap (λ (t : List ℕ). told ++ t) s.is ∙ sym (append_assoc told s.texts (codes "cidr_join: out of memory\n"));
   })
 
   module _ {Y : Type 0} (files : List (String Y)) where
@@ -120,9 +120,9 @@ module _ (join : Join) (known : KnownLists) where
 
     -- memory ran out after all logs were counted
     pub rows_lack : {E : Type 0} (founds : List Found) (missed : Bool) (old new : Counts) (errors between told : Written E) → CountsNames founds join known (map string_bytes files) missed old new errors between
-        → Reports between told (codes "out of memory\n") → TellsStop join known (map string_bytes files) errors told
+        → Reports between told (codes "cidr_join: out of memory\n") → TellsStop join known (map string_bytes files) errors told
     rows_lack founds missed old new errors between told f tells = (
-      f.text ++ codes "out of memory\n",
+      f.text ++ codes "cidr_join: out of memory\n",
       inr (record {
         before = map string_bytes files;
         behind = [];
@@ -133,5 +133,5 @@ module _ (join : Join) (known : KnownLists) where
         are = f.reads;
         is = refl;
       }),
-      tells_more errors between told f.text (codes "out of memory\n") f.tells tells,
+      tells_more errors between told f.text (codes "cidr_join: out of memory\n") f.tells tells,
     )

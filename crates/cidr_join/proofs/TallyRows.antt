@@ -65,8 +65,8 @@ failed_all (Err fault) old mid new text p h =
 -- how a run that writes a text ends
 pub ends_with : {W E T F : Type 0} (written : Result T F) (end : Ending W E) (text : List ℕ) (was : Bool) (between : Written E) (told : List ℕ) (missed : Bool) → OnOk written (Writes end.output end.output_after text)
     → OnErr written (FailsIn end.output end.output_after text) → end.output_after.failed ≡ (was || is_err written) → end.status ≡ status_of written (status_by missed)
-    → Reports end.errors between told → Reports between end.errors_after (end_text written) → EndsWith text told missed end
+    → Reports end.errors between told → Reports between end.errors_after (end_text (codes "cidr_join") written) → EndsWith text told missed end
 ends_with (Ok done) end text was between told missed ok err failed two before tells =
     inl (ok, tells_same end.errors end.errors_after (told ++ []) told (append-nil told) (tells_more end.errors between end.errors_after told [] before tells), two)
 ends_with (Err fault) end text was between told missed ok err failed two before tells =
-    inr ((failed_now end.output_after.failed was failed, err), tells_more end.errors between end.errors_after told (codes "write error\n") before tells, two)
+    inr ((failed_now end.output_after.failed was failed, err), tells_more end.errors between end.errors_after told (codes "cidr_join: write error\n") before tells, two)

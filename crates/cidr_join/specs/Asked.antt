@@ -1,11 +1,9 @@
--- The network of a line, as it is looked up in the list.
-use Rattle.std.specs.Prelude.{ℕ, ◌-◌, Bool, List, Option, None, Some, Result, Ok, Err, nat_le, if◌then◌else◌}
-use Rattle.ipnetwork_addr.specs.Either.{unmapped}
+-- What is found in a line, as a network.
+use Rattle.std.specs.Prelude.{ℕ, Bool, List, Option, None, Some, Result, Ok, Err, if◌then◌else◌}
 use Rattle.ipnetwork_addr.specs.declared.ip.IpAddr.{IpAddr}
-use Rattle.ipnetwork_addr.specs.declared.ip.IpAddr.TheVariants as addresses
 use Rattle.ipnetwork_family.specs.declared.error.CidrFault.{CidrFault}
 use Rattle.ipnetwork.specs.Computed.IpNetworkText.{ip_network_of}
-use Rattle.ipnetwork.specs.IpNetworks.{address_of, made_of, prefix_of, width_of}
+use Rattle.ipnetwork.specs.IpNetworks.{made_of, width_of}
 use Rattle.ipnetwork.specs.declared.ip_network.IpNetwork.{IpNetwork}
 use Rattle.line_addresses.specs.Addresses.{Spelled}
 
@@ -29,16 +27,3 @@ network_of networks found = if networks then named_network found.text else Some 
 abbrev pub network_of_found : Bool → Option Spelled → Option IpNetwork
 network_of_found networks None = None
 network_of_found networks (Some found) = network_of networks found
-
--- the network that is looked up: with `--mapped`, a network whose addresses are all IPv4-mapped counts as the network
--- of their IPv4 addresses
-abbrev pub unmapped_by : IpNetwork → IpAddr → IpNetwork
-unmapped_by network (addresses.V4 address) =
-    if nat_le 96 (prefix_of network) then made_of (addresses.V4 address) (prefix_of network - 96) else network
-unmapped_by network (addresses.V6 address) = network
-
-abbrev pub unmapped_network : IpNetwork → IpNetwork
-unmapped_network network = unmapped_by network (unmapped (address_of network))
-
-abbrev pub asked_network : Bool → IpNetwork → IpNetwork
-asked_network mapped network = if mapped then unmapped_network network else network

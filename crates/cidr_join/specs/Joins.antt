@@ -5,10 +5,11 @@ use Rattle.ipnetwork.specs.IpNetworkText.{ip_network_text}
 use Rattle.ipnetwork.specs.declared.ip_network.IpNetwork.{IpNetwork}
 use Rattle.line_addresses.specs.Areas.{part_of, picked_in}
 use Rattle.log_programs.specs.LogStats.{is_long}
+use Rattle.log_programs.specs.Unmapping.{asked_network}
 use Rattle.log_programs.specs.WithoutAddress.{is_dropped, is_stopped}
 use Rattle.log_programs.specs.declared.without_address.WithoutAddress.{WithoutAddress}
 use Rattle.program.specs.LogLines.{LogLine, content, printed}
-use Rattle.cidr_join.specs.Asked.{asked_network, network_of_found}
+use Rattle.cidr_join.specs.Asked.{network_of_found}
 use Rattle.cidr_join.specs.Groups.{block_in}
 use Rattle.cidr_join.specs.Routes.{IsLongestRoute, NoRouteHolds}
 use Rattle.cidr_join.specs.declared.answers.Answers.{Answers}

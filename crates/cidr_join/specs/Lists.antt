@@ -8,11 +8,10 @@ use Rattle.log_programs.specs.Rows as rows
 use Rattle.options.specs.declared.items.Item.{Item}
 use Rattle.options.specs.declared.items.Item.TheVariants as says
 use Rattle.cidr_join.specs.Reported.{bytes_fault_text, refused_text, take_fault_text}
-use Rattle.cidr_join.specs.Takes.{Refused, Listed, listed_from, TakesLines, StopsTaking}
+use Rattle.cidr_join.specs.Takes.{Refused, Listed, TakesLines, StopsTaking}
 use Rattle.cidr_join.specs.declared.list.ListRules.{ListRules}
 use Rattle.cidr_join.specs.declared.list.TakeFault.{TakeFault}
 use Rattle.cidr_join.specs.declared.reading.ReadList.{ReadList}
-use Rattle.cidr_join.specs.declared.routes.Networks.{Networks}
 
 -- the name of the list that an option reads, if it is `-f`
 abbrev pub list_by : ℕ → List ℕ → List (List ℕ)
@@ -54,20 +53,17 @@ NotRead known (name ∷ names) told =
 abbrev pub lines_of : NamedText → List (List ℕ)
 lines_of list = slice_split (λ b. b == 10) list.text
 
--- the lines of these lists were taken, in turn: `after` are the networks then, and `told` is reported about the lines
--- that are left out
-abbrev pub TakesLists : ListRules → Networks → List NamedText → Networks → List ℕ → Type 0
-TakesLists rules before [] after told = (after ≡ before) × (told ≡ [])
-TakesLists rules before (list ∷ lists) after told = (listed : Listed) × (texts : List ℕ)
-    × TakesLines rules (listed_from before) (lines_of list) listed × TakesLists rules listed.networks lists after texts
-    × (told ≡ refused_text list.name listed.refused ++ texts)
+-- the lines of these lists were taken or left out, in turn
+abbrev pub TakesLists : ListRules → Listed → List NamedText → Listed → Type 0
+TakesLists rules before [] after = after ≡ before
+TakesLists rules before (list ∷ lists) after = (between : Listed)
+    × TakesLines rules list.name 0 before (lines_of list) between × TakesLists rules between lists after
 
 -- a line of one of the lists has a fault, which is reported after the lines that are left out before it
-abbrev pub StopsAtList : ListRules → Networks → List NamedText → List ℕ → Type 0
+abbrev pub StopsAtList : ListRules → Listed → List NamedText → List ℕ → Type 0
 StopsAtList rules before [] told = ⊥
 StopsAtList rules before (list ∷ lists) told =
-    ((fault : TakeFault) × (refused : List Refused)
-    × StopsTaking rules (listed_from before) (lines_of list) fault refused
-    × (told ≡ refused_text list.name refused ++ take_fault_text list.name fault))
-    ⊎ ((listed : Listed) × (texts : List ℕ) × TakesLines rules (listed_from before) (lines_of list) listed
-    × StopsAtList rules listed.networks lists texts × (told ≡ refused_text list.name listed.refused ++ texts))
+    ((fault : TakeFault) × (refused : List Refused) × StopsTaking rules list.name before (lines_of list) fault refused
+    × (told ≡ refused_text refused ++ take_fault_text list.name fault))
+    ⊎ ((between : Listed) × TakesLines rules list.name 0 before (lines_of list) between
+    × StopsAtList rules between lists told)

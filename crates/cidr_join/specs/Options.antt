@@ -1,5 +1,5 @@
 -- The options of the command line.
-use Rattle.std.specs.Prelude.{ℕ, true, false, List, [], ◌∷◌, ◌++◌, codes}
+use Rattle.std.specs.Prelude.{ℕ, true, List, [], ◌∷◌, ◌++◌, codes}
 use Rattle.log_programs.specs.Rows as rows
 use Rattle.options.specs.Table.{Entry, IsTable, long_flag, long}
 use Rattle.options.specs.declared.table.Kind.TheVariants as kinds

@@ -26,7 +26,8 @@ use Rattle.program.specs.LogFaults.{log_fault_text, Wrote}
 use Rattle.program.specs.Logs.{HaltsBy}
 use Rattle.cidr_join.specs.TallyRuns.{EndsTally, EndsWith}
 use Rattle.cidr_join.specs.Lists.{NamedText, AreRead, NotRead, StopsAtList, TakesLists, lists_of}
-use Rattle.cidr_join.specs.Routes.{no_networks}
+use Rattle.cidr_join.specs.Reported.{refused_text}
+use Rattle.cidr_join.specs.Takes.{Listed, nothing_listed}
 use Rattle.cidr_join.specs.declared.answers.Answers.{Answers}
 use Rattle.cidr_join.specs.declared.answers.Answers.TheVariants as answers
 use Rattle.cidr_join.specs.declared.join.Join.{Join}
@@ -55,7 +56,8 @@ pub record StopsAtLog {W E : Type 0} (join : Join) (known : KnownLists) (names :
   pub first : Joins join lines added
   pub halts : HaltsBy (EndsRunBy join) known name lines fault
   pub wrote : Wrote fault end (output ++ added)
-  pub told : HasTold end (texts ++ (seen_by join name (seen_of join lines) ++ log_fault_text name (length lines) fault))
+  pub told : HasTold end (texts ++ (seen_by join name (seen_of join lines)
+      ++ log_fault_text (codes "cidr_join") name (length lines) fault))
   pub status : end.status ≡ 2
 
 -- each log was joined to its end, or could not be opened
@@ -110,22 +112,22 @@ rules_of items = record {
 -- how the run ends if the lists have these networks: memory runs out, or the logs are joined to them or counted by them
 abbrev pub EndsListed : {W E : Type 0} → KnownLists → List Item → Networks → Ending W E → Type 0
 EndsListed known items networks end =
-    Refuses (codes "out of memory\n") end
+    Refuses (codes "cidr_join: out of memory\n") end
     ⊎ EndsAsked (is_given items own.tally) (join_of items (answers_of items networks)) known (inputs_of items) end
 
 -- how the run ends if the lists have these names and bytes: a line of one ends the run, and nothing is written; else
 -- the lines that are left out are reported first
 abbrev pub EndsJoining : {W E : Type 0} → KnownLists → List Item → List NamedText → Ending W E → Type 0
 EndsJoining {W} {E} known items lists end =
-    ((text : List ℕ) × StopsAtList (rules_of items) no_networks lists text × Refuses text end)
-    ⊎ ((networks : Networks) × (text : List ℕ) × (told : Written E)
-    × TakesLists (rules_of items) no_networks lists networks text × Reports end.errors told text
-    × EndsListed known items networks (record end { errors = told }))
+    ((text : List ℕ) × StopsAtList (rules_of items) nothing_listed lists text × Refuses text end)
+    ⊎ ((listed : Listed) × (told : Written E) × TakesLists (rules_of items) nothing_listed lists listed
+    × Reports end.errors told (refused_text listed.refused)
+    × EndsListed known items listed.networks (record end { errors = told }))
 
 -- how the run ends if this is printed for addresses: memory runs out, or the logs are joined or counted
 abbrev pub EndsFinding : {W E : Type 0} → KnownLists → List Item → Answers → Ending W E → Type 0
 EndsFinding known items by end =
-    Refuses (codes "out of memory\n") end
+    Refuses (codes "cidr_join: out of memory\n") end
     ⊎ EndsAsked (is_given items own.tally) (join_of items by) known (inputs_of items) end
 
 -- the lengths of the blocks in which lines are grouped, if `--group` is given
@@ -141,7 +143,8 @@ lengths_of items = both (lengths_in (value_of items own.group))
 abbrev pub EndsGrouping : {W E : Type 0} → Option Lengths → KnownLists → List Item → Ending W E → Type 0
 EndsGrouping (Some lengths) known items end = EndsFinding known items (answers.Blocks lengths) end
 EndsGrouping None known items end =
-    ((text : List ℕ) × ((text ≡ codes "out of memory\n") ⊎ NotRead known (lists_of items) text) × Refuses text end)
+    ((text : List ℕ) × ((text ≡ codes "cidr_join: out of memory\n") ⊎ NotRead known (lists_of items) text)
+    × Refuses text end)
     ⊎ ((lists : List NamedText) × AreRead known (lists_of items) lists × EndsJoining known items lists end)
 
 abbrev pub EndsFiles : {W E : Type 0} → KnownLists → List Item → Ending W E → Type 0
@@ -158,7 +161,7 @@ lack_text program usage =
 -- the run does what the items ask for, unless `--zero` lacks `--tally` or there is no memory for the names of the logs
 abbrev pub EndsRequest : {W E : Type 0} → List ℕ → List ℕ → KnownLists → List Item → Ending W E → Type 0
 EndsRequest program usage known items end = ((lacks_tally items ≡ true) × Refuses (lack_text program usage) end)
-    ⊎ ((lacks_tally items ≡ false) × (Refuses (codes "out of memory\n") end ⊎ EndsFiles known items end))
+    ⊎ ((lacks_tally items ≡ false) × (Refuses (codes "cidr_join: out of memory\n") end ⊎ EndsFiles known items end))
 
 abbrev pub DoesRequest : {W E : Type 0} → List ℕ → List ℕ → KnownLists → Ending W E → List Item → Type 0
 DoesRequest program usage known end items = EndsRequest program usage known items end

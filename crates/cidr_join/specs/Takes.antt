@@ -1,8 +1,8 @@
--- How the lines of a list are taken.
-use Rattle.std.specs.Prelude.{◌≡◌, ◌⊎◌, ℕ, ◌+◌, List, [], ◌∷◌, ◌++◌, Option, None, Some, if◌then◌else◌}
+-- How the lines of lists are taken.
+use Rattle.std.specs.Prelude.{◌≡◌, ◌⊎◌, ℕ, ◌+◌, List, [], ◌∷◌, ◌++◌, length, Option, None, Some, if◌then◌else◌}
 use Rattle.lists.specs.declared.entry.Entry.{Entry}
 use Rattle.cidr_join.specs.Entries.{SaysNothing, Says, LineFaults}
-use Rattle.cidr_join.specs.Routes.{SetsEntry, EntryHasOne}
+use Rattle.cidr_join.specs.Routes.{SetsEntry, EntryHasOne, no_networks}
 use Rattle.cidr_join.specs.declared.line.Cause.{Cause}
 use Rattle.cidr_join.specs.declared.line.Cause.TheVariants as causes
 use Rattle.cidr_join.specs.declared.list.ListRules.{ListRules}
@@ -27,43 +27,42 @@ LineFails rules before line (faults.Refused causes.Twice) = (entry : Entry) × (
     × Says rules.bare line entry value × EntryHasOne rules.last_wins before entry
 LineFails rules before line (faults.Refused causes.Length) = LineFaults rules.bare line causes.Length
 
--- a refused line: how many lines come before it, and why it is refused
+-- a refused line: the name of its list, how many lines of it come before, and why it is refused
 abbrev pub Refused : Type 0
-Refused = ℕ × Cause
+Refused = List ℕ × ℕ × Cause
 
--- the result of taking lines: how many there were, their networks, and the lines that were refused and left out
+-- the result of taking lines of lists: their networks, and the lines that were refused and left out
 pub record Listed : Type 0 where
-  pub lines : ℕ
   pub networks : Networks
   pub refused : List Refused
 
--- before the first line of a list, where there are these networks
-abbrev pub listed_from : Networks → Listed
-listed_from networks = record { lines = 0; networks = networks; refused = [] }
+-- before the first line of the first list
+abbrev pub nothing_listed : Listed
+nothing_listed = record { networks = no_networks; refused = [] }
 
 -- why a line with this fault is left out; `None` if it is not, since it is not refused or the rules skip none
 abbrev pub left_out : ListRules → RouteFault → Option Cause
 left_out rules faults.OutOfMemory = None
 left_out rules (faults.Refused cause) = if rules.skips then Some cause else None
 
--- one more line was taken or left out
-pub record TakesNext (rules : ListRules) (before : Listed) (line : List ℕ) (after : Listed) : Type 0 where
-  pub lines : after.lines ≡ before.lines + 1
-  pub takes : (TakesLine rules before.networks line after.networks × (after.refused ≡ before.refused))
-      ⊎ ((fault : RouteFault) × (cause : Cause) × LineFails rules before.networks line fault
-      × (left_out rules fault ≡ Some cause) × (after.networks ≡ before.networks)
-      × (after.refused ≡ before.refused ++ (before.lines, cause) ∷ []))
+-- the line of the list with this name that comes after `number` others was taken or left out
+abbrev pub TakesNext : ListRules → List ℕ → ℕ → Listed → List ℕ → Listed → Type 0
+TakesNext rules name number before line after =
+    (TakesLine rules before.networks line after.networks × (after.refused ≡ before.refused))
+    ⊎ ((fault : RouteFault) × (cause : Cause) × LineFails rules before.networks line fault
+    × (left_out rules fault ≡ Some cause) × (after.networks ≡ before.networks)
+    × (after.refused ≡ before.refused ++ (name, number, cause) ∷ []))
 
--- these lines were taken or left out, in turn
-abbrev pub TakesLines : ListRules → Listed → List (List ℕ) → Listed → Type 0
-TakesLines rules before [] after = after ≡ before
-TakesLines rules before (line ∷ lines) after = (between : Listed) × TakesNext rules before line between
-    × TakesLines rules between lines after
+-- these lines of that list, which come after `number` others, were taken or left out, in turn
+abbrev pub TakesLines : ListRules → List ℕ → ℕ → Listed → List (List ℕ) → Listed → Type 0
+TakesLines rules name number before [] after = after ≡ before
+TakesLines rules name number before (line ∷ lines) after = (between : Listed)
+    × TakesNext rules name number before line between × TakesLines rules name (number + 1) between lines after
 
--- the first lines were taken, except these refused ones, which were left out; the next line has the fault, and is not
--- left out
-abbrev pub StopsTaking : ListRules → Listed → List (List ℕ) → TakeFault → List Refused → Type 0
-StopsTaking rules before lines fault refused = (first : List (List ℕ)) × (line : List ℕ) × (others : List (List ℕ))
-    × (between : Listed) × (lines ≡ first ++ line ∷ others) × TakesLines rules before first between
-    × LineFails rules between.networks line fault.fault × (left_out rules fault.fault ≡ None)
-    × (fault.lines ≡ between.lines) × (refused ≡ between.refused)
+-- the first lines of that list were taken, except refused ones, which were left out; `refused` are these and those of
+-- the lists before it. The next line has the fault, and is not left out
+abbrev pub StopsTaking : ListRules → List ℕ → Listed → List (List ℕ) → TakeFault → List Refused → Type 0
+StopsTaking rules name before lines fault refused = (first : List (List ℕ)) × (line : List ℕ)
+    × (others : List (List ℕ)) × (between : Listed) × (lines ≡ first ++ line ∷ others)
+    × TakesLines rules name 0 before first between × LineFails rules between.networks line fault.fault
+    × (left_out rules fault.fault ≡ None) × (fault.lines ≡ length first) × (refused ≡ between.refused)

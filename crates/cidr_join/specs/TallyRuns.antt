@@ -71,7 +71,8 @@ pub record StopsAtName (join : Join) (known : KnownLists) (names : List (List �
   pub first : Marks join lines marks
   pub halts : HaltsBy (EndsRunBy join) known name lines fault
   pub of_reading : IsOfReading fault
-  pub is : text ≡ texts ++ (seen_by join name (seen_of join lines) ++ log_fault_text name (length lines) fault)
+  pub is : text ≡ texts ++ (seen_by join name (seen_of join lines)
+      ++ log_fault_text (codes "cidr_join") name (length lines) fault)
 
 -- memory ran out after some of the logs. The text is the reports about these, and then that memory ran out
 pub record RunsOut (join : Join) (known : KnownLists) (names : List (List ℕ)) (text : List ℕ) : Type 0 where
@@ -82,7 +83,7 @@ pub record RunsOut (join : Join) (known : KnownLists) (names : List (List ℕ)) 
   pub missed : Bool
   pub logs : names ≡ before ++ behind
   pub are : MarksLogs join known before earlier texts missed
-  pub is : text ≡ texts ++ codes "out of memory\n"
+  pub is : text ≡ texts ++ codes "cidr_join: out of memory\n"
 
 -- why nothing is counted: a log was not read to its end, or memory ran out
 abbrev pub StopsTally : Join → KnownLists → List (List ℕ) → List ℕ → Type 0
@@ -96,7 +97,7 @@ status_by missed = if missed then 2 else 0
 -- waited and of `text`, and the failure was reported after `told`
 abbrev pub EndsWith : {W E : Type 0} → List ℕ → List ℕ → Bool → Ending W E → Type 0
 EndsWith text told missed end = (HasWritten end text × HasTold end told × (end.status ≡ status_by missed))
-    ⊎ (FailsWriting end text × HasTold end (told ++ codes "write error\n") × (end.status ≡ 2))
+    ⊎ (FailsWriting end text × HasTold end (told ++ codes "cidr_join: write error\n") × (end.status ≡ 2))
 
 -- nothing was written, and the cause was reported; or the tally of what is counted for the lines of the logs was
 -- written, and the reports about them

@@ -1,10 +1,10 @@
-//! The network of a line.
+//! What was found in a line, as a network.
 ghost use Rattle.std.specs.Prelude.{◌≡◌, ◌≤◌, length};
 ghost use Rattle.line_addresses.specs.Found.{spelled_at};
-ghost use Rattle.cidr_join.specs.Asked.{asked_network, named_network, network_of, unmapped_network};
+ghost use Rattle.cidr_join.specs.Asked.{named_network, network_of};
 
+use ipnetwork::IpNetwork;
 use ipnetwork::laws::ip_network_reading_is_computed;
-use ipnetwork::{IpAddr, IpNetwork};
 use line_addresses::Found;
 
 /// What was found in a line, as a network: that which its text names, if `networks`, or that of its
@@ -30,33 +30,5 @@ fn named_network(text: &[u8]) -> Option<IpNetwork>
     match IpNetwork::read_bytes(text) {
         Ok(network) => Some(network),
         Err(_) => None,
-    }
-}
-
-/// Returns the network that is looked up in the list.
-#[inline(always)]
-pub(crate) fn asked_network(mapped: bool, network: IpNetwork) -> IpNetwork
-    ensures { result ≡ asked_network mapped network }
-{
-    if mapped {
-        unmapped_network(network)
-    } else {
-        network
-    }
-}
-
-// Returns the IPv4 network of an IPv4-mapped one, and any other network unchanged.
-fn unmapped_network(network: IpNetwork) -> IpNetwork
-    ensures { result ≡ unmapped_network network }
-{
-    let prefix = network.prefix();
-    if prefix < 96 {
-        return network;
-    }
-    match network.ip().to_canonical() {
-        IpAddr::V4(address) => {
-            IpNetwork::new(IpAddr::V4(address), prefix - 96).unwrap_or(network)
-        }
-        IpAddr::V6(_) => network,
     }
 }

@@ -78,7 +78,8 @@ pub(crate) const VERSION: &str = "cidr_join 0.1.0\n";
 /// The name of the program.
 pub(crate) const PROGRAM: &str = "cidr_join";
 
-/// How the program is used: what is reported for arguments that are not a command, after what is wrong with them.
+/// How the program is used: what is reported for arguments that are not a command, after what is
+/// wrong with them.
 pub(crate) const USAGE: &str =
     "usage: cidr_join [--after TEXT | [-a] [-k N] [-d CHAR | -w]] [--nth first|last|N] [--mapped] \
      [--networks] [--bad drop|keep|stop|report] [--last | --tally [--zero]] \

@@ -3,10 +3,11 @@ ghost use Rattle.std.specs.Prelude.{◌≡◌, None, Some};
 ghost use Rattle.cidr_join.specs.Joins.{Finds, is_left_out, is_refused, network_in};
 
 use crate::answers::Answers;
-use crate::asked::{asked_network, network_of};
+use crate::asked::network_of;
 use crate::found::Found;
 use ipnetwork::IpNetwork;
 use line_addresses::{Area, part_of, picked};
+use log_programs::unmapping::asked_network;
 use log_programs::without_address::WithoutAddress;
 
 /// What decides what is printed for a line.

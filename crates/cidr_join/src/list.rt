@@ -1,14 +1,13 @@
 //! Takes the networks of lists with their values.
-ghost use Rattle.std.specs.Prelude.{◌≡◌, ◌==◌, ◌≤◌, ◌<◌, ◌+◌, ◌^◌, IfErr, OnOk};
+ghost use Rattle.std.specs.Prelude.{◌≡◌, ◌==◌, ◌≤◌, ◌<◌, ◌+◌, ◌-◌, ◌^◌, min, IfErr, OnOk};
 ghost use Rattle.std.specs.List.{slice_split};
-ghost use Rattle.program.specs.LogFaults.{line_text};
 ghost use Rattle.program.specs.Messages.{Reports};
-ghost use Rattle.cidr_join.specs.Entries.{cause_text};
-ghost use Rattle.cidr_join.specs.Reported.{EndsList};
-ghost use Rattle.cidr_join.specs.Routes.{IsGoodEntry, SetsEntry, EntryHasOne, IsRefusal, Keeps, no_networks};
+ghost use Rattle.cidr_join.specs.Reported.{refused_line};
+ghost use Rattle.cidr_join.specs.Routes.{IsGoodEntry, SetsEntry, EntryHasOne, IsRefusal, Keeps};
 ghost use Rattle.cidr_join.specs.Takes.{TakesLine, LineFails, left_out};
-ghost use Rattle.cidr_join.specs.Private.Listing.{nothing_taken, EndsLines, ListsNext, FailsNext};
+ghost use Rattle.cidr_join.specs.Private.Listing.{nothing_taken, EndsList, ListsNext, FailsNext};
 
+use crate::help::PROGRAM;
 use crate::line::{Cause, read_route};
 use crate::routes::{Networks, RouteFault, set_one, set_range};
 use crate::value::Value;
@@ -17,7 +16,6 @@ use ipnetwork::{IpAddr, IpNetwork};
 use lines::output::Output;
 use lists::Entry;
 use program::log_fault::tell_line;
-use program::telling::tell_more;
 use std::alloc::Global;
 use std::io::Write;
 
@@ -43,7 +41,7 @@ pub struct TakeFault {
 
 /// How many of the refused lines that are left out are reported; of the others only their number
 /// is.
-const TOLD_MAX: usize = 100;
+const TOLD_MAX: u64 = 100;
 
 /// What was taken of the lines of lists.
 #[derive(Drop)]
@@ -51,20 +49,27 @@ pub struct Listing<'a> {
     pub(crate) networks: Networks<'a>,
     // The number of lines of the last list.
     pub(crate) lines: usize,
-    // How many of them were refused and left out.
-    pub(crate) skipped: usize,
+    // How many lines of all lists were refused and left out.
+    pub(crate) skipped: u64,
 }
 
 impl<'a> Listing<'a> {
     /// The state before the first list.
     pub(crate) fn new(alloc: Global) -> Listing<'a>
-        ensures { result ≡ nothing_taken no_networks }
+        ensures { result ≡ nothing_taken }
     {
         Listing {
             networks: Networks::new(alloc),
             lines: 0,
             skipped: 0,
         }
+    }
+
+    /// Returns how many of the refused lines that were left out are not reported.
+    pub(crate) fn more(&self) -> u64
+        ensures { result ≡ self.now.skipped - 100 }
+    {
+        self.skipped.saturating_sub(TOLD_MAX)
     }
 
     /// Returns the networks of the lists, with their values.
@@ -83,28 +88,10 @@ pub(crate) fn take_list<'a, E: Write>(
     rules: ListRules,
     errors: &mut Output<'_, E>,
 ) -> Result<(), TakeFault>
-    ensures { EndsList name.now rules listing.old.networks (slice_split (λ b. b == 10) text.now)
-        errors.old errors.new listing.new.networks result }
+    ensures { EndsList name.now rules (slice_split (λ b. b == 10) text.now)
+        errors.old errors.new listing.old listing.new result }
 {
     listing.lines = 0;
-    listing.skipped = 0;
-    let end = take_lines(listing, name, text, rules, errors);
-    tell_more(listing.skipped.saturating_sub(TOLD_MAX) as u64, errors);
-    end
-}
-
-// Takes the lines of the list with this name.
-fn take_lines<'a, E: Write>(
-    listing: &mut Listing<'a>,
-    name: &str,
-    text: &'a [u8],
-    rules: ListRules,
-    errors: &mut Output<'_, E>,
-) -> Result<(), TakeFault>
-    requires { listing.old ≡ nothing_taken listing.old.networks }
-    ensures { EndsLines name.now rules listing.old.networks (slice_split (λ b. b == 10) text.now)
-        errors.old errors.new listing.new result }
-{
     let mut at = 0;
     'lines: while let Some(end) = find_from(text, at, b'\n') {
         if let Err(fault) = take_next(listing, name, &text[at..end], rules, errors) {
@@ -123,13 +110,12 @@ fn take_next<'a, E: Write>(
     rules: ListRules,
     errors: &mut Output<'_, E>,
 ) -> Result<(), TakeFault>
-    requires { (listing.old.skipped ≤ listing.old.lines) × (listing.old.lines + 1 < 2 ^ 64) }
+    requires { listing.old.lines + 1 < 2 ^ 64 }
     ensures ok { OnOk result (ListsNext name.now rules line.now errors.old errors.new
         listing.old listing.new) }
     ensures err { IfErr result (FailsNext rules line.now errors.old errors.new
         listing.old listing.new) }
     ensures lines { listing.new.lines ≡ listing.old.lines + 1 }
-    ensures few { listing.new.skipped ≤ listing.new.lines }
 {
     let lines = listing.lines;
     listing.lines += 1;
@@ -158,26 +144,25 @@ fn left_out(rules: ListRules, fault: RouteFault) -> Option<Cause>
 // Counts a line that is left out, and reports it if it is one of the first; `lines` come before
 // it.
 fn skip<E: Write>(
-    skipped: &mut usize,
+    skipped: &mut u64,
     name: &str,
     lines: usize,
     cause: Cause,
     errors: &mut Output<'_, E>,
 )
-    requires { skipped.old + 1 < 2 ^ 64 }
-    ensures counts { skipped.new ≡ skipped.old + 1 }
+    ensures counts { skipped.new ≡ min (skipped.old + 1) (2 ^ 64 - 1) }
     ensures first { skipped.old < 100
-        → Reports errors.old errors.new (line_text name.now lines (cause_text cause)) }
+        → Reports errors.old errors.new (refused_line (name.now, lines, cause)) }
     ensures others { 100 ≤ skipped.old → errors.new ≡ errors.old }
 {
-    *skipped += 1;
+    *skipped = skipped.saturating_add(1);
     if *skipped <= TOLD_MAX {
-        tell_line(name, lines as u64, cause.text(), errors);
+        tell_line(PROGRAM, name, lines as u64, cause.text(), errors);
     }
 }
 
 // Takes what a line says.
-#[tactic(auto, using(crate::proofs::Taking::good_entry, crate::proofs::Taking::line_set, crate::proofs::Taking::line_has))]
+#[tactic(auto, using(crate::proofs::Taking::line_said))]
 fn take_line<'a>(
     networks: &mut Networks<'a>,
     line: &'a [u8],

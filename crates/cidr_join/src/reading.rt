@@ -3,8 +3,10 @@ ghost use Rattle.std.specs.Prelude.{◌≡◌, ◌∷◌, ◌++◌, [], List, �
 ghost use Rattle.program.specs.Messages.{Reports};
 ghost use Rattle.cidr_join.specs.Lists.{AreRead, NamedText, StopsAtList, TakesLists, list_by, list_in, lists_of, named_text};
 ghost use Rattle.cidr_join.specs.Private.Listing.{TellsUnread};
-ghost use Rattle.cidr_join.specs.Routes.{no_networks};
+ghost use Rattle.cidr_join.specs.Reported.{refused_text};
+ghost use Rattle.cidr_join.specs.Takes.{Listed, nothing_listed};
 
+use crate::help::PROGRAM;
 use crate::list::{ListRules, Listing, take_list};
 use crate::routes::Networks;
 use crate::telling::{tell_bytes_fault, tell_take_fault};
@@ -13,7 +15,8 @@ use lines::output::Output;
 use lists::{OpenLists, read_bytes};
 use log_programs::rows::LIST;
 use options::items::{Item, Text};
-use program::messages::tell;
+use program::messages::tell_of;
+use program::telling::tell_more;
 use std::alloc::Global;
 use std::io::Write;
 
@@ -81,7 +84,7 @@ fn read_item<'a, L: OpenLists, E: Write>(
         ) {
             Ok(()) => Some(()),
             Err(_) => {
-                tell("out of memory\n", errors);
+                tell_of(PROGRAM, ": out of memory\n", errors);
                 None
             }
         },
@@ -111,8 +114,8 @@ fn list_by(row: usize, name: &str) -> Option<&str>
     if row == LIST { Some(name) } else { None }
 }
 
-/// Takes the lines of the lists in turn, by these rules, and returns their networks and values. If a
-/// line has a fault that ends this, the fault is reported, and `None` is returned.
+/// Takes the lines of the lists in turn, by these rules, and returns their networks and values. The
+/// lines that are left out are reported, and then a fault that ends this; `None` is then returned.
 pub(crate) fn take_lists<'a, E: Write>(
     alloc: Global,
     lists: &'a [ReadList<'_>],
@@ -120,11 +123,12 @@ pub(crate) fn take_lists<'a, E: Write>(
     errors: &mut Output<'_, E>,
 ) -> Option<Networks<'a>>
     ensures { MatchOption result
-        ((told : List ℕ) × StopsAtList rules no_networks (map named_text lists.now) told
+        ((told : List ℕ) × StopsAtList rules nothing_listed (map named_text lists.now) told
         × Reports errors.old errors.new told)
-        (λ networks. (told : List ℕ)
-        × TakesLists rules no_networks (map named_text lists.now) networks told
-        × Reports errors.old errors.new told) }
+        (λ networks. (listed : Listed)
+        × TakesLists rules nothing_listed (map named_text lists.now) listed
+        × (networks ≡ listed.networks)
+        × Reports errors.old errors.new (refused_text listed.refused)) }
 {
     let mut listing = Listing::new(alloc);
     let mut at = 0;
@@ -132,10 +136,12 @@ pub(crate) fn take_lists<'a, E: Write>(
         let list = &lists[at];
         let name = list.name.as_str();
         if let Err(fault) = take_list(&mut listing, name, list.text.as_slice(), rules, errors) {
+            tell_more(PROGRAM, listing.more(), errors);
             tell_take_fault(name, fault, errors);
             return None;
         }
         at += 1;
     }
+    tell_more(PROGRAM, listing.more(), errors);
     Some(listing.into_networks())
 }

@@ -28,7 +28,7 @@ use log_programs::without_address::WithoutAddress;
 use program::ending::{FAILED, end};
 use program::log_fault::tell_log_fault;
 use program::memory::refuse_memory;
-use program::messages::{number_text, tell};
+use program::messages::{number_text, tell_of};
 use program::putting::put_both;
 use std::alloc::Global;
 use std::io::Write;
@@ -49,11 +49,11 @@ pub(crate) fn tally_logs<L: OpenLists, W: Write, E: Write>(
         (ending output.old output.new errors.old errors.new result) }
 {
     let Ok(numbered) = ValueIds::of(alloc, &join.answers) else {
-        return refuse_memory(errors);
+        return refuse_memory(PROGRAM, errors);
     };
     let founds = numbered.founds();
     let Ok(mut counts) = Counts::new(alloc, founds.len()) else {
-        return refuse_memory(errors);
+        return refuse_memory(PROGRAM, errors);
     };
     let Some(missed) = tally_each(
         alloc,
@@ -68,10 +68,10 @@ pub(crate) fn tally_logs<L: OpenLists, W: Write, E: Write>(
         return FAILED;
     };
     let Ok(rows) = counts.into_rows(alloc, founds, join.zeros) else {
-        return refuse_memory(errors);
+        return refuse_memory(PROGRAM, errors);
     };
     let written = write_rows(rows.as_slice(), output);
-    end(written, status(missed), errors)
+    end(PROGRAM, written, status(missed), errors)
 }
 
 // Counts the lines of the logs with these names, and returns whether one could not be opened or a
@@ -161,9 +161,9 @@ fn tell_stop<E: Write>(
     match fault {
         TallyFault::Log(fault) => {
             tell_seen(PROGRAM, name, bad, seen, errors);
-            tell_log_fault(name, fault, seen.lines, errors);
+            tell_log_fault(PROGRAM, name, fault, seen.lines, errors);
         }
-        TallyFault::OutOfMemory => tell("out of memory\n", errors),
+        TallyFault::OutOfMemory => tell_of(PROGRAM, ": out of memory\n", errors),
     }
 }
 

@@ -11,8 +11,8 @@ use lines::output::Output;
 use lists::BytesFault;
 use log_programs::log_stats::LogStats;
 use log_programs::telling::tell_lacking;
-use program::log_fault::{tell_line, tell_of};
-use program::messages::tell;
+use program::log_fault::{tell_fault_of, tell_line};
+use program::messages::tell_of;
 use std::io::Write;
 
 /// Reports why the list with this name was not read.
@@ -20,10 +20,12 @@ pub(crate) fn tell_bytes_fault<E: Write>(name: &str, fault: BytesFault, errors: 
     ensures { Reports errors.old errors.new (bytes_fault_text name.now fault) }
 {
     match fault {
-        BytesFault::Open(cause) => tell_of(name, cause.text(), errors),
-        BytesFault::Read => tell_of(name, ": cannot read\n", errors),
-        BytesFault::Length => tell_of(name, ": too long\n", errors),
-        BytesFault::OutOfMemory => tell("out of memory\n", errors),
+        BytesFault::Open(cause) => tell_fault_of(PROGRAM, name, cause.text(), errors),
+        BytesFault::Read => tell_fault_of(PROGRAM, name, ": cannot read\n", errors),
+        BytesFault::Length => {
+            tell_fault_of(PROGRAM, name, ": more than 1,073,741,824 bytes\n", errors)
+        }
+        BytesFault::OutOfMemory => tell_of(PROGRAM, ": out of memory\n", errors),
     }
 }
 
@@ -47,7 +49,9 @@ pub(crate) fn tell_take_fault<E: Write>(name: &str, fault: TakeFault, errors: &m
     ensures { Reports errors.old errors.new (take_fault_text name.now fault) }
 {
     match fault.fault {
-        RouteFault::OutOfMemory => tell("out of memory\n", errors),
-        RouteFault::Refused(cause) => tell_line(name, fault.lines as u64, cause.text(), errors),
+        RouteFault::OutOfMemory => tell_of(PROGRAM, ": out of memory\n", errors),
+        RouteFault::Refused(cause) => {
+            tell_line(PROGRAM, name, fault.lines as u64, cause.text(), errors)
+        }
     }
 }

@@ -21,7 +21,8 @@ use Rattle.cidr_merge.specs.NamedLists.{lists_of, text_in}
 use Rattle.cidr_merge.specs.Answers.{IsLeft, IsLeftOfSecond, AreBoth, merged, merged_ranges}
 use Rattle.cidr_merge.specs.Answers.{block_line, range_line}
 use Rattle.cidr_merge.specs.Faults.{files_among, files_fault, takes}
-use Rattle.cidr_merge.specs.Forms.{form_of, shape_of, prefix_in}
+use Rattle.cidr_merge.specs.Forms.{form_of, most_in, shape_of, prefix_in}
+use Rattle.cidr_merge.specs.Reductions.{others_text}
 use Rattle.cidr_merge.specs.Options.{entries, pairs}
 use Rattle.cidr_merge.specs.SetNames.{Names, usual_names}
 use Rattle.cidr_merge.specs.Sides.{before_dashes, behind_dashes}
@@ -136,7 +137,7 @@ skipped_lines = (refl, refl, refl)
 -- ---- what is reported
 
 pub a_refused_line : {Z : Type 0} (union list : String Z) → string_bytes list ≡ codes "a.txt"
-    → refusals_text (union ∷ list ∷ []) in_list (record {
+    → refusals_text (codes "cidr_merge") (union ∷ list ∷ []) in_list (record {
       kept = record {
         list = 1;
         line =
@@ -144,7 +145,7 @@ pub a_refused_line : {Z : Type 0} (union list : String Z) → string_bytes list 
         fault = Entry Prefix;
       } ∷ [];
       more = 0;
-    }) ≡ codes "a.txt:7: refused prefix\n"
+    }) ≡ codes "cidr_merge: a.txt:7: refused prefix\n"
 unfolding digits
 a_refused_line union list e = rw e
 
@@ -182,12 +183,13 @@ pub no_files : (files_among tasks.Find 2 (codes "-" ∷ [] ∷ codes "-" ∷ [])
     × (files_among tasks.Check 2 (codes "-" ∷ [] ∷ codes "-" ∷ []) ≡ codes "-" ∷ [] ∷ codes "-" ∷ [])
 no_files = (refl, refl)
 
--- which of `-e`, `--ranges`, `--skip-bad`, `--strict`, `--line-prefix`, `--prefix`, `--from` and `--help` each task
+-- which of `-e`, `--ranges`, `--skip-bad`, `--strict`, `--line-prefix`, `--prefix`, `--from` and `--most` each task
 -- takes
-pub options_of_tasks : map (λ task. map (takes task) (12 ∷ 0 ∷ 3 ∷ 5 ∷ 8 ∷ 10 ∷ 11 ∷ 13 ∷ [])) (tasks.Merge Differ ∷ tasks.List ∷ tasks.Split ∷ tasks.Check ∷ tasks.Overlaps ∷ tasks.Find ∷ [])
+pub options_of_tasks : map (λ task. map (takes task) (12 ∷ 0 ∷ 3 ∷ 5 ∷ 8 ∷ 10 ∷ 11 ∷ 13 ∷ [])) (tasks.Merge Differ ∷ tasks.List ∷ tasks.Split ∷ tasks.Reduce ∷ tasks.Check ∷ tasks.Overlaps ∷ tasks.Find ∷ [])
     ≡ (true ∷ true ∷ true ∷ true ∷ true ∷ false ∷ false ∷ false ∷ [])
     ∷ (true ∷ true ∷ true ∷ true ∷ true ∷ false ∷ false ∷ false ∷ [])
     ∷ (true ∷ false ∷ true ∷ true ∷ true ∷ true ∷ false ∷ false ∷ [])
+    ∷ (true ∷ true ∷ true ∷ true ∷ true ∷ false ∷ false ∷ true ∷ [])
     ∷ (true ∷ false ∷ false ∷ true ∷ false ∷ false ∷ false ∷ false ∷ [])
     ∷ (true ∷ false ∷ false ∷ false ∷ false ∷ false ∷ false ∷ false ∷ [])
     ∷ (true ∷ false ∷ false ∷ false ∷ false ∷ false ∷ true ∷ false ∷ []) ∷ []
@@ -214,6 +216,15 @@ shapes_said = refl
 pub prefix_lengths : map prefix_in (codes "24" ∷ codes "+024" ∷ codes "128" ∷ codes "129" ∷ codes "++8" ∷ codes "+" ∷ [] ∷ codes "-1" ∷ codes "8 " ∷ [])
     ≡ Some 24 ∷ Some 24 ∷ Some 128 ∷ None ∷ None ∷ None ∷ None ∷ None ∷ None ∷ []
 prefix_lengths = refl
+
+-- a number of networks may have leading zeros, and is not 0
+pub numbers_of_networks : map most_in (codes "07" ∷ codes "1" ∷ codes "0" ∷ codes "00" ∷ codes "1k" ∷ codes "+1" ∷ [] ∷ [])
+    ≡ Some 7 ∷ Some 1 ∷ None ∷ None ∷ None ∷ None ∷ None ∷ []
+numbers_of_networks = refl
+
+pub others_are_told : others_text (codes "cidr_merge") 512 7 ≡ codes "cidr_merge: 512 other addresses of IPv4, 7 of IPv6\n"
+unfolding digits
+others_are_told = refl
 
 -- the sides are split at the first `--`, which belongs to neither
 pub two_sides : {Z : Type 0} (list dashes other : String Z)

@@ -77,10 +77,10 @@ no {text} {name} e same = true≢false (sym ((bytes_eq-Decides text name).1 same
 pub no_tasks : NoOtherTask → (task_called (codes "diff") ≡ None)
     × (task_called (codes "COMMON") ≡ None) × (task_called [] ≡ None) × (task_called (codes "overlap") ≡ None)
 no_tasks law = (
-  law (codes "diff") (no refl) (no refl) (no refl) (no refl) (no refl) (no refl) (no refl) (no refl) (no refl),
-  law (codes "COMMON") (no refl) (no refl) (no refl) (no refl) (no refl) (no refl) (no refl) (no refl) (no refl),
-  law [] (no refl) (no refl) (no refl) (no refl) (no refl) (no refl) (no refl) (no refl) (no refl),
-  law (codes "overlap") (no refl) (no refl) (no refl) (no refl) (no refl) (no refl) (no refl) (no refl) (no refl),
+  law (codes "diff") (no refl) (no refl) (no refl) (no refl) (no refl) (no refl) (no refl) (no refl) (no refl) (no refl),
+  law (codes "COMMON") (no refl) (no refl) (no refl) (no refl) (no refl) (no refl) (no refl) (no refl) (no refl) (no refl),
+  law [] (no refl) (no refl) (no refl) (no refl) (no refl) (no refl) (no refl) (no refl) (no refl) (no refl),
+  law (codes "overlap") (no refl) (no refl) (no refl) (no refl) (no refl) (no refl) (no refl) (no refl) (no refl) (no refl),
 )
 
 pub no_options : (rows : List Row) → NoOtherOption rows → (is_of (tasks.Merge Common) (named (codes "--skip") rows) ≡ false)
@@ -132,10 +132,11 @@ module _ {Z : Type 0} (minus a dashes b ranges : String Z) (o : string_bytes min
   right : AreRight table (tasks.Merge Minus) (first ++ second) (codes "a" ∷ []) (codes "b" ∷ [])
   right = record {
     each = (AFile (codes "a"), (AFile (codes "b"), (AFlag 0 refl, tt)));
-    apart = (refl, (refl, (refl, (refl, (refl, (refl, (refl, (refl, (refl, (refl, tt))))))))));
+    apart = (refl, (refl, (refl, (refl, (refl, (refl, (refl, (refl, (refl, (refl, (refl, tt)))))))))));
     strict = λ t s. absurd (true≢false (sym s));
     form = λ e. absurd (let x = e in cc);
     prefix = λ e. absurd (let x = e in cc);
+    most = λ e. absurd (let x = e in cc);
     sets = λ s. absurd (true≢false (sym s));
     sets_table = λ s. absurd (true≢false (sym s));
     before = λ s. absurd (true≢false (sym s));
@@ -197,12 +198,16 @@ no_unknown task word right = true≢false (sym (right_is_said task (says.Unknown
 pub no_missing_value : (task : Task) (row : ℕ) → IsRightItem task (says.Lacks row) → ⊥
 no_missing_value task row right = true≢false (sym (right_is_said task (says.Lacks row) right))
 
--- words that are not valid: two output forms, one on each side; no prefix length; and standard input on both sides
+-- words that are not valid: two output forms, one on each side; no prefix length, no number; and standard input on both
+-- sides
 pub no_two_forms : AreRight table (tasks.Merge Minus) (says.Flag 0 ∷ says.Flag 1 ∷ []) (codes "a" ∷ []) (codes "b" ∷ []) → ⊥
 no_two_forms right = true≢false right.apart.0
 
 pub no_split_without_length : AreRight table tasks.Split (says.Flag 3 ∷ []) (codes "a" ∷ []) [] → ⊥
 no_split_without_length right = true≢false (sym (right.prefix refl))
+
+pub no_reduce_without_number : AreRight table tasks.Reduce (says.Flag 3 ∷ []) (codes "a" ∷ []) [] → ⊥
+no_reduce_without_number right = true≢false (sym (right.most refl))
 
 pub no_second_standard_input : AreRight table (tasks.Merge Minus) [] (codes "-" ∷ []) (codes "-" ∷ []) → ⊥
 no_second_standard_input right = let i = right.input in omega (arith, i)

@@ -30,7 +30,6 @@ pub mod Runs
 pub mod SearchEnds
 pub mod Sides
 pub mod SoughtWords
-pub mod Splitting
 pub mod Stopping
 pub mod TextLines
 pub mod Totals

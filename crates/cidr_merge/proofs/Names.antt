@@ -22,9 +22,9 @@ apart_from {text} {other} ne =
     false_from_ne_true (bytes_eq other text) (λ e. ne (sym ((bytes_eq-Decides other text).0 e)))
 
 pub no_other_task : NoOtherTask
-no_other_task text union common minus differ list split check overlaps find =
+no_other_task text union common minus differ list split reduce check overlaps find =
     rw (apart union, apart common, apart minus, apart differ, apart list)
-    (rw (apart split, apart check, apart overlaps, apart find))
+    (rw (apart split, apart reduce, apart check, apart overlaps, apart find))
 
 pub no_other_form : NoOtherForm
 no_other_form text plain range netmask wildcard csv nft ipset json addresses =
@@ -95,7 +95,7 @@ no_other_letter : (table : Table) → IsOptions table → NoOtherLetter table.ro
 no_other_letter table options operation letter another =
     let e : bytes_eq (codes "e") (letter ∷ []) ≡ false =
     apart_from {text = letter ∷ []} {other = codes "e"} (λ same. another (ap (λ (ls : List ℕ). get_or ls 0 0) same)) in
-    let place : position_or_len (has_letter letter) table.rows.now ≡ 16 = same_letter_place letter table.rows.now
+    let place : position_or_len (has_letter letter) table.rows.now ≡ 17 = same_letter_place letter table.rows.now
     ∙ ap (position_or_len (λ (entry : Entry). bytes_eq entry.letter (letter ∷ []))) options.has_options ∙ rw e refl in
     of_another operation (has_letter letter) table.rows.now (omega (arith, place)) (λ same. omega (arith, place, same))
 

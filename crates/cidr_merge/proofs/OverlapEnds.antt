@@ -1,5 +1,5 @@
 -- How a run ends that prints the findings for entries in order.
-use Rattle.std.proofs.Common.{◌≡◌, ◌||◌, ℕ, Bool, List, ◌++◌, ap, inl, inr, map}
+use Rattle.std.proofs.Common.{◌≡◌, ◌||◌, ◌∙◌, ℕ, Bool, List, ◌++◌, ap, codes, inl, inr, map}
 use Rattle.std.specs.Prelude.{if◌then◌else◌, Result, OnOk, IsFalse, is_err, String}
 use Rattle.std.specs.Io.KnownBytes.{Appends}
 use Rattle.lines.specs.Outputs.{Written}
@@ -7,14 +7,14 @@ use Rattle.lines.specs.declared.fault.RunFault.{RunFault}
 use Rattle.program.specs.Endings.{Ending, status_of, end_text}
 use Rattle.program.specs.Messages.{Reports}
 use Rattle.cidr_merge.specs.Findings.{lists_findings}
-use Rattle.cidr_merge.specs.InspectionRuns.{EndsOrdered}
+use Rattle.cidr_merge.specs.InspectionRuns.{EndsOrdered, findings_status}
 use Rattle.cidr_merge.specs.Overlaps.{IsInOrder, lists_entries}
 use Rattle.cidr_merge.specs.Private.Entries.{listed_as}
 use Rattle.cidr_merge.specs.Private.Reported.{TellsFound}
 use Rattle.cidr_merge.specs.Repetitions.{found_among}
 use Rattle.cidr_merge.specs.declared.placed.Placed.{Placed}
 use Rattle.cidr_merge.proofs.Found.{tells_both}
-use Rattle.cidr_merge.proofs.Inspected.{findings_written}
+use Rattle.cidr_merge.proofs.Inspected.{all_written, status_is}
 
 module _ {Z W E T : Type 0} (strictly : Bool) (names : List (String Z)) (texts : List (List ℕ))
     (entries held : List Placed) (is_held : held ≡ entries) (end : Ending W E)
@@ -27,14 +27,14 @@ module _ {Z W E T : Type 0} (strictly : Bool) (names : List (String Z)) (texts :
       → OnOk written (Appends mid.holds end.output_after.holds mid.waits)
       → OnOk written (IsFalse end.output_after.failed)
       → end.output_after.failed ≡ (mid.failed || is_err written)
-      → end.status ≡ status_of written status → Reports end.errors end.errors_after (end_text written)
+      → end.status ≡ status_of written status → Reports end.errors end.errors_after (end_text (codes "cidr_merge") written)
       → EndsOrdered strictly names texts end
   ordered_ended s wrote works failed is told =
       let all = lists_findings strictly names texts in
       let own = found_among strictly names (map listed_as held) in
       let both = tells_both all own end.output before mid wrong more found h k b in
-      inr (elim (findings_written (all ++ own) end mid written found status both.0 both.1 s wrote
-      works failed is told) [
+      inr (elim (all_written (all ++ own) end mid written status (findings_status (all ++ own)) both.0
+      (s ∙ status_is (all ++ own) found both.1) wrote works failed is told) [
         | inl fails ↦ inl fails
         | inr writes ↦ inr (
           own,

@@ -27,6 +27,7 @@ use Rattle.cidr_merge.specs.Answers.{IsAnswer}
 use Rattle.cidr_merge.specs.CommandLines.{command_of, request_of, sets_of}
 use Rattle.cidr_merge.specs.Endings.{EndsAs, EndsAsked}
 use Rattle.cidr_merge.specs.FindRuns.{sought_fault_text, EndsFind}
+use Rattle.cidr_merge.specs.Spelling.{spelled_out}
 use Rattle.cidr_merge.specs.FindWords.{AreAddresses}
 use Rattle.cidr_merge.specs.FindWords.{StopsAtWord, with_addresses}
 use Rattle.cidr_merge.specs.Findings.{lists_findings}
@@ -107,7 +108,7 @@ what_stops_both_sides known words request fault refused h = h
 pub what_a_run_tells : {Z W E : Type 0} (known : KnownLists) (words : List (String Z))
     (sets : Names) (request : Request) (end : Ending W E) → EndsMerging known words sets request end
     → (refused : Refused) × (told : Written E) × Reports end.errors told
-    (refusals_text words in_list refused)
+    (refusals_text (codes "cidr_merge") words in_list refused)
     × (StopsReading known words request refused (record end { errors = told })
     ⊎ ((first second : Sets) × ReadsSides known words request first second refused
     × EndsAnswering sets request (was_refused refused) first second (record end { errors = told })))
@@ -117,7 +118,7 @@ pub what_a_reading_that_stops_tells : {Z W E : Type 0} (known : KnownLists)
     (words : List (String Z)) (request : Request) (refused : Refused) (end : Ending W E)
     → StopsReading known words request refused end
     → (fault : ReadFault) × StopsInSides known words request fault refused
-    × (end.output_after ≡ end.output) × (end.status ≡ 2) × HasTold end (fault_text words fault)
+    × (end.output_after ≡ end.output) × (end.status ≡ 2) × HasTold end (fault_text (codes "cidr_merge") words fault)
 what_a_reading_that_stops_tells known words request refused end h = (h.0, h.1, h.2.0, h.2.1, h.3)
 
 pub nothing_for_refused_lines : {W E : Type 0} (sets : Names) (request : Request) (first second : Sets)
@@ -142,17 +143,19 @@ pub what_an_answer_is : {W E : Type 0} (sets : Names) (request : Request) (skips
 what_an_answer_is sets request skips first second end h = ((h.0, h.1, h.2), h.3, h.4)
 
 pub what_a_failed_writer_is : {W E : Type 0} (end : Ending W E) → FailsToWrite end
-    → (end.output_after.failed ≡ true) × HasTold end (codes "write error\n") × (end.status ≡ 2)
+    → (end.output_after.failed ≡ true) × HasTold end (codes "cidr_merge: write error\n") × (end.status ≡ 2)
 what_a_failed_writer_is end h = h
 
 pub what_a_run_does : {Z W E : Type 0} (program help version usage : List ℕ) (known : KnownLists)
     (words : List (String Z)) (end : Ending W E)
     → text_asked help version words ≡ None → EndsAs program help version usage known words end
-    → Refuses (codes "out of memory\n") end
-    ⊎ ((table : Table) × IsOptions table × EndsAsked program usage table.rows.now known (sets_of table words)
-    (command_of table words) end)
+    → Refuses (program ++ codes ": out of memory\n") end
+    ⊎ ((spelled : List (String Global)) × (map string_bytes spelled ≡ spelled_out (map string_bytes words))
+    × (Refuses (program ++ codes ": out of memory\n") end
+    ⊎ ((table : Table) × IsOptions table × EndsAsked program usage table.rows.now known (sets_of table spelled)
+    (command_of table spelled) end)))
 what_a_run_does program help version usage known words end e h =
-    otherwise help version words _ end e h
+    otherwise program help version words _ end e h
 
 -- how a run ends, by its command or by the fault of its words
 pub what_is_asked_is_done : {W E : Type 0} (program usage : List ℕ) (rows : List Row) (known : KnownLists)
@@ -170,7 +173,7 @@ pub what_a_check_does : {Z W E : Type 0} (known : KnownLists) (words : List (Str
     → EndsInspecting known words Check end
     → ((fault : ReadFault) × TextsStop known 0 words fault
     × (((end.output_after ≡ end.output) × (end.status ≡ 2))
-    × HasTold end (fault_text words fault)))
+    × HasTold end (fault_text (codes "cidr_merge") words fault)))
     ⊎ ((texts : List (List ℕ)) × AreTexts known words texts
     × (FailsToWrite end ⊎ (HasWritten end (concat (lists_findings false words texts))
     × HasTold end []
@@ -194,8 +197,8 @@ pub what_a_find_does : {Z W E : Type 0} (program usage : List ℕ) (rows : List 
     × HasTold end (sought_fault_text program usage rows words fault)))
     ⊎ ((addresses : List IpAddr) × AreAddresses (take middle words) addresses
     × (((fault : ReadFault) × TextsStop known middle (drop middle words) fault × (((end.output_after ≡ end.output) × (end.status ≡ 2))
-    × HasTold end (fault_text words fault)))
-    ⊎ ((((end.output_after ≡ end.output) × (end.status ≡ 2)) × HasTold end (codes "out of memory\n"))
+    × HasTold end (fault_text (codes "cidr_merge") words fault)))
+    ⊎ ((((end.output_after ≡ end.output) × (end.status ≡ 2)) × HasTold end (codes "cidr_merge: out of memory\n"))
     ⊎ ((texts : List (List ℕ)) × AreTexts known (drop middle words) texts
     × ((errors : Written E)
     × Reports end.errors errors (concat (refused_in words middle from texts))

@@ -27,6 +27,7 @@ pub named_among : {Z : Type 0} (task : Task) (middle : ℕ) (names : List (Strin
 named_among (tasks.Merge operation) middle names = refl
 named_among tasks.List middle names = refl
 named_among tasks.Split middle names = refl
+named_among tasks.Reduce middle names = refl
 named_among tasks.Check middle names = refl
 named_among tasks.Overlaps middle names = refl
 named_among tasks.Find middle names = sym (drop-map string_bytes middle names)

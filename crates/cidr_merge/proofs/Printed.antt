@@ -5,6 +5,7 @@ use Rattle.std.specs.List.{flat_map}
 use Rattle.std.proofs.lemmas.Grind.{flat_map-append}
 use Rattle.lines.specs.Outputs.{Prints, Written}
 use Rattle.lines.proofs.Putting.{puts_nothing, puts_more}
+use Rattle.cidr_merge.proofs.Merging.{shorter}
 
 -- the items before those that are left were printed, and no write failed
 pub record Printed {X W : Type 0} (line : X → List ℕ) (all left : List X) (old now : Written W)
@@ -43,3 +44,6 @@ module _ {X W : Type 0} (line : X → List ℕ) (all left : List X) (old : Writt
   all_printed now h e =
       subst (λ xs. Prints old now (flat_map line xs))
       (sym (append-nil h.done) ∙ ap (λ xs. h.done ++ xs) (sym e) ∙ h.cut) h.prints
+
+-- what a loop that prints needs
+pub ruleset printing = (none_printed, all_printed, shorter)

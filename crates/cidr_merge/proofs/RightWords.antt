@@ -19,7 +19,7 @@ use Rattle.options.specs.declared.table.Row.{Row}
 use Rattle.options.specs.declared.table.Table.{Table}
 use Rattle.cidr_merge.specs.NamedLists.{lists_of}
 use Rattle.cidr_merge.specs.CommandLines.{asked_for, command_if, command_of, first_said, second_said, unless}
-use Rattle.cidr_merge.specs.Faults.{cannot_print, fault_of, files_among, from_of, files_fault, is_exported, is_value, item_fault, items_fault, lacks_json, lacks_prefix, option_fault, sides_fault, takes, times_named, together_fault, value_fault, has_lines, has_sets, has_table}
+use Rattle.cidr_merge.specs.Faults.{cannot_print, fault_of, files_among, from_of, files_fault, is_exported, is_value, item_fault, items_fault, lacks_json, lacks_fault, names_fault, option_fault, sides_fault, takes, times_named, together_fault, value_fault, has_lines, has_sets, has_table}
 use Rattle.cidr_merge.specs.Forms.{form_of}
 use Rattle.cidr_merge.specs.Options as own
 use Rattle.cidr_merge.specs.RightWords.{AFile, AFlag, AJoined, AValue, AreRight, AskFor, IsRightItem, IsValue, RightWordsAreTaken, SaySides}
@@ -65,13 +65,22 @@ needed false b c h = refl
 
 -- the second must hold if the first does
 implied : (a c : Bool) → (a && not c) ≡ false → a ≡ true → c ≡ true
-implied true true h e = refl
-implied true false h e = absurd (true≢false h)
-implied false c h e = absurd (true≢false (sym e))
+implied a c h e = needs true a c h refl e
 
 not_lacking : (a c : Bool) → (a ≡ true → c ≡ true) → (a && not c) ≡ false
-not_lacking true c h = rw (h refl) refl
-not_lacking false c h = refl
+not_lacking a c h = needed true a c (λ _. h)
+
+absent : (b : Bool) → not b ≡ true → b ≡ false
+absent true h = sym h
+absent false h = refl
+
+some_of : {X : Type 0} (xs : List X) → (length xs == 0) ≡ false → xs ≢ []
+some_of [] h e = true≢false h
+some_of (x ∷ xs) h e = absurd (let q = e in cc)
+
+none_is : {X : Type 0} (xs : List X) → xs ≢ [] → (length xs == 0) ≡ false
+none_is [] h = absurd (h refl)
+none_is (x ∷ xs) h = ne_eqb (length (x ∷ xs)) 0 (λ e. omega (arith, e))
 
 -- ---- each option
 
@@ -79,19 +88,25 @@ to_value : (row : ℕ) (text : List ℕ) → is_value row text ≡ true → IsVa
 to_value row text h = record {
   form = λ e. subst (λ (r : ℕ). is_value r text ≡ true) e h;
   prefix = λ e. subst (λ (r : ℕ). is_value r text ≡ true) e h;
+  most = λ e. subst (λ (r : ℕ). is_value r text ≡ true) e h;
   set = λ e. subst (λ (r : ℕ). is_value r text ≡ true) e h;
   table = λ e. subst (λ (r : ℕ). is_value r text ≡ true) e h;
+  from = λ e. some_of text (absent _ (subst (λ (r : ℕ). is_value r text ≡ true) e h));
+  entry = λ e. some_of text (absent _ (subst (λ (r : ℕ). is_value r text ≡ true) e h));
 }
 
 is_of_value : (row : ℕ) (text : List ℕ) → IsValue row text → is_value row text ≡ true
-is_of_value row text v = by (row == own.format) (row == own.prefix) (row == own.set) (row == own.table) refl refl refl refl where
-  by : (f p s t : Bool) → (row == own.format) ≡ f → (row == own.prefix) ≡ p → (row == own.set) ≡ s → (row == own.table) ≡ t
-      → is_value row text ≡ true
-  by true p s t e g h i = rw e (v.form (eqb-true row own.format e))
-  by false true s t e g h i = rw (e, g) (v.prefix (eqb-true row own.prefix g))
-  by false false true t e g h i = rw (e, g, h) (v.set (eqb-true row own.set h))
-  by false false false true e g h i = rw (e, g, h, i) (v.table (eqb-true row own.table i))
-  by false false false false e g h i = rw (e, g, h, i) refl
+is_of_value row text v = by (row == own.format) (row == own.prefix) (row == own.most) (row == own.set) (row == own.table) (row == own.from) (row == own.text) refl refl refl refl refl refl refl where
+  by : (f p m s t r x : Bool) → (row == own.format) ≡ f → (row == own.prefix) ≡ p → (row == own.most) ≡ m → (row == own.set) ≡ s → (row == own.table) ≡ t
+      → (row == own.from) ≡ r → (row == own.text) ≡ x → is_value row text ≡ true
+  by true p m s t r x e g l h i j k = rw e (v.form (eqb-true row own.format e))
+  by false true m s t r x e g l h i j k = rw (e, g) (v.prefix (eqb-true row own.prefix g))
+  by false false true s t r x e g l h i j k = rw (e, g, l) (v.most (eqb-true row own.most l))
+  by false false false true t r x e g l h i j k = rw (e, g, l, h) (v.set (eqb-true row own.set h))
+  by false false false false true r x e g l h i j k = rw (e, g, l, h, i) (v.table (eqb-true row own.table i))
+  by false false false false false true x e g l h i j k = rw (e, g, l, h, i) (rw (j, none_is text (v.from (eqb-true row own.from j))) refl)
+  by false false false false false false true e g l h i j k = rw (e, g, l, h, i) (rw (j, k, none_is text (v.entry (eqb-true row own.text k))) refl)
+  by false false false false false false false e g l h i j k = rw (e, g, l, h, i) (rw (j, k) refl)
 
 module _ (rows : List Row) (task : Task) where
   valued : (row : ℕ) (text : List ℕ) → option_or (option_fault rows task row) (value_fault rows row text) ≡ None
@@ -142,37 +157,16 @@ module _ (items : List Item) where
 -- ---- what a task needs
 
 can_print : (task : Task) (form : Form) → (task ≡ tasks.Merge operations.Differ → is_exported form ≡ false) → cannot_print task form ≡ false
-can_print (tasks.Merge operations.Union) form h = refl
-can_print (tasks.Merge operations.Common) form h = refl
-can_print (tasks.Merge operations.Minus) form h = refl
 can_print (tasks.Merge operations.Differ) form h = h refl
-can_print tasks.List form h = refl
-can_print tasks.Split form h = refl
-can_print tasks.Check form h = refl
-can_print tasks.Overlaps form h = refl
-can_print tasks.Find form h = refl
+can_print task form h = refl
 
-given : (b : Bool) → not b ≡ false → b ≡ true
-given true h = refl
-given false h = absurd (true≢false h)
-
-has_prefix : (task : Task) (items : List Item) → (task ≡ tasks.Split → is_given items own.prefix ≡ true) → lacks_prefix task items ≡ false
-has_prefix (tasks.Merge operation) items h = refl
-has_prefix tasks.List items h = refl
-has_prefix tasks.Split items h = rw (h refl) refl
-has_prefix tasks.Check items h = refl
-has_prefix tasks.Overlaps items h = refl
-has_prefix tasks.Find items h = refl
+has_number : (task : Task) (items : List Item) → (task ≡ tasks.Split → is_given items own.prefix ≡ true)
+    → (task ≡ tasks.Reduce → is_given items own.most ≡ true) → lacks_fault task items ≡ None
+has_number tasks.Split items h k = rw (h refl) refl
+has_number tasks.Reduce items h k = rw (k refl) refl
+has_number task items h k = refl
 
 -- ---- FILEs
-
-some_of : {X : Type 0} (xs : List X) → (length xs == 0) ≡ false → xs ≢ []
-some_of [] h e = true≢false h
-some_of (x ∷ xs) h e = absurd (let q = e in cc)
-
-none_is : {X : Type 0} (xs : List X) → xs ≢ [] → (length xs == 0) ≡ false
-none_is [] h = absurd (h refl)
-none_is (x ∷ xs) h = ne_eqb (length (x ∷ xs)) 0 (λ e. omega (arith, e))
 
 module _ (task : Task) (name : List ℕ) (dashes : ℕ) (firsts seconds : List (List ℕ)) where
   record AreSides : Type 0 where
@@ -251,7 +245,7 @@ module _ (table : Table) (task : Task) (name : List ℕ) (dashes : ℕ) (items :
       let p = no_or (pair_fault items table.pairs.now) _ a.1 in
       let q = fails (lacks_json task items) _ _ p.1 in
       let r = fails (cannot_print task (form_of Blocks items)) _ _ q.1 in
-      let s = fails (lacks_prefix task items) _ _ r.1 in
+      let s = no_or (lacks_fault task items) (names_fault items (form_of Blocks items)) r.1 in
       let u = fails (is_given items own.set && not (has_sets (form_of Blocks items))) _ _ s.1 in
       let v = fails (is_given items own.table && not (has_table (form_of Blocks items))) _ _ u.1 in
       let x = fails (is_given items own.before && not (has_lines (form_of Blocks items))) _ _ v.1 in
@@ -265,7 +259,8 @@ module _ (table : Table) (task : Task) (name : List ℕ) (dashes : ℕ) (items :
           apart = apart items table.pairs.now p.0;
           strict = needs (takes task own.json) (is_given items own.strict) (is_given items own.json) q.0;
           form = λ e. subst (λ (o : Task). cannot_print o (form_of Blocks items) ≡ false) e r.0;
-          prefix = λ e. given (is_given items own.prefix) (subst (λ (o : Task). lacks_prefix o items ≡ false) e s.0);
+          prefix = λ e. passes (is_given items own.prefix) _ (subst (λ (o : Task). lacks_fault o items ≡ None) e s.0);
+          most = λ e. passes (is_given items own.most) _ (subst (λ (o : Task). lacks_fault o items ≡ None) e s.0);
           sets = implied (is_given items own.set) (has_sets (form_of Blocks items)) u.0;
           sets_table = implied (is_given items own.table) (has_table (form_of Blocks items)) v.0;
           before = implied (is_given items own.before) (has_lines (form_of Blocks items)) x.0;
@@ -287,7 +282,7 @@ module _ (table : Table) (task : Task) (name : List ℕ) (dashes : ℕ) (items :
         no_pair items table.pairs.now r.apart,
         needed (takes task own.json) (is_given items own.strict) (is_given items own.json) r.strict,
       )
-      (rw (can_print task (form_of Blocks items) r.form, has_prefix task items r.prefix)
+      (rw (can_print task (form_of Blocks items) r.form, has_number task items r.prefix r.most)
       (rw (
         not_lacking (is_given items own.set) (has_sets (form_of Blocks items)) r.sets,
         not_lacking (is_given items own.table) (has_table (form_of Blocks items)) r.sets_table,
@@ -367,6 +362,7 @@ has_middle : (task : Task) (items : List Item) (middle : ℕ) (request : Request
 has_middle (tasks.Merge operation) items middle request e = ap middle_of e
 has_middle tasks.List items middle request e = ap middle_of e
 has_middle tasks.Split items middle request e = absurd (let q = e in cc)
+has_middle tasks.Reduce items middle request e = absurd (let q = e in cc)
 has_middle tasks.Check items middle request e = absurd (let q = e in cc)
 has_middle tasks.Overlaps items middle request e = absurd (let q = e in cc)
 has_middle tasks.Find items middle request e = ap middle_of e
@@ -375,6 +371,7 @@ no_from : (task : Task) (items : List Item) (middle : ℕ) (request : Request) �
 no_from (tasks.Merge operation) items middle request e = refl
 no_from tasks.List items middle request e = refl
 no_from tasks.Split items middle request e = refl
+no_from tasks.Reduce items middle request e = refl
 no_from tasks.Check items middle request e = refl
 no_from tasks.Overlaps items middle request e = refl
 no_from tasks.Find items middle request e = absurd (let q = e in cc)

@@ -1,26 +1,24 @@
 -- How a run ends.
-use Rattle.lines.specs.Outputs.{Written}
-use Rattle.std.proofs.Common.{◌≡◌, ◌==◌, ℕ, List, Bool, not, codes, sym, subst, inl, inr, length, take, drop}
-use Rattle.std.specs.Prelude.{None, Result, Ok, Err, OnOk, IfErr, String}
+use Rattle.std.proofs.Common.{◌≡◌, ◌++◌, ◌∷◌, ℕ, Bool, false, List, codes, sym, ap, map, subst, inl, inr, take, drop}
+use Rattle.std.specs.Prelude.{None, Result, Ok, Err, OnOk, IfErr, String, if◌then◌else◌}
+use Rattle.std.specs.String.{string_bytes}
+use Rattle.std.specs.declared.alloc.Global.{Global}
 use Rattle.lists.specs.Lists.{nothing_read}
 use Rattle.lists.specs.Refusals.{Refused, no_refusals}
 use Rattle.program.specs.Endings.{Ending, Refuses}
 use Rattle.lists.specs.KnownLists.{KnownLists}
-use Rattle.program.specs.Messages.{Reports}
-use Rattle.program.specs.Reported.{in_list, refusals_text}
 use Rattle.options.specs.declared.faults.Fault.{Fault}
 use Rattle.options.specs.declared.table.Table.{Table}
 use Rattle.program.specs.Runs.{text_asked}
 use Rattle.program.proofs.Runs.{not_asked}
 use Rattle.cidr_merge.specs.CommandLines.{command_of, sets_of}
-use Rattle.cidr_merge.specs.Endings.{EndsAsked, EndsAs}
+use Rattle.cidr_merge.specs.Endings.{EndsAsked, EndsAs, EndsBy}
+use Rattle.cidr_merge.specs.Spelling.{is_short, spelled_out}
 use Rattle.cidr_merge.specs.Options.{IsOptions}
 use Rattle.cidr_merge.specs.declared.command_line.Command.{Command}
 use Rattle.cidr_merge.specs.Reading.{ReadsSide, ReadsSides}
-use Rattle.cidr_merge.specs.Runs.{EndsAnswering, EndsMerging}
 use Rattle.cidr_merge.specs.Shapes.{source}
 use Rattle.cidr_merge.specs.Stopping.{Stops, StopsInSides}
-use Rattle.cidr_merge.specs.SetNames.{Names}
 use Rattle.cidr_merge.specs.declared.command_line.Request.{Request}
 use Rattle.lists.specs.declared.named.ReadFault.{ReadFault}
 use Rattle.cidr_merge.specs.declared.reading.Sets.{Sets}
@@ -56,36 +54,22 @@ sides_read (Err fault) known words others request first second between refused o
   inr (first, between, firsts, subst (λ names. Stops (source known request.shape) request.middle names (nothing_read between) fault refused) o stops),
 )
 
--- both sides were read, and the run ended accordingly
-pub merged : {Z W E : Type 0} (known : KnownLists) (words : List (String Z)) (sets : Names) (request : Request)
-    (first second : Sets) (refused : Refused) (is_empty : Bool) (end : Ending W E)
-    (told : Written E) → ReadsSides known words request first second refused
-    → Reports end.errors told (refusals_text words in_list refused)
-    → is_empty ≡ (length refused.kept == 0) → EndsAnswering sets request (not is_empty) first second
-    (record end { errors = told })
-    → EndsMerging known words sets request end
-merged known words sets request first second refused is_empty end told sides tells f ends = (
-  refused,
-  told,
-  tells,
-  inr (
-    first,
-    second,
-    sides,
-    subst (λ (b : Bool). EndsAnswering sets request (not b) first second
-        (record end { errors = told })) f ends,
-  ),
-)
+-- the words ask for a command, or have a fault
+pub asked_ends : {Z W E : Type 0} (program usage : List ℕ) (known : KnownLists) (words : List (String Z)) (end : Ending W E) (table : Table) → IsOptions table → (asked : Result (Command × List (List ℕ)) Fault) → asked ≡ command_of table words
+    → EndsAsked program usage table.rows.now known (sets_of table words) asked end → EndsBy program usage known words end
+asked_ends program usage known words end table options asked e h =
+    inr (table, options, subst (λ (r : Result (Command × List (List ℕ)) Fault). EndsAsked program usage table.rows.now known (sets_of table words) r end) e h)
 
-module _ {Z W E : Type 0} (program help version usage : List ℕ) (known : KnownLists) (words : List (String Z))
+module _ {W E : Type 0} (program help version usage : List ℕ) (known : KnownLists) (words : List (String Global))
     (end : Ending W E) (no_text : text_asked help version words ≡ None) where
-  -- memory ran out while the words were read
-  pub no_memory : Refuses (codes "out of memory\n") end → EndsAs program help version usage known words end
-  no_memory h = not_asked help version words _ end no_text (inl h)
+  -- memory ran out while the words were copied
+  pub no_memory : Refuses (program ++ codes ": out of memory\n") end → EndsAs program help version usage known words end
+  no_memory h = not_asked program help version words _ end no_text (inl h)
 
-  -- the words ask for a command, or have a fault
-  pub asked_ends : (table : Table) → IsOptions table → (asked : Result (Command × List (List ℕ)) Fault) → asked ≡ command_of table words
-      → EndsAsked program usage table.rows.now known (sets_of table words) asked end → EndsAs program help version usage known words end
-  asked_ends table options asked e h =
-      not_asked help version words _ end no_text
-      (inr (table, options, subst (λ (r : Result (Command × List (List ℕ)) Fault). EndsAsked program usage table.rows.now known (sets_of table words) r end) e h))
+  -- the words are spelled out
+  pub spelled_ends : (spelled : List (String Global)) → map string_bytes spelled ≡ spelled_out (map string_bytes words) → EndsBy program usage known spelled end
+      → EndsAs program help version usage known words end
+  spelled_ends spelled same h = not_asked program help version words _ end no_text (inr (spelled, same, h))
+
+  pub ends_as_they_are : is_short (map string_bytes words) ≡ false → EndsBy program usage known words end → EndsAs program help version usage known words end
+  ends_as_they_are long = spelled_ends words (sym (ap (λ (b : Bool). if b then take 1 (map string_bytes words) ++ codes "--most" ∷ drop 1 (map string_bytes words) else map string_bytes words) long))

@@ -1,8 +1,8 @@
 -- How a run ends that searches lists.
-use Rattle.std.proofs.Common.{◌≡◌, ◌==◌, ◌||◌, ◌∙◌, ◌++◌, ℕ, Bool, true, false, not, List, ap}
-use Rattle.std.proofs.Common.{◌+◌, ◌≤◌, arith, subst, inl, inr, length, length-take, map, take, drop}
+use Rattle.std.proofs.Common.{◌≡◌, ◌==◌, ◌||◌, ◌∙◌, ◌++◌, ℕ, Bool, true, false, not, List, ap, codes, refl}
+use Rattle.std.proofs.Common.{◌+◌, ◌≤◌, arith, subst, inr, length, length-take, map, take, drop}
 use Rattle.std.proofs.lemmas.List.{drop-map, length-drop, take-map}
-use Rattle.std.specs.Prelude.{if◌then◌else◌, Result, Ok, Err, OnOk, IsFalse}
+use Rattle.std.specs.Prelude.{if◌then◌else◌, Result, OnOk, IsFalse}
 use Rattle.std.specs.Prelude.{is_err, String}
 use Rattle.std.specs.Io.KnownBytes.{Appends}
 use Rattle.lines.specs.Outputs.{Written}
@@ -17,20 +17,15 @@ use Rattle.cidr_merge.specs.FindWords.{with_addresses}
 use Rattle.cidr_merge.specs.Private.Reported.{TellsFound}
 use Rattle.cidr_merge.specs.SoughtLines.{lists_others, lists_sought}
 use Rattle.cidr_merge.specs.Texts.{AreTexts}
-use Rattle.cidr_merge.proofs.Inspected.{works_before, fails_now, written_all}
+use Rattle.cidr_merge.proofs.Inspected.{all_written}
 use Rattle.cidr_merge.proofs.WholeLists.{as_many_held}
 
 status_by : (no_told no_printed told printed : Bool) → told ≡ not no_told → printed ≡ not no_printed
     → ◌≡◌ {A = ℕ} (if told then 2 else (if printed then 0 else 1))
     (if no_told then (if no_printed then 1 else 0) else 2)
-status_by true true told printed e f =
-    ap {B = ℕ} (λ (t : Bool). if t then 2 else (if printed then 0 else 1)) e
-    ∙ ap {B = ℕ} (λ (p : Bool). if p then 0 else 1) f
-status_by true false told printed e f =
-    ap {B = ℕ} (λ (t : Bool). if t then 2 else (if printed then 0 else 1)) e
-    ∙ ap {B = ℕ} (λ (p : Bool). if p then 0 else 1) f
-status_by false no_printed told printed e f =
-    ap {B = ℕ} (λ (t : Bool). if t then 2 else (if printed then 0 else 1)) e
+status_by true true told printed e f = rw (e, f) refl
+status_by true false told printed e f = rw (e, f) refl
+status_by false no_printed told printed e f = rw e refl
 
 pub search_ended : {Z W E T : Type 0} (sought : List (List ℕ × IpAddr)) (others : List (List ℕ)) (names : List (String Z))
     (texts : List (List ℕ)) (end : Ending W E) (mid : Written W) (errors : Written E)
@@ -41,24 +36,15 @@ pub search_ended : {Z W E T : Type 0} (sought : List (List ℕ × IpAddr)) (othe
     → OnOk written (Appends mid.holds end.output_after.holds mid.waits)
     → OnOk written (IsFalse end.output_after.failed)
     → end.output_after.failed ≡ (mid.failed || is_err written)
-    → end.status ≡ status_of written status → Reports errors end.errors_after (end_text written)
+    → end.status ≡ status_of written status → Reports errors end.errors_after (end_text (codes "cidr_merge") written)
     → EndsSearching sought others names texts end
-search_ended sought others names texts end mid errors
-    (Ok done) is_printed is_told status h k s wrote works failed is told =
-    let prints = h.0.told (works_before mid.failed end.output_after.failed failed works) in (
-      errors,
-      k.0,
-      inr (
-        written_all end.output.holds mid.holds end.output_after.holds end.output.waits mid.waits _
-            prints wrote,
-        told,
-        is ∙ s ∙ status_by (length (others ++ lists_refusals names texts) == 0)
-            (length (lists_matches sought names texts) == 0) is_told is_printed k.1 h.1,
-      ),
-    )
-search_ended sought others names texts end mid errors
-    (Err fault) is_printed is_told status h k s wrote works failed is told =
-    (errors, k.0, inl (fails_now mid.failed end.output_after.failed failed, told, is))
+search_ended sought others names texts end mid errors written is_printed is_told status h k s wrote works failed is told = (
+  errors,
+  k.0,
+  all_written (lists_matches sought names texts) (record end { errors = errors }) mid written status _ h.0
+      (s ∙ status_by (length (others ++ lists_refusals names texts) == 0)
+      (length (lists_matches sought names texts) == 0) is_told is_printed k.1 h.1) wrote works failed is told,
+)
 
 -- ---- what the words say
 

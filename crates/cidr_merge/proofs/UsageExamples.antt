@@ -1,6 +1,6 @@
 -- Faults of words, at values at which a wrong definition would show. Each of these computes.
 use Rattle.std.proofs.Common.{◌≡◌, ℕ, List, ◌∷◌, ◌++◌, [], refl}
-use Rattle.std.specs.Prelude.{codes, false, true, String, Option, Result, Ok, Err, None, Some}
+use Rattle.std.specs.Prelude.{codes, false, map, true, String, Option, Result, Ok, Err, None, Some}
 use Rattle.std.specs.String.{string_bytes}
 use Rattle.options.specs.Faults.{problem_at}
 use Rattle.options.specs.Refusing.{subject_text}
@@ -10,6 +10,7 @@ use Rattle.options.proofs.Tables.{rows_of, pairs_of}
 use Rattle.cidr_merge.specs.CommandLines.{command_of}
 use Rattle.cidr_merge.specs.Faults.{no_task_fault}
 use Rattle.cidr_merge.specs.Options.{entries, pairs, another_form, format, prefix}
+use Rattle.cidr_merge.specs.Spelling.{spelled_out}
 use Rattle.cidr_merge.specs.Tasks.{task_called, no_option, one_side}
 use Rattle.cidr_merge.specs.declared.command_line.Command.{Command}
 use Rattle.cidr_merge.specs.declared.command_line.Command.TheVariants as commands
@@ -45,7 +46,7 @@ pub options_first : {Z : Type 0}
     → Have Z (codes "union" ∷ [] ∷ codes "--count" ∷ codes "-x" ∷ []) (codes "-x: " ++ no_option (tasks.Merge Union))
     × Have Z (codes "union" ∷ codes "--count" ∷ codes "--ranges" ∷ codes "--x" ∷ []) (codes "--x: " ++ no_option (tasks.Merge Union))
     × Have Z (codes "minus" ∷ codes "--count" ∷ codes "--" ∷ codes "--ranges" ∷ []) (codes "--ranges: not together with --count")
-    × Have Z (codes "union" ∷ codes "--format" ∷ codes "--format" ∷ codes "csv" ∷ []) (codes "--format: " ++ problem_at table.rows.now format)
+    × Have Z (codes "union" ∷ codes "--format" ∷ codes "--format" ∷ codes "csv" ∷ []) (codes "--format: --format: " ++ problem_at table.rows.now format)
     × Have Z (codes "common" ∷ codes "--format" ∷ codes "--" ∷ codes "csv" ∷ []) (codes "--format: no value after it")
     × Have Z (codes "union" ∷ codes "--ranges" ∷ codes "--format=csv" ∷ []) another_form
     × Have Z (codes "differ" ∷ codes "--format" ∷ codes "csv" ∷ []) (codes "--format: differ can be printed only as plain or range")
@@ -90,13 +91,19 @@ pub options_of_others : {Z : Type 0}
     × Have Z (codes "union" ∷ codes "a" ∷ codes "--help" ∷ []) (codes "--help: not the only argument")
     × Have Z (codes "overlaps" ∷ codes "-x" ∷ []) (codes "-x: not an option of overlaps; it takes -e TEXT")
     × Have Z (codes "split" ∷ codes "a" ∷ codes "--skip-bad" ∷ []) (codes "split: no --prefix N")
-    × Have Z (codes "split" ∷ codes "--prefix" ∷ codes "129" ∷ []) (codes "129: " ++ problem_at table.rows.now prefix)
+    × Have Z (codes "split" ∷ codes "--prefix" ∷ codes "129" ∷ []) (codes "--prefix: 129: " ++ problem_at table.rows.now prefix)
+    × Have Z (codes "reduce" ∷ codes "a" ∷ codes "--skip-bad" ∷ []) (codes "reduce: no number behind it, and no --most N")
+    × Have Z (codes "reduce" ∷ codes "--most" ∷ codes "0" ∷ []) (codes "--most: 0: not a number from 1")
+    × Have Z (codes "reduce" ∷ codes "--most=9" ∷ codes "--prefix" ∷ []) (codes "--prefix: " ++ no_option tasks.Reduce)
 options_of_others = (
   (λ _ o _ a. simp (o, a)),
   (λ _ o _ a _ b. simp (o, a, b)),
   (λ _ o _ a. simp (o, a)),
   (λ _ o _ a _ b. simp (o, a, b)),
   (λ _ o _ a. simp (o, a)),
+  (λ _ o _ a _ b. simp (o, a, b)),
+  (λ _ o _ a _ b. simp (o, a, b)),
+  (λ _ o _ a _ b. simp (o, a, b)),
   (λ _ o _ a _ b. simp (o, a, b)),
   (λ _ o _ a _ b. simp (o, a, b)),
 )
@@ -121,11 +128,25 @@ pub options_anywhere : {Z : Type 0}
     (commands.Merge (record { operation = Minus; form = Ranges; skips_bad = false; shape = shapes.Lines; middle = 1 })) (codes "a" ∷ codes "b" ∷ [])
     × Ask Z (codes "split" ∷ codes "a" ∷ codes "--prefix=+9" ∷ codes "--skip-bad" ∷ [])
     (commands.Split (record { length = 9; skips_bad = true; shape = shapes.Lines })) (codes "a" ∷ [])
+    × Ask Z (codes "reduce" ∷ codes "a" ∷ codes "--most=18446744073709551616" ∷ codes "--ranges" ∷ [])
+    (commands.Reduce (record { most = 18446744073709551615; merge = record { operation = Union; form = Ranges; skips_bad = false; shape = shapes.Lines; middle = 1 } }))
+    (codes "a" ∷ [])
     × Ask Z (codes "check" ∷ codes "a" ∷ codes "--strict" ∷ []) (commands.Inspect inspections.Strict) (codes "a" ∷ [])
     × Ask Z (codes "find" ∷ codes "::1" ∷ codes "-" ∷ codes "--" ∷ codes "-" ∷ []) (commands.Find 2 0) (codes "::1" ∷ codes "-" ∷ codes "-" ∷ [])
+    × Ask Z (codes "find" ∷ codes "--from" ∷ codes "-e x" ∷ codes "--" ∷ codes "a" ∷ []) (commands.Find 0 1) (codes "./-e x" ∷ codes "a" ∷ [])
 options_anywhere = (
   (λ _ o _ a _ b _ c _ d. simp (o, a, b, c, d)),
   (λ _ o _ a _ b _ c. simp (o, a, b, c)),
+  (λ _ o _ a _ b _ c. simp (o, a, b, c)),
   (λ _ o _ a _ b. simp (o, a, b)),
   (λ _ o _ a _ b _ c _ d. simp (o, a, b, c, d)),
+  (λ _ o _ a _ b _ c _ d. simp (o, a, b, c, d)),
 )
+
+-- a number behind `reduce` is that of `--most`; a FILE and what stands behind another operation are not
+pub reduce_with_its_number : spelled_out (codes "reduce" ∷ codes "1000" ∷ codes "f" ∷ []) ≡ codes "reduce" ∷ codes "--most" ∷ codes "1000" ∷ codes "f" ∷ []
+reduce_with_its_number = refl
+
+pub words_as_they_are : map spelled_out ((codes "reduce" ∷ codes "1k" ∷ codes "f" ∷ []) ∷ (codes "reduce" ∷ codes "f" ∷ []) ∷ (codes "union" ∷ codes "1000" ∷ []) ∷ (codes "reduce" ∷ []) ∷ [])
+    ≡ (codes "reduce" ∷ codes "1k" ∷ codes "f" ∷ []) ∷ (codes "reduce" ∷ codes "f" ∷ []) ∷ (codes "union" ∷ codes "1000" ∷ []) ∷ (codes "reduce" ∷ []) ∷ []
+words_as_they_are = refl

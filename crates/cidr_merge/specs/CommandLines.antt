@@ -14,7 +14,7 @@ use Rattle.options.specs.declared.table.Row.{Row}
 use Rattle.options.specs.declared.table.Table.{Table}
 use Rattle.cidr_merge.specs.NamedLists.{lists_of}
 use Rattle.cidr_merge.specs.Faults.{fault_of, from_of, no_task_fault}
-use Rattle.cidr_merge.specs.Forms.{form_of, shape_of, length_of}
+use Rattle.cidr_merge.specs.Forms.{form_of, shape_of, length_of, most_of}
 use Rattle.cidr_merge.specs.Options as own
 use Rattle.cidr_merge.specs.SetNames.{Names, names_of}
 use Rattle.cidr_merge.specs.Sides.{before_dashes, behind_dashes}
@@ -57,6 +57,8 @@ asked_for tasks.Split items middle = commands.Split
       skips_bad = is_given items own.skip_bad;
       shape = shape_of items;
     })
+asked_for tasks.Reduce items middle = commands.Reduce
+    (record { most = most_of items; merge = request_of operations.Union Blocks items middle })
 asked_for tasks.Check items middle = commands.Inspect (inspection_of (is_given items own.strict))
 asked_for tasks.Overlaps items middle = commands.Inspect inspections.Overlaps
 asked_for tasks.Find items middle = commands.Find middle (length (from_of tasks.Find items))

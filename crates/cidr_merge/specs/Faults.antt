@@ -15,7 +15,8 @@ use Rattle.options.specs.declared.table.Kind.{Kind}
 use Rattle.options.specs.declared.table.Kind.TheVariants as kinds
 use Rattle.options.specs.declared.table.Row.{Row}
 use Rattle.options.specs.declared.table.Table.{Table}
-use Rattle.cidr_merge.specs.Forms.{form_called, form_of, prefix_in}
+use Rattle.cidr_merge.specs.Forms.{form_called, form_of, most_in, prefix_in}
+use Rattle.cidr_merge.specs.NamedLists.{file_name}
 use Rattle.cidr_merge.specs.Options as own
 use Rattle.cidr_merge.specs.Options.{taken}
 use Rattle.cidr_merge.specs.SetNames.{is_set_name}
@@ -66,11 +67,14 @@ abbrev pub is_value : ℕ → List ℕ → Bool
 is_value row text =
     if row == own.format then is_some (form_called text)
     else if row == own.prefix then is_some (prefix_in text)
+    else if row == own.most then is_some (most_in text)
     else if row == own.set || row == own.table then is_set_name text
+    else if row == own.from || row == own.text then not (length text == 0)
     else true
 
 abbrev pub value_fault : List Row → ℕ → List ℕ → Option Fault
-value_fault rows row text = if is_value row text then None else Some (at text (problem_at rows row))
+value_fault rows row text = if is_value row text then None
+    else Some (about (subjects.Value row text) (problem_at rows row))
 
 -- the fault of an item, and the first fault of several items
 abbrev pub item_fault : List Row → Task → Item → Option Fault
@@ -86,13 +90,17 @@ abbrev pub items_fault : List Row → Task → List Item → Option Fault
 items_fault rows task [] = None
 items_fault rows task (item ∷ items) = option_or (item_fault rows task item) (items_fault rows task items)
 
--- whether `--strict` is given without the `--json` that it needs, and whether a `split` has no prefix length
+-- whether `--strict` is given without the `--json` that it needs
 abbrev pub lacks_json : Task → List Item → Bool
 lacks_json task items = takes task own.json && is_given items own.strict && not (is_given items own.json)
 
-abbrev pub lacks_prefix : Task → List Item → Bool
-lacks_prefix tasks.Split items = not (is_given items own.prefix)
-lacks_prefix task items = false
+-- the fault if a `split` has no prefix length, or a `reduce` no number of networks
+abbrev pub lacks_fault : Task → List Item → Option Fault
+lacks_fault tasks.Split items = if is_given items own.prefix then None
+    else Some (about subjects.CommandLine (codes "split: no --prefix N"))
+lacks_fault tasks.Reduce items = if is_given items own.most then None
+    else Some (about subjects.CommandLine (codes "reduce: no number behind it, and no --most N"))
+lacks_fault task items = None
 
 -- the forms that other programs read, which cannot show the two sides of a `differ`
 abbrev pub is_exported : Form → Bool
@@ -142,8 +150,7 @@ together_fault table task items =
     (if lacks_json task items then Some (about (subjects.Option own.strict) (codes "only together with --json"))
     else if cannot_print task (form_of Blocks items)
     then Some (about (subjects.Option own.format) (codes "differ can be printed only as plain or range"))
-    else if lacks_prefix task items then Some (about subjects.CommandLine (codes "split: no --prefix N"))
-    else names_fault items (form_of Blocks items))
+    else option_or (lacks_fault task items) (names_fault items (form_of Blocks items)))
 
 -- ---- lists
 
@@ -178,7 +185,7 @@ files_among task middle names = names
 
 -- the FILE of the `--from` of a `find`
 abbrev pub from_of : Task → List Item → List (List ℕ)
-from_of tasks.Find items = if is_given items own.from then value_of items own.from ∷ [] else []
+from_of tasks.Find items = if is_given items own.from then file_name (value_of items own.from) ∷ [] else []
 from_of task items = []
 
 -- ---- all words

@@ -4,7 +4,6 @@ use Rattle.std.specs.List.{concat}
 use Rattle.lines.specs.Outputs.{Written}
 use Rattle.lists.specs.KnownLists.{KnownLists}
 use Rattle.lists.specs.declared.named.ReadFault.{ReadFault}
-use Rattle.lists.specs.declared.named.ReadFault.TheVariants as faults
 use Rattle.ipnetwork_addr.specs.declared.ip.IpAddr.{IpAddr}
 use Rattle.program.specs.Endings.{Ending, Refuses, HasTold, HasWritten}
 use Rattle.program.specs.Messages.{Reports}
@@ -52,8 +51,8 @@ abbrev pub EndsReadingAll : {Z W E : Type 0} → KnownLists → List (String Z) 
     → Ending W E → Type 0
 EndsReadingAll known words middle from addresses end =
     ((fault : ReadFault) × TextsStop known middle (drop middle words) fault
-    × Refuses (fault_text words fault) end)
-    ⊎ (Refuses (fault_text words faults.OutOfMemory) end
+    × Refuses (fault_text (codes "cidr_merge") words fault) end)
+    ⊎ (Refuses (codes "cidr_merge: out of memory\n") end
     ⊎ ((texts : List (List ℕ)) × AreTexts known (drop middle words) texts
     × EndsReading (with_addresses (take middle words) addresses) (drop middle words) from texts end))
 
@@ -62,7 +61,7 @@ EndsReadingAll known words middle from addresses end =
 abbrev pub sought_fault_text : {Z : Type 0} → List ℕ → List ℕ → List Row → List (String Z) → QueryFault → List ℕ
 sought_fault_text program usage rows words (NotAnAddress place) =
     refusal_text program usage rows (at (name_at words place) (codes "not an address"))
-sought_fault_text program usage rows words OutOfMemory = fault_text words faults.OutOfMemory
+sought_fault_text program usage rows words OutOfMemory = program ++ codes ": out of memory\n"
 
 -- the first `middle` words name addresses, and the others name lists, the first `from` of which are lists of addresses;
 -- or the first words are not accepted as addresses, which is reported before any list is read

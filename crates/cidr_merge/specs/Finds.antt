@@ -9,7 +9,7 @@ use Rattle.lists.specs.declared.entry.Entry.TheVariants as entries
 use Rattle.lists.specs.declared.fault.LineFault.{LineFault}
 use Rattle.program.specs.Escapes.{escaped}
 use Rattle.program.specs.Reported.{name_at}
-use Rattle.cidr_merge.specs.Findings.{place_text, refusal_text}
+use Rattle.cidr_merge.specs.Findings.{place_text, refusal_report}
 use Rattle.cidr_merge.specs.NumberedLines.{NumberedLine, is_range, numbered_lines, said_by}
 
 -- an entry has an address: `FILE:LINE: has ADDRESS: TEXT`
@@ -39,7 +39,7 @@ matches_by sought name number line (Err fault) = []
 -- the report about a line, by what it says: why it is refused, if it is
 abbrev pub refusals_by : List ℕ → ℕ → List ℕ → Result (Option Entry) LineFault → List (List ℕ)
 refusals_by name number line (Ok said) = []
-refusals_by name number line (Err fault) = refusal_text name number fault line ∷ []
+refusals_by name number line (Err fault) = refusal_report name number fault line ∷ []
 
 abbrev pub line_matches : {Z : Type 0} → List (List ℕ × IpAddr) → List (String Z) → NumberedLine
     → List (List ℕ)

@@ -1,8 +1,9 @@
--- The meaning of the options for the output form, the input format and the prefix length of a `split`.
-use Rattle.std.specs.Prelude.{ℕ, ◌==◌, List, [], ◌∷◌, Option, None, Some, if◌then◌else◌, codes, bytes_eq}
+-- The meaning of the options for the output form, the input format, the prefix length of a `split` and the greatest
+-- number of networks of a `reduce`.
+use Rattle.std.specs.Prelude.{ℕ, zero, suc, ◌==◌, List, [], ◌∷◌, Option, None, Some, if◌then◌else◌, codes, bytes_eq}
 use Rattle.std.specs.Option.{unwrap_or}
 use Rattle.options.specs.Given.{is_given, value_of}
-use Rattle.options.specs.Values.{length_in}
+use Rattle.options.specs.Values.{length_in, number_in}
 use Rattle.options.specs.declared.items.Item.{Item}
 use Rattle.cidr_merge.specs.Options as own
 use Rattle.cidr_merge.specs.declared.command_line.Form.{Form}
@@ -48,3 +49,16 @@ prefix_in text = length_in 128 (without_plus text)
 -- the prefix length of a `split`: 0 if no option gives one
 abbrev pub length_of : List Item → ℕ
 length_of items = unwrap_or (prefix_in (value_of items own.prefix)) 0
+
+-- the number that a text names, if it is not 0
+abbrev pub not_zero : Option ℕ → Option ℕ
+not_zero None = None
+not_zero (Some zero) = None
+not_zero (Some (suc less)) = Some (suc less)
+
+abbrev pub most_in : List ℕ → Option ℕ
+most_in text = not_zero (number_in text)
+
+-- the greatest number of networks of a `reduce`: 1 if no option gives one
+abbrev pub most_of : List Item → ℕ
+most_of items = unwrap_or (most_in (value_of items own.most)) 1

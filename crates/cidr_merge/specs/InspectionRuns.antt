@@ -32,7 +32,7 @@ EndsChecking names texts end =
 -- failed, or memory ran out before anything was written
 abbrev pub EndsOrdered : {Z W E : Type 0} → Bool → List (String Z) → List (List ℕ) → Ending W E
     → Type 0
-EndsOrdered strictly names texts end = Refuses (codes "out of memory\n") end
+EndsOrdered strictly names texts end = Refuses (codes "cidr_merge: out of memory\n") end
     ⊎ (FailsToWrite end ⊎ ((more : List (List ℕ))
     × OrderedFindings (found_among strictly names) texts more
     × WritesFindings (lists_findings strictly names texts ++ more) end))
@@ -48,5 +48,5 @@ EndsFinding Overlaps names texts end = EndsOrdered false names texts end
 -- read
 abbrev pub EndsInspecting : {Z W E : Type 0} → KnownLists → List (String Z) → Inspection → Ending W E → Type 0
 EndsInspecting known words inspection end =
-    ((fault : ReadFault) × TextsStop known 0 words fault × Refuses (fault_text words fault) end)
+    ((fault : ReadFault) × TextsStop known 0 words fault × Refuses (fault_text (codes "cidr_merge") words fault) end)
     ⊎ ((texts : List (List ℕ)) × AreTexts known words texts × EndsFinding inspection words texts end)

@@ -22,12 +22,12 @@ use Rattle.cidr_merge.specs.declared.command_line.Request.{Request}
 use Rattle.cidr_merge.specs.declared.tasks.Task.{Task}
 use Rattle.cidr_merge.specs.declared.tasks.Task.TheVariants as tasks
 
--- no word but these nine names a task
+-- no word but these ten names a task
 abbrev pub NoOtherTask : Type 0
 NoOtherTask =
     (text : List ℕ) → text ≢ codes "union" → text ≢ codes "common" → text ≢ codes "minus"
-    → text ≢ codes "differ" → text ≢ codes "list" → text ≢ codes "split" → text ≢ codes "check"
-    → text ≢ codes "overlaps" → text ≢ codes "find" → task_called text ≡ None
+    → text ≢ codes "differ" → text ≢ codes "list" → text ≢ codes "split" → text ≢ codes "reduce"
+    → text ≢ codes "check" → text ≢ codes "overlaps" → text ≢ codes "find" → task_called text ≡ None
 
 -- whether there is a row, and the task takes its option
 abbrev pub is_of : Task → Option ℕ → Bool

@@ -14,12 +14,14 @@ pub mod Forms
 pub mod Laws
 pub mod NamedLists
 pub mod NumberedLines
+pub mod OneSide
 pub mod Options
 pub mod Overlaps
 pub mod Parts
 pub mod Pieces
 pub mod Private
 pub mod Reading
+pub mod Reductions
 pub mod Repetitions
 pub mod RightWords
 pub mod Runs
@@ -27,6 +29,7 @@ pub mod SetNames
 pub mod Shapes
 pub mod Sides
 pub mod SoughtLines
+pub mod Spelling
 pub mod Splits
 pub mod Stopping
 pub mod Tasks

@@ -1,5 +1,6 @@
 -- The lists that a command line names: FILEs, and TEXTs of `-e`, which stand among them.
 use Rattle.std.specs.Prelude.{ℕ, ◌==◌, ◌&&◌, List, [], ◌∷◌, ◌++◌, Option, None, Some, if◌then◌else◌, codes}
+use Rattle.std.specs.Option.{is_some}
 use Rattle.options.specs.declared.items.Item.{Item}
 use Rattle.options.specs.declared.items.Item.TheVariants as says
 use Rattle.cidr_merge.specs.Options as own
@@ -24,3 +25,7 @@ lists_of (item ∷ items) = list_in item ++ lists_of items
 abbrev pub text_in : List ℕ → Option (List ℕ)
 text_in (dash ∷ letter ∷ space ∷ text) = if dash == 45 && letter == 101 && space == 32 then Some text else None
 text_in name = None
+
+-- the name of a FILE that an option names: with `./` before it, if it would be that of a TEXT
+abbrev pub file_name : List ℕ → List ℕ
+file_name name = if is_some (text_in name) then codes "./" ++ name else name

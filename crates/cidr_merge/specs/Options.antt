@@ -46,6 +46,9 @@ from = 11
 abbrev pub text : ℕ
 text = 12
 
+abbrev pub most : ℕ
+most = 13
+
 -- the message for a value of `--set` or `--table` that is not a name
 abbrev pub no_name : List ℕ
 no_name = codes "not a name of 1 to 22 letters, digits, _, - and ., the first a letter"
@@ -60,8 +63,9 @@ entries =
     ∷ long (codes "--set") kinds.Text true no_name ∷ long (codes "--table") kinds.Text true no_name
     ∷ long (codes "--line-prefix") kinds.Text true [] ∷ long (codes "--line-suffix") kinds.Text true []
     ∷ long (codes "--prefix") kinds.Text true (codes "not a prefix length, 0 to 128")
-    ∷ long (codes "--from") kinds.File true []
-    ∷ valued (codes "e") kinds.Text []
+    ∷ long (codes "--from") kinds.File true (codes "not a file name")
+    ∷ valued (codes "e") kinds.Text (codes "not a network or range")
+    ∷ long (codes "--most") kinds.Number true (codes "not a number from 1")
     ∷ alone (codes "--help") (codes "not the only argument")
     ∷ alone (codes "--version") (codes "not the only argument")
     ∷ alone (codes "--quiet") (codes "taken only once, as the first word") ∷ []
@@ -76,7 +80,7 @@ pairs = (ranges, count, codes "--ranges: not together with --count") ∷ (format
     ∷ (prefix, prefix, codes "--prefix: given twice")
     ∷ (set, set, codes "--set: given twice") ∷ (table, table, codes "--table: given twice")
     ∷ (before, before, codes "--line-prefix: given twice") ∷ (after, after, codes "--line-suffix: given twice")
-    ∷ (from, from, codes "--from: given twice") ∷ []
+    ∷ (from, from, codes "--from: given twice") ∷ (most, most, codes "--most: given twice") ∷ []
 
 -- the table has these options and pairs
 abbrev pub IsOptions : Table → Type 0
@@ -89,6 +93,8 @@ taken (tasks.Merge operation) =
 taken tasks.List =
     text ∷ ranges ∷ count ∷ format ∷ set ∷ table ∷ before ∷ after ∷ skip_bad ∷ json ∷ strict ∷ []
 taken tasks.Split = text ∷ prefix ∷ before ∷ after ∷ skip_bad ∷ json ∷ strict ∷ []
+taken tasks.Reduce =
+    text ∷ ranges ∷ count ∷ format ∷ set ∷ table ∷ before ∷ after ∷ skip_bad ∷ json ∷ strict ∷ most ∷ []
 taken tasks.Check = text ∷ strict ∷ []
 taken tasks.Overlaps = text ∷ []
 taken tasks.Find = text ∷ from ∷ []

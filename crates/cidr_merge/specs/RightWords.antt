@@ -17,7 +17,7 @@ use Rattle.cidr_merge.specs.NamedLists.{lists_of}
 use Rattle.cidr_merge.specs.CommandLines.{asked_for, command_of}
 use Rattle.cidr_merge.specs.Faults.{is_exported, files_among, from_of, has_lines, has_sets, has_table, takes}
 use Rattle.cidr_merge.specs.Faults.{times_named}
-use Rattle.cidr_merge.specs.Forms.{form_called, form_of, prefix_in}
+use Rattle.cidr_merge.specs.Forms.{form_called, form_of, most_in, prefix_in}
 use Rattle.cidr_merge.specs.Options as own
 use Rattle.cidr_merge.specs.SetNames.{is_set_name}
 use Rattle.cidr_merge.specs.Tasks.{is_two_sided, task_called}
@@ -40,8 +40,11 @@ pub data SaySides {Z : Type 0} (rows : List Row) : Bool → List (String Z) → 
 pub record IsValue (row : ℕ) (text : List ℕ) : Type 0 where
   pub form : row ≡ own.format → IsTrue (is_some (form_called text))
   pub prefix : row ≡ own.prefix → IsTrue (is_some (prefix_in text))
+  pub most : row ≡ own.most → IsTrue (is_some (most_in text))
   pub set : row ≡ own.set → IsTrue (is_set_name text)
   pub table : row ≡ own.table → IsTrue (is_set_name text)
+  pub from : row ≡ own.from → text ≢ []
+  pub entry : row ≡ own.text → text ≢ []
 
 -- the item is a FILE, or an option that the task takes, with a valid value if it has one
 pub data IsRightItem (task : Task) : Item → Type 0 where
@@ -61,6 +64,7 @@ pub record AreRight (table : Table) (task : Task) (items : List Item) (first sec
   pub strict : IsTrue (takes task own.json) → IsTrue (is_given items own.strict) → IsTrue (is_given items own.json)
   pub form : task ≡ tasks.Merge operations.Differ → is_exported (form_of Blocks items) ≡ false
   pub prefix : task ≡ tasks.Split → IsTrue (is_given items own.prefix)
+  pub most : task ≡ tasks.Reduce → IsTrue (is_given items own.most)
   pub sets : IsTrue (is_given items own.set) → IsTrue (has_sets (form_of Blocks items))
   pub sets_table : IsTrue (is_given items own.table) → IsTrue (has_table (form_of Blocks items))
   pub before : IsTrue (is_given items own.before) → IsTrue (has_lines (form_of Blocks items))

@@ -1,5 +1,5 @@
 -- How a merge ends: its exit status, what was written, and what was reported.
-use Rattle.std.specs.Prelude.{◌≡◌, ℕ, List, [], Bool, true, false, not, ◌&&◌, ◌⊎◌, if◌then◌else◌, String}
+use Rattle.std.specs.Prelude.{◌≡◌, ℕ, List, [], Bool, true, false, not, ◌&&◌, ◌⊎◌, if◌then◌else◌, String, codes}
 use Rattle.lists.specs.Refusals.{Refused}
 use Rattle.ipnetwork_sets.specs.Equality.{same_blocks}
 use Rattle.lines.specs.Outputs.{Written}
@@ -54,14 +54,14 @@ abbrev pub StopsReading : {Z W E : Type 0} → KnownLists → List (String Z) �
     → Ending W E → Type 0
 StopsReading known words request refused end =
     (fault : ReadFault) × StopsInSides known words request fault refused × IsSilent end
-    × HasTold end (fault_text words fault)
+    × HasTold end (fault_text (codes "cidr_merge") words fault)
 
 -- the refused lines were reported; then either the cause for which the reading stopped was reported, or the result was
 -- written
 abbrev pub EndsMerging : {Z W E : Type 0} → KnownLists → List (String Z) → Names → Request → Ending W E
     → Type 0
 EndsMerging {Z} {W} {E} known words sets request end = (refused : Refused) × (told : Written E)
-    × Reports end.errors told (refusals_text words in_list refused)
+    × Reports end.errors told (refusals_text (codes "cidr_merge") words in_list refused)
     × (StopsReading known words request refused (record end { errors = told })
     ⊎ ((first second : Sets) × ReadsSides known words request first second refused
     × EndsAnswering sets request (was_refused refused) first second (record end { errors = told })))

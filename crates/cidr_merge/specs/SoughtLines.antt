@@ -7,7 +7,7 @@ use Rattle.lists.specs.Lines.{trimmed}
 use Rattle.lists.specs.declared.entry.EntryFault.TheVariants as causes
 use Rattle.lists.specs.declared.fault.LineFault.TheVariants as faults
 use Rattle.program.specs.Reported.{name_at}
-use Rattle.cidr_merge.specs.Findings.{refusal_text}
+use Rattle.cidr_merge.specs.Findings.{refusal_report}
 use Rattle.cidr_merge.specs.NumberedLines.{NumberedLine, numbered_lines}
 
 -- a text with the address that it names, if it names one
@@ -31,15 +31,15 @@ is_other text (Some address) = false
 is_other [] None = false
 is_other (byte ∷ text) None = true
 
--- the refusal of a line that has such a text
+-- the report of a line that has such a text
 abbrev pub others_by : List ℕ → ℕ → List ℕ → List (List ℕ)
 others_by name number line =
     if is_other (trimmed line) (ip_of (trimmed line))
-    then refusal_text name number (faults.Entry causes.Address) line ∷ [] else []
+    then refusal_report name number (faults.Entry causes.Address) line ∷ [] else []
 
 abbrev pub line_others : {Z : Type 0} → List (String Z) → NumberedLine → List (List ℕ)
 line_others names line = others_by (name_at names line.list) line.number line.text
 
--- the refusals of all lines of the lists of these names and bytes
+-- the reports of all lines of the lists of these names and bytes
 abbrev pub lists_others : {Z : Type 0} → List (String Z) → List (List ℕ) → List (List ℕ)
 lists_others names texts = flat_map (line_others names) (numbered_lines 0 texts)

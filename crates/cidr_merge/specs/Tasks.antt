@@ -13,6 +13,7 @@ task_called text =
     else if bytes_eq text (codes "differ") then Some (tasks.Merge operations.Differ)
     else if bytes_eq text (codes "list") then Some tasks.List
     else if bytes_eq text (codes "split") then Some tasks.Split
+    else if bytes_eq text (codes "reduce") then Some tasks.Reduce
     else if bytes_eq text (codes "check") then Some tasks.Check
     else if bytes_eq text (codes "overlaps") then Some tasks.Overlaps
     else if bytes_eq text (codes "find") then Some tasks.Find
@@ -29,6 +30,7 @@ is_two_sided task = false
 abbrev pub no_option : Task → List ℕ
 no_option tasks.Split = codes "not an option of split; it takes -e TEXT, --prefix N, --line-prefix TEXT, "
     ++ codes "--line-suffix TEXT, --skip-bad, --json and --strict"
+no_option tasks.Reduce = codes "not an option of reduce; it takes --most N and the options of union"
 no_option tasks.Check = codes "not an option of check; it takes -e TEXT and --strict"
 no_option tasks.Overlaps = codes "not an option of overlaps; it takes -e TEXT"
 no_option tasks.Find = codes "not an option of find; it takes -e TEXT and --from FILE"

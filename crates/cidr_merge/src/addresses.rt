@@ -12,7 +12,7 @@ use lines::output::Output;
 use std::io::Write;
 
 /// Prints each address on a line of its own.
-#[tactic(auto, using(crate::proofs::Printed::none_printed, crate::proofs::Printed::all_printed, crate::proofs::Merging::shorter))]
+#[tactic(auto, using(crate::proofs::Printed::printing))]
 pub(crate) fn print_addresses<A: Address, W: Write>(
     names: &SetNames<'_>,
     mut addresses: NetworkIterator<A>,

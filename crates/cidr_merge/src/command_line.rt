@@ -5,13 +5,13 @@ ghost use Rattle.cidr_merge.specs.Faults.{from_of};
 ghost use Rattle.cidr_merge.specs.CommandLines.{request_of, inspection_of, asked_for};
 ghost use Rattle.cidr_merge.specs.CommandLines.{command_for, command_of, told_of, sets_by, sets_of};
 ghost use Rattle.cidr_merge.specs.Forms.{form_called, form_of, shape_of, without_plus};
-ghost use Rattle.cidr_merge.specs.Forms.{prefix_in, length_of};
+ghost use Rattle.cidr_merge.specs.Forms.{prefix_in, length_of, most_in, most_of};
 ghost use Rattle.cidr_merge.specs.Private.Words.{IsCommandWithin};
 
 use crate::exports::Export;
 use crate::faults::{fault_of, from_count, no_task_fault};
-use crate::named_lists::lists_of;
-use crate::rows::{COUNT, FORMAT, FROM, JSON, PREFIX, RANGES, SKIP_BAD, STRICT, table};
+use crate::named_lists::{add_file, lists_of};
+use crate::rows::{COUNT, FORMAT, FROM, JSON, MOST, PREFIX, RANGES, SKIP_BAD, STRICT, table};
 use crate::set_names::{SetNames, names_of};
 use crate::shapes::Shape;
 use crate::tasks::{Task, task_called};
@@ -21,7 +21,7 @@ use options::given::{is_given, value_of};
 use options::items::Item;
 use options::reading::items_of;
 use options::table::Table;
-use options::values::length_in;
+use options::values::{length_in, number_in};
 use program::words::count_of;
 use std::alloc::{AllocError, Global};
 
@@ -77,6 +77,15 @@ pub struct SplitRequest {
     pub shape: Shape,
 }
 
+/// How lists are reduced.
+#[derive(Clone, Copy, Debug, PartialEq, Eq)]
+pub struct ReduceRequest {
+    /// The greatest number of networks that are printed.
+    pub most: usize,
+    /// The union of which they have all addresses, and how it is printed.
+    pub merge: Request,
+}
+
 /// How lists are looked over.
 #[derive(Clone, Copy, Debug, PartialEq, Eq)]
 pub enum Inspection {
@@ -95,6 +104,8 @@ pub enum Command {
     Merge(Request),
     /// Lists are split.
     Split(SplitRequest),
+    /// Lists are reduced.
+    Reduce(ReduceRequest),
     /// Lists are looked over.
     Inspect(Inspection),
     /// The lists after so many addresses, and so many lists of addresses, are searched for these.
@@ -179,7 +190,7 @@ fn add_from(
         ≡ map string_bytes names.old.items ++ from_of task items.now) }
 {
     if from_count(task, items) > 0 {
-        names.push(String::from_str(alloc, value_of(items, FROM))?)?;
+        add_file(alloc, value_of(items, FROM), names)?;
     }
     Ok(())
 }
@@ -202,6 +213,10 @@ fn asked_for(task: Task, items: &[Item<'_>], middle: usize) -> Command
             length: length_of(items),
             skips_bad: is_given(items, SKIP_BAD),
             shape: shape_of(items),
+        }),
+        Task::Reduce => Command::Reduce(ReduceRequest {
+            most: most_of(items),
+            merge: request_of(Operation::Union, Form::Blocks, items, middle),
         }),
         Task::Check => Command::Inspect(inspection_of(is_given(items, STRICT))),
         Task::Overlaps => Command::Inspect(Inspection::Overlaps),
@@ -275,6 +290,23 @@ pub(crate) fn prefix_in(text: &str) -> Option<u8>
     ensures { result ≡ prefix_in text.now }
 {
     length_in(without_plus(text.as_bytes()), 128)
+}
+
+// The greatest number of networks that are printed.
+fn most_of(items: &[Item<'_>]) -> usize
+    ensures { result ≡ most_of items.now }
+{
+    most_in(value_of(items, MOST)).unwrap_or(1) as usize
+}
+
+/// The number from 1 that a text is.
+pub(crate) fn most_in(text: &str) -> Option<u64>
+    ensures { result ≡ most_in text.now }
+{
+    match number_in(text) {
+        Some(0) => None,
+        number => number,
+    }
 }
 
 // A text without the `+` at its start, if it has one.

@@ -14,7 +14,7 @@ use lines::output::Output;
 use std::io::Write;
 
 /// Prints the subnets of this prefix length of each block of a set, or the block if it has none.
-#[tactic(auto, using(crate::proofs::Printed::none_printed, crate::proofs::Printed::all_printed, crate::proofs::Merging::shorter))]
+#[tactic(auto, using(crate::proofs::Printed::printing))]
 pub(crate) fn print_pieces<A: Address, W: Write>(
     names: &SetNames<'_>,
     length: u8,
@@ -33,7 +33,7 @@ pub(crate) fn print_pieces<A: Address, W: Write>(
 }
 
 // Prints the pieces of a block, or the block itself if it has no subnets of this length.
-#[tactic(auto, using(crate::proofs::Printed::none_printed, crate::proofs::Printed::all_printed, crate::proofs::Merging::shorter))]
+#[tactic(auto, using(crate::proofs::Printed::printing))]
 fn print_block<A: Address, W: Write>(
     names: &SetNames<'_>,
     length: u8,

@@ -81,7 +81,7 @@ fn print_listed<A: Address, W: Write>(
 }
 
 // Prints the blocks after the first of a family.
-#[tactic(auto, using(crate::proofs::Printed::none_printed, crate::proofs::Printed::all_printed, crate::proofs::Merging::shorter))]
+#[tactic(auto, using(crate::proofs::Printed::printing))]
 fn print_following<A: Address, W: Write>(
     export: Export,
     names: &SetNames<'_>,

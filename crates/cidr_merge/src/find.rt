@@ -21,10 +21,11 @@ use crate::sought_places::places_of;
 use crate::texts::{WholeLists, texts_of};
 use ipnetwork::IpAddr;
 use lines::output::Output;
-use lists::{OpenLists, ReadFault};
+use lists::OpenLists;
 use options::refusing::refuse;
 use options::table::Row;
 use program::ending::{FAILED, end};
+use program::memory::refuse_memory;
 use program::words::text_at;
 use std::alloc::{AllocError, Global};
 use std::io::Write;
@@ -72,7 +73,7 @@ fn refuse_sought<E: Write>(
             let fault = at(text_at(words, place), "not an address");
             refuse(PROGRAM, USAGE, rows, &fault, errors)
         }
-        QueryFault::OutOfMemory => refuse_lists(words, ReadFault::OutOfMemory, errors),
+        QueryFault::OutOfMemory => refuse_memory(PROGRAM, errors),
     }
 }
 
@@ -117,7 +118,7 @@ fn find_all<L: OpenLists, W: Write, E: Write>(
                 errors,
             )
         }
-        Err(_) => refuse_lists(context.names, ReadFault::OutOfMemory, errors),
+        Err(_) => refuse_memory(PROGRAM, errors),
     }
 }
 
@@ -163,7 +164,7 @@ fn search<W: Write, E: Write>(
     let reported = search_lists(query, buffer, lists, output, errors);
     let written = output.finish();
     let status = status(reported.printed, either(told, reported.told));
-    end(written, status, errors)
+    end(PROGRAM, written, status, errors)
 }
 
 // The exit status, given whether an entry was printed and whether a refused line was reported.

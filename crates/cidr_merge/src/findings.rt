@@ -2,14 +2,15 @@
 ghost use Rattle.std.specs.Prelude.{◌≡◌, ◌++◌, ◌||◌, codes};
 ghost use Rattle.program.specs.Escapes.{escaped};
 ghost use Rattle.program.specs.Messages.{Reports};
-ghost use Rattle.cidr_merge.specs.Findings.{place_text, refusal_text, host_bits_text};
-ghost use Rattle.cidr_merge.specs.Findings.{shown, separator};
+ghost use Rattle.cidr_merge.specs.Findings.{place_text, refusal_text, refusal_report};
+ghost use Rattle.cidr_merge.specs.Findings.{host_bits_text, shown, separator};
 
+use crate::help::PROGRAM;
 use crate::numbered_lines::Line;
 use lines::output::Output;
 use lists::LineFault;
 use program::escapes::tell_escaped;
-use program::messages::{tell, tell_bytes, tell_number};
+use program::messages::{tell, tell_bytes, tell_number, tell_of};
 use std::io::Write;
 
 /// Prints why a line is refused, and the line, unless it is too long.
@@ -26,6 +27,15 @@ pub(crate) fn tell_wrong<W: Write>(line: &Line<'_>, fault: LineFault, output: &m
         separator(text),
         output,
     );
+}
+
+/// Reports why a line is refused, as `tell_wrong` prints it, in the name of the program.
+pub(crate) fn tell_refused<E: Write>(line: &Line<'_>, fault: LineFault, errors: &mut Output<'_, E>)
+    ensures { Reports errors.old errors.new
+        (refusal_report line.now.name.now line.now.number fault line.now.text.now) }
+{
+    tell_of(PROGRAM, ": ", errors);
+    tell_wrong(line, fault, errors);
 }
 
 /// Prints that the entry of a line has host bits, and the line.

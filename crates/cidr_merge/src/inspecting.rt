@@ -13,6 +13,7 @@ use crate::checking::check_lists;
 use crate::command_line::Inspection;
 use crate::context::Context;
 use crate::findings::either;
+use crate::help::PROGRAM;
 use crate::overlapping::tell_pairs;
 use crate::placed::{Placed, entries_of};
 use crate::reading::refuse_lists;
@@ -20,8 +21,8 @@ use crate::repeating::tell_repetitions;
 use crate::texts::{WholeLists, texts_of};
 use lines::output::Output;
 use lists::OpenLists;
-use program::ending::{FAILED, end};
-use program::messages::tell;
+use program::ending::end;
+use program::memory::refuse_memory;
 use std::alloc::Global;
 use std::io::Write;
 
@@ -82,7 +83,7 @@ fn check<W: Write, E: Write>(
 {
     let found = check_lists(false, lists, output);
     let written = output.finish();
-    end(written, status(found), errors)
+    end(PROGRAM, written, status(found), errors)
 }
 
 // Prints the wrong entries of lists, then the findings for all entries in order, and returns the
@@ -100,15 +101,12 @@ fn check_ordered<W: Write, E: Write>(
 {
     let mut entries = match entries_of(alloc, lists) {
         Ok(entries) => entries,
-        Err(_) => {
-            tell("out of memory\n", errors);
-            return FAILED;
-        }
+        Err(_) => return refuse_memory(PROGRAM, errors),
     };
     let wrong = check_lists(strictly, lists, output);
     let more = tell_ordered(strictly, lists.names, entries.as_mut_slice(), output);
     let written = output.finish();
-    end(written, status(either(wrong, more)), errors)
+    end(PROGRAM, written, status(either(wrong, more)), errors)
 }
 
 // Prints the findings for entries in order, and returns whether there are any. May reorder the

@@ -25,8 +25,8 @@ pub fn unions_of_parts_print_the_same()
     block_laws::same_union();
 }
 
-/// No word but `union`, `common`, `minus`, `differ`, `list`, `split`, `check`, `overlaps` and
-/// `find` names a task.
+/// No word but `union`, `common`, `minus`, `differ`, `list`, `split`, `reduce`, `check`, `overlaps`
+/// and `find` names a task.
 pub fn no_other_tasks()
     ensures { NoOtherTask }
 {}

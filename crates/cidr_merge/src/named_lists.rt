@@ -1,8 +1,9 @@
 //! The lists that a command line names: FILEs, and TEXTs of `-e`, which stand among them.
 ghost use Rattle.std.specs.Prelude.{◌≡◌, ◌≢◌, ◌<◌, ◌++◌, ◌∷◌, [], List, ℕ, map};
-ghost use Rattle.std.specs.Prelude.{IfOk, OnOk, MatchOption};
+ghost use Rattle.std.specs.Prelude.{IfOk, None, OnOk, MatchOption};
 ghost use Rattle.std.specs.String.{string_bytes};
-ghost use Rattle.cidr_merge.specs.NamedLists.{list_in, lists_of, text_name};
+ghost use Rattle.cidr_merge.specs.NamedLists.{file_name, list_in, lists_of};
+ghost use Rattle.cidr_merge.specs.NamedLists.{text_in, text_name};
 
 use crate::rows::TEXT;
 use options::items::Item;
@@ -35,8 +36,8 @@ fn add_list(alloc: Global, item: &Item<'_>, lists: &mut Vec<String>) -> Result<(
     }
 }
 
-// Adds a name, in two parts.
-fn add_name(
+/// Adds a name, in two parts.
+pub(crate) fn add_name(
     alloc: Global,
     first: &str,
     second: &str,
@@ -49,6 +50,18 @@ fn add_name(
     name.push_str(second)?;
     lists.push(name)?;
     Ok(())
+}
+
+/// Adds the name of a FILE that is the value of an option, which may be any text: no TEXT has it.
+pub(crate) fn add_file(alloc: Global, name: &str, lists: &mut Vec<String>) -> Result<(), AllocError>
+    ensures added { OnOk result (map string_bytes lists.new.items
+        ≡ map string_bytes lists.old.items ++ file_name name.now ∷ []) }
+    ensures no_text { text_in (file_name name.now) ≡ None }
+{
+    match text_in(name) {
+        Some(_) => add_name(alloc, "./", name, lists),
+        None => add_name(alloc, "", name, lists),
+    }
 }
 
 /// The TEXT of a list of this name, if it is one.

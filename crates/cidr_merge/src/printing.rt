@@ -96,7 +96,7 @@ fn print_lines<A: Address, W: Write>(
 }
 
 // Prints the parts of the first side and, for `differ`, those of the second among them.
-#[tactic(auto, using(crate::proofs::Printed::none_printed, crate::proofs::Printed::all_printed, crate::proofs::Merging::shorter))]
+#[tactic(auto, using(crate::proofs::Printed::printing))]
 fn print_parts<P: Parts, W: Write>(
     names: &SetNames<'_>,
     operation: Operation,

@@ -1,5 +1,5 @@
 //! Reads the lists of a side.
-ghost use Rattle.std.specs.Prelude.{◌≡◌, ◌+◌, ◌^◌, ◌<◌, false, length, OnOk, IfErr};
+ghost use Rattle.std.specs.Prelude.{◌≡◌, ◌+◌, ◌^◌, ◌<◌, false, length, OnOk, IfErr, codes};
 ghost use Rattle.lists.specs.Lists.{nothing_read};
 ghost use Rattle.program.specs.Messages.{Reports};
 ghost use Rattle.program.specs.Reported.{fault_text};
@@ -8,6 +8,7 @@ ghost use Rattle.cidr_merge.specs.Shapes.{source};
 ghost use Rattle.cidr_merge.specs.Stopping.{Stops};
 
 use crate::context::Context;
+use crate::help::PROGRAM;
 use crate::shapes::{Shape, read_one};
 use ipnetwork::{Ipv4Network, Ipv6Network};
 use ipnetwork_sets::AddressSet;
@@ -75,8 +76,8 @@ pub(crate) fn refuse_lists<E: Write>(
     errors: &mut Output<'_, E>,
 ) -> u8
     ensures status { result ≡ 2 }
-    ensures told { Reports errors.old errors.new (fault_text words.now fault) }
+    ensures told { Reports errors.old errors.new (fault_text (codes "cidr_merge") words.now fault) }
 {
-    tell_fault(words, fault, errors);
+    tell_fault(PROGRAM, words, fault, errors);
     FAILED
 }

@@ -44,8 +44,11 @@ pub(crate) const FROM: usize = 11;
 /// The row of `-e`.
 pub(crate) const TEXT: usize = 12;
 
+/// The row of `--most`.
+pub(crate) const MOST: usize = 13;
+
 // The options.
-const ROWS: [Row; 16] = [
+const ROWS: [Row; 17] = [
     long!("--ranges", Flag, false, ""),
     long!("--count", Flag, false, ""),
     long!(
@@ -63,8 +66,9 @@ const ROWS: [Row; 16] = [
     long!("--line-prefix", Text, true, ""),
     long!("--line-suffix", Text, true, ""),
     long!("--prefix", Text, true, "not a prefix length, 0 to 128"),
-    long!("--from", File, true, ""),
-    letter!(b'e', Text, ""),
+    long!("--from", File, true, "not a file name"),
+    letter!(b'e', Text, "not a network or range"),
+    long!("--most", Number, true, "not a number from 1"),
     long!("--help", Alone, false, "not the only argument"),
     long!("--version", Alone, false, "not the only argument"),
     long!(
@@ -82,7 +86,7 @@ const NO_NAME: &str = "not a name of 1 to 22 letters, digits, _, - and ., the fi
 const ANOTHER_FORM: &str = "--format: given twice, or together with --ranges or --count";
 
 // The pairs of options that exclude each other.
-const PAIRS: [Pair; 10] = [
+const PAIRS: [Pair; 11] = [
     pair!(RANGES, COUNT, "--ranges: not together with --count"),
     pair!(FORMAT, FORMAT, ANOTHER_FORM),
     pair!(FORMAT, RANGES, ANOTHER_FORM),
@@ -93,6 +97,7 @@ const PAIRS: [Pair; 10] = [
     pair!(BEFORE, BEFORE, "--line-prefix: given twice"),
     pair!(AFTER, AFTER, "--line-suffix: given twice"),
     pair!(FROM, FROM, "--from: given twice"),
+    pair!(MOST, MOST, "--most: given twice"),
 ];
 
 /// The options.
@@ -107,12 +112,16 @@ pub(crate) fn table() -> Table<'static>
     }
 }
 
-// The options of a merge, a `split` and a `check`, by the indices of their rows.
+// The options of a merge, a `split`, a `reduce` and a `check`, by the indices of their rows.
 const OF_MERGES: [usize; 11] = [
     TEXT, RANGES, COUNT, FORMAT, SET, TABLE, BEFORE, AFTER, SKIP_BAD, JSON, STRICT,
 ];
 
 const OF_SPLIT: [usize; 7] = [TEXT, PREFIX, BEFORE, AFTER, SKIP_BAD, JSON, STRICT];
+
+const OF_REDUCE: [usize; 12] = [
+    TEXT, RANGES, COUNT, FORMAT, SET, TABLE, BEFORE, AFTER, SKIP_BAD, JSON, STRICT, MOST,
+];
 
 const OF_CHECK: [usize; 2] = [TEXT, STRICT];
 
@@ -123,6 +132,7 @@ pub(crate) fn taken(task: Task) -> &'static [usize]
     match task {
         Task::Merge(_) | Task::List => &OF_MERGES,
         Task::Split => &OF_SPLIT,
+        Task::Reduce => &OF_REDUCE,
         Task::Check => &OF_CHECK,
         Task::Overlaps => &[TEXT],
         Task::Find => &[TEXT, FROM],

@@ -5,7 +5,7 @@ ghost use Rattle.lines.specs.Outputs.{Writes};
 ghost use Rattle.program.specs.Endings.{ending};
 ghost use Rattle.cidr_merge.specs.Answers.{IsAnswer};
 ghost use Rattle.cidr_merge.specs.Private.Words.{IsCommandWithin};
-ghost use Rattle.cidr_merge.specs.Endings.{EndsAs, EndsCommand};
+ghost use Rattle.cidr_merge.specs.Endings.{EndsAs, EndsBy, EndsCommand};
 ghost use Rattle.cidr_merge.specs.Reading.{ReadsSides};
 ghost use Rattle.cidr_merge.specs.Runs.{answer_status, EndsAnswering, EndsMerging};
 ghost use Rattle.cidr_merge.specs.Stopping.{StopsInSides};
@@ -17,7 +17,9 @@ use crate::help::{HELP, PROGRAM, USAGE, VERSION};
 use crate::inspecting::inspect;
 use crate::printing::{Merging, print};
 use crate::reading::{Sets, read_side, refuse_lists};
+use crate::reduce::reduce;
 use crate::rows::table;
+use crate::spelling::{is_short, spelled_out};
 use crate::split::split;
 use lines::fault::RunFault;
 use lines::output::Output;
@@ -43,8 +45,28 @@ pub(crate) fn run<L: OpenLists, W: Write, E: Write>(
         (ending output.old output.new errors.old errors.new result) }
 {
     if let Some(text) = text_asked(HELP, VERSION, words) {
-        return print_text(text, output, errors);
+        return print_text(PROGRAM, text, output, errors);
     }
+    if !is_short(words) {
+        return ask(alloc, words, lists, output, errors);
+    }
+    match spelled_out(alloc, words) {
+        Ok(words) => ask(alloc, words.as_slice(), lists, output, errors),
+        Err(_) => refuse_memory(PROGRAM, errors),
+    }
+}
+
+// Does what the words ask for, none of which is left out, and returns the exit status.
+fn ask<L: OpenLists, W: Write, E: Write>(
+    alloc: Global,
+    words: &[String],
+    lists: &L,
+    output: &mut Output<'_, W>,
+    errors: &mut Output<'_, E>,
+) -> u8
+    ensures { EndsBy PROGRAM.now USAGE.now (L.known lists.now) words.now
+        (ending output.old output.new errors.old errors.new result) }
+{
     let table = table();
     match command_of(alloc, &table, words) {
         Ok(Ok(asked)) => {
@@ -58,7 +80,7 @@ pub(crate) fn run<L: OpenLists, W: Write, E: Write>(
             obey(asked.command, table.rows, &context, output, errors)
         }
         Ok(Err(fault)) => refuse(PROGRAM, USAGE, table.rows, &fault, errors),
-        Err(_) => refuse_memory(errors),
+        Err(_) => refuse_memory(PROGRAM, errors),
     }
 }
 
@@ -78,6 +100,7 @@ fn obey<L: OpenLists, W: Write, E: Write>(
     match command {
         Command::Merge(request) => merge(request, context, output, errors),
         Command::Split(request) => split(request, context, output, errors),
+        Command::Reduce(request) => reduce(request, context, output, errors),
         Command::Inspect(inspection) => inspect(inspection, context, output, errors),
         Command::Find(middle, from) => find(middle, from, rows, context, output, errors),
     }
@@ -96,7 +119,7 @@ fn merge<L: OpenLists, W: Write, E: Write>(
         (ending output.old output.new errors.old errors.new result) }
 {
     let (first, second, refusals, read) = read_sides(request, context);
-    tell_refusals(context.names, &InLists, &refusals, errors);
+    tell_refusals(PROGRAM, context.names, &InLists, &refusals, errors);
     match read {
         Ok(()) => {
             let merging = Merging {
@@ -142,9 +165,9 @@ fn lists_behind<'a>(read: &Result<(), ReadFault>, names: &'a [String]) -> &'a [S
     if read.is_err() { &[] } else { names }
 }
 
-// Prints the result of the operation, unless lines were refused that are not to be skipped, and
-// returns the exit status.
-fn answer<W: Write, E: Write>(
+/// Prints the result of the operation, unless lines were refused that are not to be skipped, and
+/// returns the exit status.
+pub(crate) fn answer<W: Write, E: Write>(
     merging: &Merging<'_>,
     skips: bool,
     output: &mut Output<'_, W>,
@@ -160,7 +183,7 @@ fn answer<W: Write, E: Write>(
     }
     let status = status(request.operation, skips, merging.first, merging.second);
     let written = write_answer(merging, output);
-    end(written, status, errors)
+    end(PROGRAM, written, status, errors)
 }
 
 // Writes the result of the operation.

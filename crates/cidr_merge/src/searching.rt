@@ -10,7 +10,7 @@ ghost use Rattle.cidr_merge.specs.Private.LinesLeft.{sought_as, sought_in};
 ghost use Rattle.cidr_merge.specs.Private.SoughtPlaces.{AreFound, AreQuery};
 
 use crate::entry_match::{entry_of, has_address};
-use crate::findings::{either, tell_line, tell_wrong};
+use crate::findings::{either, tell_line, tell_refused};
 use crate::numbered_lines::{Line, NumberedLines};
 use crate::query::Query;
 use crate::sought::Sought;
@@ -81,7 +81,7 @@ fn search_line<W: Write, E: Write>(
             told: false,
         },
         Err(fault) => {
-            tell_wrong(line, fault, errors);
+            tell_refused(line, fault, errors);
             Reported {
                 printed: false,
                 told: true,

@@ -8,7 +8,7 @@ ghost use Rattle.cidr_merge.specs.SoughtLines.{others_by, sought_of};
 ghost use Rattle.ipnetwork_addr.specs.Computed.Either.{ip_of};
 ghost use Rattle.lists.specs.Lines.{trimmed};
 
-use crate::findings::{either, tell_wrong};
+use crate::findings::{either, tell_refused};
 use crate::numbered_lines::{Line, NumberedLines};
 use crate::texts::WholeLists;
 use ipnetwork::IpAddr;
@@ -122,7 +122,7 @@ fn tell_other<E: Write>(line: &Line<'_>, errors: &mut Output<'_, E>) -> bool
     if !is_other(trim::<Blank>(line.text)) {
         return false;
     }
-    tell_wrong(line, LineFault::Entry(EntryFault::Address), errors);
+    tell_refused(line, LineFault::Entry(EntryFault::Address), errors);
     true
 }
 

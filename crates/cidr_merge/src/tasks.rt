@@ -13,6 +13,8 @@ pub enum Task {
     List,
     /// The union, in pieces of one length.
     Split,
+    /// At most a given number of networks that have all addresses of the union.
+    Reduce,
     /// Wrong entries are printed.
     Check,
     /// Wrong entries and those that overlap are printed.
@@ -32,6 +34,7 @@ pub(crate) fn task_called(text: &str) -> Option<Task>
         "differ" => Some(Task::Merge(Operation::Differ)),
         "list" => Some(Task::List),
         "split" => Some(Task::Split),
+        "reduce" => Some(Task::Reduce),
         "check" => Some(Task::Check),
         "overlaps" => Some(Task::Overlaps),
         "find" => Some(Task::Find),
@@ -46,7 +49,7 @@ pub(crate) fn is_two_sided(task: Task) -> bool
     match task {
         Task::Merge(operation) => !matches!(operation, Operation::Union),
         Task::Find => true,
-        Task::List | Task::Split | Task::Check | Task::Overlaps => false,
+        Task::List | Task::Split | Task::Reduce | Task::Check | Task::Overlaps => false,
     }
 }
 
@@ -64,6 +67,7 @@ pub(crate) fn no_option(task: Task) -> &'static str
             "not an option of split; it takes -e TEXT, --prefix N, --line-prefix TEXT, \
              --line-suffix TEXT, --skip-bad, --json and --strict"
         }
+        Task::Reduce => "not an option of reduce; it takes --most N and the options of union",
         Task::Check => "not an option of check; it takes -e TEXT and --strict",
         Task::Overlaps => "not an option of overlaps; it takes -e TEXT",
         Task::Find => "not an option of find; it takes -e TEXT and --from FILE",

@@ -1,7 +1,8 @@
 -- Columns and lists in the caller's memory that would expose a misreading of the definitions.
-use Rattle.std.proofs.Common.{◌≡◌, ◌≢◌, ℕ, zero, suc, ◌+◌, ◌-◌, ◌^◌, ◌<◌, ◌≤◌, List, [], ◌∷◌, ◌++◌, map, length, get_or, refl, ap, arith}
+use Rattle.std.proofs.Common.{◌≡◌, ◌≢◌, ℕ, zero, suc, ◌+◌, ◌-◌, ◌^◌, ◌<◌, ◌≤◌, List, [], ◌∷◌, ◌++◌, map, length, get_or, refl, sym, ap, ◌∙◌, lit<, lit≤, arith}
 use Rattle.std.proofs.lemmas.List.{length-append}
-use Rattle.std.specs.Prelude.{Option, Some, min, take, flat_map, codes, replicate}
+use Rattle.std.proofs.lemmas.Option.{same_Some, slice_get_past}
+use Rattle.std.specs.Prelude.{⊤, Option, Some, min, take, flat_map, codes, replicate}
 use Rattle.std.specs.List.{All}
 use Rattle.std.specs.Fmt.{digits}
 use Rattle.ipnetwork_family.specs.Network.{Network}
@@ -16,7 +17,7 @@ use Rattle.ipnetwork_c.specs.Outcomes.Unless.{On, Nothing}
 use Rattle.ipnetwork_c.specs.Lists.{StandInFront, PutsBlocks, Aggregates}
 use Rattle.ipnetwork_c.specs.Blocks.{RangeOperation, WritesSubnet}
 use Rattle.ipnetwork_c.specs.Sets.{SetOperation, BothFit, BothAreSets}
-use Rattle.ipnetwork_c.specs.Columns.{member_flag, AnswersRows}
+use Rattle.ipnetwork_c.specs.Columns.{member_flag, WritesFlags, AnswersRows, AnswersEach, AsksEach}
 use Rattle.ipnetwork_c.specs.TextColumns.{row_count, row_text, AreOffsets, ReadsRows, ReadsColumn}
 use Rattle.ipnetwork_c.specs.PrintedColumns.{PrintsRows, HasColumnRoom, FirstRefused, PrintsColumn, v4_fits, v4_refused, v4_text, v6_fits, v6_refused, v6_text, ip_text, address_text}
 
@@ -147,6 +148,28 @@ pub rows_of_no_network_are_not_answered : (w : ℕ) (n : Network) (rows : List (
 rows_of_no_network_are_not_answered w n rows before after (On (fits, On (room, (is, answers)))) = absurd (omega (arith, is))
 rows_of_no_network_are_not_answered w n rows before after (On (fits, Nothing (none, is) same)) = absurd (omega (arith, is))
 rows_of_no_network_are_not_answered w n rows before after (Nothing (not, is) same) = (not, same)
+
+pub flags_stand_in_the_order_of_rows : WritesFlags ⊤ (λ (flag : ℕ). flag) (1 ∷ 0 ∷ []) (7 ∷ 7 ∷ 9 ∷ []) (1 ∷ 0 ∷ 9 ∷ []) ok
+flags_stand_in_the_order_of_rows = On (tt, On (lit≤ tt, (refl, refl)))
+
+pub no_flag_is_left_out : ¬ (WritesFlags ⊤ (λ (flag : ℕ). flag) (1 ∷ 0 ∷ []) (7 ∷ 7 ∷ 9 ∷ []) (1 ∷ 7 ∷ 9 ∷ []) ok)
+no_flag_is_left_out (On (fits, On (room, (is, flags)))) = let second : 7 ≡ 0 = ap (λ (l : List ℕ). get_or l 1 0) flags in omega (arith, second)
+no_flag_is_left_out (On (fits, Nothing (none, is) same)) = omega (arith, is)
+no_flag_is_left_out (Nothing (not, is) same) = omega (arith, is)
+
+pub one_row : (Answers : ℕ → ℕ → ℕ → ℕ → Type 0) (old new was fault : ℕ) → Answers 0 old new fault → AnswersEach Answers 1 (old ∷ []) (new ∷ []) (was ∷ []) (fault ∷ [])
+one_row Answers old new was fault answer = record { rows = refl; fault_rows = refl; row = λ i l. let is : i ≡ 0 = omega (arith, l) in rw is (old, new, fault, refl, refl, refl, answer); rest = λ i l. slice_get_past (new ∷ []) i l ∙ sym (slice_get_past (old ∷ []) i l); fault_rest = λ i l. slice_get_past (fault ∷ []) i l ∙ sym (slice_get_past (was ∷ []) i l) }
+
+-- a call that adds what it is asked to the row, and returns it
+abbrev adds : ℕ → ℕ → ℕ → ℕ → Type 0
+adds asked old new fault = (new ≡ old + asked) × (fault ≡ asked)
+
+pub each_row_is_asked : AsksEach 0 adds (5 ∷ []) (7 ∷ [], 9 ∷ []) (12 ∷ [], 5 ∷ []) ok
+each_row_is_asked = On ((lit≤ tt, lit≤ tt), (refl, one_row (λ i. adds (get_or (5 ∷ []) i 0)) 7 12 9 5 (refl, refl)))
+
+pub no_row_has_the_answer_of_the_first : ¬ (AsksEach 0 adds (1 ∷ 0 ∷ []) (7 ∷ 7 ∷ [], 9 ∷ 9 ∷ []) (8 ∷ 8 ∷ [], 1 ∷ 1 ∷ []) ok)
+no_row_has_the_answer_of_the_first (On (room, (is, rows))) = let (old, new, fault, was, now, told, answer) = rows.row 1 (lit< tt) in let one : 1 ≡ fault = same_Some 1 fault told in omega (arith, one, answer.1)
+no_row_has_the_answer_of_the_first (Nothing (none, is) same) = omega (arith, is)
 
 -- ---- lists of blocks
 

@@ -17,7 +17,7 @@ use Rattle.ipnetwork_c.specs.Held.{PrefixFits}
 use Rattle.ipnetwork_c.specs.Outcomes.Unless.{On, Nothing}
 use Rattle.ipnetwork_c.specs.Searches.{StandsAt, LastFits}
 use Rattle.ipnetwork_c.specs.Tables.{IsTable, FindsLongest, TableQuery}
-use Rattle.ipnetwork_c.specs.Ranges.{no_place, place_before, IsLongestAt, AreRangesOf, MakesRanges, PlacesAreOfTheLongest, RangeQuery, RangesFindTheLongest}
+use Rattle.ipnetwork_c.specs.Ranges.{no_place, place_before, IsLongestAt, AreMadeOf, MakesRanges, PlacesAreOfTheLongest, RangeQuery, RangesFindTheLongest}
 use Rattle.ipnetwork_c.specs.Private.Cuts.{firsts, IsAlone, AreEndsOf, AreCutsOf, IsWrittenUpTo, ArePlacesUpTo}
 use Rattle.std.proofs.lemmas.Option.{get_or_from_slice_get, slice_get_within}
 use Rattle.ipnetwork_c.proofs.Searching.{stands_split}
@@ -352,7 +352,7 @@ fused held [] = refl
 fused held (x ∷ xs) = ap (λ ys. (held x).address ∷ ys) (fused held xs)
 
 pub ranges_made : {C : Type 0} (w : ℕ) (holds : C → Type 0) (held : C → Network) (list cuts sorted : List C) (put : List ℕ) → AreCutsOf w holds held (map held list) (length list) cuts → IsPermutation cuts sorted
-    → AreInOrder (map held sorted) → length put ≡ length sorted → ArePlacesUpTo w (map held list) (firsts held sorted) put (length sorted) → AreRangesOf w (map held list) (map held sorted) put
+    → AreInOrder (map held sorted) → length put ≡ length sorted → ArePlacesUpTo w (map held list) (firsts held sorted) put (length sorted) → AreMadeOf w (map held list) (map held sorted) put
 ranges_made {C} w holds held list cuts sorted put are moved order size beside =
     let table : List Network = map held list in
     let ranges : List Network = map held sorted in
@@ -374,27 +374,30 @@ ranges_made {C} w holds held list cuts sorted put are moved order size beside =
       ended = λ fits. into (high w (get_or table k d) + 1) (are.ended k d (omega (arith, l, table_size)) fits);
     } in
     record {
-      few = omega (arith, few, table_size, ranges_size, sorted_size);
-      rows = size ∙ sym ranges_size;
-      alone = All-map (λ (n : Network). n.prefix ≡ w) held sorted (λ k d l. (alone k d l).prefix);
-      ascending = up;
-      cut = λ a fits c.
-          let n : Network = c.0 in
-          let k : ℕ = c.1.0 in
-          let is : get_or table k n ≡ n = c.1.2 in
-          let cuts_it : CutsAt w (map (λ n. n.address) ranges) n = subst (CutsAt w (map (λ n. n.address) ranges)) is (at k n c.1.1) in
-          ⊎_elim
-          (λ (e : a ≡ low w n). subst (Contains (map (λ n. n.address) ranges)) (sym e) cuts_it.begun)
-          (λ (e : a ≡ high w n + 1). subst (Contains (map (λ n. n.address) ranges)) (sym e) (cuts_it.ended (omega (arith, e, fits))))
-          c.2;
-      only = λ a c. are.only a (back a c);
-      answers = λ x i fits stands.
-          answers_all w table ranges put x i at up (size ∙ sym ranges_size)
-          (λ k d l.
-          let there : k < length sorted = omega (arith, l, ranges_size) in
-          let first : get_or (firsts held sorted) k 0 ≡ (get_or ranges k d).address = ap (λ xs. get_or xs k 0) (sym same) ∙ get_or-map (λ (n : Network). n.address) ranges k d 0 l in
-          subst (λ (a : ℕ). IsLongestAt w table a (get_or put k 0)) first (beside k there))
-          fits stands;
+      each = λ i l. subst (λ (xs : List ℕ). IsLongestAt w table (get_or xs i 0) (get_or put i 0)) (sym same) (beside i (omega (arith, l, ranges_size)));
+      ranges_of = record {
+        few = omega (arith, few, table_size, ranges_size, sorted_size);
+        rows = size ∙ sym ranges_size;
+        alone = All-map (λ (n : Network). n.prefix ≡ w) held sorted (λ k d l. (alone k d l).prefix);
+        ascending = up;
+        cut = λ a fits c.
+            let n : Network = c.0 in
+            let k : ℕ = c.1.0 in
+            let is : get_or table k n ≡ n = c.1.2 in
+            let cuts_it : CutsAt w (map (λ n. n.address) ranges) n = subst (CutsAt w (map (λ n. n.address) ranges)) is (at k n c.1.1) in
+            ⊎_elim
+            (λ (e : a ≡ low w n). subst (Contains (map (λ n. n.address) ranges)) (sym e) cuts_it.begun)
+            (λ (e : a ≡ high w n + 1). subst (Contains (map (λ n. n.address) ranges)) (sym e) (cuts_it.ended (omega (arith, e, fits))))
+            c.2;
+        only = λ a c. are.only a (back a c);
+        answers = λ x i fits stands.
+            answers_all w table ranges put x i at up (size ∙ sym ranges_size)
+            (λ k d l.
+            let there : k < length sorted = omega (arith, l, ranges_size) in
+            let first : get_or (firsts held sorted) k 0 ≡ (get_or ranges k d).address = ap (λ xs. get_or xs k 0) (sym same) ∙ get_or-map (λ (n : Network). n.address) ranges k d 0 l in
+            subst (λ (a : ℕ). IsLongestAt w table a (get_or put k 0)) first (beside k there))
+            fits stands;
+      };
     }
 
 -- the ranges and places are put at the fronts of two lists
@@ -413,9 +416,9 @@ made {C} w holds held list before cut sorted places put count count_before fits 
     length-append sorted (drop count cut) ∙ ap (λ n. n + length (drop count cut)) (size ∙ sym cut_size) ∙ sym (length-append (take count cut) (drop count cut)) ∙ ap length (take-append-drop count cut) ∙ written.size in
     let whole_places : length (put ++ drop count places) ≡ length places =
     length-append put (drop count places) ∙ ap (λ n. n + length (drop count places)) (put_size ∙ sym (length-take-le count places within)) ∙ sym (length-append (take count places) (drop count places)) ∙ ap length (take-append-drop count places) in
-    let fronts : AreRangesOf w (map held list) (map held (take count (sorted ++ drop count cut))) (take count (put ++ drop count places)) =
-    subst (λ (xs : List C). AreRangesOf w (map held list) (map held xs) (take count (put ++ drop count places))) (sym front)
-    (subst (λ (ys : List ℕ). AreRangesOf w (map held list) (map held sorted) ys) (sym front_places) is) in
+    let fronts : AreMadeOf w (map held list) (map held (take count (sorted ++ drop count cut))) (take count (put ++ drop count places)) =
+    subst (λ (xs : List C). AreMadeOf w (map held list) (map held xs) (take count (put ++ drop count places))) (sym front)
+    (subst (λ (ys : List ℕ). AreMadeOf w (map held list) (map held sorted) ys) (sym front_places) is) in
     let size_before = written.size in
     On (
       fits,

@@ -1,28 +1,43 @@
 -- Results of calls for either family and for tables, and ends of sets: which number means that the answer is written,
 -- and which that nothing is.
-use Rattle.std.proofs.Common.{◌≡◌, ◌≢◌, ◌↔◌, ℕ, ◌<◌, ◌≤◌, List, [], ◌∷◌, ◌++◌, length, map, drop, get_or, refl, arith}
-use Rattle.std.specs.Prelude.{Option, Some, None, Ok, take}
+use Rattle.std.proofs.Common.{◌≡◌, ◌≢◌, ◌↔◌, ℕ, ◌%◌, ◌<◌, ◌≤◌, List, [], ◌∷◌, ◌++◌, length, map, drop, get_or, refl, ap, subst, lit≤, arith}
+use Rattle.std.specs.Prelude.{Option, Some, None, Result, Ok, Err, take, codes, replicate}
+use Rattle.std.specs.Fmt.{digits}
 use Rattle.std.specs.List.{All}
 use Rattle.ipnetwork_addr.specs.declared.ip.IpAddr.{IpAddr}
 use Rattle.ipnetwork_addr.specs.declared.ip.IpAddr.TheVariants as addresses
 use Rattle.ipnetwork_addr.specs.Either.{NamesIp}
+use Rattle.ipnetwork_addr.specs.Ipv4Text.{NamesV4}
+use Rattle.ipnetwork_addr.specs.Computed.Ipv6Text.{v6_of, gap_below}
+use Rattle.ipnetwork_addr.proofs.ComputedV4.{v4_of_sound}
 use Rattle.ipnetwork_family.specs.Network.{Network}
-use Rattle.ipnetwork_family.specs.NetworkText.{slashes, before_slash, HasSeveralSlashes}
+use Rattle.ipnetwork_family.specs.NetworkText.{slashes, before_slash, HasSeveralSlashes, Suffixed}
+use Rattle.ipnetwork_family.specs.Ipv4NetworkText.{ReadsV4Network}
+use Rattle.ipnetwork_family.specs.Ipv6NetworkText.{ReadsV6Network}
+use Rattle.ipnetwork_family.specs.Computed.Ipv4NetworkText.{v4_network_of}
+use Rattle.ipnetwork_family.specs.Computed.Ipv6NetworkText.{v6_network_of}
+use Rattle.ipnetwork_family.specs.declared.error.CidrFault.{CidrFault}
 use Rattle.ipnetwork_family.specs.declared.error.CidrFault.TheVariants.{Format, Addr, Prefix}
 use Rattle.ipnetwork.specs.declared.ip_network.IpNetwork.{IpNetwork}
-use Rattle.ipnetwork.specs.declared.ip_network.IpNetwork.TheVariants.{V6}
+use Rattle.ipnetwork.specs.declared.ip_network.IpNetwork.TheVariants.{V4, V6}
 use Rattle.ipnetwork.specs.IpNetworks.{IpMember}
 use Rattle.ipnetwork.specs.IpNetworkText.{NamesIpNetwork, ReadsIpNetwork, ip_network_text}
+use Rattle.ipnetwork.specs.Computed.IpNetworkText.{ip_network_of}
+use Rattle.ipnetwork_c.specs.declared.structs.Ipv4InC.{Ipv4InC}
+use Rattle.ipnetwork_c.specs.declared.structs.Ipv6InC.{Ipv6InC}
 use Rattle.ipnetwork_c.specs.declared.structs.IpInC.{IpInC}
+use Rattle.ipnetwork_c.specs.declared.structs.IpWithCauseInC.{IpWithCauseInC}
 use Rattle.ipnetwork_c.specs.declared.address.AddressInC.{AddressInC}
-use Rattle.ipnetwork_c.specs.Numbers.{ok, format, address, prefix, short_buffer, no_family}
-use Rattle.ipnetwork_c.specs.Held.{PrefixFits, number_of_octets}
+use Rattle.ipnetwork_c.specs.Numbers.{ok, format, address, prefix, short_buffer, no_family, fault_number}
+use Rattle.ipnetwork_c.specs.Held.{PrefixFits, HoldsV4, HoldsV6, number_of_octets}
 use Rattle.ipnetwork_c.specs.Outcomes.Unless.{On, Nothing}
 use Rattle.ipnetwork_c.specs.Answers.{IsFlag, ReadsInto, StandsIn, PutsText}
 use Rattle.ipnetwork_c.specs.Columns.{AnswersEach}
 use Rattle.ipnetwork_c.specs.Either.{address_in, HoldsIp, ReadsWithCause, MemberQuery, NoAddress, NoIpNetwork, OfNetwork, StandsForIp}
 use Rattle.ipnetwork_c.specs.Either.NoIpNetwork.{NoFamily as ip_no_family, NoPrefix as ip_no_prefix}
+use Rattle.ipnetwork_c.specs.TextColumns.{v4_reads, v6_reads, ip_reads, ip_reads_with_cause}
 use Rattle.ipnetwork_c.specs.Tables.{TableQuery, TableRows, IsTableOf, MakesTable}
+use Rattle.ipnetwork_c.proofs.ResultExamples.{a_read_text_is_held}
 
 -- ---- members of either family
 
@@ -80,6 +95,57 @@ what_stands_after_an_address_is_told text a before after code few named fault (O
 what_stands_after_an_address_is_told text a before after code few named fault (Nothing (Format, (told, is)) same) = absurd (omega (arith, few, told.0))
 what_stands_after_an_address_is_told text a before after code few named fault (Nothing (Addr, (told, is)) same) = absurd (told.0.1 a named)
 what_stands_after_an_address_is_told text a before after code few named fault (Nothing (Prefix, (told, is)) same) = is
+
+-- a law: reading returns what is computed, and nothing else
+abbrev IsComputed : {N : Type 0} → (List ℕ → Result N CidrFault → Type 0) → (List ℕ → Result N CidrFault) → Type 0
+IsComputed {N} Reads network_of = (text : List ℕ) (result : Result N CidrFault) → Reads text result ↔ (result ≡ network_of text)
+
+-- host bits are kept; ::FFFF:129.144.52.38 is an example of RFC 4291, section 2.2
+pub host_bits_are_read : IsComputed ReadsV4Network v4_network_of → (before : Ipv4InC) → v4_reads (codes "1.2.3.4/0") before (record { address = 1 ∷ 2 ∷ 3 ∷ 4 ∷ []; prefix = 0 }) ok
+unfolding digits
+host_bits_are_read law before = On (record { address = 0x01020304; prefix = 0 }, (law (codes "1.2.3.4/0") (Ok (record { address = 0x01020304; prefix = 0 }))).1 refl, (refl, (refl, refl)))
+
+pub host_bits_are_not_cleared : IsComputed ReadsV4Network v4_network_of → (before : Ipv4InC) → ¬ (v4_reads (codes "1.2.3.4/0") before (record { address = replicate 4 0; prefix = 0 }) ok)
+unfolding digits
+host_bits_are_not_cleared law before h =
+    let (n, reads, holds) = a_read_text_is_held ReadsV4Network HoldsV4 (codes "1.2.3.4/0") before (record { address = replicate 4 0; prefix = 0 }) h in
+    let is : Ok n ≡ Ok (record { address = 0x01020304; prefix = 0 }) = (law (codes "1.2.3.4/0") (Ok n)).0 reads in let address_is : n.address ≡ 0x01020304 = cc in
+    let last : 0 ≡ n.address % 256 = ap (λ (l : List ℕ). get_or l 3 0) holds.0 in omega (arith, last, address_is)
+
+pub a_mapped_address_is_read : IsComputed ReadsV6Network v6_network_of → (before : Ipv6InC) → v6_reads (codes "::FFFF:129.144.52.38") before (record { address = replicate 10 0 ++ 255 ∷ 255 ∷ 129 ∷ 144 ∷ 52 ∷ 38 ∷ []; prefix = 128 }) ok
+unfolding digits v6_of gap_below
+a_mapped_address_is_read law before = On (record { address = 0xffff81903426; prefix = 128 }, (law (codes "::FFFF:129.144.52.38") (Ok (record { address = 0xffff81903426; prefix = 128 }))).1 refl, (refl, (refl, refl)))
+
+pub a_prefix_length_of_129_is_not_read : IsComputed ReadsV6Network v6_network_of → (before after : Ipv6InC) → ¬ (v6_reads (codes "::/129") before after ok)
+unfolding digits v6_of gap_below
+a_prefix_length_of_129_is_not_read law before after h =
+    let (n, reads, holds) = a_read_text_is_held ReadsV6Network HoldsV6 (codes "::/129") before after h in
+    let is : Ok n ≡ Err Prefix = (law (codes "::/129") (Ok n)).0 reads in cc
+
+-- 10.0.0.0/33 is refused for its prefix length; the call that tells no cause returns `address` for it
+pub no_cause_is_told : IsComputed ReadsIpNetwork ip_network_of → (before : IpInC) → ip_reads (codes "10.0.0.0/33") before before address
+unfolding digits v6_of gap_below
+no_cause_is_told law before = Nothing (Addr, ((law (codes "10.0.0.0/33") (Err Addr)).1 refl, refl)) refl
+
+pub no_prefix_length_is_told : (before after : IpInC) → ¬ (ip_reads (codes "10.0.0.0/33") before after prefix)
+no_prefix_length_is_told before after (On (n, reads, (is, holds))) = omega (arith, is)
+no_prefix_length_is_told before after (Nothing (cause, (reads, is)) same) = let fault : 3 ≡ 2 = subst (λ (c : CidrFault). prefix ≡ fault_number c) reads.0 is in omega (arith, fault)
+
+ten_is_named : NamesV4 (codes "10.0.0.0") 0x0a000000
+unfolding digits
+ten_is_named = v4_of_sound (codes "10.0.0.0") 0x0a000000 refl
+
+pub the_cause_is_told : IsComputed ReadsIpNetwork ip_network_of → (before : IpWithCauseInC) → ip_reads_with_cause (codes "10.0.0.0/33") before before prefix
+unfolding digits v6_of gap_below
+the_cause_is_told law before =
+    let none = ((law (codes "10.0.0.0/33") (Err Addr)).1 refl).1 in
+    Nothing (Prefix, (((lit≤ tt, (addresses.V4 0x0a000000, ten_is_named, (codes "33", refl, λ p s. none (V4 (record { address = 0x0a000000; prefix = p })) (Suffixed (codes "10.0.0.0") (codes "33") refl ten_is_named s)))), none), refl)) refl
+
+pub no_missing_address_is_told : (before after : IpWithCauseInC) → ¬ (ip_reads_with_cause (codes "10.0.0.0/33") before after address)
+no_missing_address_is_told before after (On (n, reads, (is, holds))) = omega (arith, is)
+no_missing_address_is_told before after (Nothing (Format, (reads, is)) same) = omega (arith, is)
+no_missing_address_is_told before after (Nothing (Addr, (reads, is)) same) = reads.0.1 (addresses.V4 0x0a000000) ten_is_named
+no_missing_address_is_told before after (Nothing (Prefix, (reads, is)) same) = omega (arith, is)
 
 pub no_address_has_no_text : (held : AddressInC) (code : ℕ) → held.length ≡ 5 → NoAddress held code → code ≡ no_family
 no_address_has_no_text held code five h = h.1

@@ -1,10 +1,10 @@
 -- Values that would expose a misreading of the definitions.
-use Rattle.std.proofs.Common.{◌≡◌, [], ◌∷◌, arith, refl}
-use Rattle.std.specs.Prelude.{Some, None, negsuc}
+use Rattle.std.proofs.Common.{◌≡◌, [], ◌∷◌, map, get_or, arith, refl}
+use Rattle.std.specs.Prelude.{Some, None, negsuc, codes}
 use Rattle.std.specs.declared.cmp.Ordering.TheVariants.{Less}
 use Rattle.ipnetwork_addr.specs.declared.ip.IpAddr.TheVariants.{V4}
 use Rattle.ipnetwork_family.specs.declared.error.CidrFault.TheVariants.{Prefix}
-use Rattle.ipnetwork_c.specs.Numbers.{fault_number, order_number}
+use Rattle.ipnetwork_c.specs.Numbers.{fault_number, fault_texts, order_number}
 use Rattle.ipnetwork_c.specs.Held.{PrefixFits, number_of_octets, v4_in}
 use Rattle.ipnetwork_c.specs.Answers.{StandsIn}
 use Rattle.ipnetwork_c.specs.Either.{address_in, ip_in}
@@ -23,6 +23,10 @@ zero_byte_behind = refl
 
 pub prefix_is_three : fault_number Prefix ≡ 3
 prefix_is_three = refl
+
+-- by the numbers in the header, 0 to 10
+pub fault_texts_stand_at_their_numbers : map (λ n. get_or fault_texts n []) (0 ∷ 3 ∷ 8 ∷ 10 ∷ 11 ∷ []) ≡ codes "no fault" ∷ codes "no prefix length of the family" ∷ codes "no offsets of the column" ∷ codes "no list of a set" ∷ [] ∷ []
+fault_texts_stand_at_their_numbers = refl
 
 pub less_is_minus_one : order_number Less ≡ negsuc 0
 less_is_minus_one = refl

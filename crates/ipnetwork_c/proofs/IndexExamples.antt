@@ -1,5 +1,5 @@
 -- Indexes of a list of two networks, and their parts: with another number they are no indexes of the list.
-use Rattle.std.proofs.Common.{◌≡◌, ℕ, zero, suc, ◌+◌, ◌*◌, ◌/◌, ◌^◌, ◌<◌, ◌≤◌, List, [], ◌∷◌, length, get_or, refl, subst, arith}
+use Rattle.std.proofs.Common.{◌≡◌, ℕ, zero, suc, ◌+◌, ◌*◌, ◌/◌, ◌^◌, ◌<◌, ◌≤◌, List, [], ◌∷◌, length, map, get_or, refl, subst, arith}
 use Rattle.std.specs.Prelude.{min}
 use Rattle.std.proofs.Math.Pow.{pow-lt}
 use Rattle.std.proofs.lemmas.Nat.{pow_pos, le-div}
@@ -9,7 +9,7 @@ use Rattle.ipnetwork_c.specs.Held.{number_of_octets}
 use Rattle.ipnetwork_c.specs.Outcomes.Unless.{On, Nothing}
 use Rattle.ipnetwork_c.specs.Columns.{AnswersEach}
 use Rattle.ipnetwork_c.specs.Lists.{SetQuery}
-use Rattle.ipnetwork_c.specs.Indexes.{AreLeastParts, BeginBefore, IsIndexOf, MakesIndex, SetRows}
+use Rattle.ipnetwork_c.specs.Indexes.{address_at, span, AreLeastParts, BeginBefore, IsIndexOf, MakesIndex, SetRows}
 
 abbrev two : List Network
 two = record { address = 10; prefix = 128 } ∷ record { address = 20; prefix = 128 } ∷ []
@@ -88,3 +88,9 @@ rows_with_room_have_answers w held list asked before after (Nothing (none, is) s
 -- an index is written over the whole of its memory, and no further
 pub an_index_keeps_its_length : {C : Type 0} (held : C → Network) (list : List C) (before after : List ℕ) (code : ℕ) → MakesIndex held list before after code → (code ≡ ok) × (length after ≡ length before)
 an_index_keeps_its_length held list before after code h = (h.0, h.1.0)
+
+pub addresses_at_places : map (address_at two) (0 ∷ 1 ∷ 2 ∷ []) ≡ 10 ∷ 20 ∷ 0 ∷ []
+addresses_at_places = refl
+
+pub spans : span [] ∷ span two ∷ span ends ∷ [] ≡ 0 ∷ 10 ∷ 0xffffffffffffffffffffffffffffffff ∷ []
+spans = refl

@@ -12,7 +12,7 @@ use Rattle.ipnetwork_sets.specs.Sets.{IsAddressSet}
 use Rattle.ipnetwork_c.specs.declared.structs.Ipv4InC.{Ipv4InC}
 use Rattle.ipnetwork_c.specs.Numbers.{ok, prefix, no_member}
 use Rattle.ipnetwork_c.specs.Held.{v4_in}
-use Rattle.ipnetwork_c.specs.Searches.{StandsAt, LastFits, ComesTo}
+use Rattle.ipnetwork_c.specs.Searches.{StandsAt, LastFits, PassesBy, ComesTo}
 use Rattle.ipnetwork_c.specs.Searches.ComesTo.{First, On}
 use Rattle.ipnetwork_c.specs.Outcomes.Unless.{On, Nothing}
 use Rattle.ipnetwork_c.specs.Lists.{FindsIn, SetQuery}
@@ -127,6 +127,13 @@ a_struct_around_the_address_is_judged before after (i, comes, Nothing (not, is) 
 
 pub no_search_stands_behind_a_later_address : ¬ (StandsAt (past ∷ []) 4 1)
 no_search_stands_behind_a_later_address h = let before : 5 ≤ 4 = h.last past (omega arith) refl in omega (arith, before)
+
+-- a search passes by a block without the address, and not by the block of all addresses
+pub a_block_without_the_address_is_passed : PassesBy 32 (past_wide ∷ narrow ∷ []) 0x0a020000 1 narrow
+a_block_without_the_address_is_passed = record { here = refl; fits = lit≤ tt; has_not = λ m. let same : 0x0a02 ≡ 0x0a01 = m.1 in omega (arith, same) }
+
+pub a_block_of_all_is_not_passed : ¬ (PassesBy 32 (record { address = 0; prefix = 0 } ∷ []) 0xffffffff 0 (record { address = 0; prefix = 0 }))
+a_block_of_all_is_not_passed h = h.has_not (lit< tt, refl)
 
 -- ---- results of a search
 

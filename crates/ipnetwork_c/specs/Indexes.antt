@@ -12,7 +12,7 @@ use Rattle.ipnetwork_c.specs.Lists.{SetQuery}
 abbrev pub address_at : List Network → ℕ → ℕ
 address_at networks place = (get_or networks place (record { address = 0; prefix = 0 })).address
 
--- the difference between the addresses of the last and the first network
+-- how far the address of the last network is past that of the first, and 0 if it is not
 abbrev pub span : List Network → ℕ
 span networks = address_at networks (length networks - 1) - address_at networks 0
 

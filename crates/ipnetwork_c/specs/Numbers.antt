@@ -13,7 +13,7 @@ ok = 0
 abbrev pub format : ℕ
 format = 1
 
--- the part before the `/` is not an address
+-- the part before the `/` is not an address, or the text is not that of the address or network that is wanted
 abbrev pub address : ℕ
 address = 2
 
@@ -21,7 +21,7 @@ address = 2
 abbrev pub prefix : ℕ
 prefix = 3
 
--- a buffer without room for the text and a zero byte after it
+-- a buffer without room for the text and a zero byte after it, or for all rows, places, blocks or numbers
 abbrev pub short_buffer : ℕ
 short_buffer = 4
 
@@ -29,7 +29,7 @@ short_buffer = 4
 abbrev pub no_mask : ℕ
 no_mask = 5
 
--- a member number that the network does not have
+-- a member number that the network does not have, an address that no network has, or one that is not IPv4-mapped
 abbrev pub no_member : ℕ
 no_member = 6
 
@@ -62,9 +62,9 @@ fault_texts =
     ∷ codes "more than one slash"
     ∷ codes "no address"
     ∷ codes "no prefix length of the family"
-    ∷ codes "no room for the text"
+    ∷ codes "no room for the answer"
     ∷ codes "no mask"
-    ∷ codes "no member of this number"
+    ∷ codes "no such member or network"
     ∷ codes "no family"
     ∷ codes "no offsets of the column"
     ∷ codes "no range"

@@ -47,6 +47,13 @@ pub record AreRangesOf (w : ℕ) (networks ranges : List Network) (places : List
   pub only : (a : ℕ) → Contains (map (λ n. n.address) ranges) a → IsCut w networks a
   pub answers : (x i : ℕ) → x < 2 ^ w → StandsAt ranges x i → IsLongestAt w networks x (place_before places i)
 
+-- the same, and each range has the place of the longest network that has its first address, even if the next range
+-- begins there too
+pub record AreMadeOf (w : ℕ) (networks ranges : List Network) (places : List ℕ) : Type 0 where
+  pub ranges_of : AreRangesOf w networks ranges places
+  pub each : (i : ℕ) → i < length ranges
+      → IsLongestAt w networks (get_or (map (λ n. n.address) ranges) i 0) (get_or places i 0)
+
 -- the ranges of a list and their places are put in the front of two lists, if both have room for two for each network,
 -- and the number of ranges is written
 abbrev pub MakesRanges : {C : Type 0} → ℕ → (C → Network) → List C → (List C × List ℕ) × ℕ → (List C × List ℕ) × ℕ → ℕ
@@ -56,7 +63,7 @@ MakesRanges w held list before =
     (Needs ((2 * length list ≤ length before.0.0) × (2 * length list ≤ length before.0.1)) short_buffer
     (Writes (λ after. (length after.0.0 ≡ length before.0.0) × (length after.0.1 ≡ length before.0.1)
     × (after.1 ≤ length before.0.0)
-    × AreRangesOf w (map held list) (map held (take after.1 after.0.0)) (take after.1 after.0.1)
+    × AreMadeOf w (map held list) (map held (take after.1 after.0.0)) (take after.1 after.0.1)
     × (drop after.1 after.0.0 ≡ drop after.1 before.0.0) × (drop after.1 after.0.1 ≡ drop after.1 before.0.1)))) before
 
 -- the number at a place, or `no_place` if there is none
@@ -72,7 +79,7 @@ MakesNumberedRanges w held list numbers =
     (λ before. Needs ((2 * length list ≤ length before.0.0) × (2 * length list ≤ length before.0.1)) short_buffer
     (Writes (λ after. (length after.0.0 ≡ length before.0.0) × (length after.0.1 ≡ length before.0.1)
     × (after.1 ≤ length before.0.0)
-    × ((places : List ℕ) × AreRangesOf w (map held list) (map held (take after.1 after.0.0)) places
+    × ((places : List ℕ) × AreMadeOf w (map held list) (map held (take after.1 after.0.0)) places
     × (take after.1 after.0.1 ≡ map (number_at numbers) places))
     × (drop after.1 after.0.0 ≡ drop after.1 before.0.0) × (drop after.1 after.0.1 ≡ drop after.1 before.0.1)))
     before))

@@ -3,3 +3,4 @@ pub mod Handed
 pub mod Lacking
 pub mod LogEnds
 pub mod LogStats
+pub mod MappedNetworks

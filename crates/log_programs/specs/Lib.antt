@@ -5,6 +5,7 @@ pub mod Lacking
 pub mod LogEnds
 pub mod LogStats
 pub mod Seen
+pub mod Unmapping
 pub mod WithoutAddress
 pub mod Areas
 pub mod Rows

@@ -1,5 +1,6 @@
 //! What the programs that read logs share: where to look for the addresses of a line, the address
-//! of a line, the counts of the lines of a log, and the reports about a log.
+//! of a line, the network that is looked up for one of a line, the counts of the lines of a log, and
+//! the reports about a log.
 #![tactic(auto)]
 
 pub mod areas;
@@ -7,4 +8,5 @@ pub mod finding;
 pub mod log_stats;
 pub mod rows;
 pub mod telling;
+pub mod unmapping;
 pub mod without_address;

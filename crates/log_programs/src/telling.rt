@@ -12,7 +12,8 @@ use crate::without_address::WithoutAddress;
 use line_addresses::{Area, Part, Pick, Text};
 use lines::output::Output;
 use lists::OpenFault;
-use program::messages::{tell, tell_number};
+use program::log_fault::tell_fault_of;
+use program::messages::{tell, tell_head, tell_number};
 use std::io::Write;
 
 /// Reports, in the name of a program, that no line of the log of this name has an address in this
@@ -192,8 +193,7 @@ pub fn tell_closed<E: Write>(
 )
     ensures { Reports errors.old errors.new (closed_text program.now name.now fault) }
 {
-    tell_head(program, name, errors);
-    tell(fault.text(), errors);
+    tell_fault_of(program, name, fault.text(), errors);
 }
 
 // Returns whether to report how many of these lines have no address.
@@ -245,13 +245,4 @@ fn tell_asked<E: Write>(
     } else {
         tell("", errors);
     }
-}
-
-// Reports the names of the program and the log.
-fn tell_head<E: Write>(program: &str, name: &str, errors: &mut Output<'_, E>)
-    ensures { Reports errors.old errors.new (program.now ++ codes ": " ++ name.now) }
-{
-    tell(program, errors);
-    tell(": ", errors);
-    tell(name, errors);
 }

@@ -1,5 +1,5 @@
 -- How a run ends, by what its words ask for.
-use Rattle.std.proofs.Common.{ℕ, List, ◌⊎◌, inl, inr, sym, subst, codes}
+use Rattle.std.proofs.Common.{◌++◌, ℕ, List, ◌⊎◌, inl, inr, sym, subst, codes}
 use Rattle.std.specs.Prelude.{Option, None, Some, MatchOption, String}
 use Rattle.program.specs.Endings.{Ending, EndsPrinting, Refuses}
 use Rattle.program.specs.Runs.{text_asked}
@@ -17,7 +17,7 @@ module _ {Z W E : Type 0} (table : Table) (program help version usage : List ℕ
   -- what they asked for was done
   pub done : (IsDone : List Item → Type 0) (items : List Item) → AsksFor table help version words items → IsDone items → EndsAs table program help version usage words IsDone end
   done IsDone items asks h =
-      not_asked help version words _ end asks.no_text
+      not_asked program help version words _ end asks.no_text
       (inr (subst (λ (i : List Item). EndsAsked table program usage i (IsDone i) end) asks.are
       (subst (λ (o : Option Fault). MatchOption o (IsDone items) (λ fault. Refuses (refusal_text program usage table.rows.now fault) end)) (sym asks.right) h)))
 
@@ -27,9 +27,9 @@ module _ {Z W E : Type 0} (table : Table) (program help version usage : List ℕ
   by_fault IsDone None none = absurd none
 
   abbrev Reads : (List Item → Type 0) → Type 0
-  Reads IsDone = Refuses (codes "out of memory\n") end ⊎ EndsAsked table program usage (items_of table.rows.now modes.Free words) (IsDone (items_of table.rows.now modes.Free words)) end
+  Reads IsDone = Refuses (program ++ codes ": out of memory\n") end ⊎ EndsAsked table program usage (items_of table.rows.now modes.Free words) (IsDone (items_of table.rows.now modes.Free words)) end
 
-  by_text : (IsDone : List Item → Type 0) (text : Option (List ℕ)) → MatchOption text (Reads (λ items. ⊥)) (λ text. EndsPrinting text end) → MatchOption text (Reads IsDone) (λ text. EndsPrinting text end)
+  by_text : (IsDone : List Item → Type 0) (text : Option (List ℕ)) → MatchOption text (Reads (λ items. ⊥)) (λ text. EndsPrinting program text end) → MatchOption text (Reads IsDone) (λ text. EndsPrinting program text end)
   by_text IsDone (Some text) printed = printed
   by_text IsDone None (inl refused) = inl refused
   by_text IsDone None (inr asked) = inr (by_fault (IsDone (items_of table.rows.now modes.Free words)) (fault_of table (items_of table.rows.now modes.Free words)) asked)

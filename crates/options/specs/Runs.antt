@@ -1,5 +1,5 @@
 -- How a run ends, by what the words of its command line ask for.
-use Rattle.std.specs.Prelude.{◌≡◌, List, ℕ, None, ◌⊎◌, MatchOption, codes, String}
+use Rattle.std.specs.Prelude.{◌≡◌, ◌++◌, List, ℕ, None, ◌⊎◌, MatchOption, codes, String}
 use Rattle.program.specs.Endings.{Ending, Refuses}
 use Rattle.program.specs.Runs.{EndsRun, text_asked}
 use Rattle.options.specs.Faults.{fault_of}
@@ -18,8 +18,8 @@ EndsAsked table program usage items IsDone end =
 -- word asks for it; otherwise it reports that memory ran out, or ends by the items that the words say
 abbrev pub EndsAs : {Z W E : Type 0} → Table → List ℕ → List ℕ → List ℕ → List ℕ → List (String Z)
     → (List Item → Type 0) → Ending W E → Type 0
-EndsAs table program help version usage words IsDone end = EndsRun help version words
-    (Refuses (codes "out of memory\n") end
+EndsAs table program help version usage words IsDone end = EndsRun program help version words
+    (Refuses (program ++ codes ": out of memory\n") end
     ⊎ EndsAsked table program usage (items_of table.rows.now modes.Free words)
     (IsDone (items_of table.rows.now modes.Free words)) end) end
 

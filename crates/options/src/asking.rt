@@ -88,10 +88,10 @@ pub fn asked<'a, W: Write, E: Write>(
         (ending output.old output.new errors.old errors.new status)) }
 {
     if let Some(text) = text_asked(about.help, about.version, words) {
-        return Err(print_text(text, output, errors));
+        return Err(print_text(about.program, text, output, errors));
     }
     let Ok(items) = items_of(alloc, table.rows, words) else {
-        return Err(refuse_memory(errors));
+        return Err(refuse_memory(about.program, errors));
     };
     match fault_of(table, items.as_slice()) {
         Some(fault) => Err(refuse(about.program, about.usage, table.rows, &fault, errors)),

@@ -11,6 +11,7 @@ use Rattle.lines.specs.declared.fault.RunFault.TheVariants as faults
 use Rattle.lists.specs.KnownLists.{KnownLists}
 use Rattle.lists.specs.Private.Readings.{end_of}
 use Rattle.lists.specs.Reading.{ReadsList, StopsAt, StopsAtText}
+use Rattle.program.specs.Endings.{unwritten_text}
 use Rattle.program.specs.Runs.{text_asked}
 use Rattle.program.specs.Reported.{fault_text, more_text}
 use Rattle.program.specs.Usage.{shown, fault_of, arguments_text}
@@ -22,18 +23,23 @@ use Rattle.lists.specs.declared.opening.OpenFault.TheVariants as causes
 
 -- ---- what is told
 
-pub no_more : more_text 0 ≡ []
+pub no_more : more_text (codes "p") 0 ≡ []
 no_more = refl
 
-pub some_more : more_text 12 ≡ codes "12 more refused lines\n"
+pub some_more : more_text (codes "p") 12 ≡ codes "p: 12 more refused lines\n"
 unfolding digits
 some_more = refl
 
-pub a_refused_list : {Z : Type 0} (union list : String Z) → string_bytes list ≡ codes "-" → fault_text (union ∷ list ∷ []) (Read 1) ≡ codes "-: cannot read\n"
+pub a_refused_list : {Z : Type 0} (union list : String Z) → string_bytes list ≡ codes "-" → fault_text (codes "p") (union ∷ list ∷ []) (Read 1) ≡ codes "p: -: cannot read\n"
 a_refused_list union list e = rw e
 
-pub a_missing_list : {Z : Type 0} (union list : String Z) → string_bytes list ≡ codes "x" → fault_text (union ∷ list ∷ []) (Open 1 causes.Missing) ≡ codes "x: cannot open: no such file\n"
+pub a_missing_list : {Z : Type 0} (union list : String Z) → string_bytes list ≡ codes "x" → fault_text (codes "p") (union ∷ list ∷ []) (Open 1 causes.Missing) ≡ codes "p: x: cannot open: no such file\n"
 a_missing_list union list e = rw e
+
+pub why_writes_fail : map (unwritten_text (codes "p")) (kinds.StorageFull ∷ kinds.FileTooLarge ∷ kinds.BrokenPipe ∷ [])
+    ≡ codes "p: standard output: no space left on device\n" ∷ codes "p: standard output: file too large\n"
+    ∷ codes "p: standard output: cannot write\n" ∷ []
+why_writes_fail = refl
 
 -- ---- where the reading stops
 
@@ -90,7 +96,7 @@ words_as_they_are_shown = refl
 pub an_argument_that_is_no_text : arguments_text arguments.NotText (codes "p") (codes "usage: p\n") ≡ codes "p: an argument is not UTF-8\nusage: p\n"
 an_argument_that_is_no_text = refl
 
-pub arguments_without_memory : arguments_text arguments.OutOfMemory (codes "p") (codes "usage: p\n") ≡ codes "out of memory\n"
+pub arguments_without_memory : arguments_text arguments.OutOfMemory (codes "p") (codes "usage: p\n") ≡ codes "p: out of memory\n"
 arguments_without_memory = refl
 
 -- memory that ran out is no argument that is not UTF-8, nor is that one the other

@@ -13,40 +13,40 @@ use Rattle.program.specs.declared.log_fault.LogFault.TheVariants as faults
 -- ---- what is reported
 
 -- the number of the line that is told
-told_line : (name cause : List ℕ) (lines count : ℕ) → lines ≡ min count (2 ^ 64 - 1) → line_text name lines cause ≡ line_text name count cause
-told_line name cause lines count e =
+told_line : (program name cause : List ℕ) (lines count : ℕ) → lines ≡ min count (2 ^ 64 - 1) → line_text program name lines cause ≡ line_text program name count cause
+told_line program name cause lines count e =
     let same : min (lines + 1) (2 ^ 64 - 1) ≡ min (count + 1) (2 ^ 64 - 1) = omega (arith, e) in
-    ap (λ n. name ++ codes ":" ++ decimal n ++ codes ": refused " ++ cause ++ codes "\n") same
+    ap (λ n. program ++ codes ": " ++ name ++ codes ":" ++ decimal n ++ codes ": refused " ++ cause ++ codes "\n") same
 
-pub told_log : (name : List ℕ) (lines count : ℕ) (fault : LogFault) → lines ≡ min count (2 ^ 64 - 1) → log_fault_text name lines fault ≡ log_fault_text name count fault
-told_log name lines count (faults.Open cause) e = refl
-told_log name lines count faults.Read e = refl
-told_log name lines count faults.Write e = refl
-told_log name lines count faults.Address e = told_line name (codes "address") lines count e
-told_log name lines count faults.Length e = told_line name (codes "length") lines count e
-told_log name lines count faults.Endless e = refl
+pub told_log : (program name : List ℕ) (lines count : ℕ) (fault : LogFault) → lines ≡ min count (2 ^ 64 - 1) → log_fault_text program name lines fault ≡ log_fault_text program name count fault
+told_log program name lines count (faults.Open cause) e = refl
+told_log program name lines count faults.Read e = refl
+told_log program name lines count faults.Write e = refl
+told_log program name lines count faults.Address e = told_line program name (codes "address") lines count e
+told_log program name lines count faults.Length e = told_line program name (codes "length") lines count e
+told_log program name lines count faults.Endless e = refl
 
-pub stops_else : {W E : Type 0} (name : List ℕ) (lines : ℕ) (fault : LogFault) (end : Ending W E) → ¬ (fault ≡ faults.Write) → HandsOn name lines fault end → StopsBy name lines fault end
-stops_else name lines (faults.Open cause) end not h = h
-stops_else name lines faults.Read end not h = h
-stops_else name lines faults.Write end not h = absurd (not refl)
-stops_else name lines faults.Address end not h = h
-stops_else name lines faults.Length end not h = h
-stops_else name lines faults.Endless end not h = h
+pub stops_else : {W E : Type 0} (program name : List ℕ) (lines : ℕ) (fault : LogFault) (end : Ending W E) → ¬ (fault ≡ faults.Write) → HandsOn program name lines fault end → StopsBy program name lines fault end
+stops_else program name lines (faults.Open cause) end not h = h
+stops_else program name lines faults.Read end not h = h
+stops_else program name lines faults.Write end not h = absurd (not refl)
+stops_else program name lines faults.Address end not h = h
+stops_else program name lines faults.Length end not h = h
+stops_else program name lines faults.Endless end not h = h
 
-pub stops_failed : {W E : Type 0} (name : List ℕ) (lines : ℕ) (fault : LogFault) (end : Ending W E) → fault ≡ faults.Write → end.output_after ≡ end.output
-    → HasTold end (log_fault_text name lines faults.Write) → StopsBy name lines fault end
-stops_failed name lines fault end is same told = subst (λ (f : LogFault). StopsBy name lines f end) (sym is) (same, told)
+pub stops_failed : {W E : Type 0} (program name : List ℕ) (lines : ℕ) (fault : LogFault) (end : Ending W E) → fault ≡ faults.Write → end.output_after ≡ end.output
+    → HasTold end (log_fault_text program name lines faults.Write) → StopsBy program name lines fault end
+stops_failed program name lines fault end is same told = subst (λ (f : LogFault). StopsBy program name lines f end) (sym is) (same, told)
 
-pub handed_all : {W E : Type 0} (name : List ℕ) (lines : ℕ) (fault : LogFault) (end : Ending W E)
-    → Appends end.output.holds end.output_after.holds end.output.waits → HasTold end (log_fault_text name lines fault) → HandsOn name lines fault end
-handed_all name lines fault end h told =
+pub handed_all : {W E : Type 0} (program name : List ℕ) (lines : ℕ) (fault : LogFault) (end : Ending W E)
+    → Appends end.output.holds end.output_after.holds end.output.waits → HasTold end (log_fault_text program name lines fault) → HandsOn program name lines fault end
+handed_all program name lines fault end h told =
     inl (subst (Appends end.output.holds end.output_after.holds) (sym (append-nil end.output.waits)) h, told)
 
-pub handed_some : {W E : Type 0} (name : List ℕ) (lines : ℕ) (fault : LogFault) (end : Ending W E) → IsTrue end.output_after.failed
-    → AppendsBeginning end.output.holds end.output_after.holds end.output.waits → HasTold end (log_fault_text name lines faults.Write)
-    → HandsOn name lines fault end
-handed_some name lines fault end failed h told =
+pub handed_some : {W E : Type 0} (program name : List ℕ) (lines : ℕ) (fault : LogFault) (end : Ending W E) → IsTrue end.output_after.failed
+    → AppendsBeginning end.output.holds end.output_after.holds end.output.waits → HasTold end (log_fault_text program name lines faults.Write)
+    → HandsOn program name lines fault end
+handed_some program name lines fault end failed h told =
     inr ((failed, subst (AppendsBeginning end.output.holds end.output_after.holds) (sym (append-nil end.output.waits)) h), told)
 
 -- ---- what was put and then written

@@ -46,9 +46,9 @@ tells_line old mid new line done all x e p q =
     (tells_more old mid new (flat_map line done) (line x) p q)
 
 -- how many more lines were refused, if any were
-pub more_told : (more : ℕ) → 0 < more → decimal more ++ codes " more refused lines\n" ≡ more_text more
-more_told more l =
-    let text = decimal more ++ codes " more refused lines\n" in
+pub more_told : (program : List ℕ) (more : ℕ) → 0 < more → program ++ codes ": " ++ decimal more ++ codes " more refused lines\n" ≡ more_text program more
+more_told program more l =
+    let text = program ++ codes ": " ++ decimal more ++ codes " more refused lines\n" in
     let e : nat_lt 0 more ≡ true = grind (arith, nat_tests) in
     subst (λ (b : Bool). text ≡ (if b then text else [])) (sym e) refl
 

@@ -17,20 +17,20 @@ abbrev pub ended_by_write : {T : Type 0} → Result T LogFault → Bool
 ended_by_write (Err faults.Write) = true
 ended_by_write _ = false
 
--- what is reported about a refused line that comes after `before` others: the name of the file, the number of the line,
--- of at most 64 bits, and the cause
-abbrev pub line_text : List ℕ → ℕ → List ℕ → List ℕ
-line_text name before cause = name ++ codes ":" ++ decimal (min (before + 1) (2 ^ 64 - 1)) ++ codes ": refused "
-    ++ cause ++ codes "\n"
+-- what is reported about a refused line that comes after `before` others: the program, the name of the file, the number
+-- of the line, of at most 64 bits, and the cause
+abbrev pub line_text : List ℕ → List ℕ → ℕ → List ℕ → List ℕ
+line_text program name before cause = program ++ codes ": " ++ name ++ codes ":"
+    ++ decimal (min (before + 1) (2 ^ 64 - 1)) ++ codes ": refused " ++ cause ++ codes "\n"
 
 -- what is reported about a log that was not read to its end, after `before` of its lines
-abbrev pub log_fault_text : List ℕ → ℕ → LogFault → List ℕ
-log_fault_text name before (faults.Open cause) = name ++ open_fault_text cause
-log_fault_text name before faults.Read = name ++ codes ": cannot read\n"
-log_fault_text name before faults.Write = codes "write error\n"
-log_fault_text name before faults.Address = line_text name before (codes "address")
-log_fault_text name before faults.Length = line_text name before (codes "length")
-log_fault_text name before faults.Endless = name ++ codes ": too long\n"
+abbrev pub log_fault_text : List ℕ → List ℕ → ℕ → LogFault → List ℕ
+log_fault_text program name before (faults.Open cause) = program ++ codes ": " ++ name ++ open_fault_text cause
+log_fault_text program name before faults.Read = program ++ codes ": " ++ name ++ codes ": cannot read\n"
+log_fault_text program name before faults.Write = program ++ codes ": write error\n"
+log_fault_text program name before faults.Address = line_text program name before (codes "address")
+log_fault_text program name before faults.Length = line_text program name before (codes "length")
+log_fault_text program name before faults.Endless = program ++ codes ": " ++ name ++ codes ": too long\n"
 
 -- the writer has failed, and took a beginning of what waited and of the text
 abbrev pub FailsWriting : {W E : Type 0} → Ending W E → List ℕ → Type 0
@@ -48,13 +48,13 @@ abbrev pub Wrote : {W E : Type 0} → LogFault → Ending W E → List ℕ → T
 Wrote fault end text = IfWrite fault (FailsWriting end text) (HasWritten end text)
 
 -- what waited was written and the fault reported; or the writer failed, and a write error was reported
-abbrev pub HandsOn : {W E : Type 0} → List ℕ → ℕ → LogFault → Ending W E → Type 0
-HandsOn name lines fault end = (HasWritten end [] × HasTold end (log_fault_text name lines fault))
-    ⊎ (FailsWriting end [] × HasTold end (log_fault_text name lines faults.Write))
+abbrev pub HandsOn : {W E : Type 0} → List ℕ → List ℕ → ℕ → LogFault → Ending W E → Type 0
+HandsOn program name lines fault end = (HasWritten end [] × HasTold end (log_fault_text program name lines fault))
+    ⊎ (FailsWriting end [] × HasTold end (log_fault_text program name lines faults.Write))
 
 -- if the fault is a failed write, nothing more was written and a write error was reported; otherwise what waited was
 -- written and the fault reported, or the writer failed and a write error was reported
-abbrev pub StopsBy : {W E : Type 0} → List ℕ → ℕ → LogFault → Ending W E → Type 0
-StopsBy name lines fault end =
-    IfWrite fault ((end.output_after ≡ end.output) × HasTold end (log_fault_text name lines faults.Write))
-    (HandsOn name lines fault end)
+abbrev pub StopsBy : {W E : Type 0} → List ℕ → List ℕ → ℕ → LogFault → Ending W E → Type 0
+StopsBy program name lines fault end =
+    IfWrite fault ((end.output_after ≡ end.output) × HasTold end (log_fault_text program name lines faults.Write))
+    (HandsOn program name lines fault end)

@@ -22,4 +22,4 @@ abbrev pub arguments_text : ArgumentsFault → List ℕ → List ℕ → List �
 -- the message that an argument is not UTF-8, and the usage
 arguments_text arguments.NotText program usage = program ++ codes ": an argument is not UTF-8\n" ++ usage
 -- the message that memory ran out
-arguments_text arguments.OutOfMemory program usage = codes "out of memory\n"
+arguments_text arguments.OutOfMemory program usage = program ++ codes ": out of memory\n"

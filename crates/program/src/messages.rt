@@ -1,5 +1,5 @@
 //! Messages on the error writer. If the write of one fails, nothing else changes.
-ghost use Rattle.std.specs.Prelude.{◌≡◌, decimal};
+ghost use Rattle.std.specs.Prelude.{◌≡◌, ◌++◌, codes, decimal};
 ghost use Rattle.program.specs.Messages.{Reports};
 
 use arrayvec::ArrayString;
@@ -34,6 +34,38 @@ pub fn tell_bytes<E: Write>(bytes: &[u8], errors: &mut Output<'_, E>)
     ensures { Reports errors.old errors.new bytes.now }
 {
     let _ = errors.put(bytes);
+}
+
+/// Writes a name, followed by a text, to the error writer.
+///
+/// ```
+/// let mut slice = [0; 64];
+/// let mut errors = lines::output::Output::new(Vec::new(rt.alloc()), &mut slice);
+/// program::messages::tell_of("sum", ": out of memory\n", &mut errors);
+/// assert_eq!(rt; errors.finish(), Ok(()));
+/// ```
+pub fn tell_of<E: Write>(name: &str, text: &str, errors: &mut Output<'_, E>)
+    ensures { Reports errors.old errors.new (name.now ++ text.now) }
+{
+    tell(name, errors);
+    tell(text, errors);
+}
+
+/// Writes the beginning of a message to the error writer: the program's name, `: ` and the name of
+/// what the message is about.
+///
+/// ```
+/// let mut slice = [0; 64];
+/// let mut errors = lines::output::Output::new(Vec::new(rt.alloc()), &mut slice);
+/// program::messages::tell_head("sum", "log", &mut errors);
+/// assert_eq!(rt; errors.finish(), Ok(()));
+/// ```
+pub fn tell_head<E: Write>(program: &str, name: &str, errors: &mut Output<'_, E>)
+    ensures { Reports errors.old errors.new (program.now ++ codes ": " ++ name.now) }
+{
+    tell(program, errors);
+    tell(": ", errors);
+    tell(name, errors);
 }
 
 /// Writes a number in decimal to the error writer.

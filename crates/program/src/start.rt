@@ -4,6 +4,7 @@ ghost use Rattle.program.specs.Runs.{text_asked};
 ghost use Rattle.program.specs.Words.{begins_with, without_first};
 
 use crate::arguments::{ArgumentsFault, arguments};
+use crate::ending::tell_unwritten;
 use crate::progress::Progress;
 use crate::standard_error::StandardError;
 use crate::standard_output::StandardOutput;
@@ -12,6 +13,7 @@ use crate::usage::refuse_arguments;
 use crate::words::{is, is_only};
 use lines::output::Output;
 use std::cell::Cell;
+use std::io::ErrorKind;
 use std::process::ExitCode;
 
 /// The most bytes that wait to be written to standard output.
@@ -28,7 +30,8 @@ const CLOSED: u8 = 141;
 ///
 /// If the arguments cannot be read, that is reported instead. If a write to standard output failed
 /// because nobody reads its pipe any more, reports that still wait are dropped, and the exit status
-/// is 141, which a shell shows for a program that such a write ended.
+/// is 141, which a shell shows for a program that such a write ended. If a write failed for any other
+/// cause, that cause is reported at the end.
 ///
 /// ```
 /// let usage = "usage: sum FILE\n";
@@ -47,8 +50,8 @@ where
     let words = arguments(rt);
     let progress = Progress::new(rt, is_quiet(&words));
     let mut waiting = [0u8; WAITING_MAX];
-    let is_closed = Cell::new(false);
-    let standard_output = StandardOutput::new(rt.stdout(), &progress, &is_closed);
+    let failure = Cell::new(None);
+    let standard_output = StandardOutput::new(rt.stdout(), &progress, &failure);
     let mut output = Output::new(standard_output, &mut waiting);
     let mut told = [0u8; TOLD_MAX];
     let mut errors = Output::new(StandardError::new(rt.stderr(), &progress), &mut told);
@@ -61,8 +64,10 @@ where
         Err(fault) => refuse_arguments(fault, program, usage, &mut errors),
     };
     progress.clear();
-    if is_closed.get() {
-        return ExitCode::from(CLOSED);
+    match failure.get() {
+        Some(ErrorKind::BrokenPipe) => return ExitCode::from(CLOSED),
+        Some(kind) => tell_unwritten(program, kind, &mut errors),
+        None => {}
     }
     let _ = errors.finish();
     ExitCode::from(status)

@@ -1,9 +1,9 @@
 //! Reports about lists on the error writer. If the write of one fails, nothing else changes.
-ghost use Rattle.std.specs.Prelude.{◌≡◌, ℕ};
+ghost use Rattle.std.specs.Prelude.{◌≡◌, ◌++◌, ℕ, codes};
 ghost use Rattle.program.specs.Messages.{Reports};
 ghost use Rattle.program.specs.Reported.{name_at, refusal_line, refusals_text, more_text, fault_text};
 
-use crate::messages::{tell, tell_number};
+use crate::messages::{tell, tell_head, tell_number, tell_of};
 use crate::words::text_at;
 use lines::output::Output;
 use lists::{ReadFault, Refusal, Refusals};
@@ -51,8 +51,8 @@ impl Places for InLists {
     }
 }
 
-/// Reports the refused lines: those that were kept, which are the first hundred, and how many more
-/// there were.
+/// Reports in the name of a program the refused lines: those that were kept, which are the first
+/// hundred, and how many more there were.
 ///
 /// ```
 /// use lists::Refusals;
@@ -60,37 +60,39 @@ impl Places for InLists {
 ///
 /// let mut slice = [0; 64];
 /// let mut errors = lines::output::Output::new(Vec::new(rt.alloc()), &mut slice);
-/// tell_refusals(&[], &InLists, &Refusals::new(), &mut errors);
+/// tell_refusals("sum", &[], &InLists, &Refusals::new(), &mut errors);
 /// assert_eq!(rt; errors.finish(), Ok(()));
 /// ```
 pub fn tell_refusals<P: Places, E: Write>(
+    program: &str,
     words: &[String],
     places: &P,
     refusals: &Refusals,
     errors: &mut Output<'_, E>,
 )
     ensures { Reports errors.old errors.new
-        (refusals_text words.now (P.told_at places.now) refusals.now) }
+        (refusals_text program.now words.now (P.told_at places.now) refusals.now) }
 {
     let kept = refusals.kept();
     for refusal in kept {
-        tell_refusal(words, places, *refusal, errors);
+        tell_refusal(program, words, places, *refusal, errors);
     }
-    tell_more(refusals.more(), errors);
+    tell_more(program, refusals.more(), errors);
 }
 
 // Reports a refused line.
 fn tell_refusal<P: Places, E: Write>(
+    program: &str,
     words: &[String],
     places: &P,
     refusal: Refusal,
     errors: &mut Output<'_, E>,
 )
     ensures { Reports errors.old errors.new
-        (refusal_line words.now (P.told_at places.now) refusal) }
+        (refusal_line program.now words.now (P.told_at places.now) refusal) }
 {
     let (word, number) = places.place(refusal);
-    tell_name(words, word, errors);
+    tell_list(program, words, word, errors);
     tell(":", errors);
     tell_number(number, errors);
     tell(": refused ", errors);
@@ -98,67 +100,67 @@ fn tell_refusal<P: Places, E: Write>(
     tell("\n", errors);
 }
 
-/// Writes the word at this index to the error writer, or nothing if there is no such word.
-///
-/// ```
-/// let mut slice = [0; 64];
-/// let mut errors = lines::output::Output::new(Vec::new(rt.alloc()), &mut slice);
-/// program::telling::tell_name(&[], 0, &mut errors);
-/// assert_eq!(rt; errors.finish(), Ok(()));
-/// ```
-pub fn tell_name<E: Write>(words: &[String], place: usize, errors: &mut Output<'_, E>)
-    ensures { Reports errors.old errors.new (name_at words.now place) }
+// Writes the beginning of a message about the list that the word at this index names.
+fn tell_list<E: Write>(program: &str, words: &[String], place: usize, errors: &mut Output<'_, E>)
+    ensures { Reports errors.old errors.new
+        (program.now ++ codes ": " ++ name_at words.now place) }
 {
-    tell(text_at(words, place), errors);
+    tell_head(program, text_at(words, place), errors);
 }
 
-/// Reports how many more lines were refused, if there are any.
+/// Reports in the name of a program how many more lines were refused, if there are any.
 ///
 /// ```
 /// let mut slice = [0; 64];
 /// let mut errors = lines::output::Output::new(Vec::new(rt.alloc()), &mut slice);
-/// program::telling::tell_more(3, &mut errors);
+/// program::telling::tell_more("sum", 3, &mut errors);
 /// assert_eq!(rt; errors.finish(), Ok(()));
 /// ```
-pub fn tell_more<E: Write>(more: u64, errors: &mut Output<'_, E>)
-    ensures { Reports errors.old errors.new (more_text more) }
+pub fn tell_more<E: Write>(program: &str, more: u64, errors: &mut Output<'_, E>)
+    ensures { Reports errors.old errors.new (more_text program.now more) }
 {
     if more > 0 {
+        tell_of(program, ": ", errors);
         tell_number(more, errors);
         tell(" more refused lines\n", errors);
     }
 }
 
-/// Reports why lists were not read to the end.
+/// Reports in the name of a program why lists were not read to the end.
 ///
 /// ```
 /// let mut slice = [0; 64];
 /// let mut errors = lines::output::Output::new(Vec::new(rt.alloc()), &mut slice);
-/// program::telling::tell_fault(&[], lists::ReadFault::OutOfMemory, &mut errors);
+/// program::telling::tell_fault("sum", &[], lists::ReadFault::OutOfMemory, &mut errors);
 /// assert_eq!(rt; errors.finish(), Ok(()));
 /// ```
-pub fn tell_fault<E: Write>(words: &[String], fault: ReadFault, errors: &mut Output<'_, E>)
-    ensures { Reports errors.old errors.new (fault_text words.now fault) }
+pub fn tell_fault<E: Write>(
+    program: &str,
+    words: &[String],
+    fault: ReadFault,
+    errors: &mut Output<'_, E>,
+)
+    ensures { Reports errors.old errors.new (fault_text program.now words.now fault) }
 {
     match fault {
         ReadFault::Open(place, cause) => {
-            tell_name(words, place, errors);
+            tell_list(program, words, place, errors);
             tell(cause.text(), errors);
         }
         ReadFault::Read(place) => {
-            tell_name(words, place, errors);
+            tell_list(program, words, place, errors);
             tell(": cannot read\n", errors);
         }
         ReadFault::Length(place) => {
-            tell_name(words, place, errors);
+            tell_list(program, words, place, errors);
             tell(": more than 1,073,741,824 bytes\n", errors);
         }
         ReadFault::NotJson(place, line) => {
-            tell_name(words, place, errors);
+            tell_list(program, words, place, errors);
             tell(":", errors);
             tell_number(line, errors);
             tell(": not JSON, or more than 127 levels\n", errors);
         }
-        ReadFault::OutOfMemory => tell("out of memory\n", errors),
+        ReadFault::OutOfMemory => tell_of(program, ": out of memory\n", errors),
     }
 }

@@ -6,7 +6,7 @@ ghost use Rattle.program.specs.Usage.{shown, arguments_text};
 use crate::arguments::ArgumentsFault;
 use crate::ending::FAILED;
 use crate::escapes::tell_escaped;
-use crate::messages::tell;
+use crate::messages::{tell, tell_of};
 use lines::output::Output;
 use std::io::Write;
 
@@ -55,13 +55,12 @@ pub fn refuse_arguments<E: Write>(
 {
     match fault {
         ArgumentsFault::NotText => {
-            tell(program, errors);
-            tell(": an argument is not UTF-8\n", errors);
+            tell_of(program, ": an argument is not UTF-8\n", errors);
             tell(usage, errors);
             FAILED
         }
         ArgumentsFault::OutOfMemory => {
-            tell("out of memory\n", errors);
+            tell_of(program, ": out of memory\n", errors);
             FAILED
         }
     }

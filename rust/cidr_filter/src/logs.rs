@@ -16,7 +16,7 @@ use cidr_programs::log_programs::telling::{is_missed, tell_closed, tell_lacking,
 use cidr_programs::program::ending::{FAILED, end};
 use cidr_programs::program::log_fault::stop;
 use cidr_programs::program::log_reader::LogReader;
-use cidr_programs::program::messages::tell;
+use cidr_programs::program::messages::tell_of;
 use fosibegan::plain_std::io::Write;
 use std::mem::replace;
 
@@ -41,7 +41,8 @@ pub(crate) fn filter_logs<'a, L: OpenLists, W: Write, E: Write>(
         Some(missed) => {
             let written = output.finish();
             let is_enough = is_enough(is_silent, selected);
-            end(written, status(is_enough, missed, selected), errors)
+            let status = status(is_enough, missed, selected);
+            end(PROGRAM, written, status, errors)
         }
         None => FAILED,
     }
@@ -141,7 +142,7 @@ fn filter_one<'a, L: OpenLists, W: Write, E: Write>(
             write_count(counts, label, tally.selected, is_missed, output, errors)
         }
         Err(fault) => {
-            stop(name, fault, seen.lines, output, errors);
+            stop(PROGRAM, name, fault, seen.lines, output, errors);
             None
         }
     }
@@ -160,7 +161,7 @@ fn write_count<W: Write, E: Write>(
     match put_count(counts, label, selected, output) {
         Ok(()) => Some(is_missed),
         Err(_) => {
-            tell("write error\n", errors);
+            tell_of(PROGRAM, ": write error\n", errors);
             None
         }
     }

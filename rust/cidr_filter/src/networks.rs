@@ -2,8 +2,9 @@
 
 //! Whether the lists cover a network.
 
-use fosibegan::ipnetwork::{IpAddr, IpNetwork};
+use fosibegan::ipnetwork::IpNetwork;
 use fosibegan::ipnetwork_sets::IpAddressSet;
+use cidr_programs::log_programs::unmapping::asked_network;
 
 /// Returns whether the text names a network whose addresses are all in the set. If `mapped`, a
 /// network whose addresses are all IPv4-mapped counts as the network of their IPv4 addresses.
@@ -20,27 +21,4 @@ fn covers_network(set: &IpAddressSet, network: IpNetwork) -> bool {
     let _ = set.iter();
     let _ = network.ip();
     set.covers(network)
-}
-
-// Returns the network that is looked up in the set.
-fn asked_network(mapped: bool, network: IpNetwork) -> IpNetwork {
-    if mapped {
-        unmapped_network(network)
-    } else {
-        network
-    }
-}
-
-// Returns the IPv4 network of a network whose addresses are all IPv4-mapped, or any other as is.
-fn unmapped_network(network: IpNetwork) -> IpNetwork {
-    let prefix = network.prefix();
-    if prefix < 96 {
-        return network;
-    }
-    match network.ip().to_canonical() {
-        IpAddr::V4(address) => {
-            IpNetwork::new(IpAddr::V4(address), prefix - 96).unwrap_or(network)
-        }
-        IpAddr::V6(_) => network,
-    }
 }

@@ -7,7 +7,8 @@ use crate::said::Said;
 use fosibegan::ipnetwork::{CidrFault, cause};
 use cidr_programs::lines::output::Output;
 use cidr_programs::lists::{BytesFault, encoding_of};
-use cidr_programs::program::messages::{tell, tell_number};
+use cidr_programs::program::log_fault::tell_fault_of;
+use cidr_programs::program::messages::{tell, tell_number, tell_of};
 use cidr_programs::program::usage::tell_shown;
 use fosibegan::plain_std::io::Write;
 
@@ -28,8 +29,7 @@ fn tell_if_refused<E: Write>(said: &Said<'_>, errors: &mut Output<'_, E>) {
 
 // Reports a text that names no network.
 fn tell_refusal<E: Write>(said: &Said<'_>, errors: &mut Output<'_, E>) {
-    tell(PROGRAM, errors);
-    tell(": ", errors);
+    tell_of(PROGRAM, ": ", errors);
     tell_place(said, errors);
     tell(": refused ", errors);
     tell(cause_word(said.text()), errors);
@@ -72,9 +72,11 @@ fn plain_word(text: &[u8]) -> &'static str {
 /// Reports why standard input was not read.
 pub(crate) fn tell_input_fault<E: Write>(fault: BytesFault, errors: &mut Output<'_, E>) {
     match fault {
-        BytesFault::Open(_) => tell("cidr_info: -: cannot open\n", errors),
-        BytesFault::Read => tell("cidr_info: -: cannot read\n", errors),
-        BytesFault::Length => tell("cidr_info: -: too long\n", errors),
-        BytesFault::OutOfMemory => tell("out of memory\n", errors),
+        BytesFault::Open(cause) => tell_fault_of(PROGRAM, "-", cause.text(), errors),
+        BytesFault::Read => tell_fault_of(PROGRAM, "-", ": cannot read\n", errors),
+        BytesFault::Length => {
+            tell_fault_of(PROGRAM, "-", ": more than 1,073,741,824 bytes\n", errors);
+        }
+        BytesFault::OutOfMemory => tell_of(PROGRAM, ": out of memory\n", errors),
     }
 }

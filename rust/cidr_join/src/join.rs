@@ -3,10 +3,11 @@
 //! What is printed for a line.
 
 use crate::answers::Answers;
-use crate::asked::{asked_network, network_of};
+use crate::asked::network_of;
 use crate::found::Found;
 use fosibegan::ipnetwork::IpNetwork;
 use cidr_programs::line_addresses::{Area, part_of, picked};
+use cidr_programs::log_programs::unmapping::asked_network;
 use cidr_programs::log_programs::without_address::WithoutAddress;
 
 /// What decides what is printed for a line.

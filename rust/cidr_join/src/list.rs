@@ -2,6 +2,7 @@
 
 //! Takes the networks of lists with their values.
 
+use crate::help::PROGRAM;
 use crate::line::{Cause, read_route};
 use crate::routes::{Networks, RouteFault, set_one, set_range};
 use crate::value::Value;
@@ -10,7 +11,6 @@ use fosibegan::ipnetwork::{IpAddr, IpNetwork};
 use cidr_programs::lines::output::Output;
 use cidr_programs::lists::Entry;
 use cidr_programs::program::log_fault::tell_line;
-use cidr_programs::program::telling::tell_more;
 use fosibegan::plain_std::alloc::Global;
 use fosibegan::plain_std::io::Write;
 
@@ -36,15 +36,15 @@ pub struct TakeFault {
 
 /// How many of the refused lines that are left out are reported; of the others only their number
 /// is.
-const TOLD_MAX: usize = 100;
+const TOLD_MAX: u64 = 100;
 
 /// What was taken of the lines of lists.
 pub struct Listing<'a> {
     pub(crate) networks: Networks<'a>,
     // The number of lines of the last list.
     pub(crate) lines: usize,
-    // How many of them were refused and left out.
-    pub(crate) skipped: usize,
+    // How many lines of all lists were refused and left out.
+    pub(crate) skipped: u64,
 }
 
 impl<'a> Listing<'a> {
@@ -55,6 +55,11 @@ impl<'a> Listing<'a> {
             lines: 0,
             skipped: 0,
         }
+    }
+
+    /// Returns how many of the refused lines that were left out are not reported.
+    pub(crate) fn more(&self) -> u64 {
+        self.skipped.saturating_sub(TOLD_MAX)
     }
 
     /// Returns the networks of the lists, with their values.
@@ -72,20 +77,6 @@ pub(crate) fn take_list<'a, E: Write>(
     errors: &mut Output<'_, E>,
 ) -> Result<(), TakeFault> {
     listing.lines = 0;
-    listing.skipped = 0;
-    let end = take_lines(listing, name, text, rules, errors);
-    tell_more(listing.skipped.saturating_sub(TOLD_MAX) as u64, errors);
-    end
-}
-
-// Takes the lines of the list with this name.
-fn take_lines<'a, E: Write>(
-    listing: &mut Listing<'a>,
-    name: &str,
-    text: &'a [u8],
-    rules: ListRules,
-    errors: &mut Output<'_, E>,
-) -> Result<(), TakeFault> {
     let mut at = 0;
     'lines: while let Some(end) = find_from(text, at, b'\n') {
         if let Err(fault) = take_next(listing, name, &text[at..end], rules, errors) {
@@ -129,15 +120,15 @@ fn left_out(rules: ListRules, fault: RouteFault) -> Option<Cause> {
 // Counts a line that is left out, and reports it if it is one of the first; `lines` come before
 // it.
 fn skip<E: Write>(
-    skipped: &mut usize,
+    skipped: &mut u64,
     name: &str,
     lines: usize,
     cause: Cause,
     errors: &mut Output<'_, E>,
 ) {
-    *skipped += 1;
+    *skipped = skipped.saturating_add(1);
     if *skipped <= TOLD_MAX {
-        tell_line(name, lines as u64, cause.text(), errors);
+        tell_line(PROGRAM, name, lines as u64, cause.text(), errors);
     }
 }
 

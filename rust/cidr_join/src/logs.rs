@@ -64,7 +64,7 @@ fn join_one<L: OpenLists, W: Write, E: Write>(
             Some(is_missed(join.bad, &seen))
         }
         Err(fault) => {
-            stop(name, fault, seen.lines, output, errors);
+            stop(PROGRAM, name, fault, seen.lines, output, errors);
             None
         }
     }

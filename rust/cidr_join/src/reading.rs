@@ -3,6 +3,7 @@
 //! Reads the lists of a run, and takes their lines.
 
 use fosibegan::plain_std::vec::Vec;
+use crate::help::PROGRAM;
 use crate::list::{ListRules, Listing, take_list};
 use crate::routes::Networks;
 use crate::telling::{tell_bytes_fault, tell_take_fault};
@@ -11,7 +12,8 @@ use cidr_programs::lines::output::Output;
 use cidr_programs::lists::{OpenLists, read_bytes};
 use cidr_programs::log_programs::rows::LIST;
 use cidr_programs::options::items::{Item, Text};
-use cidr_programs::program::messages::tell;
+use cidr_programs::program::messages::tell_of;
+use cidr_programs::program::telling::tell_more;
 use fosibegan::plain_std::alloc::Global;
 use fosibegan::plain_std::io::Write;
 
@@ -67,7 +69,7 @@ fn read_item<'a, L: OpenLists, E: Write>(
         ) {
             Ok(()) => Some(()),
             Err(_) => {
-                tell("out of memory\n", errors);
+                tell_of(PROGRAM, ": out of memory\n", errors);
                 None
             }
         },
@@ -91,8 +93,8 @@ fn list_by(row: usize, name: &str) -> Option<&str> {
     if row == LIST { Some(name) } else { None }
 }
 
-/// Takes the lines of the lists in turn, by these rules, and returns their networks and values. If a
-/// line has a fault that ends this, the fault is reported, and `None` is returned.
+/// Takes the lines of the lists in turn, by these rules, and returns their networks and values. The
+/// lines that are left out are reported, and then a fault that ends this; `None` is then returned.
 pub(crate) fn take_lists<'a, E: Write>(
     alloc: Global,
     lists: &'a [ReadList<'_>],
@@ -105,10 +107,12 @@ pub(crate) fn take_lists<'a, E: Write>(
         let list = &lists[at];
         let name = list.name.as_str();
         if let Err(fault) = take_list(&mut listing, name, list.text.as_slice(), rules, errors) {
+            tell_more(PROGRAM, listing.more(), errors);
             tell_take_fault(name, fault, errors);
             return None;
         }
         at += 1;
     }
+    tell_more(PROGRAM, listing.more(), errors);
     Some(listing.into_networks())
 }

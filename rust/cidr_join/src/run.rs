@@ -66,7 +66,7 @@ fn join<L: OpenLists, W: Write, E: Write>(
     }
     match inputs_of(alloc, items) {
         Ok(files) => join_files(alloc, items, files.as_slice(), lists, output, errors),
-        Err(_) => refuse_memory(errors),
+        Err(_) => refuse_memory(PROGRAM, errors),
     }
 }
 
@@ -116,7 +116,7 @@ fn join_to<L: OpenLists, W: Write, E: Write>(
         return FAILED;
     };
     let Ok(routes) = Routes::of(alloc, networks) else {
-        return refuse_memory(errors);
+        return refuse_memory(PROGRAM, errors);
     };
     let network = is_given(items, NETWORK);
     let answers = answers_by(network, routes);
@@ -152,7 +152,7 @@ fn join_by<'a, L: OpenLists, W: Write, E: Write>(
     errors: &mut Output<'_, E>,
 ) -> u8 {
     let Ok(mut buffer) = vec![in alloc; 0u8; BUFFER_LEN] else {
-        return refuse_memory(errors);
+        return refuse_memory(PROGRAM, errors);
     };
     let join = join_of(items, answers);
     let buffer = buffer.as_mut_slice();
@@ -163,7 +163,7 @@ fn join_by<'a, L: OpenLists, W: Write, E: Write>(
         return FAILED;
     };
     let written = output.finish();
-    end(written, status(missed), errors)
+    end(PROGRAM, written, status(missed), errors)
 }
 
 // Returns what decides what is printed for a line.

@@ -20,7 +20,7 @@ use cidr_programs::log_programs::without_address::WithoutAddress;
 use cidr_programs::program::ending::{FAILED, end};
 use cidr_programs::program::log_fault::tell_log_fault;
 use cidr_programs::program::memory::refuse_memory;
-use cidr_programs::program::messages::{number_text, tell};
+use cidr_programs::program::messages::{number_text, tell_of};
 use cidr_programs::program::putting::put_both;
 use fosibegan::plain_std::alloc::Global;
 use fosibegan::plain_std::io::Write;
@@ -37,11 +37,11 @@ pub(crate) fn tally_logs<L: OpenLists, W: Write, E: Write>(
     errors: &mut Output<'_, E>,
 ) -> u8 {
     let Ok(numbered) = ValueIds::of(alloc, &join.answers) else {
-        return refuse_memory(errors);
+        return refuse_memory(PROGRAM, errors);
     };
     let founds = numbered.founds();
     let Ok(mut counts) = Counts::new(alloc, founds.len()) else {
-        return refuse_memory(errors);
+        return refuse_memory(PROGRAM, errors);
     };
     let Some(missed) = tally_each(
         alloc,
@@ -56,10 +56,10 @@ pub(crate) fn tally_logs<L: OpenLists, W: Write, E: Write>(
         return FAILED;
     };
     let Ok(rows) = counts.into_rows(alloc, founds, join.zeros) else {
-        return refuse_memory(errors);
+        return refuse_memory(PROGRAM, errors);
     };
     let written = write_rows(rows.as_slice(), output);
-    end(written, status(missed), errors)
+    end(PROGRAM, written, status(missed), errors)
 }
 
 // Counts the lines of the logs with these names, and returns whether one could not be opened or a
@@ -133,9 +133,9 @@ fn tell_stop<E: Write>(
     match fault {
         TallyFault::Log(fault) => {
             tell_seen(PROGRAM, name, bad, seen, errors);
-            tell_log_fault(name, fault, seen.lines, errors);
+            tell_log_fault(PROGRAM, name, fault, seen.lines, errors);
         }
-        TallyFault::OutOfMemory => tell("out of memory\n", errors),
+        TallyFault::OutOfMemory => tell_of(PROGRAM, ": out of memory\n", errors),
     }
 }
 

@@ -10,17 +10,19 @@ use cidr_programs::lines::output::Output;
 use cidr_programs::lists::BytesFault;
 use cidr_programs::log_programs::log_stats::LogStats;
 use cidr_programs::log_programs::telling::tell_lacking;
-use cidr_programs::program::log_fault::{tell_line, tell_of};
-use cidr_programs::program::messages::tell;
+use cidr_programs::program::log_fault::{tell_fault_of, tell_line};
+use cidr_programs::program::messages::tell_of;
 use fosibegan::plain_std::io::Write;
 
 /// Reports why the list with this name was not read.
 pub(crate) fn tell_bytes_fault<E: Write>(name: &str, fault: BytesFault, errors: &mut Output<'_, E>) {
     match fault {
-        BytesFault::Open(cause) => tell_of(name, cause.text(), errors),
-        BytesFault::Read => tell_of(name, ": cannot read\n", errors),
-        BytesFault::Length => tell_of(name, ": too long\n", errors),
-        BytesFault::OutOfMemory => tell("out of memory\n", errors),
+        BytesFault::Open(cause) => tell_fault_of(PROGRAM, name, cause.text(), errors),
+        BytesFault::Read => tell_fault_of(PROGRAM, name, ": cannot read\n", errors),
+        BytesFault::Length => {
+            tell_fault_of(PROGRAM, name, ": more than 1,073,741,824 bytes\n", errors)
+        }
+        BytesFault::OutOfMemory => tell_of(PROGRAM, ": out of memory\n", errors),
     }
 }
 
@@ -39,7 +41,9 @@ pub(crate) fn tell_unaddressed<E: Write>(
 /// Reports why the list with this name was not taken to its end.
 pub(crate) fn tell_take_fault<E: Write>(name: &str, fault: TakeFault, errors: &mut Output<'_, E>) {
     match fault.fault {
-        RouteFault::OutOfMemory => tell("out of memory\n", errors),
-        RouteFault::Refused(cause) => tell_line(name, fault.lines as u64, cause.text(), errors),
+        RouteFault::OutOfMemory => tell_of(PROGRAM, ": out of memory\n", errors),
+        RouteFault::Refused(cause) => {
+            tell_line(PROGRAM, name, fault.lines as u64, cause.text(), errors)
+        }
     }
 }

@@ -6,8 +6,8 @@ use fosibegan::plain_std::vec::Vec;
 use fosibegan::plain_std::string::String;
 use crate::exports::Export;
 use crate::faults::{fault_of, from_count, no_task_fault};
-use crate::named_lists::lists_of;
-use crate::rows::{COUNT, FORMAT, FROM, JSON, PREFIX, RANGES, SKIP_BAD, STRICT, table};
+use crate::named_lists::{add_file, lists_of};
+use crate::rows::{COUNT, FORMAT, FROM, JSON, MOST, PREFIX, RANGES, SKIP_BAD, STRICT, table};
 use crate::set_names::{SetNames, names_of};
 use crate::shapes::Shape;
 use crate::tasks::{Task, task_called};
@@ -17,7 +17,7 @@ use cidr_programs::options::given::{is_given, value_of};
 use cidr_programs::options::items::Item;
 use cidr_programs::options::reading::items_of;
 use cidr_programs::options::table::Table;
-use cidr_programs::options::values::length_in;
+use cidr_programs::options::values::{length_in, number_in};
 use cidr_programs::program::words::count_of;
 use fosibegan::plain_std::alloc::{AllocError, Global};
 
@@ -73,6 +73,15 @@ pub struct SplitRequest {
     pub shape: Shape,
 }
 
+/// How lists are reduced.
+#[derive(Clone, Copy, Debug, PartialEq, Eq)]
+pub struct ReduceRequest {
+    /// The greatest number of networks that are printed.
+    pub most: usize,
+    /// The union of which they have all addresses, and how it is printed.
+    pub merge: Request,
+}
+
 /// How lists are looked over.
 #[derive(Clone, Copy, Debug, PartialEq, Eq)]
 pub enum Inspection {
@@ -91,6 +100,8 @@ pub enum Command {
     Merge(Request),
     /// Lists are split.
     Split(SplitRequest),
+    /// Lists are reduced.
+    Reduce(ReduceRequest),
     /// Lists are looked over.
     Inspect(Inspection),
     /// The lists after so many addresses, and so many lists of addresses, are searched for these.
@@ -158,7 +169,7 @@ fn add_from(
     names: &mut Vec<String>,
 ) -> Result<(), AllocError> {
     if from_count(task, items) > 0 {
-        names.push(String::from_str(alloc, value_of(items, FROM))?)?;
+        add_file(alloc, value_of(items, FROM), names)?;
     }
     Ok(())
 }
@@ -177,6 +188,10 @@ fn asked_for(task: Task, items: &[Item<'_>], middle: usize) -> Command {
             length: length_of(items),
             skips_bad: is_given(items, SKIP_BAD),
             shape: shape_of(items),
+        }),
+        Task::Reduce => Command::Reduce(ReduceRequest {
+            most: most_of(items),
+            merge: request_of(Operation::Union, Form::Blocks, items, middle),
         }),
         Task::Check => Command::Inspect(inspection_of(is_given(items, STRICT))),
         Task::Overlaps => Command::Inspect(Inspection::Overlaps),
@@ -238,6 +253,19 @@ fn length_of(items: &[Item<'_>]) -> u8 {
 /// The prefix length that a text names, which may begin with a `+`.
 pub(crate) fn prefix_in(text: &str) -> Option<u8> {
     length_in(without_plus(text.as_bytes()), 128)
+}
+
+// The greatest number of networks that are printed.
+fn most_of(items: &[Item<'_>]) -> usize {
+    most_in(value_of(items, MOST)).unwrap_or(1) as usize
+}
+
+/// The number from 1 that a text is.
+pub(crate) fn most_in(text: &str) -> Option<u64> {
+    match number_in(text) {
+        Some(0) => None,
+        number => number,
+    }
 }
 
 // A text without the `+` at its start, if it has one.

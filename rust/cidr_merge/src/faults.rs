@@ -3,9 +3,9 @@
 //! What is wrong with the words of a command line.
 
 use fosibegan::plain_std::string::String;
-use crate::command_line::{Form, Operation, form_called, form_of, prefix_in};
+use crate::command_line::{Form, Operation, form_called, form_of, most_in, prefix_in};
 use crate::exports::Export;
-use crate::rows::{AFTER, BEFORE, FORMAT, FROM, JSON, PREFIX, SET, STRICT, TABLE, taken};
+use crate::rows::{AFTER, BEFORE, FORMAT, FROM, JSON, MOST, PREFIX, SET, STRICT, TABLE, TEXT, taken};
 use crate::set_names::is_set_name;
 use crate::tasks::{ONE_SIDE, Task, is_two_sided, no_first, no_option};
 use cidr_programs::options::faults::{Fault, Subject, about, pair_fault, problem_at};
@@ -59,7 +59,9 @@ fn is_value(row: usize, text: &str) -> bool {
     match row {
         FORMAT => form_called(text).is_some(),
         PREFIX => prefix_in(text).is_some(),
+        MOST => most_in(text).is_some(),
         SET | TABLE => is_set_name(text),
+        FROM | TEXT => !text.is_empty(),
         _ => true,
     }
 }
@@ -69,7 +71,8 @@ fn value_fault<'a>(rows: &[Row], row: usize, text: &'a str) -> Option<Fault<'a>>
     if is_value(row, text) {
         return None;
     }
-    Some(at(text, problem_at(rows, row)))
+    let value = Subject::Value(row, Text::new(text));
+    Some(about(value, problem_at(rows, row)))
 }
 
 // What is wrong with an option.
@@ -105,9 +108,20 @@ fn lacks_json(task: Task, items: &[Item<'_>]) -> bool {
     takes(task, JSON) && is_given(items, STRICT) && !is_given(items, JSON)
 }
 
-// Whether a `split` has no prefix length.
-fn lacks_prefix(task: Task, items: &[Item<'_>]) -> bool {
-    matches!(task, Task::Split) && !is_given(items, PREFIX)
+// The fault if a `split` has no prefix length, or a `reduce` no number of networks.
+fn lacks_fault<'a>(task: Task, items: &[Item<'_>]) -> Option<Fault<'a>> {
+    match task {
+        Task::Split if !is_given(items, PREFIX) => {
+            Some(about(Subject::CommandLine, "split: no --prefix N"))
+        }
+        Task::Reduce if !is_given(items, MOST) => {
+            Some(about(
+                Subject::CommandLine,
+                "reduce: no number behind it, and no --most N",
+            ))
+        }
+        _ => None,
+    }
 }
 
 // Whether a task cannot print in this form: exports cannot show the two sides of a `differ`.
@@ -171,10 +185,7 @@ fn together_fault<'a>(table: &Table<'_>, task: Task, items: &[Item<'a>]) -> Opti
         let problem = "differ can be printed only as plain or range";
         return Some(about(Subject::Option(FORMAT), problem));
     }
-    if lacks_prefix(task, items) {
-        return Some(about(Subject::CommandLine, "split: no --prefix N"));
-    }
-    names_fault(items, form)
+    lacks_fault(task, items).or(names_fault(items, form))
 }
 
 // The fault of the sides, by the number of `--` and of FILEs on each. If the task has one side: a

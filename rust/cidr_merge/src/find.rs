@@ -17,10 +17,11 @@ use crate::sought_places::places_of;
 use crate::texts::{WholeLists, texts_of};
 use fosibegan::ipnetwork::IpAddr;
 use cidr_programs::lines::output::Output;
-use cidr_programs::lists::{OpenLists, ReadFault};
+use cidr_programs::lists::OpenLists;
 use cidr_programs::options::refusing::refuse;
 use cidr_programs::options::table::Row;
 use cidr_programs::program::ending::{FAILED, end};
+use cidr_programs::program::memory::refuse_memory;
 use cidr_programs::program::words::text_at;
 use fosibegan::plain_std::alloc::{AllocError, Global};
 use fosibegan::plain_std::io::Write;
@@ -59,7 +60,7 @@ fn refuse_sought<E: Write>(
             let fault = at(text_at(words, place), "not an address");
             refuse(PROGRAM, USAGE, rows, &fault, errors)
         }
-        QueryFault::OutOfMemory => refuse_lists(words, ReadFault::OutOfMemory, errors),
+        QueryFault::OutOfMemory => refuse_memory(PROGRAM, errors),
     }
 }
 
@@ -99,7 +100,7 @@ fn find_all<L: OpenLists, W: Write, E: Write>(
                 errors,
             )
         }
-        Err(_) => refuse_lists(context.names, ReadFault::OutOfMemory, errors),
+        Err(_) => refuse_memory(PROGRAM, errors),
     }
 }
 
@@ -132,7 +133,7 @@ fn search<W: Write, E: Write>(
     let reported = search_lists(query, buffer, lists, output, errors);
     let written = output.finish();
     let status = status(reported.printed, either(told, reported.told));
-    end(written, status, errors)
+    end(PROGRAM, written, status, errors)
 }
 
 // The exit status, given whether an entry was printed and whether a refused line was reported.

@@ -2,11 +2,12 @@
 
 //! The lines in which findings are printed.
 
+use crate::help::PROGRAM;
 use crate::numbered_lines::Line;
 use cidr_programs::lines::output::Output;
 use cidr_programs::lists::LineFault;
 use cidr_programs::program::escapes::tell_escaped;
-use cidr_programs::program::messages::{tell, tell_bytes, tell_number};
+use cidr_programs::program::messages::{tell, tell_bytes, tell_number, tell_of};
 use fosibegan::plain_std::io::Write;
 
 /// Prints why a line is refused, and the line, unless it is too long.
@@ -20,6 +21,12 @@ pub(crate) fn tell_wrong<W: Write>(line: &Line<'_>, fault: LineFault, output: &m
         separator(text),
         output,
     );
+}
+
+/// Reports why a line is refused, as `tell_wrong` prints it, in the name of the program.
+pub(crate) fn tell_refused<E: Write>(line: &Line<'_>, fault: LineFault, errors: &mut Output<'_, E>) {
+    tell_of(PROGRAM, ": ", errors);
+    tell_wrong(line, fault, errors);
 }
 
 /// Prints that the entry of a line has host bits, and the line.

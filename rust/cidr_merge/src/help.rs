@@ -12,6 +12,7 @@ Merges lists of IP networks, and prints the shortest list with exactly the resul
     cidr_merge differ [OPTION..] FILE.. -- FILE..   the addresses of only one of the sides
     cidr_merge list   [OPTION..] FILE..             each address of any of the files
     cidr_merge split --prefix N [OPTION..] FILE..   the networks of union, in pieces of length N
+    cidr_merge reduce [--most] N [OPTION..] FILE..  at most N networks with all of union, few others
     cidr_merge check  [--strict] FILE..             wrong entries; --strict: host bits, overlaps too
     cidr_merge overlaps FILE..                      wrong entries, and each pair that overlaps
     cidr_merge find [--from FILE] ADDRESS.. -- FILE..  entries that have one; --from: or one of FILE
@@ -32,7 +33,6 @@ bits are ignored. Results ascend, IPv4 first; differ puts < before what only the
 > before what only the second has. check prints each refused line as FILE:LINE: refused CAUSE, and
 find prints FILE:LINE: has ADDRESS, both with the line. split leaves longer networks whole, and all
 of IPv4 if N is above 32; it takes --line-prefix, --line-suffix, --skip-bad, --json and --strict.
-
 Status: 0; 1 if the sides of differ are unequal, check or overlaps found something, or find nothing;
 2 after wrong usage, a refused line, an unreadable file, a failed write, no memory; 3 if skipped.
 Example: sort -u today.txt | cidr_merge differ --count yesterday.txt -- -
@@ -46,5 +46,5 @@ pub(crate) const PROGRAM: &str = "cidr_merge";
 
 /// What is reported for arguments that are not a command, after what is wrong with them.
 pub(crate) const USAGE: &str =
-    "usage: cidr_merge union|common|minus|differ|list|split|check|overlaps \
+    "usage: cidr_merge union|common|minus|differ|list|split|reduce|check|overlaps \
      [OPTION..] FILE.. [-- FILE..], or find [--from FILE] ADDRESS.. -- FILE..; try --help\n";

@@ -8,6 +8,7 @@ use crate::checking::check_lists;
 use crate::command_line::Inspection;
 use crate::context::Context;
 use crate::findings::either;
+use crate::help::PROGRAM;
 use crate::overlapping::tell_pairs;
 use crate::placed::{Placed, entries_of};
 use crate::reading::refuse_lists;
@@ -15,8 +16,8 @@ use crate::repeating::tell_repetitions;
 use crate::texts::{WholeLists, texts_of};
 use cidr_programs::lines::output::Output;
 use cidr_programs::lists::OpenLists;
-use cidr_programs::program::ending::{FAILED, end};
-use cidr_programs::program::messages::tell;
+use cidr_programs::program::ending::end;
+use cidr_programs::program::memory::refuse_memory;
 use fosibegan::plain_std::alloc::Global;
 use fosibegan::plain_std::io::Write;
 
@@ -67,7 +68,7 @@ fn check<W: Write, E: Write>(
 ) -> u8 {
     let found = check_lists(false, lists, output);
     let written = output.finish();
-    end(written, status(found), errors)
+    end(PROGRAM, written, status(found), errors)
 }
 
 // Prints the wrong entries of lists, then the findings for all entries in order, and returns the
@@ -81,15 +82,12 @@ fn check_ordered<W: Write, E: Write>(
 ) -> u8 {
     let mut entries = match entries_of(alloc, lists) {
         Ok(entries) => entries,
-        Err(_) => {
-            tell("out of memory\n", errors);
-            return FAILED;
-        }
+        Err(_) => return refuse_memory(PROGRAM, errors),
     };
     let wrong = check_lists(strictly, lists, output);
     let more = tell_ordered(strictly, lists.names, entries.as_mut_slice(), output);
     let written = output.finish();
-    end(written, status(either(wrong, more)), errors)
+    end(PROGRAM, written, status(either(wrong, more)), errors)
 }
 
 // Prints the findings for entries in order, and returns whether there are any. May reorder the

@@ -30,8 +30,8 @@ fn add_list(alloc: Global, item: &Item<'_>, lists: &mut Vec<String>) -> Result<(
     }
 }
 
-// Adds a name, in two parts.
-fn add_name(
+/// Adds a name, in two parts.
+pub(crate) fn add_name(
     alloc: Global,
     first: &str,
     second: &str,
@@ -41,6 +41,14 @@ fn add_name(
     name.push_str(second)?;
     lists.push(name)?;
     Ok(())
+}
+
+/// Adds the name of a FILE that is the value of an option, which may be any text: no TEXT has it.
+pub(crate) fn add_file(alloc: Global, name: &str, lists: &mut Vec<String>) -> Result<(), AllocError> {
+    match text_in(name) {
+        Some(_) => add_name(alloc, "./", name, lists),
+        None => add_name(alloc, "", name, lists),
+    }
 }
 
 /// The TEXT of a list of this name, if it is one.

@@ -4,6 +4,7 @@
 
 use fosibegan::plain_std::string::String;
 use crate::context::Context;
+use crate::help::PROGRAM;
 use crate::shapes::{Shape, read_one};
 use fosibegan::ipnetwork::{Ipv4Network, Ipv6Network};
 use fosibegan::ipnetwork_sets::AddressSet;
@@ -56,6 +57,6 @@ pub(crate) fn refuse_lists<E: Write>(
     fault: ReadFault,
     errors: &mut Output<'_, E>,
 ) -> u8 {
-    tell_fault(words, fault, errors);
+    tell_fault(PROGRAM, words, fault, errors);
     FAILED
 }

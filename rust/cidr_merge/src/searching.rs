@@ -3,7 +3,7 @@
 //! Searches lists for addresses.
 
 use crate::entry_match::{entry_of, has_address};
-use crate::findings::{either, tell_line, tell_wrong};
+use crate::findings::{either, tell_line, tell_refused};
 use crate::numbered_lines::{Line, NumberedLines};
 use crate::query::Query;
 use crate::sought::Sought;
@@ -59,7 +59,7 @@ fn search_line<W: Write, E: Write>(
             told: false,
         },
         Err(fault) => {
-            tell_wrong(line, fault, errors);
+            tell_refused(line, fault, errors);
             Reported {
                 printed: false,
                 told: true,

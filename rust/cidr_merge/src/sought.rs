@@ -4,7 +4,7 @@
 
 use fosibegan::plain_std::vec::Vec;
 use fosibegan::plain_std::string::String;
-use crate::findings::{either, tell_wrong};
+use crate::findings::{either, tell_refused};
 use crate::numbered_lines::{Line, NumberedLines};
 use crate::texts::WholeLists;
 use fosibegan::ipnetwork::IpAddr;
@@ -94,7 +94,7 @@ fn tell_other<E: Write>(line: &Line<'_>, errors: &mut Output<'_, E>) -> bool {
     if !is_other(trim::<Blank>(line.text)) {
         return false;
     }
-    tell_wrong(line, LineFault::Entry(EntryFault::Address), errors);
+    tell_refused(line, LineFault::Entry(EntryFault::Address), errors);
     true
 }
 

@@ -5,6 +5,7 @@
 use crate::command_line::SplitRequest;
 use crate::context::Context;
 use crate::cutting::print_pieces;
+use crate::help::PROGRAM;
 use crate::reading::{Sets, read_side, refuse_lists};
 use crate::set_names::SetNames;
 use cidr_programs::lines::fault::RunFault;
@@ -24,7 +25,7 @@ pub(crate) fn split<L: OpenLists, W: Write, E: Write>(
     let names = context.names;
     let none = Refusals::new();
     let (sets, refusals, read) = read_side(context, request.shape, names, 0, none);
-    tell_refusals(names, &InLists, &refusals, errors);
+    tell_refusals(PROGRAM, names, &InLists, &refusals, errors);
     match read {
         Ok(()) => print_split(
             context.sets,
@@ -51,7 +52,7 @@ fn print_split<W: Write, E: Write>(
         return FAILED;
     }
     let written = write_split(names, request.length, sets, output);
-    end(written, if skips { 3 } else { 0 }, errors)
+    end(PROGRAM, written, if skips { 3 } else { 0 }, errors)
 }
 
 // Writes the pieces of the networks of both families.

@@ -12,11 +12,12 @@ pub mod lists;
 pub mod log_programs;
 pub mod options;
 pub mod program;
+pub mod reducing;
 
 /// What the examples have in scope.
 #[doc(hidden)]
 #[allow(ambiguous_glob_reexports)]
 pub mod in_examples {
-    pub use crate::{line_addresses::*, lines::*, lists::*, log_programs::*, options::*, program::*, *};
+    pub use crate::{line_addresses::*, lines::*, lists::*, log_programs::*, options::*, program::*, reducing::*, *};
     pub use fosibegan::in_examples::*;
 }

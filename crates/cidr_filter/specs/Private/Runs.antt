@@ -26,6 +26,7 @@ pub record FiltersNames {E : Type 0} (filter : Filter) (known : KnownLists) (nam
 -- or the writer failed at it, which was reported, and the result is `None`
 abbrev pub WritesCount : {W E : Type 0} → Option Bool → Bool → Bool → List ℕ → ℕ → Ending W E → Type 0
 WritesCount result missed counts label selected end = MatchOption result
-    ((counts ≡ true) × FailsWriting end (count_line counts label selected) × HasTold end (codes "write error\n"))
+    ((counts ≡ true) × FailsWriting end (count_line counts label selected)
+    × HasTold end (codes "cidr_filter: write error\n"))
     (λ is. (is ≡ missed) × Prints end.output end.output_after (count_line counts label selected)
     × (end.errors_after ≡ end.errors))

@@ -98,8 +98,8 @@ ended_by_read (Err tallies.OutOfMemory) = false
 -- what is reported if this fault stops the counting of a log whose lines so far have these counts
 abbrev pub tally_fault_text : WithoutAddress → List ℕ → LogStats → TallyFault → List ℕ
 tally_fault_text bad name seen (tallies.Log fault) = seen_text (codes "cidr_join") name bad seen
-    ++ log_fault_text name seen.lines fault
-tally_fault_text bad name seen tallies.OutOfMemory = codes "out of memory\n"
+    ++ log_fault_text (codes "cidr_join") name seen.lines fault
+tally_fault_text bad name seen tallies.OutOfMemory = codes "cidr_join: out of memory\n"
 
 -- the reason why nothing is counted was reported
 abbrev pub TellsStop : {E : Type 0} → Join → KnownLists → List (List ℕ) → Written E → Written E → Type 0

@@ -7,5 +7,6 @@ use Rattle.cidr_merge.specs.declared.command_line.Command.TheVariants as command
 abbrev pub IsCommandWithin : ℕ → Command → Type 0
 IsCommandWithin count (commands.Merge request) = request.middle ≤ count
 IsCommandWithin count (commands.Split request) = Unit {0}
+IsCommandWithin count (commands.Reduce request) = Unit {0}
 IsCommandWithin count (commands.Inspect inspection) = Unit {0}
 IsCommandWithin count (commands.Find middle from) = middle + from ≤ count

@@ -8,7 +8,8 @@ use crate::log_programs::without_address::WithoutAddress;
 use crate::line_addresses::{Area, Part, Pick, Text};
 use crate::lines::output::Output;
 use crate::lists::OpenFault;
-use crate::program::messages::{tell, tell_number};
+use crate::program::log_fault::tell_fault_of;
+use crate::program::messages::{tell, tell_head, tell_number};
 use fosibegan::plain_std::io::Write;
 
 /// Reports, in the name of a program, that no line of the log of this name has an address in this
@@ -167,8 +168,7 @@ pub fn tell_closed<E: Write>(
     fault: OpenFault,
     errors: &mut Output<'_, E>,
 ) {
-    tell_head(program, name, errors);
-    tell(fault.text(), errors);
+    tell_fault_of(program, name, fault.text(), errors);
 }
 
 // Returns whether to report how many of these lines have no address.
@@ -212,11 +212,4 @@ fn tell_asked<E: Write>(
     } else {
         tell("", errors);
     }
-}
-
-// Reports the names of the program and the log.
-fn tell_head<E: Write>(program: &str, name: &str, errors: &mut Output<'_, E>) {
-    tell(program, errors);
-    tell(": ", errors);
-    tell(name, errors);
 }

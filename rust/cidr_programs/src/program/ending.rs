@@ -2,10 +2,10 @@
 
 //! How a program ends: its exit status, and what it reports about its output.
 
-use crate::program::messages::tell;
+use crate::program::messages::{tell, tell_head, tell_of};
 use crate::lines::fault::RunFault;
 use crate::lines::output::Output;
-use fosibegan::plain_std::io::Write;
+use fosibegan::plain_std::io::{ErrorKind, Write};
 
 /// The exit status of a program that could not do what it was asked to do.
 ///
@@ -15,18 +15,25 @@ use fosibegan::plain_std::io::Write;
 /// ```
 pub const FAILED: u8 = 2;
 
-/// Returns `status` if the output was written; otherwise reports `write error` and returns 2.
+/// Returns `status` if the output was written; otherwise reports `PROGRAM: write error`, with the
+/// program's name, and returns 2.
 ///
 /// ```
 /// # use cidr_programs::in_examples::*;
 /// let mut slice = [0; 64];
 /// let mut errors = cidr_programs::lines::output::Output::new(Vec::new(Global), &mut slice);
-/// assert_eq!(cidr_programs::program::ending::end(Ok(()), 1, &mut errors), 1);
-/// assert_eq!(cidr_programs::program::ending::end(Err(cidr_programs::lines::fault::RunFault::Write), 1, &mut errors), 2);
+/// assert_eq!(cidr_programs::program::ending::end("sum", Ok(()), 1, &mut errors), 1);
+/// let failed = Err(cidr_programs::lines::fault::RunFault::Write);
+/// assert_eq!(cidr_programs::program::ending::end("sum", failed, 1, &mut errors), 2);
 /// ```
-pub fn end<E: Write>(written: Result<(), RunFault>, status: u8, errors: &mut Output<'_, E>) -> u8 {
+pub fn end<E: Write>(
+    program: &str,
+    written: Result<(), RunFault>,
+    status: u8,
+    errors: &mut Output<'_, E>,
+) -> u8 {
     if written.is_err() {
-        tell("write error\n", errors);
+        tell_of(program, ": write error\n", errors);
         return FAILED;
     }
     tell("", errors);
@@ -34,26 +41,56 @@ pub fn end<E: Write>(written: Result<(), RunFault>, status: u8, errors: &mut Out
 }
 
 /// Writes what waits in the output and then a text, and returns the exit status: 0, or 2 if a write
-/// failed, which is reported as `write error`.
+/// failed, which is reported as `PROGRAM: write error`, with the program's name.
 ///
 /// ```
 /// # use cidr_programs::in_examples::*;
 /// let (slice, error_slice) = (&mut [0; 64], &mut [0; 64]);
 /// let mut output = cidr_programs::lines::output::Output::new(Vec::new(Global), slice);
 /// let mut errors = cidr_programs::lines::output::Output::new(Vec::new(Global), error_slice);
-/// assert_eq!(cidr_programs::program::ending::print_text("sum 1\n", &mut output, &mut errors), 0);
+/// assert_eq!(cidr_programs::program::ending::print_text("sum", "sum 1\n", &mut output, &mut errors), 0);
 /// ```
 pub fn print_text<W: Write, E: Write>(
+    program: &str,
     text: &str,
     output: &mut Output<'_, W>,
     errors: &mut Output<'_, E>,
 ) -> u8 {
     let written = write_text(text, output);
-    end(written, 0, errors)
+    end(program, written, 0, errors)
 }
 
 // Writes what waits in the output, and then a text.
 fn write_text<W: Write>(text: &str, output: &mut Output<'_, W>) -> Result<(), RunFault> {
     output.put(text.as_bytes())?;
     output.finish()
+}
+
+/// Reports, in the name of a program, why a write to standard output failed, by the kind of the
+/// system's error.
+///
+/// ```
+/// # use cidr_programs::in_examples::*;
+/// use cidr_programs::program::ending::tell_unwritten;
+/// use fosibegan::plain_std::io::ErrorKind;
+///
+/// let (mut slice, mut room) = ([0; 64], [0; 46]);
+/// let mut errors = cidr_programs::lines::output::Output::new(room.as_mut_slice(), &mut slice);
+/// tell_unwritten("sum", ErrorKind::StorageFull, &mut errors);
+/// assert_eq!(errors.finish(), Ok(()));
+/// drop(errors);
+/// assert_eq!(room, *b"sum: standard output: no space left on device\n");
+/// ```
+pub fn tell_unwritten<E: Write>(program: &str, kind: ErrorKind, errors: &mut Output<'_, E>) {
+    tell_head(program, "standard output", errors);
+    tell(write_cause(kind), errors);
+}
+
+// Returns why a write failed, by the kind of the system's error.
+fn write_cause(kind: ErrorKind) -> &'static str {
+    match kind {
+        ErrorKind::StorageFull => ": no space left on device\n",
+        ErrorKind::FileTooLarge => ": file too large\n",
+        _ => ": cannot write\n",
+    }
 }

@@ -2,7 +2,7 @@
 
 //! Why a log was not read to its end, and what is reported then.
 
-use crate::program::messages::{tell, tell_number};
+use crate::program::messages::{tell, tell_head, tell_number, tell_of};
 use crate::lines::output::Output;
 use crate::lists::OpenFault;
 use fosibegan::plain_std::io::Write;
@@ -24,25 +24,26 @@ pub enum LogFault {
     Endless,
 }
 
-/// Writes what waits in the output, and reports why the log of this name was not read to its end,
-/// after this many of its lines.
+/// Writes what waits in the output, and reports in the name of a program why the log of this name
+/// was not read to its end, after this many of its lines.
 ///
-/// If the fault is a failed write, or the write fails now, `write error` is reported.
+/// If the fault is a failed write, or the write fails now, `PROGRAM: write error` is reported.
 ///
 /// ```
 /// # use cidr_programs::in_examples::*;
 /// use cidr_programs::lines::output::Output;
 /// use cidr_programs::program::log_fault::{LogFault, stop};
 ///
-/// let (mut slice, mut error_slice, mut room) = ([0; 8], [0; 64], [0; 24]);
+/// let (mut slice, mut error_slice, mut room) = ([0; 8], [0; 64], [0; 29]);
 /// let mut output = Output::new(Vec::new(Global), &mut slice);
 /// let mut errors = Output::new(room.as_mut_slice(), &mut error_slice);
-/// stop("log", LogFault::Address, 6, &mut output, &mut errors);
+/// stop("sum", "log", LogFault::Address, 6, &mut output, &mut errors);
 /// assert_eq!(errors.finish(), Ok(()));
 /// drop(errors);
-/// assert_eq!(room.as_slice(), b"log:7: refused address\n\0".as_slice());
+/// assert_eq!(room.as_slice(), b"sum: log:7: refused address\n\0".as_slice());
 /// ```
 pub fn stop<W: Write, E: Write>(
+    program: &str,
     name: &str,
     fault: LogFault,
     lines: u64,
@@ -50,63 +51,77 @@ pub fn stop<W: Write, E: Write>(
     errors: &mut Output<'_, E>,
 ) {
     match fault {
-        LogFault::Write => tell_log_fault(name, LogFault::Write, lines, errors),
+        LogFault::Write => tell_log_fault(program, name, LogFault::Write, lines, errors),
         _ => match output.hand_on() {
-            Ok(()) => tell_log_fault(name, fault, lines, errors),
-            Err(_) => tell_log_fault(name, LogFault::Write, lines, errors),
+            Ok(()) => tell_log_fault(program, name, fault, lines, errors),
+            Err(_) => tell_log_fault(program, name, LogFault::Write, lines, errors),
         },
     }
 }
 
-/// Reports why the log of this name was not read to its end, after this many of its lines.
+/// Reports in the name of a program why the log of this name was not read to its end, after this
+/// many of its lines.
 ///
 /// ```
 /// # use cidr_programs::in_examples::*;
 /// use cidr_programs::program::log_fault::{LogFault, tell_log_fault};
 ///
-/// let (mut slice, mut room) = ([0; 64], [0; 23]);
+/// let (mut slice, mut room) = ([0; 64], [0; 28]);
 /// let mut errors = cidr_programs::lines::output::Output::new(room.as_mut_slice(), &mut slice);
-/// tell_log_fault("log", LogFault::Length, 6, &mut errors);
+/// tell_log_fault("sum", "log", LogFault::Length, 6, &mut errors);
 /// assert_eq!(errors.finish(), Ok(()));
 /// drop(errors);
-/// assert_eq!(room.as_slice(), b"log:7: refused length\n\0".as_slice());
+/// assert_eq!(room.as_slice(), b"sum: log:7: refused length\n\0".as_slice());
 /// ```
-pub fn tell_log_fault<E: Write>(name: &str, fault: LogFault, lines: u64, errors: &mut Output<'_, E>) {
+pub fn tell_log_fault<E: Write>(
+    program: &str,
+    name: &str,
+    fault: LogFault,
+    lines: u64,
+    errors: &mut Output<'_, E>,
+) {
     match fault {
-        LogFault::Open(cause) => tell_of(name, cause.text(), errors),
-        LogFault::Read => tell_of(name, ": cannot read\n", errors),
-        LogFault::Write => tell("write error\n", errors),
-        LogFault::Address => tell_line(name, lines, "address", errors),
-        LogFault::Length => tell_line(name, lines, "length", errors),
-        LogFault::Endless => tell_of(name, ": too long\n", errors),
+        LogFault::Open(cause) => tell_fault_of(program, name, cause.text(), errors),
+        LogFault::Read => tell_fault_of(program, name, ": cannot read\n", errors),
+        LogFault::Write => tell_of(program, ": write error\n", errors),
+        LogFault::Address => tell_line(program, name, lines, "address", errors),
+        LogFault::Length => tell_line(program, name, lines, "length", errors),
+        LogFault::Endless => tell_fault_of(program, name, ": too long\n", errors),
     }
 }
 
-/// Reports a name, followed by a text.
+/// Reports, in the name of a program, a text about what has this name.
 ///
 /// ```
 /// # use cidr_programs::in_examples::*;
 /// let mut slice = [0; 64];
 /// let mut errors = cidr_programs::lines::output::Output::new(Vec::new(Global), &mut slice);
-/// cidr_programs::program::log_fault::tell_of("log", ": cannot open\n", &mut errors);
+/// cidr_programs::program::log_fault::tell_fault_of("sum", "log", ": cannot open\n", &mut errors);
 /// assert_eq!(errors.finish(), Ok(()));
 /// ```
-pub fn tell_of<E: Write>(name: &str, text: &str, errors: &mut Output<'_, E>) {
-    tell(name, errors);
+pub fn tell_fault_of<E: Write>(program: &str, name: &str, text: &str, errors: &mut Output<'_, E>) {
+    tell_head(program, name, errors);
     tell(text, errors);
 }
 
-/// Reports that the line of a file after this many others is refused, and the cause.
+/// Reports, in the name of a program, that the line of a file after this many others is refused,
+/// and the cause.
 ///
 /// ```
 /// # use cidr_programs::in_examples::*;
 /// let mut slice = [0; 64];
 /// let mut errors = cidr_programs::lines::output::Output::new(Vec::new(Global), &mut slice);
-/// cidr_programs::program::log_fault::tell_line("log", 6, "address", &mut errors);
+/// cidr_programs::program::log_fault::tell_line("sum", "log", 6, "address", &mut errors);
 /// assert_eq!(errors.finish(), Ok(()));
 /// ```
-pub fn tell_line<E: Write>(name: &str, lines: u64, cause: &str, errors: &mut Output<'_, E>) {
-    tell(name, errors);
+pub fn tell_line<E: Write>(
+    program: &str,
+    name: &str,
+    lines: u64,
+    cause: &str,
+    errors: &mut Output<'_, E>,
+) {
+    tell_head(program, name, errors);
     tell(":", errors);
     tell_number(lines.saturating_add(1), errors);
     tell(": refused ", errors);

@@ -34,6 +34,36 @@ pub fn tell_bytes<E: Write>(bytes: &[u8], errors: &mut Output<'_, E>) {
     let _ = errors.put(bytes);
 }
 
+/// Writes a name, followed by a text, to the error writer.
+///
+/// ```
+/// # use cidr_programs::in_examples::*;
+/// let mut slice = [0; 64];
+/// let mut errors = cidr_programs::lines::output::Output::new(Vec::new(Global), &mut slice);
+/// cidr_programs::program::messages::tell_of("sum", ": out of memory\n", &mut errors);
+/// assert_eq!(errors.finish(), Ok(()));
+/// ```
+pub fn tell_of<E: Write>(name: &str, text: &str, errors: &mut Output<'_, E>) {
+    tell(name, errors);
+    tell(text, errors);
+}
+
+/// Writes the beginning of a message to the error writer: the program's name, `: ` and the name of
+/// what the message is about.
+///
+/// ```
+/// # use cidr_programs::in_examples::*;
+/// let mut slice = [0; 64];
+/// let mut errors = cidr_programs::lines::output::Output::new(Vec::new(Global), &mut slice);
+/// cidr_programs::program::messages::tell_head("sum", "log", &mut errors);
+/// assert_eq!(errors.finish(), Ok(()));
+/// ```
+pub fn tell_head<E: Write>(program: &str, name: &str, errors: &mut Output<'_, E>) {
+    tell(program, errors);
+    tell(": ", errors);
+    tell(name, errors);
+}
+
 /// Writes a number in decimal to the error writer.
 ///
 /// ```

@@ -7,7 +7,7 @@ use std::cell::Cell;
 use fosibegan::plain_std::io;
 use fosibegan::plain_std::io::{ErrorKind, Stdout, Write};
 
-/// Standard output, which notes whether a write failed because nobody reads its pipe any more.
+/// Standard output, which notes why a write failed, such as that nobody reads its pipe any more.
 /// Before each write, it removes what is shown of a long reading.
 ///
 /// ```
@@ -17,20 +17,20 @@ use fosibegan::plain_std::io::{ErrorKind, Stdout, Write};
 /// use cidr_programs::program::standard_output::StandardOutput;
 /// use fosibegan::plain_std::io::Write;
 ///
-/// let (progress, is_closed) = (Progress::new(&rt, true), std::cell::Cell::new(false));
-/// let mut output = StandardOutput::new(rt.stdout(), &progress, &is_closed);
+/// let (progress, failure) = (Progress::new(&rt, true), std::cell::Cell::new(None));
+/// let mut output = StandardOutput::new(rt.stdout(), &progress, &failure);
 /// assert!(output.flush().is_ok());
-/// assert!(!is_closed.get());
+/// assert!(failure.get().is_none());
 /// ```
 pub struct StandardOutput<'a> {
     output: Stdout,
     progress: &'a Progress<'a>,
-    is_closed: &'a Cell<bool>,
+    failure: &'a Cell<Option<ErrorKind>>,
 }
 
 impl<'a> StandardOutput<'a> {
     /// Creates a writer from the system's standard output, the progress that is shown on standard
-    /// error, and the cell that notes whether nobody reads the pipe any more.
+    /// error, and the cell that notes the kind of the system's error when a write fails.
     ///
     /// ```
     /// # use cidr_programs::in_examples::*;
@@ -38,19 +38,19 @@ impl<'a> StandardOutput<'a> {
     /// use cidr_programs::program::progress::Progress;
     /// use cidr_programs::program::standard_output::StandardOutput;
     ///
-    /// let (progress, is_closed) = (Progress::new(&rt, true), std::cell::Cell::new(false));
-    /// let _ = StandardOutput::new(rt.stdout(), &progress, &is_closed);
-    /// assert!(!is_closed.get());
+    /// let (progress, failure) = (Progress::new(&rt, true), std::cell::Cell::new(None));
+    /// let _ = StandardOutput::new(rt.stdout(), &progress, &failure);
+    /// assert!(failure.get().is_none());
     /// ```
     pub fn new(
         output: Stdout,
         progress: &'a Progress<'a>,
-        is_closed: &'a Cell<bool>,
+        failure: &'a Cell<Option<ErrorKind>>,
     ) -> StandardOutput<'a> {
         StandardOutput {
             output,
             progress,
-            is_closed,
+            failure,
         }
     }
 }
@@ -60,9 +60,7 @@ impl Write for StandardOutput<'_> {
         self.progress.clear();
         let result = self.output.write(buf);
         if let Err(error) = &result {
-            if matches!(error.kind(), ErrorKind::BrokenPipe) {
-                self.is_closed.set(true);
-            }
+            self.failure.set(Some(error.kind()));
         }
         result
     }

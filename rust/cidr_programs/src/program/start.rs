@@ -6,6 +6,7 @@ use fosibegan::plain_std::vec::Vec;
 use fosibegan::plain_std::string::String;
 use fosibegan::plain_std::rt::HostRuntime;
 use crate::program::arguments::{ArgumentsFault, arguments};
+use crate::program::ending::tell_unwritten;
 use crate::program::progress::Progress;
 use crate::program::standard_error::StandardError;
 use crate::program::standard_output::StandardOutput;
@@ -14,6 +15,7 @@ use crate::program::usage::refuse_arguments;
 use crate::program::words::{is, is_only};
 use crate::lines::output::Output;
 use std::cell::Cell;
+use fosibegan::plain_std::io::ErrorKind;
 use std::process::ExitCode;
 
 /// The most bytes that wait to be written to standard output.
@@ -30,7 +32,8 @@ const CLOSED: u8 = 141;
 ///
 /// If the arguments cannot be read, that is reported instead. If a write to standard output failed
 /// because nobody reads its pipe any more, reports that still wait are dropped, and the exit status
-/// is 141, which a shell shows for a program that such a write ended.
+/// is 141, which a shell shows for a program that such a write ended. If a write failed for any other
+/// cause, that cause is reported at the end.
 #[doc(hidden)]
 pub fn start<F>(rt: &HostRuntime, program: &str, usage: &str, run: F) -> ExitCode
 where
@@ -44,8 +47,8 @@ where
     let words = arguments(rt);
     let progress = Progress::new(rt, is_quiet(&words));
     let mut waiting = [0u8; WAITING_MAX];
-    let is_closed = Cell::new(false);
-    let standard_output = StandardOutput::new(rt.stdout(), &progress, &is_closed);
+    let failure = Cell::new(None);
+    let standard_output = StandardOutput::new(rt.stdout(), &progress, &failure);
     let mut output = Output::new(standard_output, &mut waiting);
     let mut told = [0u8; TOLD_MAX];
     let mut errors = Output::new(StandardError::new(rt.stderr(), &progress), &mut told);
@@ -58,8 +61,10 @@ where
         Err(fault) => refuse_arguments(fault, program, usage, &mut errors),
     };
     progress.clear();
-    if is_closed.get() {
-        return ExitCode::from(CLOSED);
+    match failure.get() {
+        Some(ErrorKind::BrokenPipe) => return ExitCode::from(CLOSED),
+        Some(kind) => tell_unwritten(program, kind, &mut errors),
+        None => {}
     }
     let _ = errors.finish();
     ExitCode::from(status)

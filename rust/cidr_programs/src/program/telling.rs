@@ -3,7 +3,7 @@
 //! Reports about lists on the error writer. If the write of one fails, nothing else changes.
 
 use fosibegan::plain_std::string::String;
-use crate::program::messages::{tell, tell_number};
+use crate::program::messages::{tell, tell_head, tell_number, tell_of};
 use crate::program::words::text_at;
 use crate::lines::output::Output;
 use crate::lists::{ReadFault, Refusal, Refusals};
@@ -44,8 +44,8 @@ impl Places for InLists {
     }
 }
 
-/// Reports the refused lines: those that were kept, which are the first hundred, and how many more
-/// there were.
+/// Reports in the name of a program the refused lines: those that were kept, which are the first
+/// hundred, and how many more there were.
 ///
 /// ```
 /// # use cidr_programs::in_examples::*;
@@ -54,10 +54,11 @@ impl Places for InLists {
 ///
 /// let mut slice = [0; 64];
 /// let mut errors = cidr_programs::lines::output::Output::new(Vec::new(Global), &mut slice);
-/// tell_refusals(&[], &InLists, &Refusals::new(), &mut errors);
+/// tell_refusals("sum", &[], &InLists, &Refusals::new(), &mut errors);
 /// assert_eq!(errors.finish(), Ok(()));
 /// ```
 pub fn tell_refusals<P: Places, E: Write>(
+    program: &str,
     words: &[String],
     places: &P,
     refusals: &Refusals,
@@ -65,20 +66,21 @@ pub fn tell_refusals<P: Places, E: Write>(
 ) {
     let kept = refusals.kept();
     for refusal in kept {
-        tell_refusal(words, places, *refusal, errors);
+        tell_refusal(program, words, places, *refusal, errors);
     }
-    tell_more(refusals.more(), errors);
+    tell_more(program, refusals.more(), errors);
 }
 
 // Reports a refused line.
 fn tell_refusal<P: Places, E: Write>(
+    program: &str,
     words: &[String],
     places: &P,
     refusal: Refusal,
     errors: &mut Output<'_, E>,
 ) {
     let (word, number) = places.place(refusal);
-    tell_name(words, word, errors);
+    tell_list(program, words, word, errors);
     tell(":", errors);
     tell_number(number, errors);
     tell(": refused ", errors);
@@ -86,64 +88,62 @@ fn tell_refusal<P: Places, E: Write>(
     tell("\n", errors);
 }
 
-/// Writes the word at this index to the error writer, or nothing if there is no such word.
-///
-/// ```
-/// # use cidr_programs::in_examples::*;
-/// let mut slice = [0; 64];
-/// let mut errors = cidr_programs::lines::output::Output::new(Vec::new(Global), &mut slice);
-/// cidr_programs::program::telling::tell_name(&[], 0, &mut errors);
-/// assert_eq!(errors.finish(), Ok(()));
-/// ```
-pub fn tell_name<E: Write>(words: &[String], place: usize, errors: &mut Output<'_, E>) {
-    tell(text_at(words, place), errors);
+// Writes the beginning of a message about the list that the word at this index names.
+fn tell_list<E: Write>(program: &str, words: &[String], place: usize, errors: &mut Output<'_, E>) {
+    tell_head(program, text_at(words, place), errors);
 }
 
-/// Reports how many more lines were refused, if there are any.
+/// Reports in the name of a program how many more lines were refused, if there are any.
 ///
 /// ```
 /// # use cidr_programs::in_examples::*;
 /// let mut slice = [0; 64];
 /// let mut errors = cidr_programs::lines::output::Output::new(Vec::new(Global), &mut slice);
-/// cidr_programs::program::telling::tell_more(3, &mut errors);
+/// cidr_programs::program::telling::tell_more("sum", 3, &mut errors);
 /// assert_eq!(errors.finish(), Ok(()));
 /// ```
-pub fn tell_more<E: Write>(more: u64, errors: &mut Output<'_, E>) {
+pub fn tell_more<E: Write>(program: &str, more: u64, errors: &mut Output<'_, E>) {
     if more > 0 {
+        tell_of(program, ": ", errors);
         tell_number(more, errors);
         tell(" more refused lines\n", errors);
     }
 }
 
-/// Reports why lists were not read to the end.
+/// Reports in the name of a program why lists were not read to the end.
 ///
 /// ```
 /// # use cidr_programs::in_examples::*;
 /// let mut slice = [0; 64];
 /// let mut errors = cidr_programs::lines::output::Output::new(Vec::new(Global), &mut slice);
-/// cidr_programs::program::telling::tell_fault(&[], cidr_programs::lists::ReadFault::OutOfMemory, &mut errors);
+/// cidr_programs::program::telling::tell_fault("sum", &[], cidr_programs::lists::ReadFault::OutOfMemory, &mut errors);
 /// assert_eq!(errors.finish(), Ok(()));
 /// ```
-pub fn tell_fault<E: Write>(words: &[String], fault: ReadFault, errors: &mut Output<'_, E>) {
+pub fn tell_fault<E: Write>(
+    program: &str,
+    words: &[String],
+    fault: ReadFault,
+    errors: &mut Output<'_, E>,
+) {
     match fault {
         ReadFault::Open(place, cause) => {
-            tell_name(words, place, errors);
+            tell_list(program, words, place, errors);
             tell(cause.text(), errors);
         }
         ReadFault::Read(place) => {
-            tell_name(words, place, errors);
+            tell_list(program, words, place, errors);
             tell(": cannot read\n", errors);
         }
         ReadFault::Length(place) => {
-            tell_name(words, place, errors);
+            tell_list(program, words, place, errors);
             tell(": more than 1,073,741,824 bytes\n", errors);
         }
         ReadFault::NotJson(place, line) => {
-            tell_name(words, place, errors);
+            tell_list(program, words, place, errors);
             tell(":", errors);
             tell_number(line, errors);
             tell(": not JSON, or more than 127 levels\n", errors);
         }
-        ReadFault::OutOfMemory => tell("out of memory\n", errors),
+        ReadFault::OutOfMemory => tell_of(program, ": out of memory\n", errors),
     }
 }

@@ -5,7 +5,7 @@
 use crate::program::arguments::ArgumentsFault;
 use crate::program::ending::FAILED;
 use crate::program::escapes::tell_escaped;
-use crate::program::messages::tell;
+use crate::program::messages::{tell, tell_of};
 use crate::lines::output::Output;
 use fosibegan::plain_std::io::Write;
 
@@ -50,13 +50,12 @@ pub fn refuse_arguments<E: Write>(
 ) -> u8 {
     match fault {
         ArgumentsFault::NotText => {
-            tell(program, errors);
-            tell(": an argument is not UTF-8\n", errors);
+            tell_of(program, ": an argument is not UTF-8\n", errors);
             tell(usage, errors);
             FAILED
         }
         ArgumentsFault::OutOfMemory => {
-            tell("out of memory\n", errors);
+            tell_of(program, ": out of memory\n", errors);
             FAILED
         }
     }

@@ -11,8 +11,8 @@ returns-in-None g c = inr c.in-None.ensures.logs
 pub returns-in-Some : goal.returns-in-Some
 returns-in-Some g c =
     inl (all_ended c.args.filter.now (g.L.OpenLists.known c.args.lists.now) _ c.in-Some.missed (ending c.args.output.now c.finish-written.new.self c.args.errors.now c.end.new.errors c.end.result)
-    c.filter_each.new.output c.filter_each.new.errors c.filter_each.new.selected c.in-Some.ensures.logs c.finish-written.result c.status.result
+    c.filter_each.new.output c.filter_each.new.errors c.filter_each.new.selected c.in-Some.ensures.logs c.finish-written.result c.status-status.result
     c.finish-written.ensures.ok c.finish-written.ensures.err c.finish-written.ensures.failed
-    (c.status.ensures ∙ ap (λ (b : Bool). status_by b c.in-Some.missed c.filter_each.new.selected)
+    (c.status-status.ensures ∙ ap (λ (b : Bool). status_by b c.in-Some.missed c.filter_each.new.selected)
     (sym (enough_as c.args.filter.now.shows c.is_silent-is_silent.result c.is_enough-is_enough.result _ c.filter_each.new.selected c.is_silent-is_silent.ensures c.is_enough-is_enough.ensures refl)))
     c.end.ensures.status c.end.ensures.told)

@@ -1,4 +1,4 @@
-use Rattle.std.proofs.Common.{◌∙◌, ap, inl, refl, subst, List, ℕ}
+use Rattle.std.proofs.Common.{◌∙◌, ap, refl, subst, List, ℕ}
 use Rattle.lines.specs.Watched.{device_of, has_failed}
 use Rattle.program.specs.Endings.{ending}
 use Rattle.program.proofs.LogReadings.{halts_by}
@@ -60,5 +60,5 @@ returns-in-Err-end-clause-logs g c =
     (has_failed c.filter_log-end.new.reader) mid.failed c.close.ensures.failed c.in-Err-end.fault
     (subst (λ (f : Filter). Stops f (remaining (device_of c.in-Ok.log)) (remaining (device_of c.filter_log-end.new.reader)) (has_failed c.filter_log-end.new.reader) mid.failed
     before (stand mid tally) c.in-Err-end.fault) (ap (λ (n : List ℕ). record c.args.filter.now { name = n }) (c.replace-before.ensures.after ∙ c.new.ensures ∙ c.label_of-label.ensures)) c.in-Err-end.ensures.err) in
-    inl (name_stops c.args.filter.now known c.args.name.now (ending c.args.output.now c.stop.new.output c.args.errors.now c.stop.new.errors 2) refl
-    mid c.tell_seen.new.errors tally halts.0 c.tell_seen.ensures c.in-Err-end.fault halts.1 halts.2 c.stop.ensures)
+    name_stops c.args.filter.now known c.args.name.now (ending c.args.output.now c.stop.new.output c.args.errors.now c.stop.new.errors 2) refl
+    mid c.tell_seen.new.errors tally halts.0 c.tell_seen.ensures c.in-Err-end.fault halts.1 halts.2 c.stop.ensures

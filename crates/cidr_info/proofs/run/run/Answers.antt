@@ -11,7 +11,7 @@ pub returns-in-Some : goal.returns-in-Some
 returns-in-Some g c = (
   c.table-table.result,
   c.table-table.ensures,
-  printed HELP.now VERSION.now c.args.words.now _
+  printed PROGRAM.now HELP.now VERSION.now c.args.words.now _
       (ending c.args.output.now c.print_text.new.output c.args.errors.now c.print_text.new.errors c.print_text.result)
       c.in-Some.text.now c.in-Some.ensures c.print_text.ensures,
 )
@@ -23,7 +23,7 @@ returns g c =
     let end = ending c.args.output.now c.read.new.output c.args.errors.now c.read.new.errors c.read.result in (
       table,
       c.table-table.ensures,
-      not_asked HELP.now VERSION.now c.args.words.now _ end c.in_default.ensures
+      not_asked PROGRAM.now HELP.now VERSION.now c.args.words.now _ end c.in_default.ensures
           (inr (subst (λ (items : List Item). EndsItems table PROGRAM.now USAGE.now known items end) c.in-Ok.ensures
           (done_right table PROGRAM.now USAGE.now known c.in-Ok.items.items end
           (sym (c.in_default-fault_of.ensures ∙ ap (fault_of table) c.as_slice.ensures.value))

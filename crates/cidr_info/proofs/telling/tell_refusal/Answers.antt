@@ -10,6 +10,6 @@ cause_word-requires g c = ap network_in c.text.ensures.value ∙ sym c.text.ensu
 pub returns : goal.returns
 returns g c =
     tells_same _ _ _ _
-    (ap (λ (t : List ℕ). codes "cidr_info" ++ codes ": " ++ place_text c.args.said.now ++ codes ": refused " ++ t ++ codes "\n")
+    (ap (λ (t : List ℕ). codes "cidr_info: " ++ place_text c.args.said.now ++ codes ": refused " ++ t ++ codes "\n")
     (c.cause_word.ensures ∙ ap cause_text c.text.ensures.value))
-    (tells_on (tells_on (tells_on (tells_on (tells_on c.tell.ensures c.tell-2.ensures) c.tell_place.ensures) c.tell-3.ensures) c.tell-4.ensures) c.tell-5.ensures)
+    (tells_on (tells_on (tells_on (tells_on c.tell_of.ensures c.tell_place.ensures) c.tell.ensures) c.tell-2.ensures) c.tell-3.ensures)

@@ -6,7 +6,7 @@ use Rattle.cidr_join.proofs.reading.take_lists.Given as goal
 abbrev pub invariant-lists : goal.invariant-lists
 invariant-lists g l = record {
   within : l.at ≤ length l.lists;
-  so_far : TakenSoFar l.rules (map named_text l.lists) (map named_text (drop l.at l.lists)) l.listing.networks l.initial.errors l.errors;
+  so_far : TakenSoFar l.rules (map named_text l.lists) (map named_text (drop l.at l.lists)) l.listing l.initial.errors l.errors;
 }
 
 abbrev pub decreases-lists : goal.decreases-lists

@@ -13,11 +13,11 @@ use Rattle.cidr_join.proofs.tally_logs.tally_logs.Goals as goal
 
 pub returns-in_default : goal.returns-in_default
 returns-in_default g c =
-    inl (codes "out of memory\n", inr (ran_out c.args.join.now (g.L.OpenLists.known c.args.lists.now) [] (map string_bytes c.args.files.now) [] [] false (refl, refl, refl)), ((refl, c.refuse_memory.ensures.status), c.refuse_memory.ensures.told))
+    inl (codes "cidr_join: out of memory\n", inr (ran_out c.args.join.now (g.L.OpenLists.known c.args.lists.now) [] (map string_bytes c.args.files.now) [] [] false (refl, refl, refl)), ((refl, c.refuse_memory.ensures.status), c.refuse_memory.ensures.told))
 
 pub returns-in_default-new : goal.returns-in_default-new
 returns-in_default-new g c =
-    inl (codes "out of memory\n", inr (ran_out c.args.join.now (g.L.OpenLists.known c.args.lists.now) [] (map string_bytes c.args.files.now) [] [] false (refl, refl, refl)), ((refl, c.refuse_memory-in_default-new.ensures.status), c.refuse_memory-in_default-new.ensures.told))
+    inl (codes "cidr_join: out of memory\n", inr (ran_out c.args.join.now (g.L.OpenLists.known c.args.lists.now) [] (map string_bytes c.args.files.now) [] [] false (refl, refl, refl)), ((refl, c.refuse_memory-in_default-new.ensures.status), c.refuse_memory-in_default-new.ensures.told))
 
 pub returns-in_default-tally_each : goal.returns-in_default-tally_each
 returns-in_default-tally_each g c =

@@ -8,4 +8,4 @@ returns-in-Log g c =
     tells_same _ _ _ _ (sym (ap (tally_fault_text c.args.bad c.args.name.now c.args.seen.now) c.in-Log.is)) (tells_on c.tell_seen.ensures c.tell_log_fault.ensures)
 
 pub returns-in-OutOfMemory : goal.returns-in-OutOfMemory
-returns-in-OutOfMemory g c = tells_same _ _ _ _ (sym (ap (tally_fault_text c.args.bad c.args.name.now c.args.seen.now) c.in-OutOfMemory.is)) c.tell.ensures
+returns-in-OutOfMemory g c = tells_same _ _ _ _ (sym (ap (tally_fault_text c.args.bad c.args.name.now c.args.seen.now) c.in-OutOfMemory.is)) c.tell_of.ensures

@@ -1,4 +1,4 @@
-use Rattle.cidr_merge.proofs.Inspected.{read}
+use Rattle.std.proofs.Common.{inr, map}
 use Rattle.cidr_merge.proofs.WholeLists.{as_many_held}
 use Rattle.cidr_merge.proofs.inspecting.inspect.Goals as goal
 
@@ -8,6 +8,8 @@ look_over-requires g c =
     (λ text. text.items) _ c.as_slice-texts.ensures.value c.in-Ok.ensures.ok
 
 pub returns : goal.returns
-returns g c =
-    read _ c.args.context.now.names.now c.args.inspection _ c.in-Ok.texts.items c.as_slice-texts.result.now
-    (λ text. text.items) c.as_slice-texts.ensures.value c.in-Ok.ensures.ok c.look_over.ensures
+returns g c = inr (
+  map (λ text. text.items) c.in-Ok.texts.items,
+  c.in-Ok.ensures.ok,
+  rw c.as_slice-texts.ensures.value at c.look_over.ensures,
+)

@@ -8,12 +8,12 @@ use Rattle.program.proofs.telling.tell_refusal.Goals as goal
 pub returns : goal.returns
 returns g c =
     let old = c.args.errors.now in
-    subst (λ (place : ℕ × ℕ). Reports old c.tell-4.new.errors (name_at c.args.words.now place.0 ++ codes ":"
+    subst (λ (place : ℕ × ℕ). Reports old c.tell-4.new.errors (c.args.program.now ++ codes ": " ++ name_at c.args.words.now place.0 ++ codes ":"
     ++ decimal place.1 ++ codes ": refused " ++ line_fault_text c.args.refusal.fault ++ codes "\n")) c.place-word.ensures
     (tells_more old c.tell-3.new.errors c.tell-4.new.errors _ _
     (tells_more old c.tell-2.new.errors c.tell-3.new.errors _ _
     (tells_more old c.tell_number.new.errors c.tell-2.new.errors _ _
     (tells_more old c.tell.new.errors c.tell_number.new.errors _ _
-    (tells_more old c.tell_name.new.errors c.tell.new.errors _ _ c.tell_name.ensures c.tell.ensures)
+    (tells_more old c.tell_list.new.errors c.tell.new.errors _ _ c.tell_list.ensures c.tell.ensures)
     c.tell_number.ensures) c.tell-2.ensures)
     (tells_same c.tell-2.new.errors c.tell-3.new.errors _ _ c.text.ensures c.tell-3.ensures)) c.tell-4.ensures)

@@ -8,6 +8,5 @@ use Rattle.program.proofs.usage.refuse_arguments.Goals as goal
 pub returns-in-NotText-clause-told : goal.returns-in-NotText-clause-told
 returns-in-NotText-clause-told g c =
     let old = c.args.errors.now in
-    subst (λ (fault : ArgumentsFault). Reports old c.tell-in-NotText-2.new.errors (arguments_text fault c.args.program.now c.args.usage.now)) (sym c.in-NotText.is)
-    (tells_more old c.tell-in-NotText.new.errors c.tell-in-NotText-2.new.errors _ _
-    (tells_more old c.tell.new.errors c.tell-in-NotText.new.errors _ _ c.tell.ensures c.tell-in-NotText.ensures) c.tell-in-NotText-2.ensures)
+    subst (λ (fault : ArgumentsFault). Reports old c.tell.new.errors (arguments_text fault c.args.program.now c.args.usage.now)) (sym c.in-NotText.is)
+    (tells_more old c.tell_of.new.errors c.tell.new.errors _ _ c.tell_of.ensures c.tell.ensures)

@@ -1,0 +1,8 @@
+use Rattle.reducing.proofs.Kept.{reduced_adds_up, reduced_has_all}
+use Rattle.reducing.proofs.laws.reduced.Goals as goal
+
+pub returns-clause-adds_up : goal.returns-clause-adds_up
+returns-clause-adds_up c = reduced_adds_up c.one_block.ensures.apart
+
+pub returns-clause-has_all : goal.returns-clause-has_all
+returns-clause-has_all c = reduced_has_all c.one_block.ensures.apart

@@ -1,0 +1,5 @@
+use Rattle.std.proofs.Common.{length}
+use Rattle.reducing.proofs.tree.+build.Given as goal
+
+abbrev pub decreases-build : goal.decreases-build
+decreases-build g l = length l.tree.now

@@ -1,0 +1,4 @@
+pub mod Joining
+pub mod Reducing
+pub mod ReducingLaws
+pub mod Private

@@ -1,0 +1,18 @@
+-- The laws of lists that become shorter by joins.
+use Rattle.std.specs.Prelude.{◌≡◌, ℕ, ◌+◌, List}
+use Rattle.ipnetwork_family.specs.Network.{Network}
+use Rattle.ipnetwork_blocks.specs.Aggregate.{InUnion}
+use Rattle.ipnetwork_sets.specs.Counts.{total}
+use Rattle.ipnetwork_sets.specs.Sets.{IsAddressSet}
+use Rattle.reducing.specs.Reducing.{Reduces}
+
+-- the sizes of the blocks add up to the count of the set and the others
+abbrev pub ReducedAddsUp : Type 0
+ReducedAddsUp = (w v most : ℕ) (xs ys us vs : List Network) (j k : ℕ) → IsAddressSet w xs → IsAddressSet v ys
+    → Reduces w v most xs ys us vs j k → (total w us ≡ total w xs + j) × (total v vs ≡ total v ys + k)
+
+-- each address of the sets is in the blocks
+abbrev pub ReducedHasAll : Type 0
+ReducedHasAll = (w v most : ℕ) (xs ys us vs : List Network) (j k : ℕ) → IsAddressSet w xs → IsAddressSet v ys
+    → Reduces w v most xs ys us vs j k
+    → ((x : ℕ) → InUnion w xs x → InUnion w us x) × ((x : ℕ) → InUnion v ys x → InUnion v vs x)

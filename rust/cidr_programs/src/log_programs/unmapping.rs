@@ -1,0 +1,42 @@
+// Written by scripts/plain out of crates/log_programs/src/unmapping.rt
+
+//! The network that is looked up for a network of a line.
+
+use fosibegan::ipnetwork::{IpAddr, IpNetwork};
+
+/// Returns the network that is looked up: if `mapped`, a network whose addresses are all IPv4-mapped
+/// counts as the network of their IPv4 addresses. Any other network is returned unchanged.
+///
+/// ```
+/// # use cidr_programs::in_examples::*;
+/// use fosibegan::ipnetwork::IpNetwork;
+/// use cidr_programs::log_programs::unmapping::asked_network;
+///
+/// let mapped = IpNetwork::read_bytes(b"::ffff:10.0.0.0/104").unwrap();
+/// let network = IpNetwork::read_bytes(b"10.0.0.0/8").unwrap();
+/// assert_eq!(asked_network(true, mapped), network);
+/// assert_eq!(asked_network(false, mapped), mapped);
+/// ```
+#[inline(always)]
+pub fn asked_network(mapped: bool, network: IpNetwork) -> IpNetwork {
+    if mapped {
+        unmapped_network(network)
+    } else {
+        network
+    }
+}
+
+// Returns the IPv4 network of a network whose addresses are all IPv4-mapped, or any other
+// unchanged.
+fn unmapped_network(network: IpNetwork) -> IpNetwork {
+    let prefix = network.prefix();
+    if prefix < 96 {
+        return network;
+    }
+    match network.ip().to_canonical() {
+        IpAddr::V4(address) => {
+            IpNetwork::new(IpAddr::V4(address), prefix - 96).unwrap_or(network)
+        }
+        IpAddr::V6(_) => network,
+    }
+}
