@@ -48,7 +48,6 @@ use Rattle.cidr_filter.proofs.Spent.{below_within}
 -- what ends a run does not depend on the name that is printed for a log
 halts_same : (filter : Filter) (known : KnownLists) (name : List ℕ) (lines : List LogLine) (fault : LogFault) → HaltsBy (EndsRunBy (filter_for filter name)) known name lines fault
     → HaltsBy (EndsRunBy filter) known name lines fault
-halts_same filter known name lines (faults.Open cause) h = absurd h.0
 halts_same filter known name lines faults.Read h = h
 halts_same filter known name lines faults.Write h = h
 halts_same filter known name lines faults.Address h =
@@ -93,7 +92,6 @@ module _ {W E : Type 0} (filter : Filter) (known : KnownLists) (name : List ℕ)
   pub name_stops : (fault : LogFault) → HaltsBy (EndsRunBy (filter_for filter name)) known name lines fault
       → IfWrite fault (IsTrue mid.failed × WritesBeginning (filter_for filter name) start (stand mid new) lines) (FiltersLines (filter_for filter name) start (stand mid new) lines)
       → StopsBy (codes "cidr_filter") name new.seen.lines fault (record end { output = mid; errors = between }) → StopsLogs filter known (name ∷ []) end
-  name_stops (faults.Open cause) halts d stops = handed (faults.Open cause) halts (λ text h. h) d d.below stops
   name_stops faults.Read halts d stops = handed faults.Read halts (λ text h. h) d d.below stops
   name_stops faults.Write halts d stops = had_failed halts d stops
   name_stops faults.Address halts d stops = handed faults.Address halts (λ text h. h) d d.below stops

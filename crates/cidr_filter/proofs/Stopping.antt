@@ -32,7 +32,6 @@ use Rattle.cidr_filter.proofs.Spent.{below_within, within_more}
 -- what stops the filtering at a line is not a failed read
 pub no_read_at_line : (T : Type 0) (filter : Filter) (line text : List ℕ) (write_failed : Bool) (old new : Stand) (fault : LogFault) → LineStops filter line text write_failed old new fault
     → ended_by_read {T = T} (Err fault) ≡ false
-no_read_at_line T filter line text write_failed old new (faults.Open cause) h = absurd h
 no_read_at_line T filter line text write_failed old new faults.Read h = absurd h
 no_read_at_line T filter line text write_failed old new faults.Write h = refl
 no_read_at_line T filter line text write_failed old new faults.Address h = refl
@@ -97,7 +96,6 @@ module _ (filter : Filter) (was now : LogReader) (remained before after : Option
     pub line_stops : (read_failed write_failed : Bool) (fault : LogFault)
         → LineStops filter line (whole ++ feed_behind end) write_failed between new fault
         → Stops filter remained after read_failed write_failed old new fault
-    line_stops read_failed write_failed (faults.Open cause) h = absurd h
     line_stops read_failed write_failed faults.Read h = absurd h
     line_stops read_failed write_failed faults.Write h =
         let judged = subst (λ l. IsVerdict filter l h.1) same h.2 in (

@@ -90,7 +90,6 @@ FiltersLogs filter known (name ∷ names) output selected told missed = (added :
 -- when a log ends the run by this fault, this number of its lines may be selected: fewer than `most`, or, if a write
 -- failed, at most that many
 abbrev pub is_short : LogFault → Option ℕ → ℕ → Bool
-is_short (faults.Open cause) most count = is_below most count
 is_short faults.Read most count = is_below most count
 is_short faults.Write most count = is_within most count
 is_short faults.Address most count = is_below most count
@@ -100,7 +99,6 @@ is_short faults.Endless most count = is_below most count
 -- this line, given without its end, ends the run by this fault: it has no address, or is too long, and `--bad stop` is
 -- given
 abbrev pub EndsRunBy : Filter → LogFault → List ℕ → Type 0
-EndsRunBy filter (faults.Open cause) line = ⊥
 EndsRunBy filter faults.Read line = ⊥
 EndsRunBy filter faults.Write line = ⊥
 EndsRunBy filter faults.Address line = IsVerdict filter line verdicts.NoAddress

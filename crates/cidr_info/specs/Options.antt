@@ -16,7 +16,8 @@ json = 1
 abbrev pub entries : List Entry
 entries = long (codes "--in") kinds.Text true (codes "not a network") ∷ long_flag (codes "--json")
     ∷ alone (codes "--help") (codes "not the only argument")
-    ∷ alone (codes "--version") (codes "not the only argument") ∷ []
+    ∷ alone (codes "--version") (codes "not the only argument")
+    ∷ alone (codes "--quiet") (codes "taken only once, as the first word") ∷ []
 
 -- `--in` may be given only once, and not together with `--json`
 abbrev pub pairs : List (ℕ × ℕ × List ℕ)

@@ -107,7 +107,6 @@ module _ (join : Join) (old : Stand) where
 -- what stops the joining at a line is not a failed read
 pub no_read_at_line : (T : Type 0) (join : Join) (line text : List ℕ) (write_failed : Bool) (old new : Stand) (fault : LogFault) → LineStops join line text write_failed old new fault
     → ended_by_read {T = T} (Err fault) ≡ false
-no_read_at_line T join line text write_failed old new (faults.Open cause) h = absurd h
 no_read_at_line T join line text write_failed old new faults.Read h = absurd h
 no_read_at_line T join line text write_failed old new faults.Write h = refl
 no_read_at_line T join line text write_failed old new faults.Address h = refl
@@ -157,7 +156,6 @@ module _ {W : Type 0} (join : Join) (was now : LogReader) (remained before after
       pub line_stops : (new : Stand) (read_failed write_failed : Bool) (fault : LogFault)
           → LineStops join line (whole ++ feed_behind end) write_failed (stand between seen) new fault
           → Stops join remained after read_failed write_failed old new fault
-      line_stops new read_failed write_failed (faults.Open cause) h = absurd h
       line_stops new read_failed write_failed faults.Read h = absurd h
       line_stops new read_failed write_failed faults.Write h =
           let next = log_line (line_of now) end in

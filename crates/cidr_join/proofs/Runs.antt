@@ -85,7 +85,6 @@ module _ {W E : Type 0} (join : Join) (known : KnownLists) (name : List ℕ) (en
   pub name_stops : (fault : LogFault) → HaltsBy (EndsRunBy join) known name lines fault
       → IfWrite fault (IsTrue mid.failed × WritesBeginning join (begun (stand end.output old)) (stand mid new) lines) (JoinsLines join (begun (stand end.output old)) (stand mid new) lines)
       → StopsBy (codes "cidr_join") name new.lines fault (record end { output = mid; errors = between }) → StopsAtLog join known (name ∷ []) end
-  name_stops (faults.Open cause) halts d stops = absurd halts.0
   name_stops faults.Read halts d stops = handed faults.Read halts (λ text h. h) d stops
   name_stops faults.Write halts d stops = had_failed halts d stops
   name_stops faults.Address halts d stops = handed faults.Address halts (λ text h. h) d stops

@@ -101,7 +101,6 @@ module _ (founds : List Found) where
 pub counting_breaks : {W : Type 0} (join : Join) (Done : List LogLine → Type 0) (was now : LogReader) (remained before after : Option (List ℕ)) (s : ReadsSoFar Done was remained before) (read_failed : Bool)
     (old new : Written W) (fault : LogFault) → Breaks remained after read_failed old new s.first fault → StopsCounting join Done remained after read_failed (tally_fault fault)
 counting_breaks join Done was now remained before after s read_failed old new faults.Write h = tt
-counting_breaks join Done was now remained before after s read_failed old new (faults.Open cause) h = absurd h
 counting_breaks join Done was now remained before after s read_failed old new faults.Read h =
     breaks Done Done was now remained before after s (EndsRunBy join) Done old new (λ put. s.is_done) (λ took. s.is_done) read_failed faults.Read h
 counting_breaks join Done was now remained before after s read_failed old new faults.Address h = absurd h
@@ -113,7 +112,6 @@ counting_breaks join Done was now remained before after s read_failed old new fa
 pub line_not_counted : (founds : List Found) (join : Join) (was now : LogReader) (remained before after : Option (List ℕ)) (old mid new : Counts) (among is : LogStats)
     (s : ReadsSoFar (CountsLines founds join old mid among) was remained before) (end : LineEnd) (given : GivesNext now remained after s.first (Line end)) (line : List ℕ) → line ≡ line_of now
     → (failed : Bool) (fault : TallyFault) → LineNotCounted join line mid new among is fault → StopsCounting join (CountsLines founds join old new is) remained after failed fault
-line_not_counted founds join was now remained before after old mid new among is s end given line same failed (tallies.Log (faults.Open cause)) h = absurd h
 line_not_counted founds join was now remained before after old mid new among is s end given line same failed (tallies.Log faults.Read) h = absurd h
 line_not_counted founds join was now remained before after old mid new among is s end given line same failed (tallies.Log faults.Write) h = absurd h
 line_not_counted founds join was now remained before after old mid new among is s end given line same failed (tallies.Log faults.Address) h =
@@ -127,7 +125,6 @@ line_not_counted founds join was now remained before after old mid new among is 
 
 pub not_read_at_line : (T : Type 0) (join : Join) (line : List ℕ) (old new : Counts) (was is : LogStats) (fault : TallyFault) → LineNotCounted join line old new was is fault
     → ended_by_read {T = T} (Err fault) ≡ false
-not_read_at_line T join line old new was is (tallies.Log (faults.Open cause)) h = absurd h
 not_read_at_line T join line old new was is (tallies.Log faults.Read) h = absurd h
 not_read_at_line T join line old new was is (tallies.Log faults.Write) h = absurd h
 not_read_at_line T join line old new was is (tallies.Log faults.Address) h = refl
@@ -136,7 +133,6 @@ not_read_at_line T join line old new was is (tallies.Log faults.Endless) h = abs
 not_read_at_line T join line old new was is tallies.OutOfMemory h = refl
 
 pub reads_same : (T A : Type 0) (fault : LogFault) → logs.ended_by_read {T = T} (Err fault) ≡ ended_by_read {T = A} (Err (tally_fault fault))
-reads_same T A (faults.Open cause) = refl
 reads_same T A faults.Read = refl
 reads_same T A faults.Write = refl
 reads_same T A faults.Address = refl

@@ -67,7 +67,6 @@ module _ (join : Join) (known : KnownLists) where
 
     pub name_stops : (fault : TallyFault) → StopsCounting join (CountsLines founds join old new seen) remained remains failed fault
         → StopsTally join known (name ∷ []) (tally_fault_text join.bad name seen fault)
-    name_stops (tallies.Log (faults.Open cause)) h = absurd h
     name_stops (tallies.Log faults.Read) h = halted faults.Read refl h (halts_by known name remained remains has opened (EndsRunBy join) (CountsLines founds join old new seen) (λ (lines : List LogLine). ⊥) failed false fails faults.Read h)
     name_stops (tallies.Log faults.Write) h = absurd h.1.is_done
     name_stops (tallies.Log faults.Address) h = halted faults.Address refl h (halts_by known name remained remains has opened (EndsRunBy join) (CountsLines founds join old new seen) (λ (lines : List LogLine). ⊥) failed false fails faults.Address h)

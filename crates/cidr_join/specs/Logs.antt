@@ -45,7 +45,6 @@ JoinsLogs join known names output told missed = ReadsLogs (Joins join) join know
 -- this line, given without its end, ends the run by this fault: it has no address, or is too long, and `--bad stop` is
 -- given
 abbrev pub EndsRunBy : Join → LogFault → List ℕ → Type 0
-EndsRunBy join (faults.Open cause) line = ⊥
 EndsRunBy join faults.Read line = ⊥
 EndsRunBy join faults.Write line = ⊥
 EndsRunBy join faults.Address line = (length line ≤ 1048576) × (network_in join line ≡ None)

@@ -41,7 +41,8 @@ entries = rows.shared
     ∷ long_flag (codes "--tally")
     ∷ long (codes "--group") kinds.Lengths true (codes "not N,M with N up to 32 and M up to 128")
     ∷ long (codes "--bad") kinds.Rule true (codes "not drop, keep, stop or report")
-    ∷ long_flag (codes "--zero") ∷ long_flag (codes "--skip-bad") ∷ long_flag (codes "--networks") ∷ []
+    ∷ long_flag (codes "--zero") ∷ long_flag (codes "--skip-bad") ∷ long_flag (codes "--networks")
+    ∷ rows.late_quiet ∷ []
 
 -- the pairs of options that may not be given together: some options for where addresses are looked for, `--tally` with
 -- `--last`, two `-f`, and `--group` with `-f` or an option about its list. If several pairs are given, the first is

@@ -91,7 +91,6 @@ fn tally_fault(fault: LogFault) -> TallyFault
     ensures { result ≡ tally_fault fault }
 {
     match fault {
-        LogFault::Open(cause) => TallyFault::Log(LogFault::Open(cause)),
         LogFault::Read => TallyFault::Log(LogFault::Read),
         LogFault::Write => TallyFault::OutOfMemory,
         LogFault::Address => TallyFault::Log(LogFault::Address),

@@ -11,7 +11,6 @@ use Rattle.log_programs.specs.LogEnds.{EndsOrStops}
 -- ---- a fault, whatever the type of the result without one
 
 alike : (A T : Type 0) (fault : LogFault) → (ended_by_read {T = A} (Err fault) ≡ ended_by_read {T = T} (Err fault)) × (ended_by_write {T = A} (Err fault) ≡ ended_by_write {T = T} (Err fault))
-alike A T (faults.Open cause) = (refl, refl)
 alike A T faults.Read = (refl, refl)
 alike A T faults.Write = (refl, refl)
 alike A T faults.Address = (refl, refl)

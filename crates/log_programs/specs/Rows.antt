@@ -39,6 +39,11 @@ shared =
     ∷ alone (codes "--version") (codes "not the only argument")
     ∷ long (codes "--nth") kinds.Nth true (codes "not first, last or a number from 1 up") ∷ []
 
+-- the last row, behind those of a program: `--quiet` as the first word is taken off before the options are read, so that
+-- one that is found stands behind another word
+abbrev pub late_quiet : Entry
+late_quiet = alone (codes "--quiet") (codes "taken only once, as the first word")
+
 -- the pairs that exclude each other: `--after` with `-a`, `-w`, `-k` or `-d`, and `-w` with `-d`
 abbrev pub together : List (ℕ × ℕ × List ℕ)
 together =

@@ -2,6 +2,7 @@
 //! fails, nothing else changes.
 ghost use Rattle.std.specs.Prelude.{◌≡◌, ◌++◌, ◌&&◌, [], not, nat_lt, codes, decimal, if◌then◌else◌};
 ghost use Rattle.program.specs.Messages.{Reports};
+ghost use Rattle.program.specs.Usage.{shown};
 ghost use Rattle.log_programs.specs.Closed.{closed_text};
 ghost use Rattle.log_programs.specs.Lacking.{lacking_told, no_address_text, needed, needed_text, part_text};
 ghost use Rattle.log_programs.specs.Seen.{counts_text, is_missed, long_text, seen_text};
@@ -14,6 +15,7 @@ use lines::output::Output;
 use lists::OpenFault;
 use program::log_fault::tell_fault_of;
 use program::messages::{tell, tell_head, tell_number};
+use program::usage::tell_shown;
 use std::io::Write;
 
 /// Reports, in the name of a program, that no line of the log of this name has an address in this
@@ -111,17 +113,10 @@ fn tell_nth<E: Write>(text: &str, number: u32, errors: &mut Output<'_, E>)
 
 // Reports the text after which the address is searched.
 fn tell_after<E: Write>(text: &Text<'_>, errors: &mut Output<'_, E>)
-    ensures { Reports errors.old errors.new (codes "after " ++ text.now) }
+    ensures { Reports errors.old errors.new (codes "after " ++ shown text.now) }
 {
     tell("after ", errors);
-    tell_bytes(text.bytes(), errors);
-}
-
-// Writes bytes to the error writer, as `tell` writes a text.
-fn tell_bytes<E: Write>(bytes: &[u8], errors: &mut Output<'_, E>)
-    ensures { Reports errors.old errors.new bytes.now }
-{
-    let _ = errors.put(bytes);
+    tell_shown(text.bytes(), errors);
 }
 
 /// Returns whether a line is missed: a line is too long, and such lines are not dropped.

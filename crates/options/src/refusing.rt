@@ -9,7 +9,7 @@ use crate::items::Text;
 use crate::table::Row;
 use lines::output::Output;
 use program::ending::FAILED;
-use program::messages::tell;
+use program::messages::{tell, tell_bytes};
 use program::usage::tell_shown;
 use std::io::Write;
 
@@ -82,13 +82,6 @@ fn tell_option<E: Write>(rows: &[Row], row: usize, errors: &mut Output<'_, E>)
         Some(letter) => tell_bytes(&[b'-', letter], errors),
         None => tell(row.name, errors),
     }
-}
-
-// Writes bytes to the error writer, as `tell` writes a text.
-fn tell_bytes<E: Write>(bytes: &[u8], errors: &mut Output<'_, E>)
-    ensures { Reports errors.old errors.new bytes.now }
-{
-    let _ = errors.put(bytes);
 }
 
 // Writes a text to the error writer.

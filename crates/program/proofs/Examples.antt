@@ -12,11 +12,13 @@ use Rattle.lists.specs.KnownLists.{KnownLists}
 use Rattle.lists.specs.Private.Readings.{end_of}
 use Rattle.lists.specs.Reading.{ReadsList, StopsAt, StopsAtText}
 use Rattle.program.specs.Endings.{unwritten_text}
+use Rattle.program.specs.LogFaults.{line_text, log_fault_text}
 use Rattle.program.specs.Runs.{text_asked}
 use Rattle.program.specs.Reported.{fault_text, more_text}
 use Rattle.program.specs.Usage.{shown, fault_of, arguments_text}
 use Rattle.program.specs.Words.{is, is_only, begins_with, without_first}
 use Rattle.program.specs.declared.arguments.ArgumentsFault.TheVariants as arguments
+use Rattle.program.specs.declared.log_fault.LogFault.TheVariants as logs
 use Rattle.lists.specs.declared.named.ReadFault.TheVariants.{Open, Read, OutOfMemory}
 use Rattle.lists.specs.declared.opening.OpenFault.{OpenFault}
 use Rattle.lists.specs.declared.opening.OpenFault.TheVariants as causes
@@ -102,6 +104,13 @@ arguments_without_memory = refl
 -- memory that ran out is no argument that is not UTF-8, nor is that one the other
 pub why_arguments_cannot_be_read : map fault_of (kinds.OutOfMemory ∷ kinds.InvalidData ∷ []) ≡ arguments.OutOfMemory ∷ arguments.NotText ∷ []
 why_arguments_cannot_be_read = refl
+
+pub a_name_as_it_is_shown : line_text (codes "p") (97 ∷ 10 ∷ 27 ∷ []) 6 (codes "address") ≡ codes "p: a\\x0a\\x1b:7: refused address\n"
+unfolding digits
+a_name_as_it_is_shown = refl
+
+pub no_name_as_it_is_shown : log_fault_text (codes "p") [] 6 logs.Read ≡ codes "p: '': cannot read\n"
+no_name_as_it_is_shown = refl
 
 -- ---- what the program says of itself
 

@@ -57,16 +57,15 @@ ended_first read = ended_before (slice_split (λ b. b == 10) read)
 -- what the first lines of a log are, whatever ends it
 pub some_first : (Ends : LogFault → List ℕ → Type 0) (known : KnownLists) (name : List ℕ) (lines : List LogLine) (fault : LogFault)
     → HaltsBy Ends known name lines fault → HaltsBy Ends known name lines faults.Write
-some_first Ends known name lines (faults.Open cause) h = ([], [], (λ input e. (input, refl)), sym (ap (λ ls. ls ++ []) h.1))
 some_first Ends known name lines faults.Read h =
     let ended = ended_first h.0 in
-    (h.0, ended.0, h.1, ended.1 ∙ ap (λ ls. ls ++ ended.0) (sym h.2))
+    (h.0, ended.0, h.1, ended.1 ∙ ap (λ ls. ls ++ ended.0) (sym h.2), h.3)
 some_first Ends known name lines faults.Write h = h
-some_first Ends known name lines faults.Address h = (h.0.read, h.0.line ∷ h.0.others, h.0.is_first, h.0.are)
-some_first Ends known name lines faults.Length h = (h.0.read, h.0.line ∷ h.0.others, h.0.is_first, h.0.are)
+some_first Ends known name lines faults.Address h = (h.0.read, h.0.line ∷ h.0.others, h.0.is_first, h.0.are, h.1)
+some_first Ends known name lines faults.Length h = (h.0.read, h.0.line ∷ h.0.others, h.0.is_first, h.0.are, h.1)
 some_first Ends known name lines faults.Endless h =
     let ended = ended_first h.0 in
-    (h.0, ended.0, (λ input e. first_part h.0 h.1 input (h.2 input e)), ended.1 ∙ ap (λ ls. ls ++ ended.0) (sym h.4))
+    (h.0, ended.0, (λ input e. first_part h.0 h.1 input (h.2 input e)), ended.1 ∙ ap (λ ls. ls ++ ended.0) (sym h.4), h.5)
 
 -- ---- the names
 

@@ -47,7 +47,6 @@ module _ (Done More : List LogLine → Type 0) (was now : LogReader) (remained b
   pub breaks : {W : Type 0} (Ends : LogFault → List ℕ → Type 0) (Unwritten : List LogLine → Type 0) (old new : Written W) → (Prints old new [] → More s.first) → (FailsIn old new [] → Unwritten s.first)
       → (read_failed : Bool) (fault : LogFault) → Breaks remained after read_failed old new s.first fault
       → StopsReading Ends More Unwritten remained after read_failed new.failed fault
-  breaks Ends Unwritten old new more lost read_failed (faults.Open cause) h = absurd h
   breaks Ends Unwritten old new more lost read_failed faults.Read h = (h.0, h.2, h.3, subst More (sym h.4) (more h.1))
   breaks Ends Unwritten old new more lost read_failed faults.Write h =
       (h.0, record { read = h.2; first = s.first; others = h.3; reads = h.4; lines = h.5; is_done = lost h.1 })
@@ -81,11 +80,10 @@ module _ (known : KnownLists) (name : List ℕ) (remained remains : Option (List
   pub halts_by : (Ends : LogFault → List ℕ → Type 0) (Done Unwritten : List LogLine → Type 0) (read_failed write_failed : Bool) → (IsTrue read_failed → known.may_fail name)
       → (fault : LogFault) → StopsReading Ends Done Unwritten remained remains read_failed write_failed fault
       → (lines : List LogLine) × HaltsBy Ends known name lines fault × IfWrite fault (IsTrue write_failed × Unwritten lines) (Done lines)
-  halts_by Ends Done Unwritten read_failed write_failed fails (faults.Open cause) h = absurd h
   halts_by Ends Done Unwritten read_failed write_failed fails faults.Read h =
       (ended_lines h.1, (h.1, first_of known name remained remains has h.1 h.2, refl, opened, fails h.0), h.3)
   halts_by Ends Done Unwritten read_failed write_failed fails faults.Write h =
-      (h.1.first, (h.1.read, h.1.others, first_of known name remained remains has h.1.read h.1.reads, h.1.lines), (h.0, h.1.is_done))
+      (h.1.first, (h.1.read, h.1.others, first_of known name remained remains has h.1.read h.1.reads, h.1.lines, opened), (h.0, h.1.is_done))
   halts_by Ends Done Unwritten read_failed write_failed fails faults.Address h =
       (h.first, (line_halts (Ends faults.Address) h.first h.line h.next h.is_so, opened), h.is_done)
   halts_by Ends Done Unwritten read_failed write_failed fails faults.Length h =

@@ -6,6 +6,7 @@ use Rattle.std.proofs.KnownBytes.{Appends-trans}
 use Rattle.lines.specs.Outputs.{Written, Puts, AppendsBeginning, Prints, Writes, FailsIn}
 use Rattle.lines.proofs.Putting.{begins_after_puts}
 use Rattle.program.specs.Endings.{Ending, HasTold, HasWritten}
+use Rattle.program.specs.Usage.{shown}
 use Rattle.program.specs.LogFaults.{line_text, log_fault_text, FailsWriting, Wrote, HandsOn, StopsBy}
 use Rattle.program.specs.declared.log_fault.LogFault.{LogFault}
 use Rattle.program.specs.declared.log_fault.LogFault.TheVariants as faults
@@ -16,10 +17,9 @@ use Rattle.program.specs.declared.log_fault.LogFault.TheVariants as faults
 told_line : (program name cause : List ℕ) (lines count : ℕ) → lines ≡ min count (2 ^ 64 - 1) → line_text program name lines cause ≡ line_text program name count cause
 told_line program name cause lines count e =
     let same : min (lines + 1) (2 ^ 64 - 1) ≡ min (count + 1) (2 ^ 64 - 1) = omega (arith, e) in
-    ap (λ n. program ++ codes ": " ++ name ++ codes ":" ++ decimal n ++ codes ": refused " ++ cause ++ codes "\n") same
+    ap (λ n. program ++ codes ": " ++ shown name ++ codes ":" ++ decimal n ++ codes ": refused " ++ cause ++ codes "\n") same
 
 pub told_log : (program name : List ℕ) (lines count : ℕ) (fault : LogFault) → lines ≡ min count (2 ^ 64 - 1) → log_fault_text program name lines fault ≡ log_fault_text program name count fault
-told_log program name lines count (faults.Open cause) e = refl
 told_log program name lines count faults.Read e = refl
 told_log program name lines count faults.Write e = refl
 told_log program name lines count faults.Address e = told_line program name (codes "address") lines count e
@@ -27,7 +27,6 @@ told_log program name lines count faults.Length e = told_line program name (code
 told_log program name lines count faults.Endless e = refl
 
 pub stops_else : {W E : Type 0} (program name : List ℕ) (lines : ℕ) (fault : LogFault) (end : Ending W E) → ¬ (fault ≡ faults.Write) → HandsOn program name lines fault end → StopsBy program name lines fault end
-stops_else program name lines (faults.Open cause) end not h = h
 stops_else program name lines faults.Read end not h = h
 stops_else program name lines faults.Write end not h = absurd (not refl)
 stops_else program name lines faults.Address end not h = h
@@ -78,7 +77,6 @@ failed_behind end mid added p h = (
 pub wrote_behind : {W E : Type 0} (fault : LogFault) (end : Ending W E) (mid : Written W) (between : Written E) (output text : List ℕ)
     → Prints end.output mid output
     → Wrote fault (record end { output = mid; errors = between }) text → Wrote fault end (output ++ text)
-wrote_behind (faults.Open cause) end mid between output text p h = puts_then_all _ _ _ _ _ output text p h
 wrote_behind faults.Read end mid between output text p h = puts_then_all _ _ _ _ _ output text p h
 wrote_behind faults.Write end mid between output text p h = (h.0, begins_after_puts _ _ _ _ _ output text p h.1)
 wrote_behind faults.Address end mid between output text p h = puts_then_all _ _ _ _ _ output text p h

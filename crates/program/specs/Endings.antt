@@ -25,7 +25,7 @@ write_cause kind = codes ": cannot write\n"
 
 -- what is reported, in the name of a program, about a write to standard output that failed for this cause
 abbrev pub unwritten_text : List ℕ → ErrorKind → List ℕ
-unwritten_text program kind = program ++ codes ": " ++ codes "standard output" ++ write_cause kind
+unwritten_text program kind = program ++ codes ": standard output" ++ write_cause kind
 
 -- how a run ended: its output and its error output, before and after the run, and its exit status
 pub record Ending (W E : Type 0) : Type 0 where

@@ -1,5 +1,5 @@
 -- Bytes as they are printed, with the control characters that a terminal obeys escaped.
-use Rattle.std.specs.Prelude.{ℕ, ◌+◌, ◌-◌, ◌/◌, ◌%◌, ◌==◌, ◌&&◌, ◌||◌, Bool, not, List, [], ◌∷◌, ◌++◌, nat_lt, nat_le}
+use Rattle.std.specs.Prelude.{ℕ, ◌+◌, ◌/◌, ◌%◌, ◌==◌, ◌&&◌, ◌||◌, Bool, not, List, [], ◌∷◌, ◌++◌, nat_lt, nat_le}
 use Rattle.std.specs.Prelude.{if◌then◌else◌, codes}
 
 -- the byte is from 128 to 159: a control character from U+0080 to U+009F, or the second byte of one in UTF-8

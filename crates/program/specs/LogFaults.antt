@@ -2,8 +2,8 @@
 use Rattle.std.specs.Prelude.{◌≡◌, ℕ, ◌+◌, ◌-◌, ◌^◌, ◌⊎◌, min, Bool, true, false, List, [], ◌++◌, codes, decimal}
 use Rattle.std.specs.Prelude.{Result, Err}
 use Rattle.lines.specs.Outputs.{FailsIn}
-use Rattle.lists.specs.Opening.{open_fault_text}
 use Rattle.program.specs.Endings.{Ending, HasTold, HasWritten}
+use Rattle.program.specs.Usage.{shown}
 use Rattle.program.specs.declared.log_fault.LogFault.{LogFault}
 use Rattle.program.specs.declared.log_fault.LogFault.TheVariants as faults
 
@@ -17,20 +17,20 @@ abbrev pub ended_by_write : {T : Type 0} → Result T LogFault → Bool
 ended_by_write (Err faults.Write) = true
 ended_by_write _ = false
 
--- what is reported about a refused line that comes after `before` others: the program, the name of the file, the number
+-- what is reported about a refused line that comes after `before` others: the program, the name of the file as
+-- messages show it, the number
 -- of the line, of at most 64 bits, and the cause
 abbrev pub line_text : List ℕ → List ℕ → ℕ → List ℕ → List ℕ
-line_text program name before cause = program ++ codes ": " ++ name ++ codes ":"
+line_text program name before cause = program ++ codes ": " ++ shown name ++ codes ":"
     ++ decimal (min (before + 1) (2 ^ 64 - 1)) ++ codes ": refused " ++ cause ++ codes "\n"
 
 -- what is reported about a log that was not read to its end, after `before` of its lines
 abbrev pub log_fault_text : List ℕ → List ℕ → ℕ → LogFault → List ℕ
-log_fault_text program name before (faults.Open cause) = program ++ codes ": " ++ name ++ open_fault_text cause
-log_fault_text program name before faults.Read = program ++ codes ": " ++ name ++ codes ": cannot read\n"
+log_fault_text program name before faults.Read = program ++ codes ": " ++ shown name ++ codes ": cannot read\n"
 log_fault_text program name before faults.Write = program ++ codes ": write error\n"
 log_fault_text program name before faults.Address = line_text program name before (codes "address")
 log_fault_text program name before faults.Length = line_text program name before (codes "length")
-log_fault_text program name before faults.Endless = program ++ codes ": " ++ name ++ codes ": too long\n"
+log_fault_text program name before faults.Endless = program ++ codes ": " ++ shown name ++ codes ": too long\n"
 
 -- the writer has failed, and took a beginning of what waited and of the text
 abbrev pub FailsWriting : {W E : Type 0} → Ending W E → List ℕ → Type 0

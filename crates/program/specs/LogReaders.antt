@@ -86,8 +86,6 @@ GivesNext new remained remains first End = (read : List ℕ) × Consumes remaine
 -- were handed out
 abbrev pub Breaks : {W : Type 0} → Option (List ℕ) → Option (List ℕ) → Bool → Written W → Written W → List LogLine
     → LogFault → Type 0
--- this fault does not occur: the log is open
-Breaks remained remains read_failed old new first (faults.Open cause) = ⊥
 -- a read failed, nothing was put into the output, and `first` are the lines of what was read that have their line feed
 Breaks remained remains read_failed old new first faults.Read = IsTrue read_failed × Prints old new []
     × (read : List ℕ) × Consumes remained remains read × (ended_lines read ≡ first)

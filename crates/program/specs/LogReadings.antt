@@ -43,8 +43,6 @@ pub record ReadsToLine (Done : List LogLine → Type 0) (IsSo : List ℕ → Typ
 -- failed; `Ends` holds of a line, without its end, that ends the run by this fault
 abbrev pub StopsReading : (LogFault → List ℕ → Type 0) → (List LogLine → Type 0) → (List LogLine → Type 0)
     → Option (List ℕ) → Option (List ℕ) → Bool → Bool → LogFault → Type 0
--- this fault does not occur: the log was opened
-StopsReading Ends Done Unwritten remained remains read_failed write_failed (faults.Open cause) = ⊥
 -- a read failed, and `Done` holds of the lines of what was read that have their line feed
 StopsReading Ends Done Unwritten remained remains read_failed write_failed faults.Read =
     IsTrue read_failed × (read : List ℕ) × Consumes remained remains read × Done (ended_lines read)

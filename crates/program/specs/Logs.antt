@@ -1,5 +1,5 @@
 -- Logs that are read one after another.
-use Rattle.std.specs.Prelude.{◌≡◌, ℕ, ◌-◌, ◌^◌, ◌<◌, true, false, List, [], ◌∷◌, ◌++◌, length, Some}
+use Rattle.std.specs.Prelude.{◌≡◌, ℕ, ◌-◌, ◌^◌, ◌<◌, true, List, [], ◌∷◌, ◌++◌, length, Some}
 use Rattle.lines.specs.Parts.{IsBeginning}
 use Rattle.lists.specs.KnownLists.{KnownLists}
 use Rattle.program.specs.LogLines.{LogLine, log_lines, ended_lines, content, IsWhole}
@@ -28,18 +28,15 @@ pub record StopsAfter (known : KnownLists) (name : List ℕ) (lines : List LogLi
   pub is_so : IsSo (content line)
 
 -- what holds if this fault stops the reading of the log of this name after its first lines, `lines`; `Ends` holds of
--- what ends a run by the fault: a line without its end, or no bytes for a log that is not opened
+-- what ends a run by the fault: a line, without its end
 abbrev pub HaltsBy : (LogFault → List ℕ → Type 0) → KnownLists → List ℕ → List LogLine → LogFault → Type 0
--- the log was not opened, for this cause, and none of its lines was read
-HaltsBy Ends known name lines (faults.Open cause) = Ends (faults.Open cause) [] × (lines ≡ [])
-    × known.may_open name false × known.may_miss name cause
 -- a read failed, and `lines` are the lines of what was read that have their line feed
 HaltsBy Ends known name lines faults.Read =
     (read : List ℕ) × IsFirstOf known name read × (lines ≡ ended_lines read) × known.may_open name true
     × known.may_fail name
 -- a write failed, and `lines` are the first lines of what was read
 HaltsBy Ends known name lines faults.Write = (read : List ℕ) × (others : List LogLine) × IsFirstOf known name read
-    × (log_lines read ≡ lines ++ others)
+    × (log_lines read ≡ lines ++ others) × known.may_open name true
 -- a line without an address ended the run
 HaltsBy Ends known name lines faults.Address = StopsAfter known name lines (Ends faults.Address)
     × known.may_open name true

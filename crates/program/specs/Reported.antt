@@ -7,6 +7,7 @@ use Rattle.lists.specs.Faults.{line_fault_text}
 use Rattle.lists.specs.Opening.{open_fault_text}
 use Rattle.lists.specs.Refusals.{Refused}
 use Rattle.lists.specs.declared.refusals.Refusal.{Refusal}
+use Rattle.program.specs.Usage.{shown}
 use Rattle.lists.specs.declared.named.ReadFault.{ReadFault}
 use Rattle.lists.specs.declared.named.ReadFault.TheVariants.{Open, Read, Length, NotJson, OutOfMemory}
 
@@ -33,7 +34,7 @@ in_list refusal = (refusal.list, refusal.line)
 -- refused
 abbrev pub refusal_line : {Z : Type 0} → List ℕ → List (String Z) → (Refusal → ℕ × ℕ) → Refusal → List ℕ
 refusal_line program words place refusal =
-    program ++ codes ": " ++ name_at words (place refusal).0 ++ codes ":" ++ decimal (place refusal).1
+    program ++ codes ": " ++ shown (name_at words (place refusal).0) ++ codes ":" ++ decimal (place refusal).1
     ++ codes ": refused " ++ line_fault_text refusal.fault ++ codes "\n"
 
 -- what is reported about refused lines: each that was kept, and how many more there were
@@ -43,10 +44,10 @@ refusals_text program words place refused =
 
 -- what is reported about lists that were not read to the end
 abbrev pub fault_text : {Z : Type 0} → List ℕ → List (String Z) → ReadFault → List ℕ
-fault_text program words (Open place cause) = program ++ codes ": " ++ name_at words place ++ open_fault_text cause
-fault_text program words (Read place) = program ++ codes ": " ++ name_at words place ++ codes ": cannot read\n"
-fault_text program words (Length place) = program ++ codes ": " ++ name_at words place
+fault_text program words (Open place cause) = program ++ codes ": " ++ shown (name_at words place) ++ open_fault_text cause
+fault_text program words (Read place) = program ++ codes ": " ++ shown (name_at words place) ++ codes ": cannot read\n"
+fault_text program words (Length place) = program ++ codes ": " ++ shown (name_at words place)
     ++ codes ": more than 1,073,741,824 bytes\n"
-fault_text program words (NotJson place line) = program ++ codes ": " ++ name_at words place ++ codes ":" ++ decimal line
+fault_text program words (NotJson place line) = program ++ codes ": " ++ shown (name_at words place) ++ codes ":" ++ decimal line
     ++ codes ": not JSON, or more than 127 levels\n"
 fault_text program words OutOfMemory = program ++ codes ": out of memory\n"

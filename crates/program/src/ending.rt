@@ -5,7 +5,7 @@ ghost use Rattle.program.specs.Endings.{ending, status_of, end_text, EndsPrintin
 ghost use Rattle.program.specs.Endings.{unwritten_text, write_cause};
 ghost use Rattle.program.specs.Messages.{Reports};
 
-use crate::messages::{tell, tell_head, tell_of};
+use crate::messages::{tell, tell_of};
 use lines::fault::RunFault;
 use lines::output::Output;
 use std::io::{ErrorKind, Write};
@@ -92,7 +92,7 @@ fn write_text<W: Write>(text: &str, output: &mut Output<'_, W>) -> Result<(), Ru
 pub fn tell_unwritten<E: Write>(program: &str, kind: ErrorKind, errors: &mut Output<'_, E>)
     ensures { Reports errors.old errors.new (unwritten_text program.now kind) }
 {
-    tell_head(program, "standard output", errors);
+    tell_of(program, ": standard output", errors);
     tell(write_cause(kind), errors);
 }
 

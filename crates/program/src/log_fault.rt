@@ -3,17 +3,15 @@ ghost use Rattle.std.specs.Prelude.{◌++◌, codes};
 ghost use Rattle.program.specs.Endings.{ending};
 ghost use Rattle.program.specs.LogFaults.{line_text, log_fault_text, StopsBy};
 ghost use Rattle.program.specs.Messages.{Reports};
+ghost use Rattle.program.specs.Usage.{shown};
 
 use crate::messages::{tell, tell_head, tell_number, tell_of};
 use lines::output::Output;
-use lists::OpenFault;
 use std::io::Write;
 
 /// Why a log was not read to its end.
 #[derive(Clone, Copy, Debug, PartialEq, Eq)]
 pub enum LogFault {
-    /// The log cannot be opened, for this cause.
-    Open(OpenFault),
     /// A read failed.
     Read,
     /// A write failed.
@@ -86,7 +84,6 @@ pub fn tell_log_fault<E: Write>(
     ensures { Reports errors.old errors.new (log_fault_text program.now name.now lines fault) }
 {
     match fault {
-        LogFault::Open(cause) => tell_fault_of(program, name, cause.text(), errors),
         LogFault::Read => tell_fault_of(program, name, ": cannot read\n", errors),
         LogFault::Write => tell_of(program, ": write error\n", errors),
         LogFault::Address => tell_line(program, name, lines, "address", errors),
@@ -95,7 +92,8 @@ pub fn tell_log_fault<E: Write>(
     }
 }
 
-/// Reports, in the name of a program, a text about what has this name.
+/// Reports, in the name of a program, a text about what has this name, which is shown as
+/// messages show words.
 ///
 /// ```
 /// let mut slice = [0; 64];
@@ -105,7 +103,7 @@ pub fn tell_log_fault<E: Write>(
 /// ```
 pub fn tell_fault_of<E: Write>(program: &str, name: &str, text: &str, errors: &mut Output<'_, E>)
     ensures { Reports errors.old errors.new
-        (program.now ++ codes ": " ++ name.now ++ text.now) }
+        (program.now ++ codes ": " ++ shown name.now ++ text.now) }
 {
     tell_head(program, name, errors);
     tell(text, errors);

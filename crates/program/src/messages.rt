@@ -1,7 +1,9 @@
 //! Messages on the error writer. If the write of one fails, nothing else changes.
 ghost use Rattle.std.specs.Prelude.{◌≡◌, ◌++◌, codes, decimal};
 ghost use Rattle.program.specs.Messages.{Reports};
+ghost use Rattle.program.specs.Usage.{shown};
 
+use crate::usage::tell_shown;
 use arrayvec::ArrayString;
 use ipnetwork_addr::decimal::push_number;
 use lines::output::Output;
@@ -52,7 +54,8 @@ pub fn tell_of<E: Write>(name: &str, text: &str, errors: &mut Output<'_, E>)
 }
 
 /// Writes the beginning of a message to the error writer: the program's name, `: ` and the name of
-/// what the message is about.
+/// what the message is about, as messages show words: an empty name as `''`, any other with
+/// control characters escaped.
 ///
 /// ```
 /// let mut slice = [0; 64];
@@ -61,11 +64,10 @@ pub fn tell_of<E: Write>(name: &str, text: &str, errors: &mut Output<'_, E>)
 /// assert_eq!(rt; errors.finish(), Ok(()));
 /// ```
 pub fn tell_head<E: Write>(program: &str, name: &str, errors: &mut Output<'_, E>)
-    ensures { Reports errors.old errors.new (program.now ++ codes ": " ++ name.now) }
+    ensures { Reports errors.old errors.new (program.now ++ codes ": " ++ shown name.now) }
 {
-    tell(program, errors);
-    tell(": ", errors);
-    tell(name, errors);
+    tell_of(program, ": ", errors);
+    tell_shown(name.as_bytes(), errors);
 }
 
 /// Writes a number in decimal to the error writer.

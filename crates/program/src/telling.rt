@@ -2,6 +2,7 @@
 ghost use Rattle.std.specs.Prelude.{◌≡◌, ◌++◌, ℕ, codes};
 ghost use Rattle.program.specs.Messages.{Reports};
 ghost use Rattle.program.specs.Reported.{name_at, refusal_line, refusals_text, more_text, fault_text};
+ghost use Rattle.program.specs.Usage.{shown};
 
 use crate::messages::{tell, tell_head, tell_number, tell_of};
 use crate::words::text_at;
@@ -103,7 +104,7 @@ fn tell_refusal<P: Places, E: Write>(
 // Writes the beginning of a message about the list that the word at this index names.
 fn tell_list<E: Write>(program: &str, words: &[String], place: usize, errors: &mut Output<'_, E>)
     ensures { Reports errors.old errors.new
-        (program.now ++ codes ": " ++ name_at words.now place) }
+        (program.now ++ codes ": " ++ shown (name_at words.now place)) }
 {
     tell_head(program, text_at(words, place), errors);
 }

@@ -39,7 +39,6 @@ RefusesLine filter line old new verdict =
 -- the line stops the filtering by this fault: it ends the run, or the writer failed and took a beginning of what waited
 -- and of the line's output
 abbrev pub LineStops : Filter → List ℕ → List ℕ → Bool → Stand → Stand → LogFault → Type 0
-LineStops filter line text write_failed old new (faults.Open cause) = ⊥
 LineStops filter line text write_failed old new faults.Read = ⊥
 LineStops filter line text write_failed old new faults.Write =
     IsTrue write_failed × (verdict : Verdict) × IsVerdict filter line verdict × (is_refused filter verdict ≡ false)

@@ -26,7 +26,6 @@ JoinsLine join line text old new = (found : Found) × Finds join (network_in joi
 -- the line stops the joining by this fault: the writer failed and took a beginning of what waited and of the line's
 -- output, or the line has no address and ends the run
 abbrev pub LineStops : Join → List ℕ → List ℕ → Bool → Stand → Stand → LogFault → Type 0
-LineStops join line text write_failed old new (faults.Open cause) = ⊥
 LineStops join line text write_failed old new faults.Read = ⊥
 LineStops join line text write_failed old new faults.Write =
     IsTrue write_failed × (found : Found) × Finds join (network_in join line) found

@@ -64,7 +64,6 @@ module _ (founds : List Found) where
 
 -- this fault stops the counting at the line: it has no address and ends the run, or memory ran out
 abbrev pub LineNotCounted : Join → List ℕ → Counts → Counts → LogStats → LogStats → TallyFault → Type 0
-LineNotCounted join line old new was is (tallies.Log (faults.Open cause)) = ⊥
 LineNotCounted join line old new was is (tallies.Log faults.Read) = ⊥
 LineNotCounted join line old new was is (tallies.Log faults.Write) = ⊥
 LineNotCounted join line old new was is (tallies.Log faults.Address) =
@@ -75,7 +74,6 @@ LineNotCounted join line old new was is tallies.OutOfMemory = Unit {0}
 
 -- the fault of a log as a fault of counting: output waits only in memory, so a write fails only if memory runs out
 abbrev pub tally_fault : LogFault → TallyFault
-tally_fault (faults.Open cause) = tallies.Log (faults.Open cause)
 tally_fault faults.Read = tallies.Log faults.Read
 tally_fault faults.Write = tallies.OutOfMemory
 tally_fault faults.Address = tallies.Log faults.Address
