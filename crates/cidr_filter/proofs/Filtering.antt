@@ -7,8 +7,8 @@ use Rattle.lines.proofs.Putting.{puts_more}
 use Rattle.program.proofs.Counts.{counts_more, counts_none}
 use Rattle.program.specs.Counts.{Counts}
 use Rattle.program.specs.LogLines.{LogLine, content, printed, feed_behind, log_line}
-use Rattle.program.specs.LogReaders.{HandsFirst, GivesNext, line_of, whole_of, hurries_of}
-use Rattle.program.specs.declared.log_reader.LogReader.{LogReader}
+use Rattle.program.specs.LogReaders.{HandsFirst, GivesNext, line_of, whole_of}
+use Rattle.program.specs.LogReaders.{OpenLog}
 use Rattle.program.specs.declared.log_reader.NextLogLine.TheVariants.{Line, TooLong}
 use Rattle.cidr_filter.specs.Addressed.{is_addressed, seen_of}
 use Rattle.log_programs.specs.LogStats.{nothing, with_long}
@@ -47,7 +47,7 @@ goes_still old mid new added count p q =
 -- ---- what was read so far
 
 module _ (filter : Filter) where
-  pub begins : (reader : LogReader) (remained : Option (List ℕ)) (old new : Stand) → Goes old new [] 0 → new.seen ≡ nothing
+  pub begins : (reader : OpenLog) (remained : Option (List ℕ)) (old new : Stand) → Goes old new [] 0 → new.seen ≡ nothing
       → HandsFirst reader remained remained [] → is_below filter.most 0 ≡ true → FiltersSoFar filter reader remained remained old new
   begins reader remained old new goes fresh hands below = record {
     first = [];
@@ -62,12 +62,12 @@ module _ (filter : Filter) where
     };
   }
 
-  pub begins_with : (reader : LogReader) (remained : Option (List ℕ)) (old new : Stand) → Goes old new [] 0 → new.seen ≡ nothing
+  pub begins_with : (reader : OpenLog) (remained : Option (List ℕ)) (old new : Stand) → Goes old new [] 0 → new.seen ≡ nothing
       → HandsFirst reader remained remained [] → is_spent filter.most ≡ false → FiltersWith filter reader remained remained old new filter.most
   unfolding begins
   begins_with reader remained old new goes fresh hands some = (begins reader remained old new goes fresh hands (none_below filter.most some), none_less filter.most)
 
-  module _ (was now : LogReader) (remained before after : Option (List ℕ)) (old mid between : Stand)
+  module _ (was now : OpenLog) (remained before after : Option (List ℕ)) (old mid between : Stand)
       (s : FiltersSoFar filter was remained before old mid) (idle : Goes mid between [] 0)
       (still : between.seen ≡ mid.seen) where
     -- one more line, whose output was put
@@ -154,7 +154,7 @@ module _ (filter : Filter) where
           )
 
     -- a line that is too long was dropped
-    pub after_long : (new : Stand) → GivesNext now remained after s.first TooLong → hurries_of now ≡ false
+    pub after_long : (new : Stand) → GivesNext now remained after s.first TooLong → now.hurries ≡ false
         → is_refused filter verdicts.TooLong ≡ false
         → Goes between new [] 0 → new.seen ≡ with_long between.seen → FiltersSoFar filter now remained after old new
     after_long new given stays passes goes seen =
@@ -163,7 +163,7 @@ module _ (filter : Filter) where
         goes (seen ∙ ap with_long (still ∙ s.is_done.seen) ∙ long_seen (is_addressed filter) s.first given.line (past_limit given.line given.long))
         (ap (λ (n : ℕ). is_below filter.most n) none ∙ s.is_done.below)
 
-    pub after_long_with : (new : Stand) (left : Option ℕ) → GivesNext now remained after s.first TooLong → hurries_of now ≡ false
+    pub after_long_with : (new : Stand) (left : Option ℕ) → GivesNext now remained after s.first TooLong → now.hurries ≡ false
         → is_refused filter verdicts.TooLong ≡ false
         → Goes between new [] 0 → new.seen ≡ with_long between.seen → left ≡ less filter.most s.is_done.count → FiltersWith filter now remained after old new left
     unfolding after_long one_more

@@ -11,7 +11,7 @@ use Rattle.program.specs.LogReadings.{ReadsFirst}
 use Rattle.program.proofs.LogReadings.{line_stops}
 use Rattle.program.specs.declared.log_fault.LogFault.{LogFault}
 use Rattle.program.specs.declared.log_fault.LogFault.TheVariants as faults
-use Rattle.program.specs.declared.log_reader.LogReader.{LogReader}
+use Rattle.program.specs.LogReaders.{OpenLog}
 use Rattle.program.specs.declared.log_reader.NextLogLine.TheVariants.{Line}
 use Rattle.cidr_filter.specs.Filters.{is_selected, is_within, one_if, output_of}
 use Rattle.cidr_filter.specs.Stands.{Stand, stand, begun, Goes}
@@ -40,7 +40,7 @@ err_both : {T F : Type 0} (A B : Type 0) (result : Result T F) → OnErr result 
 err_both A B (Ok done) a b = tt
 err_both A B (Err fault) a b = (a, b)
 
-module _ (filter : Filter) (log : LogReader) (remained after : Option (List ℕ)) (old last : Stand) where
+module _ (filter : Filter) (log : OpenLog) (remained after : Option (List ℕ)) (old last : Stand) where
   is_left : (result : Result Reached LogFault) → IfOk result (λ r. r ≡ reached.Last) → OnOk result (Leaves filter log remained after old last)
       → IfOk result (λ r. EndsBy r filter log remained after old last)
   is_left (Ok r) e h = subst (λ (r : Reached). EndsBy r filter log remained after old last) (sym e) h
@@ -56,7 +56,7 @@ by_no_read (Ok done) e = refl
 by_no_read {T} (Err fault) e = ap (λ (f : LogFault). ended_by_read {T = T} (Err f)) e
 
 -- a log that ended at one place, as one that ended at the same
-pub ended_at : (filter : Filter) (log : LogReader) (remained remains : Option (List ℕ)) (old new : Stand) (result : Result Reached LogFault) (one other : Reached) → result ≡ Ok one → one ≡ other
+pub ended_at : (filter : Filter) (log : OpenLog) (remained remains : Option (List ℕ)) (old new : Stand) (result : Result Reached LogFault) (one other : Reached) → result ≡ Ok one → one ≡ other
     → IfOk result (λ r. EndsBy r filter log remained remains old new) → EndsBy other filter log remained remains old new
 ended_at filter log remained remains old new result one other is same h =
     subst (λ (r : Reached). EndsBy r filter log remained remains old new) same
@@ -72,7 +72,7 @@ reads_still result false new e same = same ∙ sym (by_no_read result e)
 
 -- ---- at a line
 
-module _ {W : Type 0} (filter : Filter) (was now : LogReader) (remained before after : Option (List ℕ)) (old mid between : Stand)
+module _ {W : Type 0} (filter : Filter) (was now : OpenLog) (remained before after : Option (List ℕ)) (old mid between : Stand)
     (s : FiltersSoFar filter was remained before old mid) (idle : Goes mid between [] 0) (still : between.seen ≡ mid.seen)
     (output output_after : Written W) (tally : Tally) (end : LineEnd) (line whole : List ℕ) (given : GivesNext now remained after s.first (Line end))
     (is : line ≡ line_of now) (all : whole ≡ whole_of now) (selected : Bool) (f : FiltersLine filter line (whole ++ feed_behind end) selected between (stand output tally)) where
@@ -136,7 +136,7 @@ module _ {W : Type 0} (filter : Filter) (was now : LogReader) (remained before a
 
 -- ---- before the first line
 
-module _ {W : Type 0} (filter : Filter) (log : LogReader) (remained : Option (List ℕ)) (hands : HandsFirst log remained remained []) (output output_after : Written W) (was tally : Tally)
+module _ {W : Type 0} (filter : Filter) (log : OpenLog) (remained : Option (List ℕ)) (hands : HandsFirst log remained remained []) (output output_after : Written W) (was tally : Tally)
     (same : tally.selected ≡ was.selected) (fresh : tally.seen ≡ nothing) (most : filter.most ≡ Some 0) where
   abbrev old : Stand
   old = begun (stand output was)

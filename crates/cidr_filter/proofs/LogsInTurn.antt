@@ -17,7 +17,7 @@ use Rattle.program.specs.LogLines.{LogLine, log_lines, IsWhole}
 use Rattle.program.specs.Logs.{IsAllOf}
 use Rattle.program.specs.declared.log_fault.LogFault.{LogFault}
 use Rattle.program.specs.declared.log_fault.LogFault.TheVariants as faults
-use Rattle.program.specs.declared.log_reader.LogReader.{LogReader}
+use Rattle.program.specs.LogReaders.{OpenLog}
 use Rattle.cidr_filter.specs.Filters.{is_count, is_silent, name_head, LastIsSelected}
 use Rattle.cidr_filter.specs.Logs.{FiltersLogs, ReadsLog, LeavesLog, MissesLog, count_line, is_enough, filter_for, label_of}
 use Rattle.cidr_filter.specs.Runs.{StopsAtLog, StopsAtCount, StopsLogs}
@@ -128,7 +128,7 @@ module _ (filter : Filter) (known : KnownLists) where
     last_whole lines read reads (inr h) = inr (h.0, h.1, h.2, h.3, is_whole read h.1 reads h.4, h.5, h.6)
 
     -- a log that was left
-    pub name_left : (log : LogReader) → Leaves (filter_for filter name) log remained remains (stand_at output 0) (stand mid tally) → Reports errors before (seen_by filter name tally.seen)
+    pub name_left : (log : OpenLog) → Leaves (filter_for filter name) log remained remains (stand_at output 0) (stand mid tally) → Reports errors before (seen_by filter name tally.seen)
         → MatchOption result (StopsLogs filter known (name ∷ []) (ending output after errors last 2))
         (λ is. FiltersNames filter known (name ∷ []) is (stand_at output was) (stand_at after now) errors last)
     name_left log left tells =

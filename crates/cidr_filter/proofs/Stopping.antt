@@ -11,7 +11,7 @@ use Rattle.program.specs.LogReaders.{ComesNext, GivesNext, Breaks, line_of, whol
 use Rattle.program.specs.LogReadings.{ReadsToLine}
 use Rattle.program.specs.declared.log_fault.LogFault.{LogFault}
 use Rattle.program.specs.declared.log_fault.LogFault.TheVariants as faults
-use Rattle.program.specs.declared.log_reader.LogReader.{LogReader}
+use Rattle.program.specs.LogReaders.{OpenLog}
 use Rattle.program.specs.declared.log_reader.NextLogLine.TheVariants.{Line, TooLong, End}
 use Rattle.cidr_filter.specs.Filters.{IsVerdict, is_refused, is_selected, one_if, shown_of, output_of}
 use Rattle.cidr_filter.specs.Logs.{EndsRunBy}
@@ -38,7 +38,7 @@ no_read_at_line T filter line text write_failed old new faults.Address h = refl
 no_read_at_line T filter line text write_failed old new faults.Length h = refl
 no_read_at_line T filter line text write_failed old new faults.Endless h = absurd h
 
-module _ (filter : Filter) (was now : LogReader) (remained before after : Option (List ℕ)) (old mid between : Stand)
+module _ (filter : Filter) (was now : OpenLog) (remained before after : Option (List ℕ)) (old mid between : Stand)
     (s : FiltersSoFar filter was remained before old mid) (idle : Goes mid between [] 0) (seen : between.seen ≡ mid.seen) where
   still_goes : Goes old between s.is_done.added s.is_done.count
   still_goes = goes_still old mid between s.is_done.added s.is_done.count s.is_done.goes idle
@@ -126,7 +126,7 @@ module _ (filter : Filter) (was now : LogReader) (remained before after : Option
 
 -- ---- a log that is not read to its end
 
-module _ {W : Type 0} (filter : Filter) (was : LogReader) (remained before after : Option (List ℕ)) (old : Stand)
+module _ {W : Type 0} (filter : Filter) (was : OpenLog) (remained before after : Option (List ℕ)) (old : Stand)
     (mid new : Written W) (tally : Tally) (s : FiltersSoFar filter was remained before old (stand mid tally)) where
   unwritten : FailsIn mid new [] → WritesBeginning filter old (stand new tally) s.first
   unwritten took = record {

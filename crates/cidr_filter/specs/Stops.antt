@@ -8,7 +8,7 @@ use Rattle.cidr_filter.specs.Logs.{EndsRunBy}
 use Rattle.program.specs.LogLines.{LogLine}
 use Rattle.program.specs.LogReaders.{HandsFirst}
 use Rattle.program.specs.LogReadings.{ReadsAll, StopsReading}
-use Rattle.program.specs.declared.log_reader.LogReader.{LogReader}
+use Rattle.program.specs.LogReaders.{OpenLog}
 use Rattle.cidr_filter.specs.Stands.{Stand, Goes}
 use Rattle.cidr_filter.specs.declared.filter.Filter.{Filter}
 use Rattle.cidr_filter.specs.declared.log.Reached.{Reached}
@@ -39,7 +39,7 @@ Ends filter remained remains old new = ReadsAll (FiltersLines filter old new) re
 
 -- the first lines of what was read were filtered, up to the last that may be selected, and the log's reader handed out
 -- no others
-pub record Leaves (filter : Filter) (log : LogReader) (remained remains : Option (List ℕ))
+pub record Leaves (filter : Filter) (log : OpenLog) (remained remains : Option (List ℕ))
     (old new : Stand) : Type 0 where
   pub first : List LogLine
   pub added : List ℕ
@@ -51,7 +51,7 @@ pub record Leaves (filter : Filter) (log : LogReader) (remained remains : Option
   pub seen : new.seen ≡ seen_of filter first
 
 -- what holds if the filtering of a log ended here without a fault
-abbrev pub EndsBy : Reached → Filter → LogReader → Option (List ℕ) → Option (List ℕ) → Stand → Stand → Type 0
+abbrev pub EndsBy : Reached → Filter → OpenLog → Option (List ℕ) → Option (List ℕ) → Stand → Stand → Type 0
 EndsBy End filter log remained remains old new = Ends filter remained remains old new
 EndsBy Last filter log remained remains old new = Leaves filter log remained remains old new
 

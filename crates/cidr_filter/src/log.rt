@@ -4,7 +4,7 @@ ghost use Rattle.lines.specs.Outputs.{AppendsBeginning};
 ghost use Rattle.lines.specs.Watched.{device_of, has_failed};
 ghost use Rattle.program.specs.LogFaults.{ended_by_write};
 ghost use Rattle.program.specs.LogLines.{feed_behind};
-ghost use Rattle.program.specs.LogReaders.{HandsFirst, hurries_of};
+ghost use Rattle.program.specs.LogReaders.{HandsFirst};
 ghost use Rattle.log_programs.specs.LogEnds.{EndsOrStops};
 ghost use Rattle.log_programs.specs.LogStats.{with_line};
 ghost use Rattle.cidr_filter.specs.Filters.{is_refused, one_if};
@@ -59,7 +59,7 @@ pub fn filter_log<R: Read, W: Write>(
 ) -> Result<Reached, LogFault>
     // `log` has read nothing, and it hurries exactly if a line that is too long ends the run.
     requires unread { (remained : Option (List ℕ)) → HandsFirst log.old remained remained [] }
-    requires hurries { hurries_of log.old ≡ is_refused filter.now Verdict.TooLong }
+    requires hurries { log.old.hurries ≡ is_refused filter.now Verdict.TooLong }
     ensures { EndsOrStops (λ reached. EndsBy reached filter.now log.new) (Stops filter.now) result
         (R.remaining (device_of reader.old)) (R.remaining (device_of reader.new))
         (has_failed reader.old) (has_failed reader.new) output.old output.new

@@ -18,7 +18,12 @@ const ROWS: [Row; 5] = [
     long!("--json", Flag, false, ""),
     long!("--help", Alone, false, "not the only argument"),
     long!("--version", Alone, false, "not the only argument"),
-    long!("--quiet", Alone, false, "taken only once, as the first word"),
+    long!(
+        "--quiet",
+        Alone,
+        false,
+        "taken only once, as the first word"
+    ),
 ];
 
 // `--in` may be given only once, and not together with `--json`.

@@ -7,11 +7,11 @@ use Rattle.lines.specs.declared.line_end.LineEnd.{LineEnd}
 use Rattle.lines.specs.declared.line_end.LineEnd.TheVariants.{LineFeed, ReturnAndLineFeed, EndOfInput}
 use Rattle.lines.proofs.Putting.{puts_nothing, puts_more, begins_after_puts}
 use Rattle.program.specs.LogLines.{LogLine, content, printed, feed_behind, log_line}
-use Rattle.program.specs.LogReaders.{GivesNext, Breaks, line_of, whole_of, hurries_of}
+use Rattle.program.specs.LogReaders.{GivesNext, Breaks, line_of, whole_of}
 use Rattle.program.specs.LogReadings.{ReadsSoFar, ReadsToLine}
 use Rattle.program.specs.declared.log_fault.LogFault.{LogFault}
 use Rattle.program.specs.declared.log_fault.LogFault.TheVariants as faults
-use Rattle.program.specs.declared.log_reader.LogReader.{LogReader}
+use Rattle.program.specs.LogReaders.{OpenLog}
 use Rattle.program.specs.declared.log_reader.NextLogLine.TheVariants.{Line, TooLong, End}
 use Rattle.program.proofs.LogReadings as readings
 use Rattle.program.specs.LogFaults.{ended_by_read}
@@ -122,7 +122,7 @@ line_within line whole ReturnAndLineFeed e =
     omega (arith, ap length e, length-append (line ++ 13 ∷ []) (10 ∷ []), length-append line (13 ∷ []), length-append whole [])
 line_within line whole EndOfInput e = omega (arith, ap length e, length-append line (10 ∷ []), length-append whole (10 ∷ []))
 
-module _ {W : Type 0} (join : Join) (was now : LogReader) (remained before after : Option (List ℕ)) (old : Stand) (mid between : Written W) (seen : LogStats)
+module _ {W : Type 0} (join : Join) (was now : OpenLog) (remained before after : Option (List ℕ)) (old : Stand) (mid between : Written W) (seen : LogStats)
     (s : ReadsSoFar (JoinsLines join old (stand mid seen)) was remained before) where
   module _ (put : Prints mid between []) where
     still : JoinsLines join old (stand between seen) s.first
@@ -179,7 +179,7 @@ module _ {W : Type 0} (join : Join) (was now : LogReader) (remained before after
       long_line_stops stops read_failed write_failed =
           readings.line_ends _ (JoinsLines join old (stand between seen)) was now remained before after s (EndsRunBy join faults.Length) given.line given.next (given.long, stops) still
 
-      pub long_line_passed : is_stopped join.bad ≡ false → hurries_of now ≡ false → (among : LogStats) → among ≡ with_long seen → ReadsSoFar (JoinsLines join old (stand between among)) now remained after
+      pub long_line_passed : is_stopped join.bad ≡ false → now.hurries ≡ false → (among : LogStats) → among ≡ with_long seen → ReadsSoFar (JoinsLines join old (stand between among)) now remained after
       long_line_passed goes stays among adds = record {
         first = s.first ++ given.line ∷ [];
         hands = given.hands stays;

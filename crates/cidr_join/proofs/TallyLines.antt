@@ -27,7 +27,7 @@ use Rattle.program.specs.LogReaders.{Breaks, GivesNext, line_of}
 use Rattle.program.specs.LogReadings.{ReadsSoFar}
 use Rattle.program.specs.declared.log_fault.LogFault.{LogFault}
 use Rattle.program.specs.declared.log_fault.LogFault.TheVariants as faults
-use Rattle.program.specs.declared.log_reader.LogReader.{LogReader}
+use Rattle.program.specs.LogReaders.{OpenLog}
 use Rattle.program.specs.declared.log_reader.NextLogLine.TheVariants.{Line}
 use Rattle.program.proofs.LogReadings.{breaks, line_ends}
 
@@ -98,7 +98,7 @@ module _ (founds : List Found) where
 
 -- ---- a log that is not read to its end
 
-pub counting_breaks : {W : Type 0} (join : Join) (Done : List LogLine → Type 0) (was now : LogReader) (remained before after : Option (List ℕ)) (s : ReadsSoFar Done was remained before) (read_failed : Bool)
+pub counting_breaks : {W : Type 0} (join : Join) (Done : List LogLine → Type 0) (was now : OpenLog) (remained before after : Option (List ℕ)) (s : ReadsSoFar Done was remained before) (read_failed : Bool)
     (old new : Written W) (fault : LogFault) → Breaks remained after read_failed old new s.first fault → StopsCounting join Done remained after read_failed (tally_fault fault)
 counting_breaks join Done was now remained before after s read_failed old new faults.Write h = tt
 counting_breaks join Done was now remained before after s read_failed old new faults.Read h =
@@ -109,7 +109,7 @@ counting_breaks join Done was now remained before after s read_failed old new fa
     breaks Done Done was now remained before after s (EndsRunBy join) Done old new (λ put. s.is_done) (λ took. s.is_done) read_failed faults.Endless h
 
 -- at a line that was not counted
-pub line_not_counted : (founds : List Found) (join : Join) (was now : LogReader) (remained before after : Option (List ℕ)) (old mid new : Counts) (among is : LogStats)
+pub line_not_counted : (founds : List Found) (join : Join) (was now : OpenLog) (remained before after : Option (List ℕ)) (old mid new : Counts) (among is : LogStats)
     (s : ReadsSoFar (CountsLines founds join old mid among) was remained before) (end : LineEnd) (given : GivesNext now remained after s.first (Line end)) (line : List ℕ) → line ≡ line_of now
     → (failed : Bool) (fault : TallyFault) → LineNotCounted join line mid new among is fault → StopsCounting join (CountsLines founds join old new is) remained after failed fault
 line_not_counted founds join was now remained before after old mid new among is s end given line same failed (tallies.Log faults.Read) h = absurd h

@@ -15,8 +15,8 @@ use Rattle.lines.proofs.HandingOut.{has_no}
 use Rattle.lines.proofs.Putting.{puts_out, puts_more, begins_after_puts}
 use Rattle.lines.specs.Outputs.{Puts, AppendsBeginning}
 use Rattle.program.specs.LogLines.{LogLine, log_lines, ended_lines, content, feed_behind, log_line, unended}
-use Rattle.program.specs.LogReaders.{buffered, AreFirst, HandsFirst, ComesNext, GivesNext, left}
-use Rattle.program.specs.declared.log_reader.LogReader.{LogReader}
+use Rattle.program.specs.LogReaders.{AreFirst, HandsFirst, ComesNext, GivesNext, left}
+use Rattle.program.specs.LogReaders.{OpenLog}
 use Rattle.program.specs.declared.log_reader.NextLogLine.TheVariants.{Line, TooLong, End}
 use Rattle.program.proofs.HandedLines.{printed_is, IsFirstOf, handed_first}
 use Rattle.program.proofs.LogLines.{lines_last, rest_unended, some_bytes}
@@ -90,11 +90,16 @@ first_ended (x ∷ first) others all none = by (λ h. first_ended first others h
       by rest false e = absurd (true≢false (sym
           (ap (λ b. b && list_all (λ line. line.is_ended) first) (sym e) ∙ all)))
 
+-- ---- a log by the fields of its reader
+
+pub by_fields : {fields log : OpenLog} {remained remains : Option (List ℕ)} {first : List LogLine} → fields ≡ log → HandsFirst log remained remains first → HandsFirst fields remained remains first
+by_fields {remained = remained} {remains = remains} {first = first} e h = subst (λ (log : OpenLog). HandsFirst log remained remains first) (sym e) h
+
 -- ---- before anything was read
 
-pub begins : (reader : LogReader) (remained : Option (List ℕ))
-    → reader.room ≡ 2 ^ 64 - 1 → (buffered reader).limit ≡ 1048576 → IsPending (buffered reader) []
-    → (buffered reader).ended ≡ false → HandsFirst reader remained remained []
+pub begins : (reader : OpenLog) (remained : Option (List ℕ))
+    → reader.room ≡ 2 ^ 64 - 1 → reader.buffered.limit ≡ 1048576 → IsPending reader.buffered []
+    → reader.buffered.ended ≡ false → HandsFirst reader remained remained []
 begins reader remained all limit h going = record {
   read = [];
   reads = Consumes-nil remained;
@@ -109,34 +114,34 @@ begins reader remained all limit h going = record {
 
 -- ---- a line is handed out
 
-module _ (was now : LogReader) (remained remains : Option (List ℕ)) (first : List LogLine)
+module _ (was now : OpenLog) (remained remains : Option (List ℕ)) (first : List LogLine)
     (s : HandsFirst was remained remains first) (room : now.room ≡ was.room)
-    (same : (buffered now).ended ≡ (buffered was).ended)
-    (limit : (buffered now).limit ≡ (buffered was).limit) where
-  still_first : AreFirst (buffered now).ended s.read first s.pending
+    (same : now.buffered.ended ≡ was.buffered.ended)
+    (limit : now.buffered.limit ≡ was.buffered.limit) where
+  still_first : AreFirst now.buffered.ended s.read first s.pending
   still_first = subst (λ (e : Bool). AreFirst e s.read first s.pending) (sym same) s.lines
 
-  comes_next : (line : List ℕ) (end : LineEnd) → HandsOut (buffered now) s.pending line end
+  comes_next : (line : List ℕ) (end : LineEnd) → HandsOut now.buffered s.pending line end
       → ComesNext remained remains first (log_line line end)
   comes_next line end hands =
-      let is = handed_first (buffered now) s.pending line end hands in
+      let is = handed_first now.buffered s.pending line end hands in
       record {
         read = s.read;
         others = log_lines hands.after;
         reads = s.reads;
         lines =
-            all_lines (buffered was).ended s.read first s.pending s.lines
+            all_lines was.buffered.ended s.read first s.pending s.lines
             ∙ ap (λ ls. first ++ ls) (ap log_lines (sym (append-nil s.pending))
             ∙ is.lines [] (λ e. refl) ∙ ap (λ l. log_line line end ∷ log_lines l)
             (append-nil hands.after));
         is_line = elim is.whole [ inl e ↦ inl e | inr e ↦ inr (inl (s.at_end (sym same ∙ e))) ];
       }
 
-  one_more : (line : List ℕ) (end : LineEnd) → HandsOut (buffered now) s.pending line end
+  one_more : (line : List ℕ) (end : LineEnd) → HandsOut now.buffered s.pending line end
       → HandsFirst now remained remains (first ++ log_line line end ∷ [])
   one_more line end hands =
       let next = log_line line end in
-      let is = handed_first (buffered now) s.pending line end hands in
+      let is = handed_first now.buffered s.pending line end hands in
       record {
         read = s.read;
         reads = s.reads;
@@ -145,29 +150,29 @@ module _ (was now : LogReader) (remained remains : Option (List ℕ)) (first : L
         at_end = λ e. s.at_end (sym same ∙ e);
         pending = hands.after;
         holds = hands.holds;
-        lines = next_first (buffered now).ended s.read first s.pending line hands.after end still_first is;
+        lines = next_first now.buffered.ended s.read first s.pending line hands.after end still_first is;
         ended = λ e.
             list_all-append (λ line. line.is_ended) first (next ∷ [])
             ∙ ap (λ b. b && list_all (λ line. line.is_ended) (next ∷ [])) (s.ended (sym same ∙ e))
-            ∙ ap (λ b. b && true) (ended_too (buffered now).ended next e is.whole);
+            ∙ ap (λ b. b && true) (ended_too now.buffered.ended next e is.whole);
       }
 
-  pub gives_line : (end : LineEnd) → Gives (buffered now) s.pending (handed.Line end)
+  pub gives_line : (end : LineEnd) → Gives now.buffered s.pending (handed.Line end)
       → GivesNext now remained remains first (Line end)
   gives_line end given =
-      let line = (buffered now).line in
+      let line = now.buffered.line in
       record {
         next = comes_next line end given.0;
         hands = one_more line end given.0;
-        is_content = (handed_first (buffered now) s.pending line end given.0).is;
+        is_content = (handed_first now.buffered s.pending line end given.0).is;
         within = omega (arith, given.1, limit, s.limit);
         is_printed = sym (ap (λ l. l ++ feed_behind end) given.2 ∙ printed_is line end);
       }
 
-  pub gives_long : Gives (buffered now) s.pending handed.TooLong
+  pub gives_long : Gives now.buffered s.pending handed.TooLong
       → GivesNext now remained remains first TooLong
   gives_long given =
-      let is = handed_first (buffered now) s.pending given.0 given.1 given.2 in
+      let is = handed_first now.buffered s.pending given.0 given.1 given.2 in
       record {
         line = log_line given.0 given.1;
         next = comes_next given.0 given.1 given.2;
@@ -177,12 +182,12 @@ module _ (was now : LogReader) (remained remains : Option (List ℕ)) (first : L
 
   -- ---- the end of the log
 
-  pub gives_end : Gives (buffered now) s.pending handed.End → GivesNext now remained remains first End
+  pub gives_end : Gives now.buffered s.pending handed.End → GivesNext now remained remains first End
   gives_end given = (
     s.read,
     s.reads,
     s.at_end (sym same ∙ given.2),
-    all_lines (buffered was).ended s.read first s.pending s.lines ∙ ap (λ l. first ++ log_lines l) given.0 ∙ append-nil first,
+    all_lines was.buffered.ended s.read first s.pending s.lines ∙ ap (λ l. first ++ log_lines l) given.0 ∙ append-nil first,
   )
 
   -- ---- more bytes are needed
@@ -197,18 +202,18 @@ module _ (was now : LogReader) (remained remains : Option (List ℕ)) (first : L
       others = [];
       reads = s.reads;
       lines =
-          all_lines (buffered was).ended s.read first s.pending s.lines
+          all_lines was.buffered.ended s.read first s.pending s.lines
           ∙ ap (λ ls. first ++ ls) (lines_last s.pending (has_no s.pending none) (some_bytes s.pending long));
       is_line = inr (inr long);
     },
     omega (arith, long),
   )
 
-  module _ (none : HasNoFeed s.pending) (going : (buffered now).ended ≡ false) where
+  module _ (none : HasNoFeed s.pending) (going : now.buffered.ended ≡ false) where
     -- these are all ended lines
     ended_are : ended_lines s.read ≡ first
     ended_are =
-        ap (filter (λ line. line.is_ended)) (all_lines (buffered was).ended s.read first s.pending s.lines)
+        ap (filter (λ line. line.is_ended)) (all_lines was.buffered.ended s.read first s.pending s.lines)
         ∙ first_ended first (log_lines s.pending) (s.ended (sym same ∙ going))
         (rest_unended s.pending (has_no s.pending none))
 
@@ -219,7 +224,7 @@ module _ (was now : LogReader) (remained remains : Option (List ℕ)) (first : L
 
     -- more was read than 64 bits count
     pub endless_breaks : (after : Option (List ℕ)) (new : Buffered) (count : ℕ)
-        → Receives remains after (buffered now) new count → was.room < count
+        → Receives remains after now.buffered new count → was.room < count
         → (read : List ℕ) × (last : List ℕ) × Consumes remained after (read ++ last)
         × (2 ^ 64 - 1 < length (read ++ last)) × (ended_lines read ≡ first)
     endless_breaks after new count r over = (
@@ -231,9 +236,9 @@ module _ (was now : LogReader) (remained remains : Option (List ℕ)) (first : L
     )
 
     -- some bytes were read
-    pub reads_on : (after : Option (List ℕ)) (new : LogReader) (count : ℕ) → IsPending (buffered now) s.pending
-        → Receives remains after (buffered now) (buffered new) count
-        → (buffered new).ended ≡ (count == 0) → (buffered new).limit ≡ (buffered now).limit → count ≤ was.room
+    pub reads_on : (after : Option (List ℕ)) (new : OpenLog) (count : ℕ) → IsPending now.buffered s.pending
+        → Receives remains after now.buffered new.buffered count
+        → new.buffered.ended ≡ (count == 0) → new.buffered.limit ≡ now.buffered.limit → count ≤ was.room
         → new.room ≡ was.room - count → HandsFirst new remained after first
     reads_on after new count holds r ended still fits lefts = record {
       read = s.read ++ r.chunk;
@@ -243,16 +248,16 @@ module _ (was now : LogReader) (remained remains : Option (List ℕ)) (first : L
       at_end = λ e. r.at_end (no_bytes count (sym ended ∙ e));
       pending = s.pending ++ r.chunk;
       holds = r.holds s.pending holds;
-      lines = first_still (buffered new).ended s.read first s.pending r.chunk
+      lines = first_still new.buffered.ended s.read first s.pending r.chunk
           (subst (λ (e : Bool). AreFirst e s.read first s.pending) going still_first);
       ended = λ e. s.ended (sym same ∙ going);
     }
 
 -- a write failed
-pub write_breaks : (was : LogReader) (remained remains : Option (List ℕ)) (first : List LogLine) → HandsFirst was remained remains first
+pub write_breaks : (was : OpenLog) (remained remains : Option (List ℕ)) (first : List LogLine) → HandsFirst was remained remains first
     → (read : List ℕ) × (others : List LogLine) × Consumes remained remains read × (log_lines read ≡ first ++ others)
 write_breaks was remained remains first s =
-    (s.read, log_lines s.pending, s.reads, all_lines (buffered was).ended s.read first s.pending s.lines)
+    (s.read, log_lines s.pending, s.reads, all_lines was.buffered.ended s.read first s.pending s.lines)
 
 -- ---- what waits is handed on, between puts of nothing
 
@@ -336,12 +341,12 @@ less_by size room count was now going ended fits same =
       by : (x y z : ℕ) → x < y → y ≡ z → x < z + work was
       by x y z less e = omega (arith, less, e)
 
-pub less_to_read : (was now : LogReader) (count : ℕ) → now.room ≡ was.room - count → (buffered was).ended ≡ false
-    → (buffered now).ended ≡ (count == 0) → count ≤ was.room → length (buffered now).bytes ≡ length (buffered was).bytes
+pub less_to_read : (was now : OpenLog) (count : ℕ) → now.room ≡ was.room - count → was.buffered.ended ≡ false
+    → now.buffered.ended ≡ (count == 0) → count ≤ was.room → length now.buffered.bytes ≡ length was.buffered.bytes
     → left now < left was
 less_to_read was now count room going ended fits same = by _ _
-    (ap (λ n. (n + (if (buffered now).ended then 0 else 1)) * (length (buffered now).bytes + 2) + work (buffered now)) room
-    ∙ ap (λ n. (was.room - count + (if (buffered now).ended then 0 else 1)) * (n + 2) + work (buffered now)) same)
-    (less_by (length (buffered was).bytes) was.room count (buffered was) (buffered now) going ended fits same) where
+    (ap (λ n. (n + (if now.buffered.ended then 0 else 1)) * (length now.buffered.bytes + 2) + work now.buffered) room
+    ∙ ap (λ n. (was.room - count + (if now.buffered.ended then 0 else 1)) * (n + 2) + work now.buffered) same)
+    (less_by (length was.buffered.bytes) was.room count was.buffered now.buffered going ended fits same) where
       by : (a b : ℕ) → a ≡ b → b < left was → a < left was
       by a b e less = omega (arith, e, less)

@@ -11,13 +11,13 @@ use Rattle.program.specs.LogReadings.{ReadsSoFar, ReadsAll, ReadsFirst, ReadsToL
 use Rattle.program.specs.Logs.{StopsAfter, HaltsBy}
 use Rattle.program.specs.declared.log_fault.LogFault.{LogFault}
 use Rattle.program.specs.declared.log_fault.LogFault.TheVariants as faults
-use Rattle.program.specs.declared.log_reader.LogReader.{LogReader}
+use Rattle.program.specs.LogReaders.{OpenLog}
 use Rattle.program.specs.declared.log_reader.NextLogLine.TheVariants.{Line, End}
 use Rattle.program.proofs.LogNames.{all_of, first_of}
 
 -- ---- the next line
 
-module _ (Done More : List LogLine → Type 0) (was now : LogReader) (remained before after : Option (List ℕ)) (s : ReadsSoFar Done was remained before) where
+module _ (Done More : List LogLine → Type 0) (was now : OpenLog) (remained before after : Option (List ℕ)) (s : ReadsSoFar Done was remained before) where
   -- with one that was handed out it was done too
   pub after_line : (end : LineEnd) → GivesNext now remained after s.first (Line end) → More (s.first ++ log_line (line_of now) end ∷ [])
       → ReadsSoFar More now remained after

@@ -9,25 +9,25 @@ use Rattle.lines.specs.declared.line_end.LineEnd.{LineEnd}
 use Rattle.program.specs.LogLines.{LogLine, log_lines, ended_lines, content, printed, feed_behind, log_line, IsWhole}
 use Rattle.program.specs.declared.log_fault.LogFault.{LogFault}
 use Rattle.program.specs.declared.log_fault.LogFault.TheVariants as faults
-use Rattle.program.specs.declared.log_reader.LogReader.{LogReader}
 use Rattle.program.specs.declared.log_reader.NextLogLine.{NextLogLine}
 use Rattle.program.specs.declared.log_reader.NextLogLine.TheVariants.{Line, TooLong, End}
 
--- the buffer of the reader, which holds bytes that were read
-abbrev pub buffered : LogReader → Buffered
-buffered reader = reader.lines
+-- a log while it is read
+pub record OpenLog : Type 0 where
+  -- the bytes that were read and not yet handed out, and the line that was handed out last
+  pub buffered : Buffered
+  -- how many more bytes may be read
+  pub room : ℕ
+  -- a line that is too long is reported before its end was read
+  pub hurries : Bool
 
 -- the line that was handed out last, without the bytes that end it
-abbrev pub line_of : LogReader → List ℕ
-line_of reader = (buffered reader).line
+abbrev pub line_of : OpenLog → List ℕ
+line_of reader = reader.buffered.line
 
 -- the line that was handed out last, with the bytes that end it
-abbrev pub whole_of : LogReader → List ℕ
-whole_of reader = (buffered reader).whole
-
--- the reader reports a line that is too long before it has read the end of that line
-abbrev pub hurries_of : LogReader → Bool
-hurries_of reader = reader.hurries
+abbrev pub whole_of : OpenLog → List ℕ
+whole_of reader = reader.buffered.whole
 
 -- whatever is read after `read` (nothing, if the log has ended), its lines are `first` and then the lines of `pending`
 -- and what comes after it
@@ -37,16 +37,16 @@ AreFirst ended read first pending = (more : List ℕ) → (ended ≡ true → mo
 
 -- the reader has handed out the lines `first`: they are the first lines of what was read, and what follows them is
 -- pending in its buffer
-pub record HandsFirst (reader : LogReader) (remained remains : Option (List ℕ)) (first : List LogLine) : Type 0 where
+pub record HandsFirst (reader : OpenLog) (remained remains : Option (List ℕ)) (first : List LogLine) : Type 0 where
   pub read : List ℕ
   pub reads : Consumes remained remains read
   pub counted : length read + reader.room ≡ 2 ^ 64 - 1
-  pub limit : (buffered reader).limit ≡ 1048576
-  pub at_end : (buffered reader).ended ≡ true → IsAtEnd remains
+  pub limit : reader.buffered.limit ≡ 1048576
+  pub at_end : reader.buffered.ended ≡ true → IsAtEnd remains
   pub pending : List ℕ
-  pub holds : IsPending (buffered reader) pending
-  pub lines : AreFirst (buffered reader).ended read first pending
-  pub ended : (buffered reader).ended ≡ false → list_all (λ line. line.is_ended) first ≡ true
+  pub holds : IsPending reader.buffered pending
+  pub lines : AreFirst reader.buffered.ended read first pending
+  pub ended : reader.buffered.ended ≡ false → list_all (λ line. line.is_ended) first ≡ true
 
 -- the first lines of what was read are `first` and then `line`, which counts as a line whatever is read after it
 pub record ComesNext (remained remains : Option (List ℕ)) (first : List LogLine) (line : LogLine) : Type 0 where
@@ -57,7 +57,7 @@ pub record ComesNext (remained remains : Option (List ℕ)) (first : List LogLin
   pub is_line : IsWhole (IsAtEnd remains) line
 
 -- after the lines `first`, the reader handed out one within the limit, which its buffer lends as it was read
-pub record GivesLine (new : LogReader) (remained remains : Option (List ℕ)) (first : List LogLine)
+pub record GivesLine (new : OpenLog) (remained remains : Option (List ℕ)) (first : List LogLine)
     (end : LineEnd) : Type 0 where
   pub next : ComesNext remained remains first (log_line (line_of new) end)
   pub hands : HandsFirst new remained remains (first ++ log_line (line_of new) end ∷ [])
@@ -66,14 +66,14 @@ pub record GivesLine (new : LogReader) (remained remains : Option (List ℕ)) (f
   pub is_printed : printed (log_line (line_of new) end) ≡ whole_of new ++ feed_behind end
 
 -- after the lines `first` comes one that is too long, all of which was read unless the reader hurries
-pub record GivesLong (new : LogReader) (remained remains : Option (List ℕ)) (first : List LogLine) : Type 0 where
+pub record GivesLong (new : OpenLog) (remained remains : Option (List ℕ)) (first : List LogLine) : Type 0 where
   pub line : LogLine
   pub next : ComesNext remained remains first line
   pub long : 1048576 < length (content line)
-  pub hands : hurries_of new ≡ false → HandsFirst new remained remains (first ++ line ∷ [])
+  pub hands : new.hurries ≡ false → HandsFirst new remained remains (first ++ line ∷ [])
 
 -- what `next` hands out after the lines `first`
-abbrev pub GivesNext : LogReader → Option (List ℕ) → Option (List ℕ) → List LogLine → NextLogLine → Type 0
+abbrev pub GivesNext : OpenLog → Option (List ℕ) → Option (List ℕ) → List LogLine → NextLogLine → Type 0
 -- it is a line within the limit
 GivesNext new remained remains first (Line end) = GivesLine new remained remains first end
 -- it is a line that is too long
@@ -104,12 +104,12 @@ Breaks remained remains read_failed old new first faults.Endless = Prints old ne
 
 -- a measure of what is left to read and to hand out: the bytes that may still be read, and the end of the log, each
 -- count for more than all lines that the buffer can hold
-abbrev pub left : LogReader → ℕ
-left reader = (reader.room + (if (buffered reader).ended then 0 else 1)) * (length (buffered reader).bytes + 2) + work
-    (buffered reader)
+abbrev pub left : OpenLog → ℕ
+left reader = (reader.room + (if reader.buffered.ended then 0 else 1)) * (length reader.buffered.bytes + 2) + work
+    reader.buffered
 
 -- less is left after a line than before, unless the line is too long and the reader hurries
-abbrev pub IsLess : LogReader → LogReader → NextLogLine → Type 0
+abbrev pub IsLess : OpenLog → OpenLog → NextLogLine → Type 0
 IsLess old new (Line end) = left new < left old
-IsLess old new TooLong = hurries_of old ≡ false → left new < left old
+IsLess old new TooLong = old.hurries ≡ false → left new < left old
 IsLess old new End = Unit {0}

@@ -5,10 +5,10 @@ use Rattle.program.specs.LogLines.{LogLine, log_lines, ended_lines, content}
 use Rattle.program.specs.LogReaders.{HandsFirst, ComesNext}
 use Rattle.program.specs.declared.log_fault.LogFault.{LogFault}
 use Rattle.program.specs.declared.log_fault.LogFault.TheVariants as faults
-use Rattle.program.specs.declared.log_reader.LogReader.{LogReader}
+use Rattle.program.specs.LogReaders.{OpenLog}
 
 -- `Done` holds of the lines that the reader has handed out
-pub record ReadsSoFar (Done : List LogLine → Type 0) (reader : LogReader)
+pub record ReadsSoFar (Done : List LogLine → Type 0) (reader : OpenLog)
     (remained remains : Option (List ℕ)) : Type 0 where
   pub first : List LogLine
   pub hands : HandsFirst reader remained remains first

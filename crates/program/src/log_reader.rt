@@ -13,6 +13,7 @@ use lines::line_end::LineEnd;
 use lines::output::Output;
 use lines::watched::Watched;
 use std::io::{Read, Write};
+use std::marker::Model;
 
 /// The most bytes of a line, not counting its line end.
 pub const LINE_MAX: usize = 1_048_576;
@@ -72,8 +73,20 @@ pub struct LogReader<'b> {
     hurries: bool,
 }
 
+impl<'b> Model for LogReader<'b> {
+    ghost use Rattle.program.specs.LogReaders.{OpenLog};
+
+    ghost Value = { OpenLog };
+
+    ghost view = { λ reader. record {
+      buffered = reader.lines;
+      room = reader.room;
+      hurries = reader.hurries;
+    } };
+}
+
 impl<'b> LogReader<'b> {
-    ghost use Rattle.program.specs.LogReaders.{buffered, line_of, whole_of, hurries_of, HandsFirst, GivesNext, Breaks, IsLess};
+    ghost use Rattle.program.specs.LogReaders.{line_of, whole_of, HandsFirst, GivesNext, Breaks, IsLess};
 
     /// Creates a reader of a log of which nothing was read yet.
     ///
@@ -90,7 +103,7 @@ impl<'b> LogReader<'b> {
     pub fn new(buffer: &'b mut [u8], hurries: bool) -> LogReader<'b>
         requires { 1048578 ≤ length buffer.old }
         ensures begins { (remained : Option (List ℕ)) → HandsFirst result remained remained [] }
-        ensures hurries { hurries_of result ≡ hurries }
+        ensures hurries { result.hurries ≡ hurries }
     {
         LogReader {
             lines: LineBuffer::new(buffer, LINE_MAX),
@@ -170,7 +183,7 @@ impl<'b> LogReader<'b> {
             reader.new ≡ (has_failed reader.old || ended_by_read result) }
         ensures writer_failed { output.new.failed ≡ (output.old.failed || ended_by_write result) }
         ensures less { IfOk result (IsLess self.old self.new) }
-        ensures hurries { hurries_of self.new ≡ hurries_of self.old }
+        ensures hurries { self.new.hurries ≡ self.old.hurries }
     {
         'asks: loop {
             match self.lines.next() {

@@ -7,7 +7,7 @@ use Rattle.program.specs.LogFaults.{ended_by_write}
 use Rattle.cidr_filter.specs.Addressed.{is_addressed_by}
 use Rattle.cidr_filter.specs.Filters.{IsVerdict, is_refused, is_selected, head_of, shown_of, one_if}
 use Rattle.program.specs.LogReadings.{ReadsSoFar}
-use Rattle.program.specs.declared.log_reader.LogReader.{LogReader}
+use Rattle.program.specs.LogReaders.{OpenLog}
 use Rattle.cidr_filter.specs.Private.Leaving.{less}
 use Rattle.cidr_filter.specs.Stands.{Stand, stand, Goes}
 use Rattle.cidr_filter.specs.Stops.{FiltersLines}
@@ -58,10 +58,10 @@ pub record FiltersOrStops {W : Type 0} (result : Result Bool LogFault) (filter :
   pub writer_failed : new.failed ≡ (old.failed || ended_by_write result)
 
 -- the lines that were handed out were filtered
-abbrev pub FiltersSoFar : Filter → LogReader → Option (List ℕ) → Option (List ℕ) → Stand → Stand → Type 0
+abbrev pub FiltersSoFar : Filter → OpenLog → Option (List ℕ) → Option (List ℕ) → Stand → Stand → Type 0
 FiltersSoFar filter reader remained remains old new = ReadsSoFar (FiltersLines filter old new) reader remained remains
 
 -- the same, and `left` more lines may be selected
-abbrev pub FiltersWith : Filter → LogReader → Option (List ℕ) → Option (List ℕ) → Stand → Stand → Option ℕ → Type 0
+abbrev pub FiltersWith : Filter → OpenLog → Option (List ℕ) → Option (List ℕ) → Stand → Stand → Option ℕ → Type 0
 FiltersWith filter reader remained remains old new left =
     (s : FiltersSoFar filter reader remained remains old new) × (left ≡ less filter.most s.is_done.count)

@@ -1,6 +1,6 @@
 use Rattle.std.proofs.Common.{◌≡◌}
 use Rattle.lines.specs.Watched.{device_of, has_failed}
-use Rattle.program.specs.LogReaders.{hurries_of, left}
+use Rattle.program.specs.LogReaders.{left}
 use Rattle.program.specs.LogReadings.{ReadsSoFar}
 use Rattle.cidr_join.specs.Stands.{stand, begun}
 use Rattle.cidr_join.specs.Stops.{JoinsLines}
@@ -10,7 +10,7 @@ abbrev pub invariant-lines : goal.invariant-lines
 invariant-lines g l = record {
   sofar : ReadsSoFar (JoinsLines l.join (begun (stand l.initial.output l.initial.seen)) (stand l.output l.seen)) l.log
       (g.R.Read.remaining (device_of l.initial.reader)) (g.R.Read.remaining (device_of l.reader));
-  hurries : hurries_of l.log ≡ l.stops;
+  hurries : l.log.hurries ≡ l.stops;
   reads : has_failed l.reader ≡ has_failed l.initial.reader;
   writes : l.output.failed ≡ l.initial.output.failed;
 }

@@ -2,4 +2,4 @@ use Rattle.program.proofs.Reported.{tells_on}
 use Rattle.program.proofs.messages.tell_head.Goals as goal
 
 pub returns : goal.returns
-returns g c = tells_on c.tell_of.ensures c.tell_shown.ensures
+returns g c = tells_on c.tell_of.ensures (rw c.as_bytes.ensures.value at c.tell_shown.ensures)

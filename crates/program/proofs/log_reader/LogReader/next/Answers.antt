@@ -1,31 +1,32 @@
 use Rattle.std.proofs.Common.{◌-◌, ◌∙◌, ap, refl, sym, arith, length, true≢false}
 use Rattle.lines.specs.Watched.{has_failed}
 use Rattle.lines.proofs.Writes.{still_works}
-use Rattle.program.specs.declared.log_reader.LogReader.{LogReader}
-use Rattle.program.proofs.LogReading.{failed_now, gives_line, gives_long, gives_end, long_comes, read_breaks, endless_breaks, reads_on, write_breaks, puts_idle, fails_idle, some_pending, less_to_read}
+use Rattle.program.specs.LogReaders.{OpenLog}
+use Rattle.program.proofs.log_reader.LogReader.next.Invariants.{open_log}
+use Rattle.program.proofs.LogReading.{failed_now, by_fields, gives_line, gives_long, gives_end, long_comes, read_breaks, endless_breaks, reads_on, write_breaks, puts_idle, fails_idle, some_pending, less_to_read}
 use Rattle.program.proofs.log_reader.LogReader.next.Goals as goal
 
 -- ---- a line
 
 pub returns-in-Line-clause-gives : goal.returns-in-Line-clause-gives
 returns-in-Line-clause-gives g c = λ remained first h.
-    let s = c.asks.invariant.hands remained first h in
-    let now : LogReader = record { lines = c.next.new.self; room = c.asks.self.room; hurries = c.asks.self.hurries } in
-    gives_line c.asks.self now remained _ first s refl c.next.ensures.ended c.next.ensures.limit c.in-Line.end
+    let s = c.asks.invariant.hands remained first (by_fields c.self.view_is h) in
+    let now = open_log c.next.new.self c.asks.self-inside.room c.asks.self-inside.hurries in
+    gives_line _ now remained _ first s refl c.next.ensures.ended c.next.ensures.limit c.in-Line.end
     (c.in-Line.ensures.gives s.pending s.holds)
 
 pub returns-in-TooLong-clause-gives : goal.returns-in-TooLong-clause-gives
 returns-in-TooLong-clause-gives g c = λ remained first h.
-    let s = c.asks.invariant.hands remained first h in
-    let now : LogReader = record { lines = c.next.new.self; room = c.asks.self.room; hurries = c.asks.self.hurries } in
-    gives_long c.asks.self now remained _ first s refl c.next.ensures.ended c.next.ensures.limit
+    let s = c.asks.invariant.hands remained first (by_fields c.self.view_is h) in
+    let now = open_log c.next.new.self c.asks.self-inside.room c.asks.self-inside.hurries in
+    gives_long _ now remained _ first s refl c.next.ensures.ended c.next.ensures.limit
     (c.in-TooLong.ensures.gives s.pending s.holds)
 
 -- ---- more bytes are needed
 
 pub returns-in_default-clause-breaks : goal.returns-in_default-clause-breaks
 returns-in_default-clause-breaks g c = λ remained first h.
-    let breaks = write_breaks c.asks.self remained _ first (c.asks.invariant.hands remained first h) in (
+    let breaks = write_breaks _ remained _ first (c.asks.invariant.hands remained first (by_fields c.self.view_is h)) in (
       failed_now c.hand_on.new.self.failed _ c.in_default.ensures.failed,
       fails_idle _ _ _ _ _ c.asks.invariant.puts c.in_default.ensures.err,
       breaks.0,
@@ -35,15 +36,15 @@ returns-in_default-clause-breaks g c = λ remained first h.
     )
 
 pub is_too_long-requires : goal.is_too_long-requires
-is_too_long-requires g c = let some = some_pending c.asks.self.lines in (c.in-Ask.ensures.gives some.0 some.1).2
+is_too_long-requires g c = let some = some_pending c.asks.self-inside.lines in (c.in-Ask.ensures.gives some.0 some.1).2
 
 pub returns-then-is_too_long-clause-gives : goal.returns-then-is_too_long-clause-gives
 returns-then-is_too_long-clause-gives g c = λ remained first h.
-    let s = c.asks.invariant.hands remained first h in
-    let now : LogReader = record { lines = c.next.new.self; room = c.asks.self.room; hurries = c.asks.self.hurries } in
+    let s = c.asks.invariant.hands remained first (by_fields c.self.view_is h) in
+    let now = open_log c.next.new.self c.asks.self-inside.room c.asks.self-inside.hurries in
     let given = c.in-Ask.ensures.gives s.pending s.holds in
     let long = (c.is_too_long.ensures s.pending given.0).0 c.if-is_too_long.true in
-    let comes = long_comes c.asks.self now remained _ first s refl c.next.ensures.ended c.next.ensures.limit given.1
+    let comes = long_comes _ now remained _ first s refl c.next.ensures.ended c.next.ensures.limit given.1
     (omega (arith, long, c.next.ensures.limit, s.limit)) in
     record {
       line = comes.0;
@@ -56,17 +57,17 @@ pub returns-then-is_too_long-clause-put : goal.returns-then-is_too_long-clause-p
 returns-then-is_too_long-clause-put g c = puts_idle _ _ _ _ _ _ c.asks.invariant.puts c.in-Ok.ensures.emptied c.in-Ok.ensures.ok
 
 pub returns-then-is_too_long-clause-less : goal.returns-then-is_too_long-clause-less
-returns-then-is_too_long-clause-less g c = λ stays. absurd (true≢false (sym c.if-self.true ∙ (c.asks.invariant.hurries ∙ stays)))
+returns-then-is_too_long-clause-less g c = λ stays. absurd (true≢false (sym c.if-self.true ∙ (c.asks.invariant.hurries ∙ (ap (λ (log : OpenLog). log.hurries) c.self.view_is ∙ stays))))
 
 pub ask-requires : goal.ask-requires
-ask-requires g c = let some = some_pending c.asks.self.lines in (c.in-Ask.ensures.gives some.0 some.1).2
+ask-requires g c = let some = some_pending c.asks.self-inside.lines in (c.in-Ask.ensures.gives some.0 some.1).2
 
 pub returns-in_default-ask-clause-breaks : goal.returns-in_default-ask-clause-breaks
 returns-in_default-ask-clause-breaks g c = λ remained first h.
-    let s = c.asks.invariant.hands remained first h in
-    let now : LogReader = record { lines = c.next.new.self; room = c.asks.self.room; hurries = c.asks.self.hurries } in
+    let s = c.asks.invariant.hands remained first (by_fields c.self.view_is h) in
+    let now = open_log c.next.new.self c.asks.self-inside.room c.asks.self-inside.hurries in
     let given = c.in-Ask.ensures.gives s.pending s.holds in
-    let breaks = read_breaks c.asks.self now remained _ first s refl c.next.ensures.ended c.next.ensures.limit given.1 given.3 _
+    let breaks = read_breaks _ now remained _ first s refl c.next.ensures.ended c.next.ensures.limit given.1 given.3 _
     c.in_default-ask.ensures.err in (
       failed_now (has_failed c.ask.new.reader) _ c.in_default-ask.ensures.failed,
       puts_idle _ _ _ _ _ _ c.asks.invariant.puts c.in-Ok.ensures.emptied c.in-Ok.ensures.ok,
@@ -77,10 +78,10 @@ returns-in_default-ask-clause-breaks g c = λ remained first h.
 
 pub returns-then-count-self-clause-breaks : goal.returns-then-count-self-clause-breaks
 returns-then-count-self-clause-breaks g c = λ remained first h.
-    let s = c.asks.invariant.hands remained first h in
-    let now : LogReader = record { lines = c.next.new.self; room = c.asks.self.room; hurries = c.asks.self.hurries } in
+    let s = c.asks.invariant.hands remained first (by_fields c.self.view_is h) in
+    let now = open_log c.next.new.self c.asks.self-inside.room c.asks.self-inside.hurries in
     let given = c.in-Ask.ensures.gives s.pending s.holds in
-    let breaks = endless_breaks c.asks.self now remained _ first s refl c.next.ensures.ended c.next.ensures.limit given.1 given.3 _
+    let breaks = endless_breaks _ now remained _ first s refl c.next.ensures.ended c.next.ensures.limit given.1 given.3 _
     c.ask.new.self c.in-Ok-ask.count c.in-Ok-ask.ensures.read c.if-count-self.true in (
       puts_idle _ _ _ _ _ _ c.asks.invariant.puts c.in-Ok.ensures.emptied c.in-Ok.ensures.ok,
       breaks.0,
@@ -92,25 +93,25 @@ returns-then-count-self-clause-breaks g c = λ remained first h.
 
 pub asks-smaller : goal.asks-smaller
 asks-smaller g c =
-    let new : LogReader = record { lines = c.ask.new.self; room = c.asks.self.room - c.in-Ok-ask.count; hurries = c.asks.self.hurries } in
-    let some = some_pending c.asks.self.lines in
+    let new = open_log c.ask.new.self (c.asks.self-inside.room - c.in-Ok-ask.count) c.asks.self-inside.hurries in
+    let some = some_pending c.asks.self-inside.lines in
     let going = (c.in-Ask.ensures.gives some.0 some.1).3 in
-    less_to_read c.asks.self new c.in-Ok-ask.count refl (sym c.next.ensures.ended ∙ going) c.in-Ok-ask.ensures.ended c.if-count-self.false
+    less_to_read (open_log c.asks.self-inside.lines c.asks.self-inside.room c.asks.self-inside.hurries) new c.in-Ok-ask.count refl (sym c.next.ensures.ended ∙ going) c.in-Ok-ask.ensures.ended c.if-count-self.false
     (c.in-Ok-ask.ensures.size ∙ ap length c.next.ensures.unmoved)
 
 pub asks-preserved : goal.asks-preserved
 asks-preserved g c =
-    let now : LogReader = record { lines = c.next.new.self; room = c.asks.self.room; hurries = c.asks.self.hurries } in
-    let new : LogReader = record { lines = c.ask.new.self; room = c.asks.self.room - c.in-Ok-ask.count; hurries = c.asks.self.hurries } in
-    let some = some_pending c.asks.self.lines in
+    let now = open_log c.next.new.self c.asks.self-inside.room c.asks.self-inside.hurries in
+    let new = open_log c.ask.new.self (c.asks.self-inside.room - c.in-Ok-ask.count) c.asks.self-inside.hurries in
+    let some = some_pending c.asks.self-inside.lines in
     let going = (c.in-Ask.ensures.gives some.0 some.1).3 in
-    let less = less_to_read c.asks.self new c.in-Ok-ask.count refl (sym c.next.ensures.ended ∙ going) c.in-Ok-ask.ensures.ended c.if-count-self.false
+    let less = less_to_read (open_log c.asks.self-inside.lines c.asks.self-inside.room c.asks.self-inside.hurries) new c.in-Ok-ask.count refl (sym c.next.ensures.ended ∙ going) c.in-Ok-ask.ensures.ended c.if-count-self.false
     (c.in-Ok-ask.ensures.size ∙ ap length c.next.ensures.unmoved) in
     record {
       hands = λ remained first h.
           let s = c.asks.invariant.hands remained first h in
           let given = c.in-Ask.ensures.gives s.pending s.holds in
-          reads_on c.asks.self now remained _ first s refl c.next.ensures.ended c.next.ensures.limit given.1 given.3 _
+          reads_on _ now remained _ first s refl c.next.ensures.ended c.next.ensures.limit given.1 given.3 _
           new c.in-Ok-ask.count given.0 c.in-Ok-ask.ensures.read c.in-Ok-ask.ensures.ended c.in-Ok-ask.ensures.limit c.if-count-self.false refl;
       puts = puts_idle _ _ _ _ _ _ c.asks.invariant.puts c.in-Ok.ensures.emptied c.in-Ok.ensures.ok;
       fewer = omega (arith, less, c.asks.invariant.fewer);
@@ -123,14 +124,14 @@ asks-preserved g c =
 
 pub returns-in-Ok-hand_on-clause-gives : goal.returns-in-Ok-hand_on-clause-gives
 returns-in-Ok-hand_on-clause-gives g c = λ remained first h.
-    let s = c.asks.invariant.hands remained first h in
-    let now : LogReader = record { lines = c.next.new.self; room = c.asks.self.room; hurries = c.asks.self.hurries } in
-    gives_end c.asks.self now remained _ first s refl c.next.ensures.ended c.next.ensures.limit
+    let s = c.asks.invariant.hands remained first (by_fields c.self.view_is h) in
+    let now = open_log c.next.new.self c.asks.self-inside.room c.asks.self-inside.hurries in
+    gives_end _ now remained _ first s refl c.next.ensures.ended c.next.ensures.limit
     (c.in-End.ensures.gives s.pending s.holds)
 
 pub returns-in-Err-clause-breaks : goal.returns-in-Err-clause-breaks
 returns-in-Err-clause-breaks g c = λ remained first h.
-    let breaks = write_breaks c.asks.self remained _ first (c.asks.invariant.hands remained first h) in (
+    let breaks = write_breaks _ remained _ first (c.asks.invariant.hands remained first (by_fields c.self.view_is h)) in (
       failed_now c.hand_on-in-End.new.self.failed _ c.in-Err.ensures.failed,
       fails_idle _ _ _ _ _ c.asks.invariant.puts c.in-Err.ensures.err,
       breaks.0,

@@ -1,21 +1,29 @@
-use Rattle.std.proofs.Common.{◌≡◌, ◌≤◌, [], ℕ, List}
+use Rattle.std.proofs.Common.{◌≡◌, ◌≤◌, [], ℕ, List, Bool}
 use Rattle.std.specs.Prelude.{Option}
+use Rattle.lines.specs.LineBuffers.{Buffered}
 use Rattle.lines.specs.Outputs.{Prints}
 use Rattle.lines.specs.Watched.{device_of, has_failed}
 use Rattle.program.specs.LogLines.{LogLine}
-use Rattle.program.specs.LogReaders.{HandsFirst, hurries_of, left}
+use Rattle.program.specs.LogReaders.{OpenLog, HandsFirst, left}
 use Rattle.program.proofs.log_reader.LogReader.next.Given as goal
 
+-- the log by the fields of its reader
+abbrev pub open_log : Buffered → ℕ → Bool → OpenLog
+open_log buffered room hurries = record { buffered = buffered; room = room; hurries = hurries }
+
 abbrev pub invariant-asks : goal.invariant-asks
-invariant-asks g l = record {
-  hands : (remained : Option (List ℕ)) → (first : List LogLine) → HandsFirst l.initial.self remained (g.R.Read.remaining (device_of l.initial.reader)) first
-      → HandsFirst l.self remained (g.R.Read.remaining (device_of l.reader)) first;
-  puts : Prints l.initial.output l.output [];
-  fewer : left l.self ≤ left l.initial.self;
-  hurries : hurries_of l.self ≡ hurries_of l.initial.self;
-  reads : has_failed l.reader ≡ has_failed l.initial.reader;
-  writes : l.output.failed ≡ l.initial.output.failed;
-}
+invariant-asks g l =
+    let old = open_log l.initial.self-inside.lines l.initial.self-inside.room l.initial.self-inside.hurries in
+    let now = open_log l.self-inside.lines l.self-inside.room l.self-inside.hurries in
+    record {
+      hands : (remained : Option (List ℕ)) → (first : List LogLine) → HandsFirst old remained (g.R.Read.remaining (device_of l.initial.reader)) first
+          → HandsFirst now remained (g.R.Read.remaining (device_of l.reader)) first;
+      puts : Prints l.initial.output l.output [];
+      fewer : left now ≤ left old;
+      hurries : now.hurries ≡ old.hurries;
+      reads : has_failed l.reader ≡ has_failed l.initial.reader;
+      writes : l.output.failed ≡ l.initial.output.failed;
+    }
 
 abbrev pub decreases-asks : goal.decreases-asks
-decreases-asks g l = left l.self
+decreases-asks g l = left (open_log l.self-inside.lines l.self-inside.room l.self-inside.hurries)
