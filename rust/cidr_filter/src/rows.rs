@@ -56,7 +56,7 @@ pub(crate) const ONLY_V4: usize = 24;
 pub(crate) const ONLY_V6: usize = 25;
 
 // The options.
-const ROWS: [Row; 26] = log_rows![
+const ROWS: [Row; 27] = log_rows![
     letter!(b'e', Text, "not a network or range"),
     letter!(b'm', Number, "not a number of lines"),
     long!("--longest", Flag, false, ""),

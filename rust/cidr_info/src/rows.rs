@@ -14,11 +14,17 @@ pub(crate) const JSON: usize = 1;
 pub(crate) const NO_NETWORK: &str = "not a network";
 
 // The rows of the options.
-const ROWS: [Row; 4] = [
+const ROWS: [Row; 5] = [
     long!("--in", Text, true, NO_NETWORK),
     long!("--json", Flag, false, ""),
     long!("--help", Alone, false, "not the only argument"),
     long!("--version", Alone, false, "not the only argument"),
+    long!(
+        "--quiet",
+        Alone,
+        false,
+        "taken only once, as the first word"
+    ),
 ];
 
 // `--in` may be given only once, and not together with `--json`.

@@ -35,7 +35,7 @@ pub(crate) const SKIPS_BAD: usize = 17;
 pub(crate) const NETWORKS: usize = 18;
 
 // The options.
-const ROWS: [Row; 19] = log_rows![
+const ROWS: [Row; 20] = log_rows![
     long!("--last", Flag, false, ""),
     long!("--last-wins", Flag, false, ""),
     long!("--network", Flag, false, ""),

@@ -71,7 +71,6 @@ pub(crate) fn tally_log<R: Read>(
 // out.
 fn tally_fault(fault: LogFault) -> TallyFault {
     match fault {
-        LogFault::Open(cause) => TallyFault::Log(LogFault::Open(cause)),
         LogFault::Read => TallyFault::Log(LogFault::Read),
         LogFault::Write => TallyFault::OutOfMemory,
         LogFault::Address => TallyFault::Log(LogFault::Address),

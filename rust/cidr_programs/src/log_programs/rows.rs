@@ -28,14 +28,15 @@ pub const LIST: usize = 6;
 /// The row of `--nth`.
 pub const NTH: usize = 9;
 
-/// The rows of the shared options, with `--help` and `--version`, and then those of a program.
+/// The rows of the shared options, with `--help` and `--version`, then those of a program, and last
+/// that of `--quiet`, which is taken off before the options are read if it is the first word.
 ///
 /// ```
 /// # use cidr_programs::in_examples::*;
 /// use cidr_programs::log_programs::rows::{LIST, log_rows};
 /// use cidr_programs::options::table::{Kind, Row, letter, long};
 ///
-/// const ROWS: [Row; 11] = log_rows![letter!(b'q', Flag, "")];
+/// const ROWS: [Row; 12] = log_rows![letter!(b'q', Flag, "")];
 /// assert_eq!(ROWS[LIST].letter, Some(b'f'));
 /// assert_eq!(ROWS[10].letter, Some(b'q'));
 /// ```
@@ -53,7 +54,8 @@ macro_rules! log_rows {
             long!("--help", Alone, false, "not the only argument"),
             long!("--version", Alone, false, "not the only argument"),
             long!("--nth", Nth, true, "not first, last or a number from 1 up"),
-            $($row),*
+            $($row,)*
+            long!("--quiet", Alone, false, "taken only once, as the first word"),
         ]
     };
 }
@@ -88,7 +90,7 @@ pub use log_pairs;
 pub use log_rows;
 
 // The rows of the shared options.
-const ROWS: [Row; 10] = log_rows![];
+const ROWS: [Row; 11] = log_rows![];
 
 // The pairs of them that exclude each other.
 const PAIRS: [Pair; 5] = log_pairs![[], []];

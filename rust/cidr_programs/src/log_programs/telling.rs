@@ -10,6 +10,7 @@ use crate::lines::output::Output;
 use crate::lists::OpenFault;
 use crate::program::log_fault::tell_fault_of;
 use crate::program::messages::{tell, tell_head, tell_number};
+use crate::program::usage::tell_shown;
 use fosibegan::plain_std::io::Write;
 
 /// Reports, in the name of a program, that no line of the log of this name has an address in this
@@ -94,12 +95,7 @@ fn tell_nth<E: Write>(text: &str, number: u32, errors: &mut Output<'_, E>) {
 // Reports the text after which the address is searched.
 fn tell_after<E: Write>(text: &Text<'_>, errors: &mut Output<'_, E>) {
     tell("after ", errors);
-    tell_bytes(text.bytes(), errors);
-}
-
-// Writes bytes to the error writer, as `tell` writes a text.
-fn tell_bytes<E: Write>(bytes: &[u8], errors: &mut Output<'_, E>) {
-    let _ = errors.put(bytes);
+    tell_shown(text.bytes(), errors);
 }
 
 /// Returns whether a line is missed: a line is too long, and such lines are not dropped.

@@ -7,7 +7,7 @@ use crate::options::items::Text;
 use crate::options::table::Row;
 use crate::lines::output::Output;
 use crate::program::ending::FAILED;
-use crate::program::messages::tell;
+use crate::program::messages::{tell, tell_bytes};
 use crate::program::usage::tell_shown;
 use fosibegan::plain_std::io::Write;
 
@@ -73,11 +73,6 @@ fn tell_option<E: Write>(rows: &[Row], row: usize, errors: &mut Output<'_, E>) {
         Some(letter) => tell_bytes(&[b'-', letter], errors),
         None => tell(row.name, errors),
     }
-}
-
-// Writes bytes to the error writer, as `tell` writes a text.
-fn tell_bytes<E: Write>(bytes: &[u8], errors: &mut Output<'_, E>) {
-    let _ = errors.put(bytes);
 }
 
 // Writes a text to the error writer.

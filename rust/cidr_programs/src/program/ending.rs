@@ -2,7 +2,7 @@
 
 //! How a program ends: its exit status, and what it reports about its output.
 
-use crate::program::messages::{tell, tell_head, tell_of};
+use crate::program::messages::{tell, tell_of};
 use crate::lines::fault::RunFault;
 use crate::lines::output::Output;
 use fosibegan::plain_std::io::{ErrorKind, Write};
@@ -82,7 +82,7 @@ fn write_text<W: Write>(text: &str, output: &mut Output<'_, W>) -> Result<(), Ru
 /// assert_eq!(room, *b"sum: standard output: no space left on device\n");
 /// ```
 pub fn tell_unwritten<E: Write>(program: &str, kind: ErrorKind, errors: &mut Output<'_, E>) {
-    tell_head(program, "standard output", errors);
+    tell_of(program, ": standard output", errors);
     tell(write_cause(kind), errors);
 }
 

@@ -4,14 +4,11 @@
 
 use crate::program::messages::{tell, tell_head, tell_number, tell_of};
 use crate::lines::output::Output;
-use crate::lists::OpenFault;
 use fosibegan::plain_std::io::Write;
 
 /// Why a log was not read to its end.
 #[derive(Clone, Copy, Debug, PartialEq, Eq)]
 pub enum LogFault {
-    /// The log cannot be opened, for this cause.
-    Open(OpenFault),
     /// A read failed.
     Read,
     /// A write failed.
@@ -81,7 +78,6 @@ pub fn tell_log_fault<E: Write>(
     errors: &mut Output<'_, E>,
 ) {
     match fault {
-        LogFault::Open(cause) => tell_fault_of(program, name, cause.text(), errors),
         LogFault::Read => tell_fault_of(program, name, ": cannot read\n", errors),
         LogFault::Write => tell_of(program, ": write error\n", errors),
         LogFault::Address => tell_line(program, name, lines, "address", errors),
@@ -90,7 +86,8 @@ pub fn tell_log_fault<E: Write>(
     }
 }
 
-/// Reports, in the name of a program, a text about what has this name.
+/// Reports, in the name of a program, a text about what has this name, which is shown as
+/// messages show words.
 ///
 /// ```
 /// # use cidr_programs::in_examples::*;

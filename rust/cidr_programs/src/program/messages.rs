@@ -2,6 +2,7 @@
 
 //! Messages on the error writer. If the write of one fails, nothing else changes.
 
+use crate::program::usage::tell_shown;
 use fosibegan::plain_std::arrayvec::ArrayString;
 use fosibegan::ipnetwork_addr::decimal::push_number;
 use crate::lines::output::Output;
@@ -49,7 +50,8 @@ pub fn tell_of<E: Write>(name: &str, text: &str, errors: &mut Output<'_, E>) {
 }
 
 /// Writes the beginning of a message to the error writer: the program's name, `: ` and the name of
-/// what the message is about.
+/// what the message is about, as messages show words: an empty name as `''`, any other with
+/// control characters escaped.
 ///
 /// ```
 /// # use cidr_programs::in_examples::*;
@@ -59,9 +61,8 @@ pub fn tell_of<E: Write>(name: &str, text: &str, errors: &mut Output<'_, E>) {
 /// assert_eq!(errors.finish(), Ok(()));
 /// ```
 pub fn tell_head<E: Write>(program: &str, name: &str, errors: &mut Output<'_, E>) {
-    tell(program, errors);
-    tell(": ", errors);
-    tell(name, errors);
+    tell_of(program, ": ", errors);
+    tell_shown(name.as_bytes(), errors);
 }
 
 /// Writes a number in decimal to the error writer.
