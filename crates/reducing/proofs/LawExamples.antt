@@ -1,11 +1,12 @@
 -- What the laws imply and weaker laws would not: for both families together, from the first address to the last.
-use Rattle.std.proofs.Common.{◌≡◌, ℕ, ◌+◌, ◌-◌, ◌^◌, ◌∷◌, [], List, lit<, refl}
-use Rattle.ipnetwork_family.specs.Network.{Network}
+use Rattle.std.proofs.Common.{◌≡◌, ℕ, ◌+◌, ◌-◌, ◌^◌, ◌<◌, ◌∷◌, [], List, lit<, refl, arith}
+use Rattle.std.specs.List.{All, AllPairs}
+use Rattle.ipnetwork_family.specs.Network.{Network, IsCidrBlock, high}
 use Rattle.ipnetwork_blocks.specs.Aggregate.{InUnion}
 use Rattle.ipnetwork_sets.specs.Counts.{total}
 use Rattle.ipnetwork_sets.specs.Sets.{IsAddressSet}
 use Rattle.reducing.specs.Reducing.{Reduces}
-use Rattle.reducing.specs.ReducingLaws.{ReducedAddsUp, ReducedHasAll}
+use Rattle.reducing.specs.ReducingLaws.{ReducedAddsUp, ReducedHasAll, ReducedIsApart}
 
 -- 0.0.0.0 and 255.255.255.255
 abbrev ends : List Network
@@ -27,6 +28,15 @@ module _ (set : IsAddressSet 32 ends) (set6 : IsAddressSet 128 ends6) (us vs : L
         has.0 0xffffffff (record { address = 0xffffffff; prefix = 32 }, (1, lit< tt, refl), (lit< tt, refl)),
         has.1 (2 ^ 128 - 1) (record { address = 2 ^ 128 - 1; prefix = 128 }, (1, lit< tt, refl), (lit< tt, refl)),
       )
+
+  -- the sizes of all addresses and the last one add up, and no address is lost, but the last is in both blocks
+  pub not_within_another : ReducedIsApart
+      → ¬ (Reduces 32 128 2 ends ends6 (record { address = 0; prefix = 0 } ∷ record { address = 0xffffffff; prefix = 32 } ∷ []) vs j k)
+      × ¬ (Reduces 32 128 2 ends ends6 us (record { address = 0; prefix = 0 } ∷ record { address = 2 ^ 128 - 1; prefix = 128 } ∷ []) j k)
+  not_within_another law = (
+    (λ reduced. let last = (law 32 128 2 ends ends6 _ vs j k set set6 reduced).0.1 0 1 (record { address = 0; prefix = 0 }) (lit< tt) (lit< tt) in absurd (omega (arith, last))),
+    (λ reduced. let last = (law 32 128 2 ends ends6 us _ j k set set6 reduced).1.1 0 1 (record { address = 0; prefix = 0 }) (lit< tt) (lit< tt) in absurd (omega (arith, last))),
+  )
 
 -- of IPv6 first and no IPv4, and down to as few as there can be
 pub one_family : ReducedAddsUp → IsAddressSet 128 ends6 → IsAddressSet 32 [] → (us vs : List Network) (j k : ℕ)
