@@ -29,7 +29,8 @@ from_end Last near middle far = (far ++ middle) ++ near
 
 -- the block at this end was taken out of the list: none only if it was empty
 abbrev pub IsTaken : {X : Type 0} → (X → Network) → End → List Network → List Network → Option X → Type 0
-IsTaken pair end list rest taken = MatchOption taken ((list ≡ []) × (rest ≡ [])) (λ b. list ≡ with_end end (pair b) rest)
+IsTaken pair end list rest taken = MatchOption taken ((list ≡ []) × (rest ≡ []))
+    (λ b. list ≡ with_end end (pair b) rest)
 
 -- the root in the middle of the slice has the span of all blocks
 abbrev pub IsRoot : {X : Type 0} → ℕ → (X → Network) → List (Node X) → Type 0
