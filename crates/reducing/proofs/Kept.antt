@@ -12,10 +12,10 @@ use Rattle.ipnetwork_sets.specs.Sets.{IsAddressSet}
 use Rattle.reducing.specs.Joining.{joined}
 use Rattle.reducing.specs.Reducing.{Joins, Becomes, Reduces}
 use Rattle.reducing.specs.Reducing.Becomes.{Same, InFirst, InSecond}
-use Rattle.reducing.specs.ReducingLaws.{ReducedAddsUp, ReducedHasAll}
+use Rattle.reducing.specs.ReducingLaws.{ReducedAddsUp, ReducedHasAll, ReducedIsApart}
 use Rattle.reducing.specs.Private.Parts.{no_pair, least, JoinsFirst}
 use Rattle.reducing.proofs.Parts.{joins_of, all_above, all_more, no_neighbours}
-use Rattle.reducing.proofs.Rows.{IsRow, pair_in_row, adds_up, set_row}
+use Rattle.reducing.proofs.Rows.{IsRow, pair_in_row, adds_up, set_row, row_blocks, row_apart}
 
 one_kept : (w : ℕ) (list next : List Network) (k : ℕ) → Joins w list next k → IsRow w list → (x : ℕ) → InUnion w list x → InUnion w next x
 one_kept w list next k j row x at =
@@ -52,6 +52,11 @@ all_kept w v most xs ys hx hy us vs j k (InSecond {us = u} {vs = z} {next = next
 
 pub row_of_set : (w : ℕ) (xs : List Network) → AggregateIsApart → IsAddressSet w xs → IsRow w xs
 row_of_set w xs apart h = set_row w xs (λ n c. set_block w xs n h c) (apart w xs xs h)
+
+pub reduced_is_apart : AggregateIsApart → ReducedIsApart
+reduced_is_apart apart w v most xs ys us vs j k hx hy r =
+    let h = adds_up w v most xs ys (row_of_set w xs apart hx) (row_of_set v ys apart hy) us vs j k r.becomes in
+    ((row_blocks w us h.0.row, row_apart w us h.0.row), (row_blocks v vs h.1.row, row_apart v vs h.1.row))
 
 pub reduced_adds_up : AggregateIsApart → ReducedAddsUp
 reduced_adds_up apart w v most xs ys us vs j k hx hy r =

@@ -213,11 +213,3 @@ span_followed w pair first second front back f b k is_f is_b is hf hb =
     subst (λ (m : ℕ). IsSpanOf w (first ++ second) (pair f.first) (pair b.last) m) (sym is)
     (span_of_both w first second (pair f.first) (pair f.last) (pair b.first) (pair b.last) f.least b.least
     (something_in w pair first front f is_f hf) (something_in w pair second back b is_b hb))
-
-pub spans_between : {X : Type 0} (w : ℕ) (pair : X → Network) (first second : List Network) (front back : Option (Span X)) (f b : Span X) (k : ℕ)
-    → front ≡ Some f → back ≡ Some b → k ≡ others w (pair f.last) (pair b.first)
-    → IsSpan w pair first front → IsSpan w pair second back → IsBetween w first second k
-spans_between w pair first second front back f b k is_f is_b is hf hb =
-    let sf = something_in w pair first front f is_f hf in
-    let sb = something_in w pair second back b is_b hb in
-    inl (record { before = sf.before; a = pair f.last; b = pair b.first; behind = sb.behind; ends = sf.ends; begins = sb.begins; others_are = is })

@@ -1,7 +1,7 @@
 -- Lists of blocks in ascending order that share no address, and how many addresses they have.
-use Rattle.std.proofs.Common.{◌≡◌, ℕ, suc, ◌+◌, ◌^◌, ◌<◌, ◌≤◌, ◌++◌, ◌∷◌, [], List, length, refl, sym, ap, subst, ◌∙◌, append_assoc, arith}
+use Rattle.std.proofs.Common.{◌≡◌, ℕ, zero, suc, ◌+◌, ◌^◌, ◌<◌, ◌≤◌, ◌++◌, ◌∷◌, [], List, length, refl, sym, ap, subst, ◌∙◌, append_assoc, arith}
 use Rattle.std.proofs.Math.Nat.{pow-le-pow_right}
-use Rattle.std.specs.List.{AllPairs, Contains}
+use Rattle.std.specs.List.{All, AllPairs, Contains}
 use Rattle.ipnetwork_blocks.proofs.LeastLists.{contains_head, contains_tail}
 use Rattle.ipnetwork_family.specs.Network.{Network, IsCidrBlock, high}
 use Rattle.ipnetwork_family.proofs.Blocks.{size_pos, high_fits}
@@ -23,6 +23,21 @@ row_head w a (b ∷ xs) h = h.0
 row_tail : (w : ℕ) (a : Network) (xs : List Network) → IsRow w (a ∷ xs) → IsRow w xs
 row_tail w a [] h = tt
 row_tail w a (b ∷ xs) h = h.2
+
+-- a row has blocks, each before all behind it
+pub row_blocks : (w : ℕ) (xs : List Network) → IsRow w xs → All (IsCidrBlock w) xs
+row_blocks w [] h i d within = absurd (omega arith)
+row_blocks w (a ∷ xs) h zero d within = row_head w a xs h
+row_blocks w (a ∷ xs) h (suc i) d within = row_blocks w xs (row_tail w a xs h) i d (omega arith)
+
+pub row_apart : (w : ℕ) (xs : List Network) → IsRow w xs → AllPairs (λ a b. high w a < b.address) xs
+row_apart w [] h i j d less within = absurd (omega arith)
+row_apart w (a ∷ xs) h i zero d less within = absurd (omega arith)
+row_apart w (a ∷ xs) h (suc i) (suc j) d less within = row_apart w xs (row_tail w a xs h) i j d (omega arith) (omega arith)
+row_apart w (a ∷ []) h zero (suc j) d less within = absurd (omega arith)
+row_apart w (a ∷ b ∷ xs) h zero (suc zero) d less within = omega (arith, h.1, h.0.block, size_pos w a.prefix)
+row_apart w (a ∷ b ∷ xs) h zero (suc (suc j)) d less within =
+    omega (arith, row_apart w (b ∷ xs) h.2 zero (suc j) d (omega arith) (omega arith), h.1, h.0.block, (row_head w b xs h.2).block, size_pos w a.prefix, size_pos w b.prefix)
 
 -- ---- a row in two parts
 

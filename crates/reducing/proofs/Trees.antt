@@ -137,33 +137,28 @@ closed tree left rest place right n left2 right2 m s same_left same_right =
           same_left ∙ s.middle ∙ ap (λ k. k / 2) (sym size);
     }
 
-pub closed_tree : {X : Type 0} (w : ℕ) (pair : X → Network) (tree left rest place right : List (Node X)) (n : Node X) (left2 right2 : List (Node X))
+pub closed_again : {X : Type 0} (w : ℕ) (pair : X → Network) (tree left rest place right : List (Node X)) (n : Node X) (left2 right2 : List (Node X))
     (m : Node X) (block : Option X) → IsSplit tree left rest place right n → length left2 ≡ length left → length right2 ≡ length right
     → m.block ≡ block → IsTree w pair left2 → IsTree w pair right2
     → IsSpan w pair ((blocks pair left2 ++ alone pair block) ++ blocks pair right2) m.span
     → IsTree w pair (left2 ++ (slice_set place 0 m ++ right2))
-closed_tree w pair tree left rest place right n left2 right2 m block s same_left same_right is l r span =
-    tree_made w pair (left2 ++ (slice_set place 0 m ++ right2)) left2 m right2 (closed tree left rest place right n left2 right2 m s same_left same_right) l r
-    (subst (λ (o : Option _). IsSpan w pair ((blocks pair left2 ++ alone pair o) ++ blocks pair right2) m.span) (sym is) span)
-
-pub closed_blocks : {X : Type 0} (pair : X → Network) (tree left rest place right : List (Node X)) (n : Node X) (left2 right2 : List (Node X))
-    (m : Node X) (block : Option X) → IsSplit tree left rest place right n → length left2 ≡ length left → length right2 ≡ length right
-    → m.block ≡ block → blocks pair (left2 ++ (slice_set place 0 m ++ right2)) ≡ (blocks pair left2 ++ alone pair block) ++ blocks pair right2
-closed_blocks pair tree left rest place right n left2 right2 m block s same_left same_right is =
-    blocks_of_parts pair (left2 ++ (slice_set place 0 m ++ right2)) left2 m right2 (closed tree left rest place right n left2 right2 m s same_left same_right)
-    ∙ ap (λ (o : Option _). (blocks pair left2 ++ alone pair o) ++ blocks pair right2) is
+    × (blocks pair (left2 ++ (slice_set place 0 m ++ right2)) ≡ (blocks pair left2 ++ alone pair block) ++ blocks pair right2)
+closed_again w pair tree left rest place right n left2 right2 m block s same_left same_right is l r span =
+    let rooted = closed tree left rest place right n left2 right2 m s same_left same_right in (
+      tree_made w pair (left2 ++ (slice_set place 0 m ++ right2)) left2 m right2 rooted l r
+          (subst (λ (o : Option _). IsSpan w pair ((blocks pair left2 ++ alone pair o) ++ blocks pair right2) m.span) (sym is) span),
+      blocks_of_parts pair (left2 ++ (slice_set place 0 m ++ right2)) left2 m right2 rooted
+          ∙ ap (λ (o : Option _). (blocks pair left2 ++ alone pair o) ++ blocks pair right2) is,
+    )
 
 pub opened_blocks : {X : Type 0} (pair : X → Network) (tree left rest place right : List (Node X)) (n : Node X) → IsSplit tree left rest place right n
     → blocks pair tree ≡ (blocks pair left ++ alone pair n.block) ++ blocks pair right
 opened_blocks pair tree left rest place right n s = blocks_of_parts pair tree left n right (opened tree left rest place right n s)
 
-pub opened_left : {X : Type 0} (w : ℕ) (pair : X → Network) (tree left rest place right : List (Node X)) (n : Node X)
-    → IsSplit tree left rest place right n → IsTree w pair tree → IsTree w pair left
-opened_left w pair tree left rest place right n s = left_tree w pair tree left n right (opened tree left rest place right n s)
-
-pub opened_right : {X : Type 0} (w : ℕ) (pair : X → Network) (tree left rest place right : List (Node X)) (n : Node X)
-    → IsSplit tree left rest place right n → IsTree w pair tree → IsTree w pair right
-opened_right w pair tree left rest place right n s = right_tree w pair tree left n right (opened tree left rest place right n s)
+pub opened_trees : {X : Type 0} (w : ℕ) (pair : X → Network) (tree left rest place right : List (Node X)) (n : Node X)
+    → IsSplit tree left rest place right n → IsTree w pair tree → IsTree w pair left × IsTree w pair right
+opened_trees w pair tree left rest place right n s t =
+    let h = opened tree left rest place right n s in (left_tree w pair tree left n right h t, right_tree w pair tree left n right h t)
 
 -- one more place
 pub blocks_taken : {X : Type 0} (pair : X → Network) (tree : List (Node X)) (i : ℕ) (n : Node X) → i < length tree → n ≡ get_or tree i n

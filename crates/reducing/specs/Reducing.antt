@@ -9,8 +9,8 @@ AllNeighbours Related [] = Unit {0}
 AllNeighbours Related (a ∷ []) = Unit {0}
 AllNeighbours Related (a ∷ b ∷ behind) = Related a b × AllNeighbours Related (b ∷ behind)
 
--- next is the list with one pair of neighbours joined, which has k others: each pair has as many, and each pair before
--- it more
+-- next is the list with one pair of neighbours joined, which has k others: no pair has fewer, and each pair before it
+-- has more
 pub record Joins (w : ℕ) (list next : List Network) (k : ℕ) : Type 0 where
   pub before : List Network
   pub a : Network

@@ -1,4 +1,4 @@
-//! The list of at most a given number of blocks.
+//! Two lists whose neighbours are joined until there are few blocks.
 ghost use Rattle.std.specs.Bool.{MatchBool};
 ghost use Rattle.std.specs.Prelude.{◌+◌, ◌<◌, ◌≤◌, ◌⊎◌, IfOk, map};
 ghost use Rattle.reducing.specs.Reducing.{Reduces};
@@ -22,7 +22,7 @@ pub struct Reduced<A, B> {
     pub second_others: u128,
 }
 
-/// Joins blocks of two sets until both have at most `most` blocks together, or one block each.
+/// Joins blocks of two sets until both have at most `most` blocks together, or at most one each.
 ///
 /// Each step joins two neighbours in one of the lists to the smallest block that contains both:
 /// those that have the fewest other addresses in it, of the first family if both have as few, and

@@ -1,10 +1,10 @@
 //! A slice that is a search tree: its root is in the middle, and the slices before and behind it
 //! are its subtrees.
-ghost use Rattle.std.specs.Prelude.{◌≡◌, ◌<◌, ◌++◌, ◌∷◌, [], List, MatchOption, Some};
+ghost use Rattle.std.specs.Prelude.{◌≡◌, ◌<◌, ◌++◌, ◌∷◌, [], List, Some};
 ghost use Rattle.ipnetwork_family.specs.Network.{Network};
 ghost use Rattle.reducing.specs.Joining.{joined};
 ghost use Rattle.reducing.specs.Private.Parts.{IsSpan, JoinsFirst, least, no_pair};
-ghost use Rattle.reducing.specs.Private.Trees.{IsTree, alone, blocks};
+ghost use Rattle.reducing.specs.Private.Trees.{IsTaken, IsTree, alone, blocks, from_end};
 
 use crate::joining::joined;
 use crate::span::{Span, alone, between, followed, least};
@@ -15,6 +15,13 @@ use ipnetwork_blocks::AddressSpace;
 pub(crate) struct Node<N> {
     pub(crate) block: Option<N>,
     pub(crate) span: Option<Span<N>>,
+}
+
+// An end of a list.
+#[derive(Clone, Copy)]
+enum End {
+    First,
+    Last,
 }
 
 /// The span of the blocks in a tree.
@@ -56,13 +63,12 @@ pub(crate) fn build<N: AddressSpace>(tree: &mut [Node<N>])
     place[0] = root(left, place[0].block, right);
 }
 
-// Takes out the first block.
-fn take_first<N: AddressSpace>(tree: &mut [Node<N>]) -> Option<N>
+// Takes out the block at this end.
+#[cycle(take)]
+fn take<N: AddressSpace>(tree: &mut [Node<N>], end: End) -> Option<N>
     requires { IsTree N.WIDTH N.pair tree.old }
     ensures tree { IsTree N.WIDTH N.pair tree.new }
-    ensures taken { MatchOption result
-        ((blocks N.pair tree.old ≡ []) × (blocks N.pair tree.new ≡ []))
-        (λ block. blocks N.pair tree.old ≡ N.pair block ∷ blocks N.pair tree.new) }
+    ensures taken { IsTaken N.pair end (blocks N.pair tree.old) (blocks N.pair tree.new) result }
 {
     if span(tree).is_none() {
         return None;
@@ -71,60 +77,52 @@ fn take_first<N: AddressSpace>(tree: &mut [Node<N>]) -> Option<N>
     let (left, rest) = tree.split_at_mut(middle);
     let (place, right) = rest.split_at_mut(1);
     let block = place[0].block;
-    if let Some(first) = take_first(left) {
-        place[0] = root(left, block, right);
-        return Some(first);
-    }
-    if let Some(first) = block {
-        place[0] = root(left, None, right);
-        return Some(first);
-    }
-    let first = take_first(right);
-    place[0] = root(left, None, right);
-    first
+    let (taken, block) = match end {
+        End::First => take_from(left, block, right, End::First),
+        End::Last => take_from(right, block, left, End::Last),
+    };
+    place[0] = root(left, block, right);
+    taken
 }
 
-// Takes out the last block.
-fn take_last<N: AddressSpace>(tree: &mut [Node<N>]) -> Option<N>
-    requires { IsTree N.WIDTH N.pair tree.old }
-    ensures tree { IsTree N.WIDTH N.pair tree.new }
-    ensures taken { MatchOption result
-        ((blocks N.pair tree.old ≡ []) × (blocks N.pair tree.new ≡ []))
-        (λ block. blocks N.pair tree.old ≡ blocks N.pair tree.new ++ N.pair block ∷ []) }
+// Takes out the block at this end, where the near tree is, of two trees and the block between them.
+// Returns what was taken, and the block that is then between the trees.
+#[cycle(take)]
+fn take_from<N: AddressSpace>(
+    near: &mut [Node<N>],
+    block: Option<N>,
+    far: &mut [Node<N>],
+    end: End,
+) -> (Option<N>, Option<N>)
+    requires near { IsTree N.WIDTH N.pair near.old }
+    requires far { IsTree N.WIDTH N.pair far.old }
+    ensures near { IsTree N.WIDTH N.pair near.new }
+    ensures far { IsTree N.WIDTH N.pair far.new }
+    ensures taken { IsTaken N.pair end
+        (from_end end (blocks N.pair near.old) (alone N.pair block) (blocks N.pair far.old))
+        (from_end end (blocks N.pair near.new) (alone N.pair result.1) (blocks N.pair far.new))
+        result.0 }
 {
-    if span(tree).is_none() {
-        return None;
+    if let Some(taken) = take(near, end) {
+        return (Some(taken), block);
     }
-    let middle = tree.len() / 2;
-    let (left, rest) = tree.split_at_mut(middle);
-    let (place, right) = rest.split_at_mut(1);
-    let block = place[0].block;
-    if let Some(last) = take_last(right) {
-        place[0] = root(left, block, right);
-        return Some(last);
+    if let Some(taken) = block {
+        return (Some(taken), None);
     }
-    if let Some(last) = block {
-        place[0] = root(left, None, right);
-        return Some(last);
-    }
-    let last = take_last(left);
-    place[0] = root(left, None, right);
-    last
+    (take(far, end), None)
 }
 
 // Takes out the last block of a tree and of the block behind it, if there is one.
 fn take_end<N: AddressSpace>(left: &mut [Node<N>], block: Option<N>) -> Option<N>
     requires { IsTree N.WIDTH N.pair left.old }
     ensures tree { IsTree N.WIDTH N.pair left.new }
-    ensures taken { MatchOption result
-        ((blocks N.pair left.old ++ alone N.pair block ≡ []) × (blocks N.pair left.new ≡ []))
-        (λ last. blocks N.pair left.old ++ alone N.pair block
-        ≡ blocks N.pair left.new ++ N.pair last ∷ []) }
+    ensures taken { IsTaken N.pair End.Last
+        (blocks N.pair left.old ++ alone N.pair block) (blocks N.pair left.new) result }
 {
     if let Some(last) = block {
         return Some(last);
     }
-    take_last(left)
+    take(left, End::Last)
 }
 
 /// Joins the first two neighbours that have this number of others, the least in the tree.
@@ -171,10 +169,10 @@ fn join_parts<N: AddressSpace>(
         join(left, others);
         block
     } else if least(front) == others {
-        both(take_last(left), block)
+        both(take(left, End::Last), block)
     } else if between(front, span(right)) == others {
         let last = take_end(left, block);
-        both(last, take_first(right))
+        both(last, take(right, End::First))
     } else {
         join(right, others);
         block

@@ -1,7 +1,9 @@
 -- Slices that are search trees of blocks.
 use Rattle.std.specs.Prelude.{◌≡◌, ℕ, zero, suc, ◌/◌, ◌<◌, List, [], ◌∷◌, ◌++◌, length, take, drop}
-use Rattle.std.specs.Prelude.{slice_index_or, Option, Some, None}
+use Rattle.std.specs.Prelude.{slice_index_or, Option, Some, None, MatchOption}
 use Rattle.ipnetwork_family.specs.Network.{Network}
+use Rattle.reducing.specs.declared.tree.End.{End}
+use Rattle.reducing.specs.declared.tree.End.TheVariants.{First, Last}
 use Rattle.reducing.specs.declared.tree.Node.{Node}
 use Rattle.reducing.specs.Private.Parts.{IsSpan}
 
@@ -14,6 +16,21 @@ alone pair (Some x) = pair x ∷ []
 abbrev pub blocks : {X : Type 0} → (X → Network) → List (Node X) → List Network
 blocks pair [] = []
 blocks pair (n ∷ ns) = alone pair n.block ++ blocks pair ns
+
+-- the rest with a block at this end
+abbrev pub with_end : End → Network → List Network → List Network
+with_end First b rest = b ∷ rest
+with_end Last b rest = rest ++ b ∷ []
+
+-- three parts of a list, the first of them at this end
+abbrev pub from_end : End → List Network → List Network → List Network → List Network
+from_end First near middle far = (near ++ middle) ++ far
+from_end Last near middle far = (far ++ middle) ++ near
+
+-- the block at this end was taken out of the list: none only if it was empty
+abbrev pub IsTaken : {X : Type 0} → (X → Network) → End → List Network → List Network → Option X → Type 0
+IsTaken pair end list rest taken = MatchOption taken ((list ≡ []) × (rest ≡ []))
+    (λ b. list ≡ with_end end (pair b) rest)
 
 -- the root in the middle of the slice has the span of all blocks
 abbrev pub IsRoot : {X : Type 0} → ℕ → (X → Network) → List (Node X) → Type 0

@@ -1,6 +1,6 @@
 // Written by scripts/plain out of crates/reducing/src/reduction.rt
 
-//! The list of at most a given number of blocks.
+//! Two lists whose neighbours are joined until there are few blocks.
 
 use fosibegan::plain_std::vec::Vec;
 use crate::reducing::tree_list::TreeList;
@@ -21,7 +21,7 @@ pub struct Reduced<A, B> {
     pub second_others: u128,
 }
 
-/// Joins blocks of two sets until both have at most `most` blocks together, or one block each.
+/// Joins blocks of two sets until both have at most `most` blocks together, or at most one each.
 ///
 /// Each step joins two neighbours in one of the lists to the smallest block that contains both:
 /// those that have the fewest other addresses in it, of the first family if both have as few, and

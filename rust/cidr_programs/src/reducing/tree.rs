@@ -14,6 +14,13 @@ pub(crate) struct Node<N> {
     pub(crate) span: Option<Span<N>>,
 }
 
+// An end of a list.
+#[derive(Clone, Copy)]
+enum End {
+    First,
+    Last,
+}
+
 /// The span of the blocks in a tree.
 pub(crate) fn span<N: AddressSpace>(tree: &[Node<N>]) -> Option<Span<N>> {
     match tree.get(tree.len() / 2) {
@@ -41,8 +48,8 @@ pub(crate) fn build<N: AddressSpace>(tree: &mut [Node<N>]) {
     place[0] = root(left, place[0].block, right);
 }
 
-// Takes out the first block.
-fn take_first<N: AddressSpace>(tree: &mut [Node<N>]) -> Option<N> {
+// Takes out the block at this end.
+fn take<N: AddressSpace>(tree: &mut [Node<N>], end: End) -> Option<N> {
     if span(tree).is_none() {
         return None;
     }
@@ -50,39 +57,29 @@ fn take_first<N: AddressSpace>(tree: &mut [Node<N>]) -> Option<N> {
     let (left, rest) = tree.split_at_mut(middle);
     let (place, right) = rest.split_at_mut(1);
     let block = place[0].block;
-    if let Some(first) = take_first(left) {
-        place[0] = root(left, block, right);
-        return Some(first);
-    }
-    if let Some(first) = block {
-        place[0] = root(left, None, right);
-        return Some(first);
-    }
-    let first = take_first(right);
-    place[0] = root(left, None, right);
-    first
+    let (taken, block) = match end {
+        End::First => take_from(left, block, right, End::First),
+        End::Last => take_from(right, block, left, End::Last),
+    };
+    place[0] = root(left, block, right);
+    taken
 }
 
-// Takes out the last block.
-fn take_last<N: AddressSpace>(tree: &mut [Node<N>]) -> Option<N> {
-    if span(tree).is_none() {
-        return None;
+// Takes out the block at this end, where the near tree is, of two trees and the block between them.
+// Returns what was taken, and the block that is then between the trees.
+fn take_from<N: AddressSpace>(
+    near: &mut [Node<N>],
+    block: Option<N>,
+    far: &mut [Node<N>],
+    end: End,
+) -> (Option<N>, Option<N>) {
+    if let Some(taken) = take(near, end) {
+        return (Some(taken), block);
     }
-    let middle = tree.len() / 2;
-    let (left, rest) = tree.split_at_mut(middle);
-    let (place, right) = rest.split_at_mut(1);
-    let block = place[0].block;
-    if let Some(last) = take_last(right) {
-        place[0] = root(left, block, right);
-        return Some(last);
+    if let Some(taken) = block {
+        return (Some(taken), None);
     }
-    if let Some(last) = block {
-        place[0] = root(left, None, right);
-        return Some(last);
-    }
-    let last = take_last(left);
-    place[0] = root(left, None, right);
-    last
+    (take(far, end), None)
 }
 
 // Takes out the last block of a tree and of the block behind it, if there is one.
@@ -90,7 +87,7 @@ fn take_end<N: AddressSpace>(left: &mut [Node<N>], block: Option<N>) -> Option<N
     if let Some(last) = block {
         return Some(last);
     }
-    take_last(left)
+    take(left, End::Last)
 }
 
 /// Joins the first two neighbours that have this number of others, the least in the tree.
@@ -118,10 +115,10 @@ fn join_parts<N: AddressSpace>(
         join(left, others);
         block
     } else if least(front) == others {
-        both(take_last(left), block)
+        both(take(left, End::Last), block)
     } else if between(front, span(right)) == others {
         let last = take_end(left, block);
-        both(last, take_first(right))
+        both(last, take(right, End::First))
     } else {
         join(right, others);
         block
