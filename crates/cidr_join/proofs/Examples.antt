@@ -16,7 +16,7 @@ use Rattle.cidr_join.specs.Entries.{is_blank, is_word, cause_text}
 use Rattle.cidr_join.specs.Groups.{block_in}
 use Rattle.cidr_join.specs.Joins.{is_left_out, is_refused, mark_of, shown_of}
 use Rattle.cidr_join.specs.Options.{entries, pairs}
-use Rattle.cidr_join.specs.Reported.{refused_line, refused_text}
+use Rattle.cidr_join.specs.Reported.{bytes_fault_text, refused_line, refused_text}
 use Rattle.cidr_join.specs.Runs.{lacks_tally, lack_text}
 use Rattle.cidr_join.specs.Tallies.{row_text}
 use Rattle.options.specs.Faults.{about, together, fault_by}
@@ -26,7 +26,9 @@ use Rattle.options.specs.declared.items.Item.TheVariants as says
 use Rattle.options.specs.declared.items.Mode.TheVariants as modes
 use Rattle.options.specs.declared.table.Row.{Row}
 use Rattle.options.proofs.Tables.{rows_of, pairs_of}
+use Rattle.lists.specs.declared.bytes.BytesFault.TheVariants as bytes
 use Rattle.lists.specs.declared.entry.EntryFault.TheVariants as faults
+use Rattle.lists.specs.declared.opening.OpenFault.TheVariants as opening
 use Rattle.line_addresses.specs.declared.area.Part.TheVariants as parts
 use Rattle.line_addresses.proofs.Areas.{whole, anywhere, after}
 use Rattle.cidr_join.specs.declared.found.Found.TheVariants as founds
@@ -133,6 +135,11 @@ blanks = refl
 pub causes_in_words : map cause_text (causes.Entry faults.Format ∷ causes.Entry faults.Address ∷ causes.Entry faults.Prefix ∷ causes.Entry faults.Range ∷ causes.Value ∷ causes.Twice ∷ causes.Length ∷ [])
     ≡ codes "format" ∷ codes "address" ∷ codes "prefix" ∷ codes "range" ∷ codes "value: there is none" ∷ codes "repetition" ∷ codes "length" ∷ []
 causes_in_words = refl
+
+-- the reports that a list was not read, whose name has a line feed
+pub lists_not_read : map (bytes_fault_text (codes "a\nb")) (bytes.Open opening.Missing ∷ bytes.Read ∷ bytes.Length ∷ bytes.OutOfMemory ∷ [])
+    ≡ codes "cidr_join: a\\x0ab: cannot open: no such file\n" ∷ codes "cidr_join: a\\x0ab: cannot read\n" ∷ codes "cidr_join: a\\x0ab: more than 1,073,741,824 bytes\n" ∷ codes "cidr_join: out of memory\n" ∷ []
+lists_not_read = refl
 
 -- the reports about two lines that are left out
 pub refused_lines_are_told : refused_text ((codes "list", 0, causes.Value) ∷ (codes "more", 8, causes.Twice) ∷ [])

@@ -42,7 +42,7 @@ three_of_two_and_one law join a b whole p q r two one = omega (arith, law join (
 
 -- the letters of options without and with a value, the long names, and those that a value may follow after `=`
 pub letters_and_names : (flags_of entries ≡ codes "aw") × (values_of entries ≡ codes "kdf")
-    × (names_of entries ≡ codes "--after" ∷ codes "--mapped" ∷ codes "--help" ∷ codes "--version" ∷ codes "--nth" ∷ codes "--last" ∷ codes "--last-wins" ∷ codes "--network" ∷ codes "--tally" ∷ codes "--group" ∷ codes "--bad" ∷ codes "--zero" ∷ codes "--skip-bad" ∷ codes "--networks" ∷ [])
+    × (names_of entries ≡ codes "--after" ∷ codes "--mapped" ∷ codes "--help" ∷ codes "--version" ∷ codes "--nth" ∷ codes "--last" ∷ codes "--last-wins" ∷ codes "--network" ∷ codes "--tally" ∷ codes "--group" ∷ codes "--bad" ∷ codes "--zero" ∷ codes "--skip-bad" ∷ codes "--networks" ∷ codes "--quiet" ∷ [])
     × (joined_of entries ≡ codes "--after" ∷ codes "--nth" ∷ codes "--group" ∷ codes "--bad" ∷ [])
 letters_and_names = (refl, refl, refl, refl)
 

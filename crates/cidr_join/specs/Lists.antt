@@ -1,5 +1,5 @@
 -- The lists of a run: all are read, and then their lines are taken in turn.
-use Rattle.std.specs.Prelude.{◌≡◌, ◌⊎◌, ◌==◌, ℕ, List, [], ◌∷◌, ◌++◌, if◌then◌else◌}
+use Rattle.std.specs.Prelude.{◌≡◌, ◌≤◌, ◌⊎◌, ◌==◌, ℕ, List, [], ◌∷◌, ◌++◌, length, if◌then◌else◌}
 use Rattle.std.specs.List.{slice_split}
 use Rattle.lists.specs.Bytes.{IsAllOf, BytesStop}
 use Rattle.lists.specs.KnownLists.{KnownLists}
@@ -35,10 +35,14 @@ pub record NamedText : Type 0 where
 abbrev pub named_text : ReadList → NamedText
 named_text list = record { name = list.name; text = list.text.items }
 
+-- the list with this name was read: these are all of its bytes, at most 1,073,741,824
+abbrev pub IsRead : KnownLists → List ℕ → List ℕ → Type 0
+IsRead known name text = IsAllOf known name text × (length text ≤ 1073741824)
+
 -- the lists with these names were read, in turn
 abbrev pub AreRead : KnownLists → List (List ℕ) → List NamedText → Type 0
 AreRead known [] lists = lists ≡ []
-AreRead known (name ∷ names) lists = (text : List ℕ) × (others : List NamedText) × IsAllOf known name text
+AreRead known (name ∷ names) lists = (text : List ℕ) × (others : List NamedText) × IsRead known name text
     × AreRead known names others × (lists ≡ record { name = name; text = text } ∷ others)
 
 -- a list with one of these names was not read, because it has more than 1,073,741,824 bytes or for another cause, which
@@ -47,7 +51,7 @@ abbrev pub NotRead : KnownLists → List (List ℕ) → List ℕ → Type 0
 NotRead known [] told = ⊥
 NotRead known (name ∷ names) told =
     ((fault : BytesFault) × BytesStop known name 1073741824 fault × (told ≡ bytes_fault_text name fault))
-    ⊎ ((text : List ℕ) × IsAllOf known name text × NotRead known names told)
+    ⊎ ((text : List ℕ) × IsRead known name text × NotRead known names told)
 
 -- the lines of a list
 abbrev pub lines_of : NamedText → List (List ℕ)

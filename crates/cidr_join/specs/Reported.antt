@@ -6,6 +6,7 @@ use Rattle.lists.specs.declared.bytes.BytesFault.{BytesFault}
 use Rattle.lists.specs.declared.bytes.BytesFault.TheVariants as bytes
 use Rattle.program.specs.LogFaults.{line_text}
 use Rattle.program.specs.Reported.{more_text}
+use Rattle.program.specs.Usage.{shown}
 use Rattle.cidr_join.specs.Entries.{cause_text}
 use Rattle.cidr_join.specs.Takes.{Refused}
 use Rattle.cidr_join.specs.declared.list.TakeFault.{TakeFault}
@@ -14,9 +15,9 @@ use Rattle.cidr_join.specs.declared.routes.RouteFault.TheVariants as routes
 
 -- the report that the list with this name was not read
 abbrev pub bytes_fault_text : List ℕ → BytesFault → List ℕ
-bytes_fault_text name (bytes.Open cause) = codes "cidr_join: " ++ name ++ open_fault_text cause
-bytes_fault_text name bytes.Read = codes "cidr_join: " ++ name ++ codes ": cannot read\n"
-bytes_fault_text name bytes.Length = codes "cidr_join: " ++ name ++ codes ": more than 1,073,741,824 bytes\n"
+bytes_fault_text name (bytes.Open cause) = codes "cidr_join: " ++ shown name ++ open_fault_text cause
+bytes_fault_text name bytes.Read = codes "cidr_join: " ++ shown name ++ codes ": cannot read\n"
+bytes_fault_text name bytes.Length = codes "cidr_join: " ++ shown name ++ codes ": more than 1,073,741,824 bytes\n"
 bytes_fault_text name bytes.OutOfMemory = codes "cidr_join: out of memory\n"
 
 -- the report that a line of the list, after `before` others, cannot be taken

@@ -1,7 +1,8 @@
 //! Reads the lists of a run, and takes their lines.
-ghost use Rattle.std.specs.Prelude.{◌≡◌, ◌∷◌, ◌++◌, [], List, ℕ, map, MatchOption};
+ghost use Rattle.std.specs.Prelude.{◌≡◌, ◌∷◌, ◌++◌, [], List, ℕ, map, IfOk, IfErr, MatchOption};
+ghost use Rattle.lists.specs.Bytes.{BytesStop};
 ghost use Rattle.program.specs.Messages.{Reports};
-ghost use Rattle.cidr_join.specs.Lists.{AreRead, NamedText, StopsAtList, TakesLists, list_by, list_in, lists_of, named_text};
+ghost use Rattle.cidr_join.specs.Lists.{AreRead, IsRead, NamedText, StopsAtList, TakesLists, list_by, list_in, lists_of, named_text};
 ghost use Rattle.cidr_join.specs.Private.Listing.{TellsUnread};
 ghost use Rattle.cidr_join.specs.Reported.{refused_text};
 ghost use Rattle.cidr_join.specs.Takes.{Listed, nothing_listed};
@@ -12,7 +13,7 @@ use crate::routes::Networks;
 use crate::telling::{tell_bytes_fault, tell_take_fault};
 use crate::value_ids::put;
 use lines::output::Output;
-use lists::{OpenLists, read_bytes};
+use lists::{BytesFault, OpenLists, read_bytes};
 use log_programs::rows::LIST;
 use options::items::{Item, Text};
 use program::messages::tell_of;
@@ -74,7 +75,7 @@ fn read_item<'a, L: OpenLists, E: Write>(
     let Some(name) = list_in(item) else {
         return Some(());
     };
-    match read_bytes(alloc, lists, name, LIST_MAX) {
+    match text_of(alloc, lists, name) {
         Ok(text) => match put(
             read,
             ReadList {
@@ -93,6 +94,14 @@ fn read_item<'a, L: OpenLists, E: Write>(
             None
         }
     }
+}
+
+// Returns all bytes of the list with this name.
+fn text_of<L: OpenLists>(alloc: Global, lists: &L, name: &str) -> Result<Vec<u8>, BytesFault>
+    ensures ok { IfOk result (λ text. IsRead (L.known lists.now) name.now text.items) }
+    ensures err { IfErr result (BytesStop (L.known lists.now) name.now 1073741824) }
+{
+    read_bytes(alloc, lists, name, LIST_MAX)
 }
 
 // Returns the name of the list that an option reads, if the option is `-f`.

@@ -9,7 +9,7 @@ use crate::routes::Networks;
 use crate::telling::{tell_bytes_fault, tell_take_fault};
 use crate::value_ids::put;
 use cidr_programs::lines::output::Output;
-use cidr_programs::lists::{OpenLists, read_bytes};
+use cidr_programs::lists::{BytesFault, OpenLists, read_bytes};
 use cidr_programs::log_programs::rows::LIST;
 use cidr_programs::options::items::{Item, Text};
 use cidr_programs::program::messages::tell_of;
@@ -59,7 +59,7 @@ fn read_item<'a, L: OpenLists, E: Write>(
     let Some(name) = list_in(item) else {
         return Some(());
     };
-    match read_bytes(alloc, lists, name, LIST_MAX) {
+    match text_of(alloc, lists, name) {
         Ok(text) => match put(
             read,
             ReadList {
@@ -78,6 +78,11 @@ fn read_item<'a, L: OpenLists, E: Write>(
             None
         }
     }
+}
+
+// Returns all bytes of the list with this name.
+fn text_of<L: OpenLists>(alloc: Global, lists: &L, name: &str) -> Result<Vec<u8>, BytesFault> {
+    read_bytes(alloc, lists, name, LIST_MAX)
 }
 
 // Returns the name of the list that an option reads, if the option is `-f`.
