@@ -13,7 +13,8 @@ use Rattle.cidr_filter.specs.declared.filter.Verdict.TheVariants as verdicts
 use Rattle.log_programs.specs.declared.without_address.WithoutAddress.TheVariants as without
 use Rattle.options.specs.declared.items.Item.{Item}
 use Rattle.options.specs.declared.items.Item.TheVariants as says
-use Rattle.cidr_filter.proofs.Examples.{ended, by}
+use Rattle.program.specs.LogLines.{ended}
+use Rattle.cidr_filter.proofs.Examples.{by}
 use Rattle.cidr_filter.proofs.Enough.{is_none}
 use Rattle.cidr_filter.proofs.RunExamples.{one_log}
 

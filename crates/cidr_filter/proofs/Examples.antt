@@ -14,11 +14,11 @@ use Rattle.lists.specs.declared.fault.LineFault.TheVariants.{Entry}
 use Rattle.line_addresses.specs.Fields.{field_of}
 use Rattle.line_addresses.specs.Networks.{named_network, network_in}
 use Rattle.cidr_filter.specs.Filters.{IsListed, IsVerdict, addresses_in, is_selected, is_refused, mark_of, shown_of, output_of}
-use Rattle.program.specs.LogLines.{LogLine, log_lines, ended_lines, content, printed}
+use Rattle.program.specs.LogLines.{log_lines, ended_lines, content, printed, ended, unended}
 use Rattle.cidr_filter.specs.Matcher.{IsStored, IsLongestBlock, asked, covers_named}
-use Rattle.program.specs.LogFaults.{log_fault_text}
 use Rattle.cidr_filter.specs.Logs.{label_of}
-use Rattle.cidr_filter.specs.Addressed.{closed_text, lacking_by}
+use Rattle.cidr_filter.specs.Addressed.{lacking_by}
+use Rattle.log_programs.specs.Closed.{closed_text}
 use Rattle.cidr_filter.specs.Runs.{status_by}
 use Rattle.options.specs.declared.items.Item.TheVariants as says
 use Rattle.lists.specs.declared.refusals.Refusal.{Refusal}
@@ -38,7 +38,6 @@ use Rattle.cidr_filter.specs.declared.filter.Verdict.TheVariants as verdicts
 use Rattle.cidr_filter.specs.declared.matcher.Matcher.TheVariants.{Addresses, Networks, Blocks}
 use Rattle.cidr_filter.specs.declared.matcher.Sets.{Sets}
 use Rattle.cidr_filter.specs.declared.matcher.Tables.{Tables}
-use Rattle.program.specs.declared.log_fault.LogFault.TheVariants as faults
 use Rattle.lists.specs.declared.opening.OpenFault.TheVariants as causes
 
 -- ---- fields, cut at each comma (44) or blank (32)
@@ -59,12 +58,6 @@ pub field_before_a_blank : field_of 1 32 (codes " x") ≡ Some []
 field_before_a_blank = refl
 
 -- ---- lines
-
-abbrev pub ended : List ℕ → LogLine
-ended bytes = record { bytes = bytes; is_ended = true }
-
-abbrev pub unended : List ℕ → LogLine
-unended bytes = record { bytes = bytes; is_ended = false }
 
 pub lines_of_a_log : log_lines (codes "a\n\nb") ≡ ended (codes "a") ∷ ended [] ∷ unended (codes "b") ∷ []
 lines_of_a_log = refl
@@ -282,22 +275,9 @@ pub what_is_told_of_it : {Z : Type 0} (one two again : String Z) (area : Refusal
 unfolding digits
 what_is_told_of_it one two again area a e = rw (e, a)
 
-pub a_line_that_ends_the_run : log_fault_text (codes "cidr_filter") (codes "log") 3 faults.Address ≡ codes "cidr_filter: log:4: refused address\n"
-unfolding digits
-a_line_that_ends_the_run = refl
-
-pub a_first_line_that_is_too_long : log_fault_text (codes "cidr_filter") (codes "-") 0 faults.Length ≡ codes "cidr_filter: -:1: refused length\n"
-unfolding digits
-a_first_line_that_is_too_long = refl
-
-pub a_log_that_is_missing : closed_text (codes "log") causes.Missing ≡ codes "cidr_filter: log: cannot open: no such file\n"
-a_log_that_is_missing = refl
-
-pub a_directory : closed_text (codes "log") causes.Directory ≡ codes "cidr_filter: log: cannot open: is a directory\n"
-a_directory = refl
-
-pub a_log_that_is_the_output : closed_text (codes "log") causes.Output ≡ codes "cidr_filter: log: input file is also the output\n"
-a_log_that_is_the_output = refl
+pub logs_that_are_not_opened : map (closed_text (codes "cidr_filter") (codes "log")) (causes.Missing ∷ causes.Directory ∷ causes.Output ∷ [])
+    ≡ codes "cidr_filter: log: cannot open: no such file\n" ∷ codes "cidr_filter: log: cannot open: is a directory\n" ∷ codes "cidr_filter: log: input file is also the output\n" ∷ []
+logs_that_are_not_opened = refl
 
 pub a_field_without_addresses : lacking_by (whole (parts.Field 8 32)) (codes "log") 2 false ≡ codes "cidr_filter: log: no line has an address in field 8\n"
 unfolding digits
@@ -314,12 +294,3 @@ a_log_without_lines = refl
 
 pub a_missed_log : status_by false true 3 ≡ 2
 a_missed_log = refl
-
-pub a_log_that_fails : log_fault_text (codes "cidr_filter") (codes "log") 9 faults.Read ≡ codes "cidr_filter: log: cannot read\n"
-a_log_that_fails = refl
-
-pub a_log_past_what_64_bits_count : log_fault_text (codes "cidr_filter") (codes "log") 9 faults.Endless ≡ codes "cidr_filter: log: too long\n"
-a_log_past_what_64_bits_count = refl
-
-pub a_writer_that_fails : log_fault_text (codes "cidr_filter") (codes "log") 9 faults.Write ≡ codes "cidr_filter: write error\n"
-a_writer_that_fails = refl

@@ -106,7 +106,7 @@ long_line_is_not_lost law filter read rest line e long judges none =
 
 -- the letters of options without and with a value, the long names, and those that a value may follow after `=`
 pub letters_and_names : (flags_of entries ≡ codes "awvcoHhnlq46") × (values_of entries ≡ codes "kdfem")
-    × (names_of entries ≡ codes "--after" ∷ codes "--mapped" ∷ codes "--help" ∷ codes "--version" ∷ codes "--nth" ∷ codes "--longest" ∷ codes "--bad" ∷ codes "--skip-bad" ∷ codes "--networks" ∷ [])
+    × (names_of entries ≡ codes "--after" ∷ codes "--mapped" ∷ codes "--help" ∷ codes "--version" ∷ codes "--nth" ∷ codes "--longest" ∷ codes "--bad" ∷ codes "--skip-bad" ∷ codes "--networks" ∷ codes "--quiet" ∷ [])
     × (joined_of entries ≡ codes "--after" ∷ codes "--nth" ∷ codes "--bad" ∷ [])
 letters_and_names = (refl, refl, refl, refl)
 
@@ -118,7 +118,7 @@ none_of_these rows has law = no_options entries rows has law (codes "--longesu" 
 
 -- the law excludes the words of options, and no others
 pub words_of_options : list_all (is_option_word entries)
-    (codes "-f" ∷ codes "-flist" ∷ codes "-e" ∷ codes "-k3" ∷ codes "-vk" ∷ codes "-cd," ∷ codes "--bad" ∷ codes "--bad=drop" ∷ codes "--longest" ∷ codes "--mapped" ∷ codes "--after" ∷ codes "-vcawoHhnlqm5" ∷ []) ≡ true
+    (codes "-f" ∷ codes "-flist" ∷ codes "-e" ∷ codes "-k3" ∷ codes "-vk" ∷ codes "-cd," ∷ codes "--bad" ∷ codes "--bad=drop" ∷ codes "--longest" ∷ codes "--mapped" ∷ codes "--after" ∷ codes "--quiet" ∷ codes "-vcawoHhnlqm5" ∷ []) ≡ true
 words_of_options = refl
 
 pub words_of_none : list_any (is_option_word entries)

@@ -3,7 +3,7 @@ use Rattle.std.proofs.Common.{◌≡◌, ℕ, List, [], ◌∷◌, true, false, 
 use Rattle.std.proofs.lemmas.Option.{none-some}
 use Rattle.std.specs.Prelude.{codes, Option, Some, None, unwrap_or}
 use Rattle.lists.specs.KnownLists.{KnownLists}
-use Rattle.program.specs.LogLines.{LogLine}
+use Rattle.program.specs.LogLines.{LogLine, ended}
 use Rattle.program.specs.Logs.{IsFirstOf}
 use Rattle.cidr_filter.specs.Filters.{IsVerdict, is_below, AreAll}
 use Rattle.cidr_filter.specs.Logs.{LeavesLog, is_short}
@@ -11,7 +11,7 @@ use Rattle.cidr_filter.specs.declared.filter.Filter.{Filter}
 use Rattle.cidr_filter.specs.declared.filter.Verdict.TheVariants as verdicts
 use Rattle.log_programs.specs.declared.without_address.WithoutAddress.TheVariants as without
 use Rattle.program.specs.declared.log_fault.LogFault.TheVariants as faults
-use Rattle.cidr_filter.proofs.Examples.{ended, by}
+use Rattle.cidr_filter.proofs.Examples.{by}
 
 -- ---- how many may be selected
 

@@ -9,7 +9,8 @@ use Rattle.program.specs.Endings.{Ending, ending, HasTold}
 use Rattle.program.specs.LogFaults.{Wrote}
 use Rattle.program.specs.Messages.{Reports}
 use Rattle.program.proofs.Reported.{tells_more, tells_nothing, tells_same}
-use Rattle.cidr_filter.specs.Addressed.{seen_of, seen_by, ended_by, closed_text}
+use Rattle.cidr_filter.specs.Addressed.{seen_of, seen_by, ended_by}
+use Rattle.log_programs.specs.Closed.{closed_text}
 use Rattle.log_programs.specs.Seen.{is_missed}
 use Rattle.program.proofs.Counts.{counts_more, counts_none, counts_from_none}
 use Rattle.program.proofs.LogNames.{all_of, first_of}
@@ -149,13 +150,13 @@ module _ (filter : Filter) (known : KnownLists) where
         )) wrote
 
   -- a log that was not opened
-  pub name_missed : {E : Type 0} (name : List ℕ) (fault : OpenFault) (old : Stand) (errors told : Written E) → known.may_open name false → known.may_miss name fault → Reports errors told (closed_text name fault)
+  pub name_missed : {E : Type 0} (name : List ℕ) (fault : OpenFault) (old : Stand) (errors told : Written E) → known.may_open name false → known.may_miss name fault → Reports errors told (closed_text (codes "cidr_filter") name fault)
       → FiltersNames filter known (name ∷ []) true old old errors told
   name_missed name fault old errors told closed missed tells = record {
     output = [];
     count = 0;
-    text = closed_text name fault;
-    filters = one_log name [] 0 (closed_text name fault) true (inr (inr (fault, closed, missed, refl, refl, refl, refl)));
+    text = closed_text (codes "cidr_filter") name fault;
+    filters = one_log name [] 0 (closed_text (codes "cidr_filter") name fault) true (inr (inr (fault, closed, missed, refl, refl, refl, refl)));
     tells = tells;
     puts = puts_nothing old.holds old.waits;
     counted = counts_none old.selected old.selected refl;

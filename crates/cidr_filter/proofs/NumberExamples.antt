@@ -11,7 +11,8 @@ use Rattle.cidr_filter.specs.declared.filter.Verdict.TheVariants as verdicts
 use Rattle.log_programs.specs.declared.without_address.WithoutAddress.TheVariants as without
 use Rattle.cidr_filter.specs.declared.matcher.Matcher.TheVariants.{Blocks}
 use Rattle.cidr_filter.specs.declared.matcher.Tables.{Tables}
-use Rattle.cidr_filter.proofs.Examples.{ended, by, addresses_of_ten}
+use Rattle.program.specs.LogLines.{ended}
+use Rattle.cidr_filter.proofs.Examples.{by, addresses_of_ten}
 
 abbrev numbering : Filter
 numbering = record (by false without.Drop) { numbered = true }

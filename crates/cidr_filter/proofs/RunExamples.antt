@@ -26,7 +26,8 @@ use Rattle.cidr_filter.specs.declared.matcher.Matcher.{Matcher}
 use Rattle.program.specs.declared.log_fault.LogFault.{LogFault}
 use Rattle.program.specs.declared.log_fault.LogFault.TheVariants as faults
 use Rattle.lists.specs.declared.opening.OpenFault.TheVariants as causes
-use Rattle.cidr_filter.proofs.Examples.{ended, by, counting}
+use Rattle.program.specs.LogLines.{ended}
+use Rattle.cidr_filter.proofs.Examples.{by, counting}
 
 -- ---- how a run ends
 
@@ -38,10 +39,6 @@ the_number_of_lines = refl
 pub no_greater_number : count_line true [] 18446744073709551616 ≡ codes "18446744073709551615\n"
 unfolding digits
 no_greater_number = refl
-
-pub no_greater_line : log_fault_text (codes "cidr_filter") (codes "log") 18446744073709551615 faults.Address ≡ codes "cidr_filter: log:18446744073709551615: refused address\n"
-unfolding digits
-no_greater_line = refl
 
 pub no_number : count_line false (codes "log") 12 ≡ []
 no_number = refl

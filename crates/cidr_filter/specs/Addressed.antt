@@ -1,8 +1,7 @@
--- What is counted about the lines of logs, and the reports about them and about logs that cannot be opened.
+-- What is counted about the lines of logs, and the reports about them.
 use Rattle.std.specs.Prelude.{ℕ, Bool, true, false, List, ◌++◌, length, nat_lt, codes}
 use Rattle.cidr_filter.specs.Filters.{addresses_in}
 use Rattle.program.specs.LogLines.{LogLine}
-use Rattle.log_programs.specs.Closed as closed
 use Rattle.log_programs.specs.Lacking.{lacking_told}
 use Rattle.log_programs.specs.LogStats.{stats_of}
 use Rattle.log_programs.specs.Seen.{seen_text}
@@ -11,7 +10,6 @@ use Rattle.cidr_filter.specs.declared.filter.Filter.{Filter}
 use Rattle.line_addresses.specs.declared.area.Area.{Area}
 use Rattle.cidr_filter.specs.declared.filter.Verdict.{Verdict}
 use Rattle.cidr_filter.specs.declared.filter.Verdict.TheVariants as verdicts
-use Rattle.lists.specs.declared.opening.OpenFault.{OpenFault}
 
 -- whether a line, given without its end, has an address where one is looked for
 abbrev pub is_addressed : Filter → List ℕ → Bool
@@ -38,7 +36,3 @@ seen_by filter name seen = seen_text (codes "cidr_filter") name filter.bad seen
 
 abbrev pub ended_by : Filter → List ℕ → LogStats → List ℕ
 ended_by filter name seen = seen_by filter name seen ++ lacking_by filter.area name seen.lines seen.is_addressed
-
--- the report that the log with this name cannot be opened
-abbrev pub closed_text : List ℕ → OpenFault → List ℕ
-closed_text name fault = closed.closed_text (codes "cidr_filter") name fault

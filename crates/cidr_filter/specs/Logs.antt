@@ -2,9 +2,10 @@
 use Rattle.std.specs.Prelude.{◌≡◌, ℕ, ◌+◌, ◌-◌, ◌^◌, ◌||◌, ◌&&◌, ◌⊎◌, Bool, true, false, Option, List, [], ◌∷◌, ◌++◌}
 use Rattle.std.specs.Prelude.{if◌then◌else◌, nat_lt, codes, bytes_eq, decimal, min}
 use Rattle.lists.specs.KnownLists.{KnownLists}
-use Rattle.cidr_filter.specs.Addressed.{seen_of, seen_by, ended_by, closed_text}
+use Rattle.cidr_filter.specs.Addressed.{seen_of, seen_by, ended_by}
 use Rattle.cidr_filter.specs.Filters.{IsVerdict, is_count, is_refused, is_silent, is_below, is_within, name_head}
 use Rattle.cidr_filter.specs.Filters.{Filters, AreAll}
+use Rattle.log_programs.specs.Closed.{closed_text}
 use Rattle.log_programs.specs.Seen.{is_missed}
 use Rattle.program.specs.LogLines.{LogLine, log_lines}
 use Rattle.program.specs.Logs.{IsAllOf, IsFirstOf}
@@ -57,7 +58,8 @@ LeavesLog filter known name output selected told missed = (read : List ℕ) × (
 -- the log cannot be opened, which is reported with the cause
 abbrev pub MissesLog : KnownLists → List ℕ → List ℕ → ℕ → List ℕ → Bool → Type 0
 MissesLog known name output selected told missed = (fault : OpenFault) × known.may_open name false
-    × known.may_miss name fault × (output ≡ []) × (selected ≡ 0) × (told ≡ closed_text name fault) × (missed ≡ true)
+    × known.may_miss name fault × (output ≡ []) × (selected ≡ 0) × (told ≡ closed_text (codes "cidr_filter") name fault)
+    × (missed ≡ true)
 
 -- whether the run ends after logs with this number of selected lines: with `-q`, if there is one
 abbrev pub is_enough : OutputMode → ℕ → Bool

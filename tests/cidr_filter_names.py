@@ -1,0 +1,68 @@
+"""Rows of `tests/cidr_filter` over names with characters that a terminal obeys: messages show them escaped, and what is
+printed has them as they are. Each function yields a name, whether the row is as it should be, and what was got."""
+
+import os
+import shutil
+import subprocess
+
+SECONDS = int(os.environ.get("TEST_SECONDS", 60))
+PIPES = {"stderr": subprocess.PIPE, "timeout": SECONDS}
+# A name, and what messages show: of U+009B, a control character, both bytes.
+NAMES = [
+    (b"a\nb", b"a\\x0ab"),
+    (b"\x1b[31mred", b"\\x1b[31mred"),
+    ("\x9b1m\u0142".encode(), b"\\xc2\\x9b1m\xc5\x82"),
+    (b"tab\tbell\x07del\x7f", b"tab\tbell\\x07del\\x7f"),
+]
+LONG = b"10.0.0.1\n" + b"x" * 1048577 + b"\n"
+# What stands at the name (bytes, a folder, nothing, or a file of which each read fails), the options before
+# it, what is printed, what is reported after it, and the status.
+ROWS = [
+    (None, "-f list", b"", b": cannot open: no such file", 2),
+    (None, "-f", b"", b": cannot open: no such file", 2),
+    ("folder", "-f list", b"", b": cannot open: is a directory", 2),
+    ("folder", "-f", b"", b": cannot open: is a directory", 2),
+    ("/proc/self/mem", "-f list", b"", b": cannot read", 2),
+    ("/proc/self/mem", "-f", b"", b": cannot read", 2),
+    (b"x\n", "-f", b"", b":1: refused address", 2),
+    (b"x\n", "-f list --bad stop", b"", b":1: refused address", 2),
+    (b"x\n", "-f list", b"", b": no line has an address in field 1", 1),
+    (b"x\n10.0.0.1\n", "-f list -c --bad report", b"1\n", b": lines without an address: 1, too long: 0", 0),
+    (LONG, "-f list -H", b"NAME:10.0.0.1\n", b":2: line too long", 2),
+    (LONG, "-f list -Hc", b"NAME:1\n", b":2: line too long", 2),
+    (LONG, "-f list --bad stop", b"10.0.0.1\n", b":2: refused length", 2),
+    (LONG, "-f list -l", b"NAME\n", b"", 0),
+]
+
+
+def put(path, what):
+    """Puts a file with these bytes, a folder, or a link to this file at this path, in the place of what was there."""
+    shutil.rmtree(path) if os.path.isdir(path) else os.path.lexists(path) and os.unlink(path)
+    if what == "folder":
+        os.mkdir(path)
+    elif isinstance(what, str):
+        os.symlink(what, path)
+    elif what is not None:
+        with open(path, "wb") as f:
+            f.write(what)
+
+
+def in_messages(program, folder):
+    for name, shown in NAMES:
+        path = os.path.join(os.fsencode(folder), name)
+        for what, options, printed, cause, status in ROWS:
+            put(path, what)
+            words = [program, *options.split(), name] + (["log"] if options == "-f" else [])
+            got = subprocess.run(words, cwd=folder, stdout=subprocess.PIPE, **PIPES)
+            told = b"cidr_filter: " + shown + cause + b"\n" if cause else b""
+            got = (got.stdout, got.stderr, got.returncode)
+            yield f"{options} {name}", got == (printed.replace(b"NAME", name), told, status), got
+        put(path, b"10.0.0.1\n")
+        with open(path, "ab") as output:
+            got = subprocess.run([program, "-f", "list", name], cwd=folder, stdout=output, **PIPES)
+        told = b"cidr_filter: " + shown + b": input file is also the output\n"
+        yield f"-f list {name} >> {name}", (got.stderr, got.returncode) == (told, 2), got
+        os.unlink(path)
+        got = subprocess.run([program, "-f", "list", "--after", name, "log"], cwd=folder, stdout=subprocess.PIPE, **PIPES)
+        told = b"cidr_filter: log: no line has an address after " + shown + b"\n"
+        yield f"--after {name}", (got.stdout, got.stderr, got.returncode) == (b"", told, 1), got
