@@ -109,6 +109,16 @@ pub a_name_as_it_is_shown : line_text (codes "p") (97 ∷ 10 ∷ 27 ∷ []) 6 (c
 unfolding digits
 a_name_as_it_is_shown = refl
 
+pub faults_of_a_log : map (log_fault_text (codes "p") (codes "log") 0) (logs.Read ∷ logs.Write ∷ logs.Address ∷ logs.Length ∷ logs.Endless ∷ [])
+    ≡ codes "p: log: cannot read\n" ∷ codes "p: write error\n" ∷ codes "p: log:1: refused address\n"
+    ∷ codes "p: log:1: refused length\n" ∷ codes "p: log: too long\n" ∷ []
+unfolding digits
+faults_of_a_log = refl
+
+pub no_greater_line : log_fault_text (codes "p") (codes "log") 18446744073709551615 logs.Address ≡ codes "p: log:18446744073709551615: refused address\n"
+unfolding digits
+no_greater_line = refl
+
 pub no_name_as_it_is_shown : log_fault_text (codes "p") [] 6 logs.Read ≡ codes "p: '': cannot read\n"
 no_name_as_it_is_shown = refl
 
