@@ -52,7 +52,7 @@ pub of_ipv6 : map (λ n. has_host_bits (Some (Network (networks.V6 n))))
     ∷ record { address = 1; prefix = 128 } ∷ []) ≡ true ∷ true ∷ false ∷ false ∷ []
 of_ipv6 = refl
 
-pub host_bits_are_told : host_findings true (codes "f") 12
-    (codes "10.0.0.1/8") ≡ codes "f:12: host bits: 10.0.0.1/8\n" ∷ []
+pub host_bits_are_told : host_findings true (102 ∷ 10 ∷ []) 12
+    (codes "10.0.0.1/8") ≡ codes "f\\x0a:12: host bits: 10.0.0.1/8\n" ∷ []
 unfolding digits
 host_bits_are_told = refl

@@ -7,7 +7,8 @@ use Rattle.std.specs.String.{string_bytes}
 use Rattle.ipnetwork_family.specs.Network.{Network}
 use Rattle.ipnetwork_family.specs.Family.{v4_family}
 use Rattle.ipnetwork_blocks.specs.Aggregate.{InUnion}
-use Rattle.lists.specs.declared.entry.EntryFault.TheVariants.{Prefix}
+use Rattle.lists.specs.declared.encoding.Encoding.TheVariants.{Nul}
+use Rattle.lists.specs.declared.entry.EntryFault.TheVariants.{Address, Encoding, Prefix}
 use Rattle.lists.specs.declared.fault.LineFault.TheVariants.{Entry}
 use Rattle.program.specs.Reported.{in_list, refusals_text}
 use Rattle.std.specs.List.{flat_map}
@@ -26,6 +27,7 @@ use Rattle.cidr_merge.specs.Reductions.{others_text}
 use Rattle.cidr_merge.specs.Options.{entries, pairs}
 use Rattle.cidr_merge.specs.SetNames.{Names, usual_names}
 use Rattle.cidr_merge.specs.Sides.{before_dashes, behind_dashes}
+use Rattle.cidr_merge.specs.SoughtLines.{other_cause}
 use Rattle.cidr_merge.specs.Tasks.{task_called}
 use Rattle.cidr_merge.specs.Runs.{answer_status}
 use Rattle.cidr_merge.specs.declared.command_line.Operation.TheVariants.{Union, Common, Minus}
@@ -148,6 +150,9 @@ pub a_refused_line : {Z : Type 0} (union list : String Z) → string_bytes list 
     }) ≡ codes "cidr_merge: a.txt:7: refused prefix\n"
 unfolding digits
 a_refused_line union list e = rw e
+
+pub causes_of_other_texts : map other_cause (codes "::g" ∷ (0 ∷ []) ∷ []) ≡ Address ∷ Encoding Nul ∷ []
+causes_of_other_texts = refl
 
 -- ---- the command line
 

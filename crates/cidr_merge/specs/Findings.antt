@@ -13,16 +13,17 @@ use Rattle.lists.specs.declared.fault.LineFault.{LineFault}
 use Rattle.lists.specs.declared.fault.LineFault.TheVariants as faults
 use Rattle.program.specs.Escapes.{escaped}
 use Rattle.program.specs.Reported.{name_at}
+use Rattle.program.specs.Usage.{shown}
 use Rattle.cidr_merge.specs.NumberedLines.{NumberedLine, numbered_lines, said_by}
 
--- the place of a line: `FILE:LINE`
+-- the place of a line: `FILE:LINE`, with the name as messages show it
 abbrev pub place_text : List ℕ → ℕ → List ℕ
-place_text name number = name ++ codes ":" ++ decimal number
+place_text name number = shown name ++ codes ":" ++ decimal number
 
 -- the text shown of a refused line: the line itself, or nothing if it is too long
-abbrev pub shown : LineFault → List ℕ → List ℕ
-shown (faults.Entry fault) line = line
-shown faults.Length line = []
+abbrev pub line_shown : LineFault → List ℕ → List ℕ
+line_shown (faults.Entry fault) line = line
+line_shown faults.Length line = []
 
 -- the text between a fault and the text of its line
 abbrev pub separator : List ℕ → List ℕ
@@ -32,7 +33,7 @@ separator line = if length line == 0 then [] else codes ": "
 abbrev pub refusal_text : List ℕ → ℕ → LineFault → List ℕ → List ℕ
 refusal_text name number fault line =
     place_text name number ++ codes ": refused " ++ line_fault_text fault
-    ++ separator (shown fault line) ++ escaped (shown fault line) ++ codes "\n"
+    ++ separator (line_shown fault line) ++ escaped (line_shown fault line) ++ codes "\n"
 
 -- the report of a refused line on standard error: the finding, after the name of the program
 abbrev pub refusal_report : List ℕ → ℕ → LineFault → List ℕ → List ℕ

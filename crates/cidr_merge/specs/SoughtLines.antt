@@ -3,7 +3,10 @@ use Rattle.std.specs.Prelude.{ℕ, Bool, true, false, List, [], ◌∷◌, Optio
 use Rattle.std.specs.List.{flat_map}
 use Rattle.ipnetwork_addr.specs.Computed.Either.{ip_of}
 use Rattle.ipnetwork_addr.specs.declared.ip.IpAddr.{IpAddr}
+use Rattle.lists.specs.Encodings.{encoding_of}
+use Rattle.lists.specs.Entries.{told_cause}
 use Rattle.lists.specs.Lines.{trimmed}
+use Rattle.lists.specs.declared.entry.EntryFault.{EntryFault}
 use Rattle.lists.specs.declared.entry.EntryFault.TheVariants as causes
 use Rattle.lists.specs.declared.fault.LineFault.TheVariants as faults
 use Rattle.program.specs.Reported.{name_at}
@@ -31,11 +34,15 @@ is_other text (Some address) = false
 is_other [] None = false
 is_other (byte ∷ text) None = true
 
+-- why such a text is refused: its encoding, if it is not plain text
+abbrev pub other_cause : List ℕ → EntryFault
+other_cause text = told_cause (encoding_of text) causes.Address
+
 -- the report of a line that has such a text
 abbrev pub others_by : List ℕ → ℕ → List ℕ → List (List ℕ)
 others_by name number line =
     if is_other (trimmed line) (ip_of (trimmed line))
-    then refusal_report name number (faults.Entry causes.Address) line ∷ [] else []
+    then refusal_report name number (faults.Entry (other_cause (trimmed line))) line ∷ [] else []
 
 abbrev pub line_others : {Z : Type 0} → List (String Z) → NumberedLine → List (List ℕ)
 line_others names line = others_by (name_at names line.list) line.number line.text

@@ -3,7 +3,7 @@ ghost use Rattle.std.specs.Prelude.{◌≡◌, ◌++◌, ◌||◌, codes};
 ghost use Rattle.program.specs.Escapes.{escaped};
 ghost use Rattle.program.specs.Messages.{Reports};
 ghost use Rattle.cidr_merge.specs.Findings.{place_text, refusal_text, refusal_report};
-ghost use Rattle.cidr_merge.specs.Findings.{host_bits_text, shown, separator};
+ghost use Rattle.cidr_merge.specs.Findings.{host_bits_text, line_shown, separator};
 
 use crate::help::PROGRAM;
 use crate::numbered_lines::Line;
@@ -11,6 +11,7 @@ use lines::output::Output;
 use lists::LineFault;
 use program::escapes::tell_escaped;
 use program::messages::{tell, tell_bytes, tell_number, tell_of};
+use program::usage::tell_shown;
 use std::io::Write;
 
 /// Prints why a line is refused, and the line, unless it is too long.
@@ -18,7 +19,7 @@ pub(crate) fn tell_wrong<W: Write>(line: &Line<'_>, fault: LineFault, output: &m
     ensures { Reports output.old output.new
         (refusal_text line.now.name.now line.now.number fault line.now.text.now) }
 {
-    let text = shown(fault, line.text);
+    let text = line_shown(fault, line.text);
     let line = Line { text, ..*line };
     tell_line(
         &line,
@@ -67,11 +68,11 @@ pub(crate) fn tell_line<W: Write>(
     tell("\n", output);
 }
 
-/// Prints the place of a line: `FILE:LINE`.
+/// Prints the place of a line: `FILE:LINE`, with the name as messages show it.
 pub(crate) fn tell_place<W: Write>(name: &str, number: usize, output: &mut Output<'_, W>)
     ensures { Reports output.old output.new (place_text name.now number) }
 {
-    tell(name, output);
+    tell_shown(name.as_bytes(), output);
     tell(":", output);
     tell_number(number as u64, output);
 }
@@ -84,8 +85,8 @@ pub(crate) fn either(here: bool, there: bool) -> bool
 }
 
 // Returns the text to show of a refused line: the line, or nothing if it is too long.
-fn shown(fault: LineFault, line: &[u8]) -> &[u8]
-    ensures { result.now ≡ shown fault line.now }
+fn line_shown(fault: LineFault, line: &[u8]) -> &[u8]
+    ensures { result.now ≡ line_shown fault line.now }
 {
     match fault {
         LineFault::Entry(_) => line,

@@ -4,7 +4,7 @@ ghost use Rattle.cidr_merge.specs.FindWords.{with_addresses};
 ghost use Rattle.cidr_merge.specs.Private.LinesLeft.{sought_as};
 ghost use Rattle.cidr_merge.specs.Private.Reported.{TellsFound};
 ghost use Rattle.cidr_merge.specs.SoughtLines.{is_other, lists_others, lists_sought};
-ghost use Rattle.cidr_merge.specs.SoughtLines.{others_by, sought_of};
+ghost use Rattle.cidr_merge.specs.SoughtLines.{other_cause, others_by, sought_of};
 ghost use Rattle.ipnetwork_addr.specs.Computed.Either.{ip_of};
 ghost use Rattle.lists.specs.Lines.{trimmed};
 
@@ -14,7 +14,7 @@ use crate::texts::WholeLists;
 use ipnetwork::IpAddr;
 use ipnetwork_addr::laws;
 use lines::output::Output;
-use lists::{Blank, EntryFault, LineFault, trim};
+use lists::{Blank, EntryFault, LineFault, encoding_of, trim};
 use std::alloc::{AllocError, Global};
 use std::io::Write;
 
@@ -119,11 +119,22 @@ fn tell_other<E: Write>(line: &Line<'_>, errors: &mut Output<'_, E>) -> bool
     ensures { TellsFound (others_by line.now.name.now line.now.number line.now.text.now)
         errors.old errors.new result }
 {
-    if !is_other(trim::<Blank>(line.text)) {
+    let text = trim::<Blank>(line.text);
+    if !is_other(text) {
         return false;
     }
-    tell_refused(line, LineFault::Entry(EntryFault::Address), errors);
+    tell_refused(line, LineFault::Entry(other_cause(text)), errors);
     true
+}
+
+// Why a text that names no address is refused: its encoding, if it is not plain text.
+fn other_cause(text: &[u8]) -> EntryFault
+    ensures { result ≡ other_cause text.now }
+{
+    match encoding_of(text) {
+        Some(encoding) => EntryFault::Encoding(encoding),
+        None => EntryFault::Address,
+    }
 }
 
 // Whether a text is not empty and names no address.

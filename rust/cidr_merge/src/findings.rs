@@ -8,11 +8,12 @@ use cidr_programs::lines::output::Output;
 use cidr_programs::lists::LineFault;
 use cidr_programs::program::escapes::tell_escaped;
 use cidr_programs::program::messages::{tell, tell_bytes, tell_number, tell_of};
+use cidr_programs::program::usage::tell_shown;
 use fosibegan::plain_std::io::Write;
 
 /// Prints why a line is refused, and the line, unless it is too long.
 pub(crate) fn tell_wrong<W: Write>(line: &Line<'_>, fault: LineFault, output: &mut Output<'_, W>) {
-    let text = shown(fault, line.text);
+    let text = line_shown(fault, line.text);
     let line = Line { text, ..*line };
     tell_line(
         &line,
@@ -51,9 +52,9 @@ pub(crate) fn tell_line<W: Write>(
     tell("\n", output);
 }
 
-/// Prints the place of a line: `FILE:LINE`.
+/// Prints the place of a line: `FILE:LINE`, with the name as messages show it.
 pub(crate) fn tell_place<W: Write>(name: &str, number: usize, output: &mut Output<'_, W>) {
-    tell(name, output);
+    tell_shown(name.as_bytes(), output);
     tell(":", output);
     tell_number(number as u64, output);
 }
@@ -64,7 +65,7 @@ pub(crate) fn either(here: bool, there: bool) -> bool {
 }
 
 // Returns the text to show of a refused line: the line, or nothing if it is too long.
-fn shown(fault: LineFault, line: &[u8]) -> &[u8] {
+fn line_shown(fault: LineFault, line: &[u8]) -> &[u8] {
     match fault {
         LineFault::Entry(_) => line,
         LineFault::Length => &line[..0],

@@ -9,7 +9,7 @@ use crate::numbered_lines::{Line, NumberedLines};
 use crate::texts::WholeLists;
 use fosibegan::ipnetwork::IpAddr;
 use cidr_programs::lines::output::Output;
-use cidr_programs::lists::{Blank, EntryFault, LineFault, trim};
+use cidr_programs::lists::{Blank, EntryFault, LineFault, encoding_of, trim};
 use fosibegan::plain_std::alloc::{AllocError, Global};
 use fosibegan::plain_std::io::Write;
 
@@ -91,11 +91,20 @@ pub(crate) fn tell_others<E: Write>(lists: &WholeLists<'_>, errors: &mut Output<
 
 // Reports a line that has something other than an address.
 fn tell_other<E: Write>(line: &Line<'_>, errors: &mut Output<'_, E>) -> bool {
-    if !is_other(trim::<Blank>(line.text)) {
+    let text = trim::<Blank>(line.text);
+    if !is_other(text) {
         return false;
     }
-    tell_refused(line, LineFault::Entry(EntryFault::Address), errors);
+    tell_refused(line, LineFault::Entry(other_cause(text)), errors);
     true
+}
+
+// Why a text that names no address is refused: its encoding, if it is not plain text.
+fn other_cause(text: &[u8]) -> EntryFault {
+    match encoding_of(text) {
+        Some(encoding) => EntryFault::Encoding(encoding),
+        None => EntryFault::Address,
+    }
 }
 
 // Whether a text is not empty and names no address.
