@@ -1,5 +1,5 @@
 -- How a run ends: its exit status, what was written, and what was reported.
-use Rattle.std.specs.Prelude.{◌≡◌, ◌⊎◌, ℕ, ◌==◌, ◌&&◌, Bool, true, false, not, List, [], ◌++◌, Option, None, Some}
+use Rattle.std.specs.Prelude.{◌≡◌, ◌≤◌, ◌⊎◌, ℕ, ◌==◌, ◌&&◌, Bool, true, false, not, List, [], ◌++◌, Option, None, Some}
 use Rattle.std.specs.Prelude.{MatchOption, length, if◌then◌else◌, codes, String}
 use Rattle.std.specs.List.{list_any, list_all}
 use Rattle.std.specs.Option.{option_or, is_some}
@@ -92,9 +92,10 @@ abbrev pub EndsAnswering : {W E : Type 0} → List Item → List ℕ → Ending 
 EndsAnswering items input end =
     Refuses (codes "cidr_info: out of memory\n") end ⊎ EndsSaid items (words_said input items) end
 
--- these bytes are all of standard input if a word asks for it, and none otherwise
+-- these bytes are all of standard input, at most 1,073,741,824, if a word asks for it, and none otherwise
 abbrev pub IsInput : KnownLists → List Item → List ℕ → Type 0
-IsInput known items input = (reads_input items ≡ true → IsAllOf known (codes "-") input)
+IsInput known items input =
+    (reads_input items ≡ true → IsAllOf known (codes "-") input × (length input ≤ 1073741824))
     × (reads_input items ≡ false → input ≡ [])
 
 -- a word asks for standard input, and this fault stopped the reading of it, of at most 1,073,741,824 bytes
