@@ -80,7 +80,8 @@ def from_c(run, rows):
     rows.add_own("C", {column: own.get(f"ipnetwork_{call}") for column, call in calls.items()})
     rows.add_peer("`inet_pton`, addresses",
                   {"read4": own.get("inet_pton, IPv4 address"), "read6": own.get("inet_pton, IPv6 address")})
-    return []
+    rows.add_own("C, by ranges", {column: own.get(f"ipnetwork_v4_ranges_{column}") for column in ("find", "find_column")})
+    return [f"From C, `ipnetwork_v4_ranges_place` of one address {figure(own.get('ipnetwork_v4_ranges_place'))}."]
 
 
 def rust_times(run, name, source, *more):
@@ -116,6 +117,8 @@ def from_rust(run, rows):
         return []
     crate = rust_times(run, "theirs", sources[0])["this crate"]
     version = sources[0].name.partition("-")[2]
+    if not version.startswith("0.21"):
+        run.without("version 0.21.1 of the crate ipnetwork, a prefix trie in Rust (no packages of Debian)")
     rows.add_peer(f"the crate `ipnetwork` {version}", {column: crate.get(call) for column, call in calls.items()})
     parts = []
     for call in ("network", "broadcast"):
@@ -150,12 +153,13 @@ def from_python(run, rows):
     said([words, TOP / "bindings/python/build_wheel.py", native / "ipnetwork"])
     turns = 3 if run.quick else 7
     code = f"import speed; speed.TURNS = {turns}; speed.main()"
-    printed = said([words, "-c", code, "networks", "columns"], cwd=native)
+    printed = said([words, "-c", code, "networks", "columns", "routes"], cwd=native)
     pairs = {name.strip(): (float(own), float(other)) for name, own, other in
              re.findall(r"^(IPv.: .+?) +(\d+) +(\d+) +\d+\.\d\d(?:  slower)?$", printed, re.M)}
     columns = {re.sub(r" of a set of \d{3,}$", " of a set", name): float(own)
                for name, own in re.findall(r"^(IPv.: .+?) +([\d.]+)$", printed, re.M)}
     calls = {"read4": "IPv4: read", "read6": "IPv6: read", "has4": "IPv4: in", "has6": "IPv6: in", "print6": "IPv6: str"}
+    loops = {name: (float(four), float(six)) for name, four, six in re.findall(r"^(Table.*?|py-radix.*?) +([\d.]+) +([\d.]+)$", printed, re.M)}
     own = {column: pairs[call][0] for column, call in calls.items()}
     for column, call in (("column", "read_address_column"), ("set_column", "contains_column of a set")):
         own |= {f"{column}{family}": columns.get(f"IPv{family}: {call}") for family in (4, 6)}
@@ -171,12 +175,18 @@ def from_python(run, rows):
             run.without(f"{name} ({packages[name]})")
     rows.add_peers({name: {"find_column": times[module]} for name, module in tries.items()})
     own, other = pairs["IPv4: collapse, of 2000"]
-    return [f"From Python `collapse_addresses` {figure(own)} a network, `ipaddress` {beside(own, other)}."]
+    notes = [f"From Python `collapse_addresses` {figure(own)} a network, `ipaddress` {beside(own, other)}."]
+    own, other = (loops.get(name) for name in ("Table.find(read_address(text)) of each str", "py-radix: search_best of each str"))
+    for at, family in enumerate(("IPv4", "IPv6")):
+        peer = f", py-radix {beside(own[at], other[at])}" if other else ""
+        notes.append(f"`Table.find(read_address(text))` in a loop, {family} {figure(own[at])}{peer}.")
+    return notes
 
 
 def from_go(run, rows):
     need("crates/ipnetwork_c/out/libipnetwork_c.a")
     tools("go", "cc")
+    run.without("a current table for Go, such as bart (no package of Debian)")
     environment = {**os.environ, "GOFLAGS": "-mod=mod", "GOPROXY": "off", "GOCACHE": str(TOP / "bindings/out/go")}
     times = {}
     for tags in ("cgo", "ipnetwork_direct"):
