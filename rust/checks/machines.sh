@@ -153,7 +153,7 @@ elif here Windows x86_64-w64-mingw32-gcc gcc-mingw-w64-x86-64-win32 && here Wind
         local name="$1" root="$2"
         shift 2
         RUSTC_BOOTSTRAP=1 quiet old.log "$old" --edition 2021 -O -C overflow-checks=on --target "$windows" \
-            "-Zcrate-attr=feature(let_else, inline_const, int_roundings, io_error_more)" -C panic=unwind \
+            "-Zcrate-attr=feature(let_else, inline_const, int_roundings, io_error_more, bench_black_box)" -C panic=unwind \
             -C linker=x86_64-w64-mingw32-gcc -L "$out/old" --crate-name "$name" "$out/old/$root" --out-dir "$out/old" "$@"
     }
     below="--extern fosibegan=$out/old/libfosibegan.rlib"

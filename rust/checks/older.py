@@ -47,7 +47,7 @@ CHANGES = [
     ("fosibegan/src/plain_std/rt.rs", r"\bstd::os::fd\b", "std::os::unix::io"),
     ("fosibegan/src/plain_std/rt.rs", r", IsTerminal as _", ""),
     ("fosibegan/src/plain_std/rt.rs", r"io::\$call\(\)\.is_terminal\(\)", "false"),
-    ("fosibegan/src/plain_std/rt.rs", r"word\.as_encoded_bytes\(\)", r'word.to_str().unwrap_or("\\0").as_bytes()'),
+    ("fosibegan/src/plain_std/rt.rs", r"(word|value)\.as_encoded_bytes\(\)", r'\1.to_str().unwrap_or("\\0").as_bytes()'),
     ("fosibegan/src/plain_std/io.rs", r"\A", "pub use crate::older::IsTerminal;\n"),
     ("fosibegan/src/plain_std/simd.rs", r"\A((?://!.*\n|\n)*)", r"\1use crate::older::Chunks as _;\n"),
     ("fosibegan/src/lib.rs", r"\Z", MODULE),
