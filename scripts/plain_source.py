@@ -10,6 +10,8 @@ CORE = {"cell", "cmp", "error", "fmt", "hash", "marker", "mem", "net", "num", "o
 REAL = {"process"}
 # Kinds of errors that only unstable Rust names, or Rust from 1.87 on.
 UNSTABLE = re.compile(r"^ *ErrorKind::(?:FilesystemLoop|InProgress|InvalidFilename|Uncategorized),\n", re.M)
+# What a constant says of the build, and what is so of this one.
+BUILD = re.compile(r'^((?:pub\(crate\) )?const \w+: &str = ".*) \(proved\)(?=(?:\\n)?";$)', re.M)
 # What a source has in scope by itself, and where the stand-in has it.
 IN_SCOPE = {
     r"\bVec\b": "vec::Vec",
@@ -336,6 +338,7 @@ class Source:
         self.modules()
         self.laws()
         self.text = code_sub(r"\bprove!\(", "debug_assert!(", self.text)
+        self.text = BUILD.sub(r"\1 (plain Rust, made of proved sources)", self.text)
         self.paths()
         self.examples()
         self.scope(IN_SCOPE)

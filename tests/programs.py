@@ -26,6 +26,12 @@ def program(name):
     return str(found)
 
 
+def version(name):
+    """What `--version` of this program prints: with the word `--plain` on the command line, of the plain Rust build."""
+    build = "plain Rust, made of proved sources" if "--plain" in sys.argv else "proved"
+    return f"{name} {(TOP / 'VERSION').read_text().strip()} ({build})\n".encode()
+
+
 def asked(name):
     """The program that the command line `[--plain] [PROGRAM]` names, and whether it is plain Rust. With no word it is
     proved and built where it is not there."""

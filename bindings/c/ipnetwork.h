@@ -40,7 +40,7 @@ extern "C" {
  * returns that of the library. Each added call raises the minor version, which ipnetwork_abi_minor_version() returns. A
  * program needs a library of the version that it was compiled with, and of the same or a later minor version. */
 #define IPNETWORK_ABI_VERSION 3
-#define IPNETWORK_ABI_MINOR_VERSION 0
+#define IPNETWORK_ABI_MINOR_VERSION 1
 
 /* The size of a buffer that is enough for each text of a network of the family, and a zero byte. */
 #define IPNETWORK_V4_TEXT 19
@@ -51,6 +51,9 @@ extern "C" {
 
 /* The same for the text of a fault. */
 #define IPNETWORK_FAULT_TEXT 40
+
+/* The same for the text that says which build the library is. */
+#define IPNETWORK_BUILD_TEXT 64
 
 typedef uint32_t ipnetwork_fault;
 
@@ -123,6 +126,12 @@ typedef struct ipnetwork_place {
 
 uint32_t ipnetwork_abi_version(void);
 uint32_t ipnetwork_abi_minor_version(void);
+
+/* Writes the version of the library and which build it is, such as "0.2.0 (proved)" or "0.2.0 (plain Rust, made of proved
+ * sources)", and a zero byte to the front of a buffer of buffer_length bytes, of which IPNETWORK_BUILD_TEXT are enough.
+ * *text_length and IPNETWORK_SHORT_BUFFER are as for ipnetwork_v4_canonical. */
+IPNETWORK_CHECKED_AT((3)) ipnetwork_fault ipnetwork_build(char *IPNETWORK_ALONE buffer, size_t buffer_length,
+                                                         size_t *IPNETWORK_ALONE text_length);
 
 /* Writes a short text for a fault, "unknown fault" for a number that is not one, and a zero byte to the front of a
  * buffer of buffer_length bytes, of which IPNETWORK_FAULT_TEXT are enough. *text_length and IPNETWORK_SHORT_BUFFER are

@@ -193,6 +193,16 @@ static void fault_texts(void) {
     }
 }
 
+/* Which build it is: with an argument, it is this text. */
+static void build(const char *wanted) {
+    char buffer[IPNETWORK_BUILD_TEXT];
+    size_t length;
+    CHECK("build", ipnetwork_build(buffer, sizeof buffer, &length) == YES && length == strlen(buffer));
+    CHECK("build", wanted == NULL || strcmp(buffer, wanted) == 0);
+    CHECK("build", ipnetwork_build(buffer, length, &length) == IPNETWORK_SHORT_BUFFER && length == strlen(buffer));
+    CHECK("NULL", ipnetwork_build(NULL, 0, &length) == IPNETWORK_SHORT_BUFFER && length == strlen(buffer));
+}
+
 /* Buffers of each length from 0 to one more than the longest text needs. */
 static void buffers(void) {
     static const char *const fours[] = {"0.0.0.0/0", "10.1.9.32/16", "255.255.255.255/32"};
@@ -1771,13 +1781,14 @@ static void layout(void) {
     CHECK("bytes", memcmp(&address, "\x0a\x01\x09\x20\0\0\0\0\0\0\0\0\0\0\0\0\x04", 17) == 0);
 }
 
-int main(void) {
+int main(int count, char **words) {
     CHECK("version", ipnetwork_abi_version() == IPNETWORK_ABI_VERSION);
     CHECK("version", ipnetwork_abi_minor_version() == IPNETWORK_ABI_MINOR_VERSION);
     layout();
     texts();
     nothing();
     fault_texts();
+    build(count > 1 ? words[1] : NULL);
     buffers();
     questions_v4();
     questions_v6();

@@ -43,7 +43,7 @@ Examples:
 ";
 
 /// The text that `--version` prints.
-pub(crate) const VERSION: &str = "cidr_info 0.1.0\n";
+pub(crate) const VERSION: &str = "cidr_info 0.2.0-dev (proved)\n";
 
 /// The name of the program.
 pub(crate) const PROGRAM: &str = "cidr_info";

@@ -37,7 +37,7 @@ Example: sort -u today.txt | cidr_merge differ --count yesterday.txt -- -
 ";
 
 /// What `--version` prints.
-pub(crate) const VERSION: &str = "cidr_merge 0.1.0\n";
+pub(crate) const VERSION: &str = "cidr_merge 0.2.0-dev (proved)\n";
 
 /// The name of the program.
 pub(crate) const PROGRAM: &str = "cidr_merge";

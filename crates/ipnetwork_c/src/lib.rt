@@ -11,6 +11,7 @@ ghost use Rattle.std.specs.Prelude.{◌≡◌};
 mod address;
 mod aggregates;
 mod block_calls;
+mod build;
 mod column_calls;
 mod columns;
 mod either;
@@ -61,7 +62,7 @@ pub extern "C" fn ipnetwork_abi_version() -> u32
 /// resets it to 0.
 #[unsafe(no_mangle)]
 pub extern "C" fn ipnetwork_abi_minor_version() -> u32
-    ensures { result ≡ 0 }
+    ensures { result ≡ 1 }
 {
-    0
+    1
 }

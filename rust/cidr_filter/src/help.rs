@@ -82,7 +82,7 @@ Examples:
 ";
 
 /// What `--version` prints.
-pub(crate) const VERSION: &str = "cidr_filter 0.1.0\n";
+pub(crate) const VERSION: &str = "cidr_filter 0.2.0-dev (plain Rust, made of proved sources)\n";
 
 /// The name of the program.
 pub(crate) const PROGRAM: &str = "cidr_filter";

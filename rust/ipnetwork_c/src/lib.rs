@@ -14,6 +14,7 @@ mod lent;
 mod address;
 mod aggregates;
 mod block_calls;
+mod build;
 mod column_calls;
 mod columns;
 mod either;
@@ -68,7 +69,7 @@ const _: () = {
 /// resets it to 0.
 #[inline]
 pub fn ipnetwork_abi_minor_version() -> u32 {
-    0
+    1
 }
 
 const _: () = {
