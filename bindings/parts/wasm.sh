@@ -1,0 +1,28 @@
+# The part of bindings/check for the library as WebAssembly, the package for JavaScript and the page. That script reads
+# it; the folder is bindings.
+
+step "WebAssembly"
+module=no
+if [ "$plain" ]; then
+    skip "WebAssembly, JavaScript and the subnet calculator" "proved library"
+elif ! command -v wasm-opt > /dev/null || ! command -v wasm-metadce > /dev/null; then
+    skip "WebAssembly, JavaScript and the subnet calculator" wasm-opt binaryen
+else
+    wasm/build
+    module=yes
+fi
+
+step "JavaScript"
+if [ "$module" = yes ] && here JavaScript node; then
+    . js/steps.sh
+fi
+
+step "the subnet calculator"
+if [ "$module" = yes ] && here "the subnet calculator" node; then
+    ../web/build
+    if command -v chromium > /dev/null; then
+        node ../web/test.mjs $([ "$measure" = no ] || echo --times)
+    else
+        skip "the subnet calculator in Chromium" chromium chromium
+    fi
+fi
