@@ -1,52 +1,50 @@
-# The part of bindings/check for the package for Go. That script reads it; the folder is bindings.
+# The package for Go. bindings/check reads it, in the folder bindings; what is made goes to $out.
 
-if [ "$all" = yes ]; then
-    step "Go"
-    if [ "$plain" ] && command -v go > /dev/null; then
-        ./check_go
-    elif command -v go > /dev/null && command -v gofmt > /dev/null; then
-        badly="$(gofmt -l go)"
-        if [ -n "$badly" ]; then
-            echo "Go: gofmt would change" $badly >&2
-            exit 1
-        fi
-        export GOCACHE="$PWD/out/go_cache" GOFLAGS=-mod=mod GOPROXY=off IPNETWORK_ROWS="$rows"
-        # The check of pointers that cgo passes is chosen as a program is started, and from Go 1.21 on as it is built.
-        case "$(go env GOVERSION)" in
-            go1.19* | go1.20*) checked="GODEBUG=cgocheck=2" ;;
-            *) checked="GOEXPERIMENT=cgocheck2" ;;
-        esac
-        # Calls by cgo, and with the tag those on the stack of a goroutine: the same tests of both.
-        for tags in cgo ipnetwork_direct; do
-            (cd go && go vet -tags "$tags" ./... && env "$checked" go test -tags "$tags" -count=1 -v . &&
-                GOGC=1 go test -tags "$tags" -count=1 -run 'Stacks|Profiled|Each|ManyRows' .) > "out/go_$tags.log" 2>&1 ||
-                { cat "out/go_$tags.log" >&2; exit 1; }
-            grep '^Go:' "out/go_$tags.log"
-            sed -nE 's/^ *--- SKIP: ([^ ]*).*/Go: \1 with the tag '"$tags"': skipped, since it says so in out\/go_'"$tags"'.log/p' "out/go_$tags.log"
-        done
-        if (cd go && go test -race -run NONE .) > out/go_race.log 2>&1; then
-            for tags in cgo ipnetwork_direct; do
-                (cd go && IPNETWORK_ROWS=10000 go test -race -tags "$tags" -count=1 .) > out/go_race.log 2>&1 ||
-                    { cat out/go_race.log >&2; exit 1; }
-            done
-            echo "Go: the race detector finds nothing"
-        else
-            skip "Go: the race detector" "go test -race that works" "libc6-dev, gcc"
-        fi
-        if (cd go && CGO_ENABLED=0 go build .) 2> out/go_without_cgo.log || ! grep -q 'undefined: .*_needs_cgo_' out/go_without_cgo.log; then
-            echo "Go: without cgo the compiler should say that the package needs it" >&2
-            exit 1
-        fi
-        GOFLAGS='' ./check_go
-        if here "Go: the stack that C needs with the tag ipnetwork_direct" objdump "$python"; then
-            (cd go && go test -tags ipnetwork_direct -c -o ../out/go_tests .)
-            "$python" go/stack_needed.py out/go_tests
-        fi
-        for tags in $([ "$measure" = no ] || echo cgo ipnetwork_direct); do
-            echo "Go: by the tag $tags"
-            (cd go && go test -tags "$tags" -run none -bench . -benchtime 200ms)
-        done
-    else
-        skip Go "go" "golang-go"
+step "Go"
+if [ "$plain" ] && command -v go > /dev/null; then
+    ./check_go
+elif command -v go > /dev/null && command -v gofmt > /dev/null; then
+    badly="$(gofmt -l go)"
+    if [ -n "$badly" ]; then
+        echo "Go: gofmt would change" $badly >&2
+        exit 1
     fi
+    export GOCACHE="$PWD/out/go_cache" GOFLAGS=-mod=mod GOPROXY=off IPNETWORK_ROWS="$rows"
+    # The check of pointers that cgo passes is chosen as a program is started, and from Go 1.21 on as it is built.
+    case "$(go env GOVERSION)" in
+        go1.19* | go1.20*) checked="GODEBUG=cgocheck=2" ;;
+        *) checked="GOEXPERIMENT=cgocheck2" ;;
+    esac
+    # Calls by cgo, and with the tag those on the stack of a goroutine: the same tests of both.
+    for tags in cgo ipnetwork_direct; do
+        (cd go && go vet -tags "$tags" ./... && env "$checked" go test -tags "$tags" -count=1 -v . &&
+            GOGC=1 go test -tags "$tags" -count=1 -run 'Stacks|Profiled|Each|ManyRows' .) > "$out/go_$tags.log" 2>&1 ||
+            { cat "$out/go_$tags.log" >&2; exit 1; }
+        grep '^Go:' "$out/go_$tags.log"
+        sed -nE 's/^ *--- SKIP: ([^ ]*).*/Go: \1 with the tag '"$tags"': skipped, since it says so in bindings\/out\/go\/go_'"$tags"'.log/p' "$out/go_$tags.log"
+    done
+    if (cd go && go test -race -run NONE .) > $out/go_race.log 2>&1; then
+        for tags in cgo ipnetwork_direct; do
+            (cd go && IPNETWORK_ROWS=10000 go test -race -tags "$tags" -count=1 .) > $out/go_race.log 2>&1 ||
+                { cat $out/go_race.log >&2; exit 1; }
+        done
+        echo "Go: the race detector finds nothing"
+    else
+        skip "Go: the race detector" "go test -race that works" "libc6-dev, gcc"
+    fi
+    if (cd go && CGO_ENABLED=0 go build .) 2> $out/go_without_cgo.log || ! grep -q 'undefined: .*_needs_cgo_' $out/go_without_cgo.log; then
+        echo "Go: without cgo the compiler should say that the package needs it" >&2
+        exit 1
+    fi
+    GOFLAGS='' ./check_go
+    if here "Go: the stack that C needs with the tag ipnetwork_direct" objdump "$python"; then
+        (cd go && go test -tags ipnetwork_direct -c -o "../$out/go_tests" .)
+        "$python" go/stack_needed.py "$out/go_tests"
+    fi
+    for tags in $([ "$measure" = no ] || echo cgo ipnetwork_direct); do
+        echo "Go: by the tag $tags"
+        (cd go && go test -tags "$tags" -run none -bench . -benchtime 200ms)
+    done
+else
+    skip Go "go" "golang-go"
 fi

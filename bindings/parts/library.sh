@@ -1,17 +1,12 @@
-# The part of bindings/check for the library itself: builds the proved one, and sees what it keeps and needs. That script reads it; the folder is bindings.
+# The library itself, of which all other parts test what is there: builds the proved one, and sees what it keeps and
+# needs. bindings/check reads it, in the folder bindings; what is made goes to $out.
 
 step "the library"
-mkdir -p out
-# An earlier run may have left an extension of SQLite over another library.
-rm -f out/cidr.so
-library="$PWD/../crates/ipnetwork_c/out/libipnetwork_c.a"
 if [ "$plain" ]; then
-    library="$plain/libipnetwork_c.a"
-    export PLAIN=1
     echo "the library is plain Rust, made of the proved sources: $(wc -c < "$library") bytes"
 else
-    (cd ../crates/ipnetwork_c && rt lib) > out/rt_lib.log 2>&1 || { cat out/rt_lib.log >&2; exit 1; }
-    tail -n 1 out/rt_lib.log
+    (cd ../crates/ipnetwork_c && rt lib) > $out/rt_lib.log 2>&1 || { cat $out/rt_lib.log >&2; exit 1; }
+    tail -n 1 $out/rt_lib.log
     # It keeps nothing: there is no place in it that a program could write.
     if nm "$library" | grep -E ' [BbCDdGgSs] '; then
         echo "the library has variables" >&2

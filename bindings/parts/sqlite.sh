@@ -1,8 +1,8 @@
-# The part of bindings/check for the extension of SQLite. That script reads it; the folder is bindings.
+# The extension of SQLite. bindings/check reads it, in the folder bindings; what is made goes to $out.
 
 step "SQLite"
-if [ "$only_proved" = no ] && here SQLite sqlite3 make; then
-    if echo '#include <sqlite3ext.h>' | cc -E -x c - > /dev/null 2>&1; then
+if here SQLite sqlite3 make nm; then
+    if has_sqlite_header; then
         . sqlite/steps.sh
     else
         skip SQLite sqlite3ext.h libsqlite3-dev

@@ -1,5 +1,5 @@
-# The part of bindings/check for the library as WebAssembly, the package for JavaScript and the page. That script reads
-# it; the folder is bindings.
+# The library as WebAssembly, the package for JavaScript, and the page. bindings/check reads it, in the folder
+# bindings; what is made goes to out, where nothing else has files of these names.
 
 step "WebAssembly"
 module=no

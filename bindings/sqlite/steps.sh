@@ -1,46 +1,46 @@
-# The steps of bindings/check for SQLite, which that script reads after those for C and Python: they build the extension
-# and run its tests. sqlite3, make and sqlite3ext.h are here, and the folder is bindings.
+# The steps of bindings/check for SQLite, which that script reads: they build the extension into $out and run its tests.
+# sqlite3, make and sqlite3ext.h are here, and the folder is bindings.
 
 cc $strict -I c -fsyntax-only sqlite/cidr.c
-make -s -C .. sqlite
+make -s -C .. sqlite OUT="bindings/$out"
 # Nothing of it is seen by other libraries of the process but the function by which SQLite loads it.
-seen="$(nm -D --defined-only out/cidr.so | sed 's/.* //')"
+seen="$(nm -D --defined-only $out/cidr.so | sed 's/.* //')"
 if [ "$seen" != sqlite3_cidr_init ]; then
     echo "SQLite: the extension shows more than it should:" $seen >&2
     exit 1
 fi
 # It keeps nothing but the pointer to the functions of SQLite.
-cc $strict -I c -fno-pic -c sqlite/cidr.c -o out/cidr.o
-kept="$(nm out/cidr.o | sed -n 's/.* [BbCDdGgSs] //p')"
+cc $strict -I c -fno-pic -c sqlite/cidr.c -o $out/cidr.o
+kept="$(nm $out/cidr.o | sed -n 's/.* [BbCDdGgSs] //p')"
 if [ "$kept" != sqlite3_api ]; then
     echo "SQLite: the extension keeps more than it should:" $kept >&2
     exit 1
 fi
 
-cc $strict -D_DEFAULT_SOURCE -g sqlite/test.c -pthread -lsqlite3 -o out/sqlite_test
-out/sqlite_test "$PWD/out/cidr.so"
+cc $strict -D_DEFAULT_SOURCE -g sqlite/test.c -pthread -lsqlite3 -o $out/sqlite_test
+$out/sqlite_test "$PWD/$out/cidr.so"
 if here "SQLite: valgrind" valgrind; then
-    valgrind -q --error-exitcode=1 --leak-check=full out/sqlite_test "$PWD/out/cidr.so" 100000 > /dev/null
+    valgrind -q --error-exitcode=1 --leak-check=full $out/sqlite_test "$PWD/$out/cidr.so" 100000 > /dev/null
     echo "SQLite: valgrind sees no byte read or written out of place, and none that is left in use"
 fi
-if [ "$watched" = yes ]; then
-    mkdir -p out/watched
-    cc -std=c11 -O1 -g $watch -fPIC -shared -I c sqlite/cidr.c "$library" -o out/watched/cidr.so
-    cc -std=c11 -O1 -g $watch -D_DEFAULT_SOURCE sqlite/test.c -pthread -lsqlite3 -o out/sqlite_test_watched
-    out/sqlite_test_watched "$PWD/out/watched/cidr.so" 100000 > /dev/null
+if sanitizers_work; then
+    mkdir -p $out/watched
+    cc -std=c11 -O1 -g $watch -fPIC -shared -I c sqlite/cidr.c "$library" -o $out/watched/cidr.so
+    cc -std=c11 -O1 -g $watch -D_DEFAULT_SOURCE sqlite/test.c -pthread -lsqlite3 -o $out/sqlite_test_watched
+    $out/sqlite_test_watched "$PWD/$out/watched/cidr.so" 100000 > /dev/null
     echo "SQLite: the sanitizers find nothing in the extension; what the library does they do not see"
 else
     skip "SQLite: the sanitizers" "libasan or libubsan that works" "libgcc-12-dev, or the like of another version"
 fi
 
 # A million rows with an index.
-rm -f out/log.db
-sqlite3 out/log.db ".load out/cidr" ".read sqlite/log.sql"
-sqlite3 out/log.db ".load out/cidr" ".read sqlite/index.sql" > out/index.txt
-diff sqlite/index.txt out/index.txt
+rm -f $out/log.db
+sqlite3 $out/log.db ".load $out/cidr" ".read sqlite/log.sql"
+sqlite3 $out/log.db ".load $out/cidr" ".read sqlite/index.sql" > $out/index.txt
+diff sqlite/index.txt $out/index.txt
 # QUERY: sees that the rows between two ends are looked up in the index.
 by_index() {
-    plan="$(sqlite3 out/log.db ".load out/cidr" "EXPLAIN QUERY PLAN $1")"
+    plan="$(sqlite3 $out/log.db ".load $out/cidr" "EXPLAIN QUERY PLAN $1")"
     case "$plan" in
     *SEARCH*"INDEX log_address (address>? AND address<?)"*) ;;
     *)
@@ -58,10 +58,11 @@ echo "SQLite: by the index of a log of a million rows, the same rows as by a loo
 
 # The example of README.md, which is run from the top.
 for kind in sql text; do
-    sed -n "/^\`\`\`$kind\$/,/^\`\`\`\$/p" sqlite/README.md | grep -v '^```' > "out/example.$kind"
+    sed -n "/^\`\`\`$kind\$/,/^\`\`\`\$/p" sqlite/README.md | grep -v '^```' |
+        sed "s|bindings/out/cidr|bindings/$out/cidr|" > "$out/example.$kind"
 done
-(cd .. && sqlite3 :memory: < bindings/out/example.sql) > out/example_said.text
-diff out/example.text out/example_said.text
+(cd .. && sqlite3 :memory: < "bindings/$out/example.sql") > $out/example_said.text
+diff $out/example.text $out/example_said.text
 echo "SQLite: the example of README.md prints what stands there"
 
 # PYTHON: whether its own module loads extensions.
@@ -74,14 +75,14 @@ else
     loading="$python"
 fi
 if loads "$loading"; then
-    "$loading" sqlite/against_ipaddress.py "$PWD/out/cidr.so" "$((rows / 10))"
+    "$loading" sqlite/against_ipaddress.py "$PWD/$out/cidr.so" "$((rows / 10))"
 else
     skip "SQLite: beside ipaddress" "module sqlite3 that loads extensions in $python" "python3"
 fi
 
 if [ "$measure" = yes ]; then
     step "speed from SQLite"
-    rm -f out/log.db
-    sqlite3 out/log.db ".load out/cidr" ".read sqlite/log.sql"
-    sqlite3 out/log.db ".load out/cidr" ".read sqlite/speed.sql"
+    rm -f $out/log.db
+    sqlite3 $out/log.db ".load $out/cidr" ".read sqlite/log.sql"
+    sqlite3 $out/log.db ".load $out/cidr" ".read sqlite/speed.sql"
 fi
