@@ -4,10 +4,11 @@
 #   make example                          answers examples/cidr/questions.txt, by cidr as plain Rust, or where there is no
 #                                         cargo, by the proved one
 #   make plain                            builds the five programs and the library for C as plain Rust, in rust/target
-#   make test                             the same, and then every test by its script
+#   make test                             the same, and every test by its script, as tests/verdict says
+#   make check                            the same, and a part of the tests, for a first verdict
 #   make proved                           proves and builds cidr, and answers the example by it
 #   make                                  proves and builds the five programs and the library for C
-#   make test-proved                      the same, and then every test by its script
+#   make test-proved                      the same, and then every test of what is proved
 #   make try                              the answers of the example from a program that is not proved, and not kept
 #   make sqlite                           builds the extension of SQLite, of the library for C that is built
 #   make wasm                             proves the library for C for WebAssembly, and builds its modules
@@ -65,7 +66,7 @@ KIT ?= $(shell command -v rt > /dev/null && dirname "$$(dirname "$$(readlink -f 
 # The file of a program that is installed.
 built = $(if $(PLAIN),$(PLAIN_OUT),$(if $(STATIC),$(OUT)/static,crates/$(1)/out))/$(1)
 
-.PHONY: all example proved plain test test-proved try library shared sqlite wasm js calculator static install install-scripts install-library uninstall deb \
+.PHONY: all example proved plain test check test-proved try library shared sqlite wasm js calculator static install install-scripts install-library uninstall deb \
     check-install
 
 # Says by name what is not here, before anything is proved.
@@ -99,12 +100,15 @@ plain:
 	$(MAKE) PLAIN=1 shared
 
 test:
-	$(call tools,cargo python3 cc nm)
-	tests/all
+	$(call tools,python3)
+	@tests/verdict plain
 
-test-proved:
-	$(call tools,rt python3 cc nm)
-	tests/all --proved $(MAKE) all
+check:
+	$(call tools,python3)
+	@tests/verdict check
+
+test-proved: all
+	@tests/verdict proved
 
 try:
 	$(call tools,rt)

@@ -2,6 +2,7 @@
 and cargo builds it."""
 
 import contextlib
+import os
 import pathlib
 import re
 import shutil
@@ -10,7 +11,8 @@ import sys
 import tempfile
 
 TOP = pathlib.Path(__file__).resolve().parent.parent
-TARGET = TOP / "rust/target/tests"
+# Where cargo builds, if nothing else is named: tests that run at the same time each name a folder of their own.
+TARGET = pathlib.Path(os.environ.get("TESTS_TARGET", TOP / "rust/target/tests"))
 FOLDER_OF = {"release": "release", "dev": "debug"}
 
 
