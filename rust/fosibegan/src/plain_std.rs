@@ -4,6 +4,7 @@
 pub mod alloc;
 pub mod arrayvec;
 pub mod collections;
+pub mod json;
 #[cfg(feature = "serde")]
 pub mod serde_json;
 #[allow(unsafe_code)]
