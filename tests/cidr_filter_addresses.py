@@ -5,7 +5,6 @@ row is as it should be, and what was got."""
 import ipaddress
 import itertools
 import json
-import os
 import random
 import re
 

@@ -2,7 +2,6 @@
 what a run gave and what is wanted, which is the status, standard output and standard error."""
 
 import ipaddress
-import json
 import os
 import random
 
