@@ -10,19 +10,24 @@ import tty
 import limits
 
 
+skipped = set()
+
+
 def terminal(what):
-    """Both ends of a new terminal, or None; then it says what is skipped."""
+    """Both ends of a new terminal, or None; then it says, once, what is skipped."""
     try:
         return pty.openpty()
     except OSError:
-        print(f"{what}: skipped, since there is no terminal to be had here (/dev/pts)", flush=True)
+        if what not in skipped:
+            print(f"{what}: skipped, since there is no terminal to be had here (/dev/pts)", flush=True)
+        skipped.add(what)
         return None
 
 
 def hung_up(program, folder, words, given):
     """The status, standard output and standard error of a run whose standard input is a terminal that hangs up after these
     bytes; None if there is no terminal here."""
-    ends = terminal(f"{os.path.basename(program)}: {' '.join(words)} < (a terminal that hangs up)")
+    ends = terminal(f"{os.path.basename(program)} < (a terminal that hangs up)")
     if not ends:
         return None
     reader, writer = ends
