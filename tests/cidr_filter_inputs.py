@@ -1,6 +1,8 @@
 """Rows of `tests/cidr_filter` over inputs of every kind: each byte, each prefix length, short reads, a
 log in parts. Each function yields a name, whether the row is as it should be, and what was got."""
 
+import contextlib
+import fcntl
 import ipaddress
 import itertools
 import os
@@ -11,7 +13,9 @@ import subprocess
 import limits
 
 # The sizes of a line by the bytes that a read of it gets.
-SIZES = {64: (250000, 500000, 1000000), 1: (125000, 250000, 500000)}
+SIZES = {64: (250000, 500000, 1000000), 1: (30000, 60000, 120000)}
+# Of the interface of Linux; Python has this name from 3.10 on.
+F_SETPIPE_SZ = 1031
 HERE = os.path.dirname(os.path.dirname(os.path.abspath(__file__)))
 IN_PARTS = os.path.join(HERE, "examples", "cidr_filter", "in_parts.sh")
 PIPES = {"stdout": subprocess.PIPE, "stderr": subprocess.PIPE}
@@ -29,8 +33,11 @@ def run(words, given, folder, **others):
 
 def of_a_line(program, folder, size, step):
     """Whether a run prints a line of `size` bytes without an end, of which each read gets `step` bytes:
-    a read of a pipe in packet mode gets what one write wrote."""
+    a read of a pipe in packet mode gets what one write wrote. The pipe holds as much as it may, so that
+    the two take turns seldom, which takes long on a busy machine."""
     reader, writer = os.pipe2(os.O_DIRECT)
+    with contextlib.suppress(OSError):
+        fcntl.fcntl(writer, F_SETPIPE_SZ, 1 << 20)
     with limits.started([program, "-f", "list"], cwd=folder, stdin=reader, **PIPES) as running:
         os.close(reader)
         try:
