@@ -1,10 +1,10 @@
 """Logs that are also the output, as a shell opens them: refused as `grep` refuses them, and others not."""
 
 import os
-import subprocess
 import tempfile
 
-SECONDS = int(os.environ.get("TEST_SECONDS", 60))
+import limits
+
 LOG = b"10.0.0.1 a\n11.0.0.1 b\n"
 
 
@@ -49,7 +49,8 @@ def tried(program, line, *said):
             os.link(os.path.join(folder, "log"), os.path.join(folder, "hard"))
             os.symlink("log", os.path.join(folder, "soft"))
             command = f'"{os.path.abspath(program)}" {words} {rest}'
-            got = subprocess.run(["sh", "-c", command], cwd=folder, capture_output=True, timeout=SECONDS)
+            # A program that reads what it writes would write for ever.
+            got = limits.run(["sh", "-c", command], cwd=folder, capture_output=True, preexec_fn=limits.small_files)
             with open(os.path.join(folder, "log"), "rb") as f:
                 came = [f.read(), got.stderr, got.returncode]
             yield f"{words} {rest}", came == wanted, came

@@ -8,7 +8,8 @@ import random
 import subprocess
 import threading
 
-SECONDS = int(os.environ.get("TEST_SECONDS", 60))
+import limits
+
 PIPES = {"stdout": subprocess.PIPE, "stderr": subprocess.PIPE}
 LOGS = ("one", "two", "none_of_ten", "three", "nothing")
 # The options of a run, of each kind one or none.
@@ -17,7 +18,7 @@ KINDS += (("", "-l", "-q", "-l -q"), ("", "-n"))
 
 
 def run(words, folder, given=b""):
-    got = subprocess.run(words, input=given, cwd=folder, timeout=SECONDS, **PIPES)
+    got = limits.run(words, input=given, cwd=folder, **PIPES)
     return got.stdout, got.stderr, got.returncode
 
 
@@ -79,7 +80,7 @@ def left(program, folder):
             reader, writer = os.pipe()
             os.set_blocking(reader, not fails)
             os.write(writer, given)
-            got = subprocess.run(command, cwd=folder, stdin=reader, timeout=SECONDS, **PIPES)
+            got = limits.run(command, cwd=folder, stdin=reader, **PIPES)
             got = (got.stdout, got.stderr, got.returncode)
             os.close(reader)
             os.close(writer)
@@ -89,7 +90,7 @@ def left(program, folder):
 
 def without_end(command, output, status):
     """Whether a run ends whose standard input goes on as long as it is read."""
-    with subprocess.Popen(command, stdin=subprocess.PIPE, **PIPES) as running:
+    with limits.started(command, stdin=subprocess.PIPE, **PIPES) as running:
 
         def feed():
             try:
@@ -100,6 +101,6 @@ def without_end(command, output, status):
 
         feeder = threading.Thread(target=feed)
         feeder.start()
-        got = running.stdout.read(), running.stderr.read(), running.wait(timeout=SECONDS)
-        feeder.join(timeout=SECONDS)
-        return not feeder.is_alive() and got == (output, b"", status), got
+        got = running.stdout.read(), running.stderr.read(), running.wait()
+        feeder.join()
+        return got == (output, b"", status), got

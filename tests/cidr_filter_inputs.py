@@ -1,17 +1,21 @@
 """Rows of `tests/cidr_filter` over inputs of every kind: each byte, each prefix length, short reads, a
 log in parts. Each function yields a name, whether the row is as it should be, and what was got."""
 
+import contextlib
+import fcntl
 import ipaddress
 import itertools
 import os
 import random
-import resource
 import shutil
 import subprocess
-import time
 
-SECONDS = int(os.environ.get("TEST_SECONDS", 60))
-SIZES = (250000, 500000, 1000000)
+import limits
+
+# The sizes of a line by the bytes that a read of it gets.
+SIZES = {64: (250000, 500000, 1000000), 1: (30000, 60000, 120000)}
+# Of the interface of Linux; Python has this name from 3.10 on.
+F_SETPIPE_SZ = 1031
 HERE = os.path.dirname(os.path.dirname(os.path.abspath(__file__)))
 IN_PARTS = os.path.join(HERE, "examples", "cidr_filter", "in_parts.sh")
 PIPES = {"stdout": subprocess.PIPE, "stderr": subprocess.PIPE}
@@ -23,38 +27,35 @@ def lacking(place, count=""):
 
 
 def run(words, given, folder, **others):
-    got = subprocess.run(words, input=given, cwd=folder, timeout=SECONDS, **PIPES, **others)
+    got = limits.run(words, input=given, cwd=folder, **PIPES, **others)
     return got.stdout, got.stderr, got.returncode
 
 
-def seconds_of_a_line(program, folder, size, step):
-    """The processor seconds that a run takes in itself for a line of `size` bytes without an end, of
-    which each read gets `step` bytes: a read of a pipe in packet mode gets what one write wrote."""
+def of_a_line(program, folder, size, step):
+    """Whether a run prints a line of `size` bytes without an end, of which each read gets `step` bytes:
+    a read of a pipe in packet mode gets what one write wrote. The pipe holds as much as it may, so that
+    the two take turns seldom, which takes long on a busy machine."""
     reader, writer = os.pipe2(os.O_DIRECT)
-    before = resource.getrusage(resource.RUSAGE_CHILDREN).ru_utime
-    with subprocess.Popen([program, "-f", "list"], cwd=folder, stdin=reader, **PIPES) as running:
+    with contextlib.suppress(OSError):
+        fcntl.fcntl(writer, F_SETPIPE_SZ, 1 << 20)
+    with limits.started([program, "-f", "list"], cwd=folder, stdin=reader, **PIPES) as running:
         os.close(reader)
-        end = time.monotonic() + SECONDS
-        for at in range(0, size, step):
-            os.write(writer, b"10.0.0.1 "[at : at + step].ljust(step, b"x"))
-            if time.monotonic() > end:
-                running.kill()
-                break
+        try:
+            for at in range(0, size, step):
+                os.write(writer, b"10.0.0.1 "[at : at + step].ljust(step, b"x"))
+        except BrokenPipeError:
+            pass
         os.close(writer)
-        output = running.communicate(timeout=SECONDS)[0]
-    taken = resource.getrusage(resource.RUSAGE_CHILDREN).ru_utime - before
-    return taken, output == b"10.0.0.1 ".ljust(-(-size // step) * step, b"x") + b"\n"
+        output = limits.finish(running)[0]
+    return output == b"10.0.0.1 ".ljust(-(-size // step) * step, b"x") + b"\n"
 
 
 def growth(program, folder):
-    """A line that does not end takes time in proportion to its length, however short the reads are.
-    Twice the length may take three times the time, and a tenth of a second for the clock."""
-    for step in (64, 1):
-        runs = [seconds_of_a_line(program, folder, size, step) for size in SIZES]
-        taken = [seconds for seconds, _ in runs]
-        well = all(well for _, well in runs)
-        well = well and all(more <= 3 * less + 0.1 for less, more in zip(taken, taken[1:]))
-        yield f"a line without an end, {step} bytes a read", well, taken
+    """A line that does not end takes time in proportion to its length, however short the reads are."""
+    for step, sizes in SIZES.items():
+        prints = []
+        well, taken = limits.is_proportional(lambda size: prints.append(of_a_line(program, folder, size, step)), sizes)
+        yield f"a line without an end, {step} bytes a read", well and all(prints), taken
 
 
 def named(line):
@@ -176,7 +177,7 @@ def not_blocking(program, folder):
         reader, writer = os.pipe()
         os.set_blocking(reader, False)
         os.write(writer, given)
-        got = subprocess.run([program, *words], cwd=folder, stdin=reader, timeout=SECONDS, **PIPES)
+        got = limits.run([program, *words], cwd=folder, stdin=reader, **PIPES)
         got = (got.stdout, got.stderr, got.returncode)
         os.close(reader)
         os.close(writer)
@@ -209,7 +210,7 @@ REFUSED += ("-m1 -f made", "-l -f made", "-vqf made", "-nf made")
 
 def of_made_log(words, folder, **others):
     with open(os.path.join(folder, "made_log"), "rb") as log:
-        got = subprocess.run(words, stdin=log, cwd=folder, timeout=SECONDS, **PIPES, **others)
+        got = limits.run(words, stdin=log, cwd=folder, **PIPES, **others)
     return got.stdout, got.stderr, got.returncode
 
 
@@ -276,7 +277,7 @@ def stretches(program, folder):
         words = [program, *f"-f list {options}".split()]
         with open(os.path.join(folder, "stretches"), "wb") as log:
             log.write(short if 0 in kinds else given)
-        with subprocess.Popen([*words, "stretches"], cwd=folder, stdout=subprocess.PIPE) as running:
+        with limits.started([*words, "stretches"], cwd=folder, stdout=subprocess.PIPE) as running:
             got = running.stdout.read(100000)
             running.stdout.close()
         yield f"{words} stretches, of which not all is taken", got == b"".join(shown)[:100000], running.returncode

@@ -4,16 +4,16 @@ the status, standard output and standard error."""
 import ipaddress
 import os
 import random
-import resource
 import subprocess
 
-SECONDS = int(os.environ.get("TEST_SECONDS", 60))
+import limits
+
 KINDS = {4: ipaddress.IPv4Address, 6: ipaddress.IPv6Address}
 
 
 def run(program, words, folder):
     pipes = {"stdout": subprocess.PIPE, "stderr": subprocess.PIPE}
-    done = subprocess.run([program, *words], input=b"", cwd=folder, timeout=SECONDS, **pipes)
+    done = limits.run([program, *words], input=b"", cwd=folder, **pipes)
     return done.returncode, done.stdout, done.stderr
 
 
@@ -95,19 +95,19 @@ def with_many_each(count):
 
 
 def growth(program, folder):
-    """A search takes time in proportion to entries and addresses and to what it prints, not to entries times addresses.
-    Twice as many of both may take three times the time, and a tenth of a second for the clock."""
+    """A search takes time in proportion to entries and addresses and to what it prints, not to entries times addresses."""
     for make, sizes in ((in_one_block, (25000, 50000)), (with_many_each, (2000, 4000))):
-        taken = []
         for size in sizes:
             nets, addresses, each = make(size)
             for name, lines in (("nets", nets), ("addresses", addresses)):
-                with open(os.path.join(folder, name), "w") as file:
+                with open(os.path.join(folder, f"{name} {size}"), "w") as file:
                     file.write("".join(f"{line}\n" for line in lines))
-            before = resource.getrusage(resource.RUSAGE_CHILDREN).ru_utime
-            status, output, error = run(program, ["find", "--from", "addresses", "--", "nets"], folder)
-            taken.append(resource.getrusage(resource.RUSAGE_CHILDREN).ru_utime - before)
+            status, output, error = found(program, folder, size)
             got = (status, output.count(b"\n"), error)
             yield f"find, {make.__name__}, {size}", got, (0 if each else 1, each * size, b"")
-        grows = taken[1] <= 3 * taken[0] + 0.1
-        yield f"find, {make.__name__}: {taken[0]:.2f} s, twice as many {taken[1]:.2f} s", grows, True
+        well, taken = limits.is_proportional(lambda size: found(program, folder, size), sizes)
+        yield f"find, {make.__name__}, in proportion: {taken}", well, True
+
+
+def found(program, folder, size):
+    return run(program, ["find", "--from", f"addresses {size}", "--", f"nets {size}"], folder)

@@ -7,7 +7,8 @@ import os
 import random
 import subprocess
 
-SECONDS = int(os.environ.get("TEST_SECONDS", 60))
+import limits
+
 LONGEST = 1 << 30
 
 # Three documents in the shapes that providers publish.
@@ -60,7 +61,7 @@ NOT_JSON = [
 
 def run(program, words, folder, data=b""):
     pipes = {"stdout": subprocess.PIPE, "stderr": subprocess.PIPE}
-    done = subprocess.run([program, *words], input=data, cwd=folder, timeout=SECONDS, **pipes)
+    done = limits.run([program, *words], input=data, cwd=folder, **pipes)
     return done.returncode, done.stdout, done.stderr
 
 

@@ -2,15 +2,14 @@
 what a run gave and what is wanted, which is the status, standard output and standard error."""
 
 import ipaddress
-import json
 import os
 import random
-import time
 
+import limits
 from cidr_merge_splits import least, run
 
-# In how many seconds a million networks are reduced to a thousand.
-QUICK = 20
+# How many networks are reduced to a thousand.
+SIZES = (250000, 500000, 1000000)
 
 
 def joined(first, second):
@@ -144,9 +143,15 @@ def reduces(program, folder):
             wanted = (0, "".join(f"{net}\n" for net in left).encode(), told(v4, v6))
         yield f"reduce {most}, seed {seed}", run(program, ["reduce", str(most), "some"], folder), wanted
     rng = random.Random(1)
-    give("".join(f"{ipaddress.IPv4Address(rng.randrange(2**32))}/{rng.randrange(20, 33)}\n" for _ in range(1000000)))
-    start = time.monotonic()
-    status, output, _ = run(program, ["reduce", "--most", "1000", "some"], folder)
-    yield "a million networks to a thousand, in seconds", (status, output.count(b"\n") <= 1000, time.monotonic() - start < QUICK), (0, True, True)
+    lines = [f"{ipaddress.IPv4Address(rng.randrange(2**32))}/{rng.randrange(20, 33)}\n" for _ in range(SIZES[-1])]
+    for size in SIZES:
+        give("".join(lines[:size]))
+        os.rename(os.path.join(folder, "some"), os.path.join(folder, f"some {size}"))
+    words = ["reduce", "--most", "1000"]
+    well, taken = limits.is_proportional(lambda size: run(program, [*words, f"some {size}"], folder), SIZES)
+    yield f"many networks to a thousand, in proportion: {taken}", well, True
+    os.rename(os.path.join(folder, f"some {SIZES[-1]}"), os.path.join(folder, "some"))
+    status, output, _ = run(program, [*words, "some"], folder)
+    yield "a million networks to a thousand", (status, output.count(b"\n") <= 1000, b""), (0, True, b"")
     status, all_others, _ = run(program, ["minus", "--count", "some", "--", "-"], folder, output)
     yield "none of a million networks is lost", (status, all_others, b""), (0, b"v4 0 0\nv6 0 0\n", b"")

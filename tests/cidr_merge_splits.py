@@ -7,7 +7,8 @@ import os
 import random
 import subprocess
 
-SECONDS = int(os.environ.get("TEST_SECONDS", 60))
+import limits
+
 # Of more networks than these only the first are read.
 MANY = 2**21
 FIRST = 1000
@@ -15,19 +16,19 @@ FIRST = 1000
 
 def run(program, words, folder, data=b""):
     pipes = {"stdout": subprocess.PIPE, "stderr": subprocess.PIPE}
-    done = subprocess.run([program, *words], input=data, cwd=folder, timeout=SECONDS, **pipes)
+    done = limits.run([program, *words], input=data, cwd=folder, **pipes)
     return done.returncode, done.stdout, done.stderr
 
 
 def first_lines(program, words, folder, data=b""):
     """The first lines of a run that prints many, whose reader then goes, and its status."""
     pipes = {"stdin": subprocess.PIPE, "stdout": subprocess.PIPE, "stderr": subprocess.PIPE}
-    with subprocess.Popen([program, *words], cwd=folder, **pipes) as running:
+    with limits.started([program, *words], cwd=folder, **pipes) as running:
         running.stdin.write(data)
         running.stdin.close()
         lines = b"".join(itertools.islice(running.stdout, FIRST))
         running.stdout.close()
-        return running.wait(SECONDS), lines, running.stderr.read()
+        return running.wait(), lines, running.stderr.read()
 
 
 def made_up(rng, shortest=(8, 24), longest=(32, 128)):
@@ -97,5 +98,5 @@ def splits(program, folder):
     ]:
         yield words, run(program, words.split(), folder), wanted
     with open("/dev/full", "wb") as full:
-        done = subprocess.run([program, *"split --prefix 9 --skip-bad made_up".split()], cwd=folder, stdout=full, stderr=subprocess.PIPE)
+        done = limits.run([program, *"split --prefix 9 --skip-bad made_up".split()], cwd=folder, stdout=full, stderr=subprocess.PIPE)
     yield "split with a full device", (done.returncode, None, done.stderr), (2, None, refused + b"write error\nstandard output: no space left on device\n")

@@ -17,6 +17,7 @@ import subprocess
 import sys
 import time
 
+import limits
 from refusing import edited, first_error, progress, ran
 from wrong_bodies import ROOT, NotJudged, crates_above, has_tests
 
@@ -136,10 +137,10 @@ class PlainBuild:
         except NotJudged as why:
             hint = "" if registry() else "; serde_json is of crates.io, or of Debian's package librust-serde-json-dev"
             sys.exit(f"tests/edits: {package} as it stands: {why}{hint}")
-        self.tests[package] = re.findall(r"^(\S+): test$", said_of(program, ["--list"], 60), re.M)
+        self.tests[package] = re.findall(r"^(\S+): test$", said_of(program, ["--list"], limits.seconds()), re.M)
         for crate in self.layout.packages[package]:
             began = time.monotonic()
-            if failed := failed_of(program, list(self.names_of(crate)), 300):
+            if failed := failed_of(program, list(self.names_of(crate)), limits.seconds()):
                 sys.exit(f"tests/edits: {crate} as it stands: {failed[0]} fails")
             # A wrong body may be slower, and so may the machine.
             self.limits[crate] = 5 + 10 * (time.monotonic() - began)

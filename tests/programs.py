@@ -6,6 +6,8 @@ import pathlib
 import subprocess
 import sys
 
+import limits
+
 TOP = pathlib.Path(__file__).resolve().parent.parent
 # Where cargo builds the plain ones.
 PLAIN = TOP / "rust/target/release"
@@ -39,6 +41,7 @@ def asked(name):
     is_plain = "--plain" in words
     words = [word for word in words if word != "--plain"]
     if words:
+        limits.measure_by(os.path.abspath(words[0]))
         return os.path.abspath(words[0]), is_plain
     if is_plain and not folder():
         os.environ["CIDR_PROGRAMS"] = str(PLAIN)
@@ -46,4 +49,5 @@ def asked(name):
     if not folder() and not (crate / "out" / name).exists():
         how = {"stdin": subprocess.DEVNULL, "stdout": sys.stderr, "check": True}
         subprocess.run(["rt", "run", "--", "--version"], cwd=crate, **how)
+    limits.measure_by(program(name))
     return program(name), is_plain

@@ -11,6 +11,7 @@ import sys
 import tempfile
 
 sys.path.insert(0, os.path.dirname(os.path.abspath(__file__)))
+import limits  # noqa: E402
 import plain_programs  # noqa: E402
 
 HERE = pathlib.Path(__file__).resolve().parent
@@ -43,7 +44,7 @@ def refusing(room):
 def once(command, text, folder, library, number):
     """What a run said whose request of this number is refused: output, standard error, and status."""
     variables = {**os.environ, "LD_PRELOAD": str(library), "REFUSE": str(number)}
-    return subprocess.run(command, input=text, cwd=folder, env=variables, capture_output=True, text=True, timeout=60)
+    return limits.run(command, input=text, cwd=folder, env=variables, capture_output=True, text=True)
 
 
 def runs_of(repository, run_of, crate_in, inputs, words, files, refused):

@@ -18,6 +18,7 @@ import shutil
 import subprocess
 import sys
 import tempfile
+import time
 
 HERE = pathlib.Path(__file__).resolve().parent
 HEADER = HERE / "ipnetwork.h"
@@ -86,9 +87,9 @@ def header(text):
     return "\n".join(lines) + "\n", told
 
 
-def fails(program, number):
-    """Whether the test fails: it says so, or ends otherwise than well."""
-    with subprocess.Popen(["timeout", "100", program], env={**os.environ, "EXCHANGED": str(number)},
+def fails(program, number, seconds=0):
+    """Whether the test fails: it says so, or ends otherwise than well, or not within so many seconds, if there are any."""
+    with subprocess.Popen(["timeout", str(seconds), program], env={**os.environ, "EXCHANGED": str(number)},
                           stdout=subprocess.DEVNULL, stderr=subprocess.PIPE) as run:
         if run.stderr.read(1):
             run.terminate()
@@ -105,10 +106,13 @@ def main():
         for file in ["test.c", "rows.h"]:
             shutil.copy(HERE / file, room)
         subprocess.run([*compiler, "-w", room / "test.c", library, "-o", room / "test"], check=True)
+        began = time.monotonic()
         if fails(room / "test", -1):
             sys.exit("exchanged.py: the test fails with nothing exchanged")
+        # An exchange may have no end. The machine may be slow, and busy with several of them.
+        most = 100 + 60 * (time.monotonic() - began)
         with concurrent.futures.ThreadPoolExecutor(os.cpu_count()) as pool:
-            seen = list(pool.map(lambda number: fails(room / "test", number), range(len(told))))
+            seen = list(pool.map(lambda number: fails(room / "test", number, most), range(len(told))))
     wrong = 0
     for (call, names), is_seen in zip(told, seen):
         same = any(re.fullmatch(f"ipnetwork_{of}", call) and names == both for of, both in SAME)

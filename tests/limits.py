@@ -1,0 +1,140 @@
+"""How long a program of the tests may run, and whether its time grows in proportion to its input.
+
+A limit is there for a program that would never end. It is far more than any run takes, and grows with how long the program
+takes to start, so that neither a slow machine nor an emulator reaches it. What reaches it is ended, with all that it started,
+and its status is then a text that says so, which no row wants."""
+
+import contextlib
+import functools
+import os
+import resource
+import signal
+import subprocess
+import sys
+import threading
+import time
+
+# The seconds that a program takes to start on a machine that is not busy, and that it may run there.
+START, LIMIT = 0.005, 300
+# After so many programs without an end a test ends too.
+MOST_ENDED = 3
+# The bytes that a program may write to a file of a test that it would read from and write to for ever.
+FILE = 1 << 20
+
+started_to_measure = ["sh", "-c", ":"]
+ended_at_limit = []
+
+
+def measure_by(program):
+    """From now on the limit grows with how long this program takes to start: with `--version`, and nothing to read."""
+    global started_to_measure
+    started_to_measure = [str(program), "--version"]
+    slowness.cache_clear()
+
+
+@functools.cache
+def slowness():
+    """How many times START a program takes to start here, at the longest of some; at least 1."""
+    longest = 0
+    for _ in range(5):
+        began = time.monotonic()
+        with contextlib.suppress(OSError):
+            subprocess.run(started_to_measure, stdin=subprocess.DEVNULL, stdout=subprocess.DEVNULL, stderr=subprocess.DEVNULL)
+        longest = max(longest, time.monotonic() - began)
+    return max(1, longest / START)
+
+
+def seconds():
+    """How long a program may run."""
+    return LIMIT * slowness()
+
+
+def kill(process):
+    """Ends a program that runs in a group of its own, and what it started."""
+    if process.poll() is None:
+        with contextlib.suppress(ProcessLookupError):
+            os.killpg(process.pid, signal.SIGKILL)
+
+
+def end(process):
+    """The same, of one that has reached its limit."""
+    if process.poll() is None:
+        kill(process)
+        ended_at_limit.append(process)
+
+
+def start(words, **how):
+    """Starts a program as `subprocess.Popen` does, in a group of its own."""
+    return subprocess.Popen(words, start_new_session=True, **how)
+
+
+@contextlib.contextmanager
+def started(words, **how):
+    """A program that runs beside the block, as with `subprocess.Popen`: a read or write of the block that waits for it comes
+    to an end with it, at the limit, and an error in the block ends it."""
+    process = start(words, **how)
+    timer = threading.Timer(seconds(), end, [process])
+    timer.daemon = True
+    timer.start()
+    try:
+        with process:
+            try:
+                yield process
+            except BaseException:
+                kill(process)
+                raise
+    finally:
+        timer.cancel()
+
+
+def finish(process, data=None):
+    """What `communicate` returns of a program that is given these bytes, and its status, which is a text if it had no end."""
+    try:
+        output, error = process.communicate(data, timeout=seconds())
+        return output, error, process.returncode
+    except subprocess.TimeoutExpired:
+        end(process)
+        output, error = process.communicate()
+    finally:
+        kill(process)
+    if len(ended_at_limit) >= MOST_ENDED:
+        sys.exit(f"{process.args}: no end within {seconds():.0f} seconds, as of {MOST_ENDED - 1} runs before")
+    return output, error, f"no end within {seconds():.0f} seconds"
+
+
+def run(words, *, input=None, capture_output=False, **how):
+    """Runs a program as `subprocess.run` does."""
+    if capture_output:
+        how |= {"stdout": subprocess.PIPE, "stderr": subprocess.PIPE}
+    if input is not None:
+        how["stdin"] = subprocess.PIPE
+    process = start(words, **how)
+    with process:
+        output, error, status = finish(process, input)
+    return subprocess.CompletedProcess(words, status, output, error)
+
+
+def small_files():
+    """In a program that is about to start: it may write FILE bytes to a file, and is ended by the next one."""
+    resource.setrlimit(resource.RLIMIT_FSIZE, (FILE, FILE))
+
+
+def processor_seconds(call):
+    """What a call returns, and the processor time that the programs took that ended meanwhile, theirs and the system's."""
+    before = resource.getrusage(resource.RUSAGE_CHILDREN)
+    result = call()
+    after = resource.getrusage(resource.RUSAGE_CHILDREN)
+    return result, after.ru_utime + after.ru_stime - before.ru_utime - before.ru_stime
+
+
+def is_proportional(run, sizes):
+    """Whether the processor time of `run(size)` grows in proportion, for sizes of which each is twice the one before: to
+    less than three times. Also the times, each the least of three runs; if they grow more, of up to nine, since what
+    else runs on the machine makes a run slower."""
+    least = [float("inf")] * len(sizes)
+    for number in range(9):
+        least = [min(had, processor_seconds(lambda: run(size))[1]) for had, size in zip(least, sizes)]
+        well = all(more < 3 * less for less, more in zip(least, least[1:]))
+        if well and number >= 2:
+            break
+    return well, [round(taken, 4) for taken in least]
