@@ -44,7 +44,7 @@ INSIDE = {
     "object": EITHER,
     "rustc_demangle": EITHER,
 }
-# What lies beside them, and is for tests, macros and measuring.
+# What is in the same folder, and is for tests, macros and measuring.
 NOT_LINKED = {"getopts", "proc_macro", "profiler_builtins", "rustc_literal_escaper", "sysroot", "test", "unicode_width",
               "rustc_std_workspace_alloc", "rustc_std_workspace_core", "rustc_std_workspace_std"}
 
