@@ -21,7 +21,7 @@ TEXTS = {
     "GPL-3.0-or-later": "LICENSES/GPL-3.txt",
     "GCC-exception-3.1": "LICENSES/GCC-exception-3.1.txt",
 }
-# Notices that are to be given besides.
+# Notices that are also to be given.
 NOTICES = {"compiler_builtins": ["LICENSES/libm.txt"]}
 OWN = ["LICENSE-MIT", "LICENSE-APACHE", "NOTICE"]
 LINKED = "LICENSES/LINKED.txt"
@@ -103,7 +103,7 @@ def listed(rows):
 
 
 def files_of(rows):
-    """What is put beside what is linked of these rows: for each name its content."""
+    """What goes with files that are linked of these rows: for each name its content."""
     names = {name for row in rows for name in texts_of(row)} | set(OWN)
     held = {name: (TOP / name).read_bytes() for name in sorted(names)}
     notices = next((file for file in map(pathlib.Path, OF_GLIBC) if file.is_file()), None)
