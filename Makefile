@@ -239,15 +239,15 @@ deb:
 	$(call tools,python3 $(if $(ARM64),aarch64-linux-gnu-gcc,cc objdump) dpkg-deb)
 	scripts/deb $(if $(ARM64),$(OUT)/deb/arm64 arm64,$(OUT)/deb)
 
-# With LOG='FILE..', PROVED.txt has the verdicts of these logs.
+# With LOGS=FOLDER, that of .ci/full --resume, the logs are released too, and PROVED.txt has their verdicts.
 .PHONY: dist dist-plain tools
 dist:
 	$(call tools,python3 git cc)
-	scripts/dist --whole $(addprefix --log ,$(LOG))
+	scripts/dist --whole $(if $(LOGS),--logs '$(LOGS)')
 
 dist-plain:
 	$(call tools,python3 git cc cargo)
-	scripts/dist --plain $(addprefix --log ,$(LOG))
+	scripts/dist --plain $(if $(LOGS),--logs '$(LOGS)')
 
 tools:
 	scripts/tools

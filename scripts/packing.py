@@ -1,5 +1,6 @@
 """Files whose bytes depend only on what is put into them: archives and checksums. scripts/dist writes them."""
 
+import base64
 import gzip
 import hashlib
 import importlib.machinery
@@ -41,10 +42,10 @@ def compressed(data):
     return gzip.compress(data, 9, mtime=0)
 
 
-def pack(folder, name, to):
+def pack(folder, name, to, form=tarfile.GNU_FORMAT):
     """Writes a folder as an archive, in which it has this name."""
     held, at = io.BytesIO(), moment()
-    with tarfile.open(fileobj=held, mode="w", format=tarfile.GNU_FORMAT) as archive:
+    with tarfile.open(fileobj=held, mode="w", format=form) as archive:
         for file in [folder, *sorted(folder.rglob("*"))]:
             member = archive.gettarinfo(file, f"{name}/{file.relative_to(folder)}" if file != folder else name)
             member.uid = member.gid = 0
@@ -55,6 +56,12 @@ def pack(folder, name, to):
                 archive.addfile(member, content)
     to.write_bytes(compressed(held.getvalue()))
     return to
+
+
+def recorded(name, content):
+    """The line of a file in the RECORD of a wheel."""
+    digest = base64.urlsafe_b64encode(hashlib.sha256(content).digest()).rstrip(b"=").decode()
+    return f"{name},sha256={digest},{len(content)}\n"
 
 
 def digest(file, kind="sha256"):

@@ -2,6 +2,7 @@
 
 import datetime
 import json
+import pathlib
 import re
 import shutil
 import subprocess
@@ -11,6 +12,7 @@ from packing import TOP, digest, moment, run
 
 VERSION = (TOP / "VERSION").read_text().strip()
 OWN = ("fosibegan", VERSION, "MIT OR Apache-2.0", "the sources of this repository")
+PORTS = {"arrayvec": "MIT OR Apache-2.0", "serde_json": "MIT OR Apache-2.0", "serde": "MIT OR Apache-2.0", "ryu": "Apache-2.0 OR BSL-1.0"}
 
 
 def version_of(package):
@@ -33,16 +35,19 @@ def libgcc(machine):
 
 
 def kit():
-    version = run(["rt", "version"]) if shutil.which("rt") else "of an unknown version"
-    return "rattle-kit", version, "NOASSERTION", "the standard library of the Rattle kit and its functions of C"
+    """The parts of the kit that are linked in: its own, of which it states no licence, and its ports of crates of Rust."""
+    found = shutil.which("rt")
+    version = run(["rt", "version"]) if found else "of an unknown version"
+    rows = [("rattle-kit", version, "NOASSERTION", "the standard library of the Rattle kit and its functions of C")]
+    for name, licence in PORTS.items():
+        about = pathlib.Path(found or "/rt").resolve().parent.parent / "rattle" / name / "README.md"
+        known = re.search(rf"`{name}` (\d+\.\d+\.\d+)", about.read_text()) if about.is_file() else None
+        rows.append((name, known[1] if known else "of an unknown version", licence, "the kit's port of this crate of Rust"))
+    return rows
 
 
 def host():
     return "fosibegan-host", VERSION, "MIT OR Apache-2.0", "bindings/arm64/host.c, in the place of the kit's functions of C"
-
-
-def standard_library(machine):
-    return "rust-std", machine.version_of_rustc(), "MIT OR Apache-2.0", "the standard library of Rust"
 
 
 def spdx_of(row):
