@@ -50,8 +50,8 @@ ARCHIVE = "libipnetwork_c.a"
 SHARED = {"darwin": "libipnetwork_c.dylib", "win32": "ipnetwork_c.dll"}.get(sys.platform, "libipnetwork_c.so")
 # What a library says of itself (ipnetwork_build), and what a wheel with it says.
 BUILDS = {
-    b" (proved)": "The library in this wheel is proved.",
-    b" (plain Rust, made of proved sources)": f"The library in this wheel is {PLAIN}.",
+    b"(proved)": "The library in this wheel is proved.",
+    b"(plain Rust, made of proved sources)": f"The library in this wheel is {PLAIN}.",
 }
 NAME = "ipnetwork"
 LICENSES = ("LICENSE-MIT", "LICENSE-APACHE", "NOTICE")
