@@ -67,6 +67,13 @@ typedef struct {
     search_answer told;
 } search_call;
 
+/* The version of the library, and which build it is. */
+static inline text_call ipnetwork_go_build(void) {
+    text_call call = {{0}};
+    call.fault = ipnetwork_build(call.text, sizeof call.text, &call.length);
+    return call;
+}
+
 void ipnetwork_go_read(text_call *call);
 void ipnetwork_go_read_address(text_call *call);
 void ipnetwork_go_text(text_call *call);

@@ -19,6 +19,10 @@ func ExampleParse() {
 	// true
 }
 
+func ExampleBuild() {
+	fmt.Printf("ipnetwork %s (%s)\n", ipnetwork.Version(), ipnetwork.Build()) // ipnetwork 0.2.0 (proved)
+}
+
 func ExampleNetwork_MarshalText() {
 	text, _ := json.Marshal([]ipnetwork.Network{ipnetwork.MustParse("2001:DB8::/32"), {}})
 	fmt.Println(string(text))

@@ -1,8 +1,7 @@
 //go:build cgo
 
-// Package ipnetwork reads and prints IP networks in CIDR notation and answers questions about them, with a library
-// whose functions are proved on Linux on x86-64 and ARM64; on other systems the library is built from the proved
-// sources. Addresses are those of net/netip.
+// Package ipnetwork reads and prints IP networks in CIDR notation and answers questions about them, with a library that
+// is proved, or is built from the proved sources as plain Rust: Build returns which. Addresses are those of net/netip.
 //
 // A server that listens on IPv4 and IPv6 with one socket sees the address of an IPv4 peer as an IPv4-mapped IPv6
 // address, such as ::ffff:10.1.9.32, which is in no IPv4 network: such a peer gets past a list of denied networks. So
@@ -51,9 +50,29 @@ import (
 )
 
 func init() {
-	if C.ipnetwork_abi_version() != C.IPNETWORK_ABI_VERSION {
+	if C.ipnetwork_abi_version() != C.IPNETWORK_ABI_VERSION || C.ipnetwork_abi_minor_version() < C.IPNETWORK_ABI_MINOR_VERSION {
 		panic("ipnetwork: the library is of another version than its header: build it again")
 	}
+}
+
+// Version returns the version of the library, such as 0.2.0.
+func Version() string {
+	version, _, _ := strings.Cut(told(), " (")
+	return version
+}
+
+// Build returns which build of the library it is: proved, or plain Rust, made of proved sources. The latter is tested,
+// and not proved.
+func Build() string {
+	_, build, _ := strings.Cut(told(), " (")
+	return strings.TrimSuffix(build, ")")
+}
+
+// told returns the text of the library about itself: its version, and in parentheses which build it is.
+func told() string {
+	call := C.ipnetwork_go_build()
+	mustBe(call.fault)
+	return C.GoStringN(&call.text[0], C.int(call.length))
 }
 
 // The C functions that callAddress, callNetwork, callText and search call.

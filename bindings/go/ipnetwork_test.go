@@ -7,6 +7,7 @@ import (
 	"math/rand"
 	"net/netip"
 	"os"
+	"regexp"
 	"strconv"
 	"testing"
 )
@@ -70,6 +71,20 @@ func TestRows(t *testing.T) {
 	_, err = New(zoned, 64)
 	equal(t, "a zone", err, NoFamily)
 	equal(t, "a zone", MustParse("fe80::/10").Contains(zoned), false)
+}
+
+// The library says which build it is; if the environment has IPNETWORK_BUILD, that is the text it should give.
+func TestBuild(t *testing.T) {
+	if !regexp.MustCompile(`^\d+\.\d+\.\d+(-dev)?$`).MatchString(Version()) {
+		t.Fatalf("the version is %q", Version())
+	}
+	told := fmt.Sprintf("%s (%s)", Version(), Build())
+	if build := Build(); build != "proved" && build != "plain Rust, made of proved sources" {
+		t.Fatalf("the build is %q", build)
+	}
+	if wanted, is := os.LookupEnv("IPNETWORK_BUILD"); is {
+		equal(t, "build", told, wanted)
+	}
 }
 
 func TestZero(t *testing.T) {

@@ -1,5 +1,5 @@
 /**
- * IP networks in CIDR notation, read, printed and queried by a proved library.
+ * IP networks in CIDR notation, read, printed and queried.
  *
  * A network keeps the host bits of its address. Its members are the addresses that share the first
  * bits of its address, as many as the prefix length says. Values do not change. Two of them are
@@ -10,6 +10,14 @@
  * An argument of a wrong type is a `TypeError` that names the argument. A text that names no
  * network, or an invalid prefix length, is an `IpNetworkError` with the cause as its `code`.
  */
+
+/** The version of the library that is in the package, such as `0.2.0`. */
+export const version: string;
+/**
+ * Which build of the library that is: `proved`, or `plain Rust, made of proved sources`, which is
+ * tested. What `wasm-opt` made of it for this package is tested in either case, and not proved.
+ */
+export const build: 'proved' | 'plain Rust, made of proved sources';
 
 /** Why something is refused: see {@link IpNetworkError.code}. */
 export type IpNetworkErrorCode = 'format' | 'address' | 'prefix' | 'range' | 'freed';

@@ -2,7 +2,7 @@
 
 step "C"
 cc $strict c/test.c "$library" -o $out/test
-$out/test
+$out/test "$IPNETWORK_BUILD"
 # One object cannot be input and output: the header says so to the compiler, which gcc tells.
 if cc --version | grep -q 'Free Software Foundation'; then
     for index in other index; do

@@ -17,6 +17,7 @@ folder, and `build_wheel.py FOLDER` builds the extension alone, for tests.
 """
 
 import base64
+import functools
 import gzip
 import hashlib
 import io
@@ -47,18 +48,41 @@ PROVED = {
 PLAIN = "plain Rust, made of the proved sources, and tested; not proved"
 ARCHIVE = "libipnetwork_c.a"
 SHARED = {"darwin": "libipnetwork_c.dylib", "win32": "ipnetwork_c.dll"}.get(sys.platform, "libipnetwork_c.so")
-NAME, VERSION = "ipnetwork", (TOP / "VERSION").read_text().strip()
+# What a library says of itself (ipnetwork_build), and what a wheel with it says.
+BUILDS = {
+    b"(proved)": "The library in this wheel is proved.",
+    b"(plain Rust, made of proved sources)": f"The library in this wheel is {PLAIN}.",
+}
+NAME = "ipnetwork"
 LICENSES = ("LICENSE-MIT", "LICENSE-APACHE", "NOTICE")
-METADATA = f"""Metadata-Version: 2.1
+MODULES = sorted(path.name for path in (HERE / "ipnetwork").glob("*.py")) + ["_native.pyi", "py.typed"]
+THREADED = bool(sysconfig.get_config_var("Py_GIL_DISABLED"))  # a Python with free threads, which has no stable ABI
+STABLE = sys.version_info >= (3, 11) and not THREADED  # from this version on the stable ABI has buffers
+
+
+def version_of(version: str) -> str:
+    """A version of the repository as Python writes it (PEP 440): 0.2.0-dev, which comes before 0.2.0, is 0.2.0.dev0."""
+    numbers = re.fullmatch(r"(\d+\.\d+\.\d+)(-dev)?", version)
+    if not numbers:
+        raise SystemExit(f"{NAME}: VERSION has {version}, which is neither like 0.2.0 nor like 0.2.0-dev")
+    return numbers[1] + ".dev0" * bool(numbers[2])
+
+
+VERSION = version_of((TOP / "VERSION").read_text().strip())
+
+
+def _metadata(library: str) -> bytes:
+    """What the package says of itself, with this sentence about its library."""
+    return f"""Metadata-Version: 2.1
 Name: {NAME}
 Version: {VERSION}
 Summary: IP networks in CIDR notation, by a library of proved sources
 License: MIT OR Apache-2.0
 Requires-Python: >=3.9
-"""
-MODULES = sorted(path.name for path in (HERE / "ipnetwork").glob("*.py")) + ["_native.pyi", "py.typed"]
-THREADED = bool(sysconfig.get_config_var("Py_GIL_DISABLED"))  # a Python with free threads, which has no stable ABI
-STABLE = sys.version_info >= (3, 11) and not THREADED  # from this version on the stable ABI has buffers
+Description-Content-Type: text/plain
+
+{library}
+""".encode()
 
 
 def _say(words: str) -> None:
@@ -92,6 +116,7 @@ def _what_lacks() -> str:
     return f"there is no library: {lacks}, and {cargo}"
 
 
+@functools.lru_cache(None)
 def _library() -> pathlib.Path:
     """The library that the package is made of: on Linux the static one, else the shared one."""
     file = ARCHIVE if LINUX else SHARED
@@ -108,6 +133,13 @@ def _library() -> pathlib.Path:
         raise SystemExit(f"{NAME}: {library} is not there, {kind}")
     _say(f"the library is {library}: {kind}")
     return library
+
+
+def _about(library: pathlib.Path) -> str:
+    """What a wheel says of its library, by the text in that."""
+    held = library.read_bytes()
+    found = [words for text, words in BUILDS.items() if text in held]
+    return found[0] if len(found) == 1 else "ipnetwork.__build__ says how the library in this wheel was made."
 
 
 def _cc(*arguments: str) -> None:
@@ -174,7 +206,7 @@ def build_wheel(wheel_directory, config_settings=None, metadata_directory=None):
         **{f"ipnetwork/{name}": (HERE / "ipnetwork" / name).read_bytes() for name in MODULES},
         f"ipnetwork/{library.name}": held,
         **{f"{about}/{name}": (TOP / name).read_bytes() for name in LICENSES},
-        f"{about}/METADATA": METADATA.encode(),
+        f"{about}/METADATA": _metadata(_about(_library())),
         f"{about}/WHEEL": wheel.encode(),
     }
     rows = []
@@ -222,13 +254,15 @@ def build_sdist(sdist_directory, config_settings=None):
     """Writes the source distribution into a folder, and gives its file name."""
     base = f"{NAME}-{VERSION}"
     sources = sorted(file for file in (HERE / "ipnetwork").iterdir() if file.suffix in {".py", ".pyi", ".c", ".h", ".typed"})
+    proved = _proved()
+    platforms = ", ".join(f"linux-{name.split('/')[1]}" for name in proved) or "no platform"
     files = {
-        "PKG-INFO": METADATA.encode(),
+        "PKG-INFO": _metadata(f"It has the proved library for {platforms}. For others cargo builds one of {PLAIN}."),
         **{name: (HERE / name).read_bytes() for name in ("pyproject.toml", "build_wheel.py")},
         **{name: (TOP / name).read_bytes() for name in ("VERSION", *LICENSES)},
         **{f"ipnetwork/{file.name}": file.read_bytes() for file in sources},
         **{f"c/{name}": (HEADERS / name).read_bytes() for name in ("ipnetwork.h", "ranges.h")},
-        **_proved(),
+        **proved,
         **_rust(),
     }
     held = io.BytesIO()

@@ -300,6 +300,15 @@ static void answer_cause(sqlite3_context *context, sqlite3_value **values) {
     sqlite3_result_text(context, words, -1, SQLITE_TRANSIENT);
 }
 
+/* The version of the library, and which build it is. */
+static void answer_version(sqlite3_context *context, sqlite3_value **values) {
+    char text[IPNETWORK_BUILD_TEXT];
+    size_t length;
+    (void)values;
+    if (is_answered(context, ipnetwork_build(text, sizeof text, &length)))
+        sqlite3_result_text(context, text, (int)length, SQLITE_TRANSIENT);
+}
+
 static const struct function functions[] = {
     {"cidr_text", 1, answer_text},     {"cidr_has", 2, answer_has},       {"cidr_covers", 2, answer_covers},
     {"cidr_first", 1, answer_first},   {"cidr_last", 1, answer_last},     {"cidr_addr", 1, answer_addr},
@@ -307,6 +316,7 @@ static const struct function functions[] = {
     {"cidr_print", 1, answer_print},   {"cidr_unmapped", 1, answer_unmapped},
     {"cidr_text_or_null", 1, answer_text_or_null},
     {"cidr_addr_or_null", 1, answer_addr_or_null},
+    {"cidr_version", 0, answer_version},
 };
 
 #include "longest.h"
@@ -328,8 +338,9 @@ int sqlite3_cidr_init(sqlite3 *database, char **message, const sqlite3_api_routi
     (void)message;
     SQLITE_EXTENSION_INIT2(api)
     for (size_t i = 0; i < sizeof functions / sizeof *functions; i++) {
-        int status = sqlite3_create_function(database, functions[i].name, functions[i].arguments,
-                                             SQLITE_UTF8 | SQLITE_DETERMINISTIC | SQLITE_INNOCUOUS,
+        /* Without arguments it is the version: no index may keep that, since another build has another. */
+        int flags = SQLITE_UTF8 | SQLITE_INNOCUOUS | (functions[i].arguments > 0 ? SQLITE_DETERMINISTIC : 0);
+        int status = sqlite3_create_function(database, functions[i].name, functions[i].arguments, flags,
                                              (void *)&functions[i], call, NULL, NULL);
         if (status != SQLITE_OK)
             return status;

@@ -259,6 +259,10 @@ static const struct row rows[] = {
     {"cidr_text('::', '::')", "error: wrong number of arguments to function cidr_text()"},
     {"cidr_has('::')", "error: wrong number of arguments to function cidr_has()"},
     {"cidr_covers('::', '::', '::')", "error: wrong number of arguments to function cidr_covers()"},
+    {"cidr_version(1)", "error: wrong number of arguments to function cidr_version()"},
+
+    /* The version has numbers and a word in parentheses; test.c compares the text. */
+    {"cidr_version() GLOB '[0-9]*.[0-9]*.[0-9]* (*)'", "1"},
 };
 
 #endif

@@ -3,6 +3,7 @@
  *
  *   test PATH_OF_THE_EXTENSION [LENGTH]
  *
+ * If the environment has IPNETWORK_BUILD, this is what cidr_version() should return.
  * LENGTH is the length of the longest texts in bytes, by default 10,000,000, and at most 100,000 in UTF-16. Each wrong
  * result is a line on standard error. The status is 0 if there is none. */
 #include "rows.h"
@@ -235,6 +236,12 @@ static void schemas(sqlite3 *database) {
         failures++;
     }
     free(said);
+    said = answer(database, "CREATE INDEX log_version ON log(cidr_version())", NULL, 0);
+    if (strncmp(said, "error: non-deterministic functions", 34) != 0) {
+        fprintf(stderr, "test.c: an index keeps the version: %s\n", said);
+        failures++;
+    }
+    free(said);
     said = answer(database, "INSERT INTO log(client) VALUES ('10/8')", NULL, 0);
     if (strcmp(said, "error: cidr_addr, argument 1: no address: '10/8'") != 0) {
         fprintf(stderr, "test.c: a generated column takes 10/8: %s\n", said);
@@ -371,10 +378,15 @@ int main(int count, char **words) {
     watched.xRealloc = request_more;
     need(sqlite3_config(SQLITE_CONFIG_MALLOC, &watched) == SQLITE_OK, "no memory to watch");
     need(sqlite3_config(SQLITE_CONFIG_LOOKASIDE, 0, 0) == SQLITE_OK, "no memory to watch");
+    char wanted[100];
+    const char *build = getenv("IPNETWORK_BUILD");
+    snprintf(wanted, sizeof wanted, "'%s'", build == NULL ? "" : build);
     static const char *encodings[] = {"UTF-8", "UTF-16le", "UTF-16be"};
     for (int i = 0; i < 3; i++) {
         sqlite3 *database = open_database(encodings[i]);
         each_row(database);
+        if (build != NULL)
+            expect(database, "cidr_version()", wanted);
         each_text(database);
         if (i == 0)
             each_message(database);

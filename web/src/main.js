@@ -1,4 +1,5 @@
 // Which question the page shows: that of the link, else the first.
+import { build, version } from "../../bindings/out/js/index.mjs";
 import { compareView } from "./compare_view.js";
 import { fieldsOf } from "./links.js";
 import { listView } from "./list_view.js";
@@ -35,6 +36,7 @@ for (const form of document.forms) {
   form.addEventListener("submit", (event) => event.preventDefault());
 }
 VIEWS.forEach((view) => view.begin());
+document.getElementById("library").textContent = `version ${version} (${build})`;
 document.getElementById("needs").remove();
 addEventListener("hashchange", open);
 open();

@@ -10,6 +10,7 @@ export const library = instanceOf(inflated(unspelled(MODULE), MODULE_LENGTH));
 /* Its functions, which c/ipnetwork.h describes, and those of words.wat. Each pointer and each size
  * is two numbers: the low 32 bits and 0. */
 export const {
+  ipnetwork_build: buildOfLibrary,
   ipnetwork_v4_read: v4Read,
   ipnetwork_v6_read: v6Read,
   ipnetwork_read_with_cause: readWithCause,

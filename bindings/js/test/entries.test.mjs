@@ -27,6 +27,14 @@ test('every file that package.json names is there, and nothing else', () => {
   assert.ok(size < 200_000, `the package has ${size} bytes`);
 });
 
+test('it says which version and which build of the library it has', () => {
+  const { build, version } = ipnetwork;
+  assert.equal(version, about.version);
+  assert.ok(['proved', 'plain Rust, made of proved sources'].includes(build), build);
+  const told = `${version} (${build})`;
+  assert.equal(told, process.env.IPNETWORK_BUILD ?? told);
+});
+
 test('in a browser it needs nothing of Node', () => {
   const source = readFileSync(join(folder, 'index.mjs'), 'utf8');
   assert.doesNotMatch(source, /\b(require|process|Buffer|fetch|XMLHttpRequest|import\()\b/);
@@ -98,7 +106,7 @@ test('lists are sorted, and doubles in them found, by the library alone', () => 
 test('each public name has a type, and each type is there', () => {
   const types = readFileSync(join(folder, 'index.d.cts'), 'utf8');
   const values = [
-    ...types.matchAll(/^export (?:abstract )?(?:class|function) (\w+)/gm),
+    ...types.matchAll(/^export (?:abstract )?(?:class|const|function) (\w+)/gm),
   ].map(([, name]) => name);
   assert.deepEqual(values.sort(), Object.keys(ipnetwork).sort());
   for (const [, name, body] of types.matchAll(

@@ -1,8 +1,10 @@
 /* What the types take and refuse: tsc has to find nothing here. */
 import {
   AddressColumn, AddressSet, IpAddress, IpNetwork, IpNetworkError, Ipv4Address, Ipv4Network,
-  Ipv6Address, Ipv6Network, NetworkColumn, PrefixTable, aggregate, summarizeRange,
+  Ipv6Address, Ipv6Network, NetworkColumn, PrefixTable, aggregate, build, summarizeRange, version,
 } from 'ipnetwork';
+
+const told: string = `${version} (${build})`;
 
 const network: Ipv4Network | Ipv6Network = IpNetwork.parse('10.1.9.32/16');
 const four: Ipv4Network = Ipv4Network.parse('10.0.0.0/8');

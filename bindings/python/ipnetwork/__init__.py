@@ -1,4 +1,4 @@
-"""IP networks in CIDR notation, read, printed and queried by a library whose functions are proved.
+"""IP networks in CIDR notation: read, printed and queried.
 
 >>> from ipaddress import IPv4Address, IPv6Address
 >>> network = ip_network("10.1.9.32/16")
@@ -31,11 +31,11 @@ True
 ``AddressSet`` is a set of addresses, which ``AddressSetBuilder`` makes step by step; ``Table`` and
 ``PrefixTable`` find the longest network that has an address, and the value that belongs to it.
 
-The package calls the library by an extension, ``_native``, if its wheel was built where a C
-compiler and the headers of Python were available, and otherwise by ``ctypes``: calls are slower
-then, and a RuntimeWarning says so. ``CORE`` tells which of the two it is. If the environment
-variable IPNETWORK_LIBRARY names a shared library, that library is used, by ``ctypes`` and without a
-warning.
+Every answer is that of a library. ``__version__`` is its version, and ``__build__`` says how it was
+made. The package calls it by an extension, ``_native``, if its wheel was built where a C compiler
+and the headers of Python were available, and otherwise by ``ctypes``: calls are slower then, and a
+RuntimeWarning says so. ``CORE`` tells which of the two it is. If the environment variable
+IPNETWORK_LIBRARY names a shared library, that library is used, by ``ctypes`` and without a warning.
 """
 
 from __future__ import annotations
@@ -86,6 +86,12 @@ __all__ = [
     "summarize_address_range",
     "unmapped",
 ]
+
+#: The version of the library that is loaded, and how it was made: "proved", or "plain Rust, made of
+#: proved sources".
+__version__: str
+__build__: str
+__version__, _, __build__ = _core.build()[:-1].partition(" (")
 
 #: How the library is called: "native" or "ctypes".
 CORE: str = "ctypes" if _core.__name__.endswith("ctypes") else "native"

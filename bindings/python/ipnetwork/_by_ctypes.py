@@ -50,6 +50,7 @@ __all__ = [
     "V6",
     "aggregate",
     "block_row",
+    "build",
     "index",
     "ip_network",
     "is_empty",
@@ -74,6 +75,13 @@ __all__ = [
     "unmapped",
     "unmapped_rows",
 ]
+
+
+def build() -> str:
+    """The version of the library and how it was made, such as ``0.2.0 (proved)``."""
+    text, length = ctypes.create_string_buffer(64), ctypes.c_size_t()
+    answered(library.ipnetwork_build(text, len(text), ctypes.byref(length)))
+    return text.value.decode()
 
 
 def _asked(given: object) -> Union[bytes, None]:

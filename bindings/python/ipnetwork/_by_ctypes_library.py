@@ -51,7 +51,7 @@ def _load() -> ctypes.CDLL:
     pointer, octets, size, word = ctypes.c_void_p, ctypes.c_char_p, ctypes.c_size_t, ctypes.c_uint32
     for name in ("abi_version", "abi_minor_version"):
         _declare(library, name, [])
-    if library.ipnetwork_abi_version() != 3:
+    if library.ipnetwork_abi_version() != 3 or library.ipnetwork_abi_minor_version() < 1:
         raise ImportError(
             f"{path} is of another version than this module: build it again, as "
             "bindings/README.md says"
@@ -63,6 +63,7 @@ def _load() -> ctypes.CDLL:
     searched = [octets, size, octets, size, octets, size, pointer, size, pointer, size]
     numbered = [pointer, size, pointer, size, pointer]
     for name, arguments in (
+        ("build", [octets, size, pointer]),
         ("read_with_cause", [octets, size, pointer]),
         ("address_read", [octets, size, pointer]),
         ("address_read_column", read),

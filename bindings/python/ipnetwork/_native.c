@@ -105,6 +105,15 @@ static PyObject *prefix_of_mask(PyObject *module, PyObject *packed) {
     return PyLong_FromLong(prefix);
 }
 
+/* build() */
+static PyObject *build(PyObject *module, PyObject *nothing) {
+    char text[IPNETWORK_BUILD_TEXT];
+    size_t length;
+    (void)module, (void)nothing;
+    if (!answered(ipnetwork_build(text, sizeof text, &length))) return NULL;
+    return PyUnicode_FromStringAndSize(text, (Py_ssize_t)length);
+}
+
 /* register(IPv4Network, IPv6Network) */
 static PyObject *register_classes(PyObject *module, PyObject *arguments) {
     State *state = PyModule_GetState(module);
@@ -131,6 +140,8 @@ static PyMethodDef calls[] = {
                "4 or 16 packed bytes. FormatError if the text has two or more slashes; else\n"
                "AddressError if the part before the slash is an address of neither family; else\n"
                "PrefixError.")},
+    {"build", build, METH_NOARGS,
+     TEXT("build($module, /)", "The version of the library and how it was made, such as ``0.2.0 (proved)``.")},
     {"read_address", read_address, METH_O,
      OF_MODULE("read_address", "text",
                "The address of either family that a text names, as an IPv4Address or an IPv6Address of\n"
@@ -304,7 +315,8 @@ static int import_into(State *state) {
 /* Fills an empty module. */
 static int execute(PyObject *module) {
     State *state = PyModule_GetState(module);
-    if (ipnetwork_abi_version() != IPNETWORK_ABI_VERSION) {
+    if (ipnetwork_abi_version() != IPNETWORK_ABI_VERSION
+        || ipnetwork_abi_minor_version() < IPNETWORK_ABI_MINOR_VERSION) {
         PyErr_SetString(PyExc_ImportError, "the library is of another version than this module");
         return -1;
     }
