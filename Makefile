@@ -8,7 +8,7 @@
 #   make proved                           proves and builds cidr, and shows the example by it
 #   make                                  proves and builds the five programs and the library for C
 #   make test-proved                      the same, and then every test by its script
-#   make try                              the answers of the example from a program that is not proved, and not kept
+#   make try                              shows the example by a program that is not proved, and not kept
 #   make sqlite                           builds the extension of SQLite over the library for C that is built
 #   make wasm                             proves the library for C for WebAssembly, and builds its modules
 #   make js                               builds the package for JavaScript, of the module that make wasm makes
@@ -116,12 +116,13 @@ proved:
 
 # What cidr_merge needs of serde may be lacking: the others are then built.
 plain:
-	$(call tools,cargo cc)
+	$(call tools,cc)
 	scripts/build_plain || [ $$? = 3 ]
 	$(MAKE) PLAIN=1 shared
 
 test:
-	$(call tools,cargo python3 cc nm)
+	$(call tools,python3 cc nm)
+	@scripts/least_rust cidr_merge ipnetwork ipnetwork_c
 	tests/all
 
 test-proved:
@@ -130,7 +131,7 @@ test-proved:
 
 try:
 	$(call tools,rt)
-	cd crates/cidr && rt try < ../../examples/cidr/questions.txt
+	cd crates/cidr && ../../scripts/example rt try
 
 library:
 	$(call tools,rt python3 cc)
