@@ -1,16 +1,16 @@
 # What people type. What is proved needs rt, the command of the Rattle kit, and python3; what is plain Rust needs cargo; the
 # library for C and the tests need cc and python3 too.
 #
-#   make example                          answers examples/cidr/questions.txt, by cidr as plain Rust, or where there is no
-#                                         cargo, by the proved one
+#   make example                          shows examples/cidr/questions.txt with the answers of cidr as plain Rust or, if
+#                                         there is no cargo, of the proved one
 #   make plain                            builds the five programs and the library for C as plain Rust, in rust/target
 #   make test                             the same, and every test by its script, as tests/verdict says
 #   make check                            the same, and a part of the tests, for a first verdict
-#   make proved                           proves and builds cidr, and answers the example by it
+#   make proved                           proves and builds cidr, and shows the example by it
 #   make                                  proves and builds the five programs and the library for C
 #   make test-proved                      the same, and then every test of what is proved
-#   make try                              the answers of the example from a program that is not proved, and not kept
-#   make sqlite                           builds the extension of SQLite, of the library for C that is built
+#   make try                              shows the example by a program that is not proved, and not kept
+#   make sqlite                           builds the extension of SQLite over the library for C that is built
 #   make wasm                             proves the library for C for WebAssembly, and builds its modules
 #   make js                               builds the package for JavaScript, of the module that make wasm makes
 #   make go                               writes the package for Go as a module, which can be vendored, with the libraries for
@@ -23,7 +23,7 @@
 #   make install PREFIX=/usr DESTDIR=/tmp/package
 #                                         installs what is built: the programs, their manual pages and completions, the
 #                                         library for C with its header, and the extension of SQLite; with STATIC=1 the
-#                                         programs of make static, with PLAIN=1 what make plain builds
+#                                         programs of make static
 #   make uninstall PREFIX=/usr DESTDIR=/tmp/package
 #   make deb                              Debian packages of what is built, in bindings/out/deb
 #   make dist                             what is handed out, of what stands proved, in the folder dist: archives and packages for
@@ -32,7 +32,10 @@
 #   make tools                            installs the packages of Debian that tests need (tests/debian-packages.txt)
 #   make check-install                    installs into a new folder, compiles the example of C there and removes it again
 #
-# PREFIX is where the files are looked for when they are used, DESTDIR what stands before it while they are copied.
+# PREFIX is where the files are looked for when they are used, DESTDIR what comes before it while they are copied.
+#
+# make install, deb, shared and sqlite take the proved programs, unless fewer of them are built than plain ones, and the
+# proved library for C, unless only the plain one is built; PLAIN=1 takes what is plain Rust, PLAIN= what is proved.
 
 PREFIX = /usr/local
 LIBDIR = $(PREFIX)/lib
@@ -44,6 +47,8 @@ BASHDIR = $(PREFIX)/share/bash-completion/completions
 ZSHDIR = $(PREFIX)/share/zsh/site-functions
 FISHDIR = $(PREFIX)/share/fish/vendor_completions.d
 SCRIPTDIR = $(PREFIX)/share/fosibegan
+# Not every shell replaces the ~ of PREFIX=~/.local.
+override PREFIX := $(PREFIX:~/%=$(HOME)/%)
 DESTDIR =
 INSTALL = install
 
@@ -53,7 +58,9 @@ MINOR := $(shell sed -n 's/^.define IPNETWORK_ABI_MINOR_VERSION //p' bindings/c/
 VERSION = $(MAJOR).$(MINOR)
 OUT = bindings/out
 PLAIN_OUT = rust/target/release
-ARCHIVE = $(if $(PLAIN),$(PLAIN_OUT),crates/ipnetwork_c/out)/libipnetwork_c.a
+PROVED_ARCHIVE = crates/ipnetwork_c/out/libipnetwork_c.a
+PLAIN_ARCHIVE = $(PLAIN_OUT)/libipnetwork_c.a
+ARCHIVE = $(if $(PLAIN_LIBRARY),$(PLAIN_ARCHIVE),$(PROVED_ARCHIVE))
 SHARED = $(OUT)/libipnetwork_c.so.$(VERSION)
 SONAME = libipnetwork_c.so.$(MAJOR)
 EXTENSION = $(OUT)/cidr.so
@@ -63,11 +70,28 @@ SCRIPTS = cidr/in_parts.sh cidr/find_in_parts.sh cidr_merge/in_parts.sh cidr_fil
 SHARED_SCRIPTS = program.sh log_in_parts.sh
 # The folder of the kit, if the first rt of the PATH is that of a kit.
 KIT ?= $(shell command -v rt > /dev/null && dirname "$$(dirname "$$(readlink -f "$$(command -v rt)")")")
-# The file of a program that is installed.
-built = $(if $(PLAIN),$(PLAIN_OUT),$(if $(STATIC),$(OUT)/static,crates/$(1)/out))/$(1)
+# Not empty if the plain programs are taken, and the plain library for C.
+ifeq ($(origin PLAIN)$(STATIC)$(ARM64),undefined)
+PROVED_PROGRAMS := $(wildcard $(foreach program,$(PROGRAMS),crates/$(program)/out/$(program)))
+PLAIN_PROGRAMS := $(word $(words one_more $(PROVED_PROGRAMS)),$(wildcard $(addprefix $(PLAIN_OUT)/,$(PROGRAMS))))
+PLAIN_LIBRARY := $(if $(wildcard $(PROVED_ARCHIVE)),,$(wildcard $(PLAIN_ARCHIVE)))
+else
+PLAIN_PROGRAMS = $(PLAIN)
+PLAIN_LIBRARY = $(PLAIN)
+endif
+kind = $(if $(1),plain Rust (not proved),proved)
+# The file of a program that is installed, and the programs that have one.
+built = $(if $(PLAIN_PROGRAMS),$(PLAIN_OUT),$(if $(STATIC),$(OUT)/static,crates/$(1)/out))/$(1)
+programs_there = $(strip $(foreach program,$(PROGRAMS),$(if $(wildcard $(call built,$(program))),$(program))))
 
 .PHONY: all example proved plain test check test-proved try library shared sqlite wasm js calculator static install install-scripts install-library uninstall deb \
     check-install
+
+# Says which library for C is taken for a file, and notes it in FILE.kind, which make install reads.
+over_library = @[ -f $(ARCHIVE) ] || { echo "make $@ needs $(ARCHIVE)," \
+    "which make $(if $(PLAIN_LIBRARY),plain,library (or, for plain Rust, make plain)) builds" >&2; exit 1; }; \
+    mkdir -p $(dir $(1)) && rm -f $(1) && echo "$(call kind,$(PLAIN_LIBRARY))" > $(1).kind && \
+    echo "make $@: over $(ARCHIVE), which is $(call kind,$(PLAIN_LIBRARY))" >&2
 
 # Says by name what is not here, before anything is proved.
 tools = @missing=; for tool in $(1); do command -v $$tool > /dev/null || missing="$$missing $$tool"; done; \
@@ -76,30 +100,29 @@ tools = @missing=; for tool in $(1); do command -v $$tool > /dev/null || missing
 all:
 	$(call tools,rt python3 cc)
 	scripts/prove $(PROGRAMS) ipnetwork_c
-	$(MAKE) shared
+	$(MAKE) PLAIN= shared
 
 example:
-	@if command -v cargo > /dev/null; then \
-	    scripts/build_plain cidr && $(PLAIN_OUT)/cidr < examples/cidr/questions.txt && \
+	@if command -v cargo > /dev/null || ! command -v rt > /dev/null; then \
+	    scripts/build_plain cidr && scripts/example $(PLAIN_OUT)/cidr && \
 	    echo "This is plain Rust, made of the proved sources; make proved proves the program, by rt." >&2; \
-	elif command -v rt > /dev/null; then \
-	    $(MAKE) proved; \
 	else \
-	    echo "make example needs cargo, or rt (README, Install)" >&2; exit 1; \
+	    $(MAKE) proved; \
 	fi
 
 proved:
 	$(call tools,rt python3)
 	scripts/prove cidr
-	crates/cidr/out/cidr < examples/cidr/questions.txt
+	scripts/example crates/cidr/out/cidr
 
 plain:
-	$(call tools,cargo cc)
+	$(call tools,cc)
 	scripts/build_plain
 	$(MAKE) PLAIN=1 shared
 
 test:
 	$(call tools,python3)
+	@scripts/least_rust cidr_merge ipnetwork ipnetwork_c
 	@tests/verdict plain
 
 check:
@@ -111,21 +134,21 @@ test-proved: all
 
 try:
 	$(call tools,rt)
-	cd crates/cidr && rt try < ../../examples/cidr/questions.txt
+	cd crates/cidr && ../../scripts/example rt try
 
 library:
 	$(call tools,rt python3 cc)
 	scripts/prove ipnetwork_c
-	$(MAKE) shared
+	$(MAKE) PLAIN= shared
 
 # The shared library, of the static one that is there.
 shared:
-	mkdir -p $(OUT)
+	$(call over_library,$(SHARED))
 	cc -shared -Wl,-soname,$(SONAME) -Wl,--whole-archive $(ARCHIVE) -Wl,--no-whole-archive -o $(SHARED)
 
 # The extension of SQLite, of the static library that is there. It needs sqlite3ext.h (Debian: libsqlite3-dev).
 sqlite:
-	mkdir -p $(OUT)
+	$(call over_library,$(EXTENSION))
 	cc -std=c11 -O2 -Wall -Wextra -fPIC -fvisibility=hidden -shared -I bindings/c bindings/sqlite/cidr.c $(ARCHIVE) \
 	    -Wl,--exclude-libs,ALL -o $(EXTENSION)
 
@@ -172,11 +195,24 @@ static:
 	    fi; \
 	done; [ "$$made" ]
 
-# Copies what is built, and builds nothing.
+# Copies what is built, and builds nothing. What could stop it is looked at before the first file is copied.
 install:
-	@built=; for program in $(PROGRAMS); do \
+	@[ -n "$(programs_there)$(wildcard $(ARCHIVE) $(EXTENSION))" ] || { \
+	    echo "make install: nothing is built: run make plain first, or make, which proves and needs rt" >&2; exit 1; }
+	@for made in shared:$(SHARED) sqlite:$(EXTENSION); do \
+	    file=$${made#*:}; [ ! -f $$file ] || [ ! -f $$file.kind ] || \
+	    [ "$$(cat $$file.kind)" = "$(call kind,$(PLAIN_LIBRARY))" ] || { \
+	        echo "make install: $$file is of another build than $(ARCHIVE): run make $${made%%:*}, or remove it" >&2; \
+        exit 1; }; \
+	done
+	@scripts/writable "$(DESTDIR)$(BINDIR)" "$(DESTDIR)$(MANDIR)/man1" "$(DESTDIR)$(BASHDIR)" "$(DESTDIR)$(ZSHDIR)" \
+	    "$(DESTDIR)$(FISHDIR)" "$(DESTDIR)$(SCRIPTDIR)" "$(DESTDIR)$(SQLITEDIR)" "$(DESTDIR)$(INCLUDEDIR)" \
+	    "$(DESTDIR)$(LIBDIR)/pkgconfig" || { \
+	    echo "make install: run sudo make install, or make install PREFIX=~/.local, or name another PREFIX" >&2; exit 1; }
+	@echo "make install:$(if $(programs_there), programs: $(call kind,$(PLAIN_PROGRAMS));)$(if \
+	    $(wildcard $(ARCHIVE)), library for C: $(call kind,$(PLAIN_LIBRARY)))" >&2
+	@for program in $(PROGRAMS); do \
 	    if [ -f $(call built,$$program) ]; then \
-	        built=yes; \
 	        $(INSTALL) -d "$(DESTDIR)$(BINDIR)" "$(DESTDIR)$(MANDIR)/man1" && \
 	        $(INSTALL) -m 755 $(call built,$$program) "$(DESTDIR)$(BINDIR)/$$program" && \
 	        $(INSTALL) -m 644 docs/man/$$program.1 "$(DESTDIR)$(MANDIR)/man1/$$program.1" || exit 1; \
@@ -189,20 +225,19 @@ install:
 	    else \
 	        echo "make install: without $$program, which is not $(if $(STATIC),linked by make static,built)" >&2; \
 	    fi; \
-	done; \
-	if [ -n "$$built" ]; then $(MAKE) -s install-scripts || exit 1; fi; \
-	if [ -f $(EXTENSION) ]; then \
-	    built=yes; \
+	done
+	@$(if $(programs_there),$(MAKE) -s install-scripts)
+	@if [ -f $(EXTENSION) ]; then \
 	    $(INSTALL) -d "$(DESTDIR)$(SQLITEDIR)" && \
 	    $(INSTALL) -m 755 $(EXTENSION) "$(DESTDIR)$(SQLITEDIR)/cidr.so" || exit 1; \
-	fi; \
-	if [ -f $(ARCHIVE) ] && [ -f $(SHARED) ]; then \
+	fi
+	@if [ -f $(ARCHIVE) ] && [ -f $(SHARED) ]; then \
 	    $(MAKE) -s install-library; \
-	elif [ -z "$$built" ]; then \
-	    echo "make install: nothing is built: run make first" >&2; exit 1; \
 	else \
 	    echo "make install: without the library for C, which is not built" >&2; \
 	fi
+	@$(if $(DESTDIR),,case ":$$PATH:" in (*":$(BINDIR):"*) ;; \
+	    (*) echo "make install: the programs are now in $(BINDIR), which is not on your PATH" >&2 ;; esac)
 
 install-scripts:
 	@for script in $(SCRIPTS) $(SHARED_SCRIPTS); do \
@@ -237,7 +272,10 @@ uninstall:
 .PHONY: deb
 deb:
 	$(call tools,python3 $(if $(ARM64),aarch64-linux-gnu-gcc,cc objdump) dpkg-deb)
-	scripts/deb $(if $(ARM64),$(OUT)/deb/arm64 arm64,$(OUT)/deb)
+	@$(if $(and $(programs_there),$(wildcard $(ARCHIVE))),[ "$(if $(PLAIN_PROGRAMS),1)" = "$(if $(PLAIN_LIBRARY),1)" ],true) || { \
+	    echo "make deb: programs and library for C are not of one build: PLAIN=1 packs plain Rust, PLAIN= what is proved" >&2; \
+	    exit 1; }
+	scripts/deb $(if $(ARM64),$(OUT)/deb/arm64 arm64,$(OUT)/deb $(if $(PLAIN_PROGRAMS)$(PLAIN_LIBRARY),--plain))
 
 # With LOGS=FOLDER, that of .ci/full --resume, the logs are released too, and PROVED.txt has their verdicts.
 .PHONY: dist dist-plain tools

@@ -72,7 +72,7 @@ class Machine:
         library = TOP / "crates/ipnetwork_c/out/libipnetwork_c.a" if own else OUT / "aarch64/libipnetwork_c.a"
         of_this_commit("ipnetwork_c", library, makes)
         if own:
-            run(["make", "-s", "shared"])
+            run(["make", "-s", "shared", "PLAIN="])
         shared = OUT / SHARED if own else OUT / "aarch64" / SHARED
         of_this_commit("ipnetwork_c", shared, makes)
         folder.mkdir()
@@ -118,7 +118,7 @@ class Machine:
             elif self.kind == PLAIN:
                 run(["make", "-s", "sqlite", "PLAIN=1", f"PLAIN_OUT={self.folder}", f"OUT={self.folder}"])
             else:
-                run(["make", "-s", "sqlite"])
+                run(["make", "-s", "sqlite", "PLAIN="])
                 shutil.copy(OUT / "cidr.so", self.folder)
         except Lacks as why:
             told(f"the extension of SQLite for {self.name}", why)

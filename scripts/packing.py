@@ -34,8 +34,13 @@ def module(path):
 
 
 def moment():
-    """The time that the files of an archive have: SOURCE_DATE_EPOCH, or else that of the commit."""
-    return int(os.environ.get("SOURCE_DATE_EPOCH") or run(["git", "log", "-1", "--format=%ct"]))
+    """The time that the files of an archive have: SOURCE_DATE_EPOCH, or that of the commit. Without .git it is that of the
+    file VERSION, which is the same in an archive of the commit."""
+    if os.environ.get("SOURCE_DATE_EPOCH"):
+        return int(os.environ["SOURCE_DATE_EPOCH"])
+    if not (TOP / ".git").exists():
+        return int((TOP / "VERSION").stat().st_mtime)
+    return int(run(["git", "log", "-1", "--format=%ct"]))
 
 
 def compressed(data):
