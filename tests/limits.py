@@ -13,6 +13,7 @@ import subprocess
 import sys
 import threading
 import time
+import weakref
 
 # The seconds that a program takes to start on a machine that is not busy, and that it may run there.
 START, LIMIT = 0.005, 300
@@ -21,8 +22,31 @@ MOST_ENDED = 3
 # The bytes that a program may write to a file of a test that it would read from and write to for ever.
 FILE = 1 << 20
 
+# A file that a test opens would take the place of a standard stream that is closed, and programs would get it.
+for number in range(3):
+    try:
+        os.fstat(number)
+    except OSError:
+        os.set_inheritable(os.open(os.devnull, os.O_RDWR), True)
+
 started_to_measure = ["sh", "-c", ":"]
 ended_at_limit = []
+programs = weakref.WeakSet()
+is_starting, signals = False, []
+
+
+def exit_by(number, _=None):
+    """Ends the test by a signal, and its programs first, since they are in groups of their own."""
+    signals.append(number)
+    if not is_starting:
+        for process in list(programs):
+            kill(process)
+        sys.exit(128 + number)
+
+
+for name in (signal.SIGTERM, signal.SIGHUP):
+    if signal.getsignal(name) == signal.SIG_DFL and threading.current_thread() is threading.main_thread():
+        signal.signal(name, exit_by)
 
 
 def measure_by(program):
@@ -65,7 +89,16 @@ def end(process):
 
 def start(words, **how):
     """Starts a program as `subprocess.Popen` does, in a group of its own."""
-    return subprocess.Popen(words, start_new_session=True, **how)
+    global is_starting
+    is_starting = True
+    try:
+        process = subprocess.Popen(words, start_new_session=True, **how)
+        programs.add(process)
+    finally:
+        is_starting = False
+        if signals:
+            exit_by(signals[0])
+    return process
 
 
 @contextlib.contextmanager

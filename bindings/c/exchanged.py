@@ -14,11 +14,11 @@ import itertools
 import os
 import pathlib
 import re
+import resource
 import shutil
 import subprocess
 import sys
 import tempfile
-import time
 
 HERE = pathlib.Path(__file__).resolve().parent
 HEADER = HERE / "ipnetwork.h"
@@ -87,9 +87,10 @@ def header(text):
     return "\n".join(lines) + "\n", told
 
 
-def fails(program, number, seconds=0):
-    """Whether the test fails: it says so, or ends otherwise than well, or not within so many seconds, if there are any."""
-    with subprocess.Popen(["timeout", str(seconds), program], env={**os.environ, "EXCHANGED": str(number)},
+def fails(program, number, seconds="unlimited"):
+    """Whether the test fails: it says so, or ends otherwise than well, or not within so many seconds of processor time."""
+    limited = ["sh", "-c", f'ulimit -t {seconds} && exec "$0"', program]
+    with subprocess.Popen(limited, env={**os.environ, "EXCHANGED": str(number)},
                           stdout=subprocess.DEVNULL, stderr=subprocess.PIPE) as run:
         if run.stderr.read(1):
             run.terminate()
@@ -106,11 +107,11 @@ def main():
         for file in ["test.c", "rows.h"]:
             shutil.copy(HERE / file, room)
         subprocess.run([*compiler, "-w", room / "test.c", library, "-o", room / "test"], check=True)
-        began = time.monotonic()
+        before = resource.getrusage(resource.RUSAGE_CHILDREN).ru_utime
         if fails(room / "test", -1):
             sys.exit("exchanged.py: the test fails with nothing exchanged")
-        # An exchange may have no end. The machine may be slow, and busy with several of them.
-        most = 100 + 60 * (time.monotonic() - began)
+        # With an exchange it may have no end.
+        most = 10 + round(20 * (resource.getrusage(resource.RUSAGE_CHILDREN).ru_utime - before))
         with concurrent.futures.ThreadPoolExecutor(os.cpu_count()) as pool:
             seen = list(pool.map(lambda number: fails(room / "test", number, most), range(len(told))))
     wrong = 0
