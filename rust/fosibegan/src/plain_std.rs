@@ -25,6 +25,9 @@ pub mod io;
 pub mod os;
 #[cfg(feature = "std")]
 pub mod rt;
+#[cfg(all(unix, feature = "std"))]
+#[allow(unsafe_code)]
+mod streams;
 #[cfg(feature = "std")]
 pub mod time;
 

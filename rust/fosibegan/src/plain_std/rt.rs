@@ -1,9 +1,13 @@
 //! What a program may use of the system: its standard streams, its words, memory.
 use crate::plain_std::alloc::Global;
 use crate::plain_std::env::{FillError, text};
+#[cfg(unix)]
+use crate::plain_std::streams::Stream;
 use crate::plain_std::string::String;
 use core::fmt::Arguments;
-use std::io::{self, IsTerminal as _, Read, Write};
+#[cfg(not(unix))]
+use std::io::IsTerminal as _;
+use std::io::{self, BufRead as _, Read, Write};
 use std::vec::Vec;
 
 pub use crate::plain_std::env::Env;
@@ -88,70 +92,42 @@ impl HostRuntime {
 
     /// The lines of standard input, without their ends.
     pub fn lines(&self, _: Global) -> impl Iterator<Item = io::Result<String>> {
-        io::stdin().lines().map(|line| Ok(String::from_str(Global, &line?)?))
+        io::BufReader::new(self.stdin()).lines().map(|line| Ok(String::from_str(Global, &line?)?))
     }
 
     /// Prints a line to standard error.
     pub fn eprintln(&self, text: &str) -> io::Result<()> {
-        writeln!(io::stderr(), "{text}")
+        writeln!(self.stderr(), "{text}")
     }
 }
 
 /// Prints to standard output.
 pub fn print(_: &HostRuntime, text: Arguments<'_>) -> io::Result<()> {
-    io::stdout().write_fmt(text)
+    Stdout::new().write_fmt(text)
 }
 
 /// Prints a line to standard output.
 pub fn print_line(_: &HostRuntime, text: Arguments<'_>) -> io::Result<()> {
-    writeln!(io::stdout(), "{text}")
-}
-
-/// A copy of the descriptor of a stream, as a file: a read or a write of it is one of the system, and says what that says.
-/// Rust's own streams would keep what is written, and take a closed one for an empty one.
-#[cfg(unix)]
-fn descriptor(stream: impl std::os::fd::AsFd) -> io::Result<std::fs::File> {
-    Ok(std::fs::File::from(stream.as_fd().try_clone_to_owned()?))
+    writeln!(Stdout::new(), "{text}")
 }
 
 macro_rules! streams {
-    ($($(#[$doc:meta])* $name:ident $call:ident)*) => {$(
+    ($($(#[$doc:meta])* $name:ident $descriptor:literal $call:ident)*) => {$(
         $(#[$doc])*
-        #[cfg(unix)]
         #[derive(Debug)]
-        pub struct $name(io::Result<std::fs::File>);
+        pub struct $name(#[cfg(unix)] Stream, #[cfg(not(unix))] io::$name);
 
-        #[cfg(unix)]
         impl $name {
             fn new() -> Self {
-                $name(descriptor(io::$call()))
+                #[cfg(unix)]
+                return $name(Stream::of($descriptor));
+                #[cfg(not(unix))]
+                return $name(io::$call());
             }
 
-            fn device(&mut self) -> io::Result<&mut std::fs::File> {
-                self.0.as_mut().map_err(|error| error.kind().into())
-            }
-        }
-
-        $(#[$doc])*
-        #[cfg(not(unix))]
-        #[derive(Debug)]
-        pub struct $name(io::$name);
-
-        #[cfg(not(unix))]
-        impl $name {
-            fn new() -> Self {
-                $name(io::$call())
-            }
-
-            fn device(&mut self) -> io::Result<&mut io::$name> {
-                Ok(&mut self.0)
-            }
-        }
-
-        impl $name {
             /// Whether the stream is a terminal.
             pub fn is_terminal(&self) -> bool {
-                io::$call().is_terminal()
+                self.0.is_terminal()
             }
         }
     )*};
@@ -159,35 +135,35 @@ macro_rules! streams {
 
 streams!(
     /// Standard input.
-    Stdin stdin
+    Stdin 0 stdin
     /// Standard output.
-    Stdout stdout
+    Stdout 1 stdout
     /// Standard error.
-    Stderr stderr
+    Stderr 2 stderr
 );
 
 impl Read for Stdin {
     fn read(&mut self, room: &mut [u8]) -> io::Result<usize> {
-        self.device()?.read(room)
+        self.0.read(room)
     }
 }
 
 impl Write for Stdout {
     fn write(&mut self, bytes: &[u8]) -> io::Result<usize> {
-        self.device()?.write(bytes)
+        self.0.write(bytes)
     }
 
     fn flush(&mut self) -> io::Result<()> {
-        self.device()?.flush()
+        self.0.flush()
     }
 }
 
 impl Write for Stderr {
     fn write(&mut self, bytes: &[u8]) -> io::Result<usize> {
-        self.device()?.write(bytes)
+        self.0.write(bytes)
     }
 
     fn flush(&mut self) -> io::Result<()> {
-        self.device()?.flush()
+        self.0.flush()
     }
 }
