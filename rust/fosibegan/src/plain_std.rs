@@ -30,6 +30,9 @@ pub mod rt;
 mod streams;
 #[cfg(feature = "std")]
 pub mod time;
+#[cfg(feature = "std")]
+#[allow(unsafe_code)]
+mod words;
 
 #[doc(hidden)]
 pub use crate::{

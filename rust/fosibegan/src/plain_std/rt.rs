@@ -1,16 +1,19 @@
 //! What a program may use of the system: its standard streams, its words, memory.
-use crate::plain_std::alloc::Global;
-use crate::plain_std::env::{FillError, text};
+use crate::plain_std::alloc::{Global, has_memory};
+use crate::plain_std::env::FillError;
 #[cfg(unix)]
 use crate::plain_std::streams::Stream;
 use crate::plain_std::string::String;
+use crate::plain_std::words;
 use core::fmt::Arguments;
 #[cfg(not(unix))]
 use std::io::IsTerminal as _;
 use std::io::{self, BufRead as _, Read, Write};
-use std::vec::Vec;
 
 pub use crate::plain_std::env::Env;
+
+/// The most bytes that an environment variable has on Linux, with its name.
+const VALUE_MAX: usize = 131_072;
 
 /// Stands for what the sources' own runtime gives leave to.
 #[derive(Debug)]
@@ -43,24 +46,22 @@ impl<R> Alloc for (R, Global) {
 
 impl Env for HostRuntime {
     fn arg(&self, i: usize, buf: &mut [u8]) -> Result<usize, FillError> {
-        let word = std::env::args_os().nth(i).ok_or(FillError::NotPresent)?;
-        let bytes = word.as_encoded_bytes();
-        let room = buf.get_mut(..bytes.len()).ok_or(FillError::TooLong)?;
-        room.copy_from_slice(bytes);
-        Ok(bytes.len())
+        filled(buf, words::word(i).ok_or(FillError::NotPresent)?)
     }
 
     fn var(&self, name: &str, buf: &mut [u8]) -> Result<usize, FillError> {
-        let value = std::env::var_os(name).ok_or(FillError::NotPresent)?;
-        let bytes = value.as_encoded_bytes();
-        let room = buf.get_mut(..bytes.len()).ok_or(FillError::TooLong)?;
-        room.copy_from_slice(bytes);
-        Ok(bytes.len())
+        // Rust's std copies a value, and ends the program if there is no memory for it.
+        if !has_memory::<u8>(VALUE_MAX) {
+            return Err(FillError::TooLong);
+        }
+        filled(buf, std::env::var_os(name).ok_or(FillError::NotPresent)?.as_encoded_bytes())
     }
+}
 
-    fn words(&self) -> io::Result<Vec<String>> {
-        std::env::args_os().map(|word| text(word.as_encoded_bytes())).collect()
-    }
+/// Copies a value to the front of a buffer, and returns its length.
+fn filled(buf: &mut [u8], value: &[u8]) -> Result<usize, FillError> {
+    buf.get_mut(..value.len()).ok_or(FillError::TooLong)?.copy_from_slice(value);
+    Ok(value.len())
 }
 
 #[allow(clippy::new_without_default)]
