@@ -36,6 +36,19 @@ pub mod older {
     }
 
     impl<T> IsTerminal for T {}
+
+    /// Makes its value at each call, and keeps it for ever.
+    pub struct OnceLock<T>(core::marker::PhantomData<fn() -> T>);
+
+    impl<T: 'static> OnceLock<T> {
+        pub const fn new() -> Self {
+            OnceLock(core::marker::PhantomData)
+        }
+
+        pub fn get_or_init(&self, made: impl FnOnce() -> T) -> &'static T {
+            std::boxed::Box::leak(std::boxed::Box::new(made()))
+        }
+    }
 }
 '''
 # In which file, what, and what stands for it there.
@@ -44,10 +57,11 @@ CHANGES = [
     ("*/tests/**/*.rs", r"\bstd::hash::\{DefaultHasher, ", "std::{collections::hash_map::DefaultHasher, hash::{"),
     ("*/tests/**/*.rs", r"(hash_map::DefaultHasher, hash::\{[^}]*\})", r"\1}"),
     ("*/tests/units/of_ipnetwork/debug.rs", r" JsonFault,|.*JsonFault::.*\n", ""),
-    ("fosibegan/src/plain_std/rt.rs", r"\bstd::os::fd\b", "std::os::unix::io"),
-    ("fosibegan/src/plain_std/rt.rs", r", IsTerminal as _", ""),
-    ("fosibegan/src/plain_std/rt.rs", r"io::\$call\(\)\.is_terminal\(\)", "false"),
-    ("fosibegan/src/plain_std/rt.rs", r"(word|value)\.as_encoded_bytes\(\)", r'\1.to_str().unwrap_or("\\0").as_bytes()'),
+    ("fosibegan/src/plain_std/rt.rs", r"#\[cfg\(not\(unix\)\)\]\nuse std::io::IsTerminal as _;\n", ""),
+    ("fosibegan/src/plain_std/rt.rs", r"self\.0\.is_terminal\(\)", "false"),
+    ("fosibegan/src/plain_std/rt.rs", r"\.as_encoded_bytes\(\)", r'.to_str().unwrap_or("\\0").as_bytes()'),
+    ("fosibegan/src/plain_std/words.rs", r"\.as_encoded_bytes\(\)", r'.to_str().unwrap_or("\\0").as_bytes()'),
+    ("fosibegan/src/plain_std/words.rs", r"\bstd::sync::OnceLock\b", "crate::older::OnceLock"),
     ("fosibegan/src/plain_std/io.rs", r"\A", "pub use crate::older::IsTerminal;\n"),
     ("fosibegan/src/plain_std/simd.rs", r"\A((?://!.*\n|\n)*)", r"\1use crate::older::Chunks as _;\n"),
     ("fosibegan/src/lib.rs", r"\Z", MODULE),

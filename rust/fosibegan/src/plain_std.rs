@@ -26,8 +26,14 @@ pub mod io;
 pub mod os;
 #[cfg(feature = "std")]
 pub mod rt;
+#[cfg(all(unix, feature = "std"))]
+#[allow(unsafe_code)]
+mod streams;
 #[cfg(feature = "std")]
 pub mod time;
+#[cfg(feature = "std")]
+#[allow(unsafe_code)]
+mod words;
 
 #[doc(hidden)]
 pub use crate::{

@@ -1,5 +1,5 @@
 //! The words of the command line.
-use crate::plain_std::alloc::Global;
+use crate::plain_std::alloc::{AllocError, Global};
 use crate::plain_std::string::String;
 use std::io;
 use std::vec::{IntoIter, Vec};
@@ -27,40 +27,45 @@ pub trait Env {
     fn var_at(&self, _i: usize, _buf: &mut [u8]) -> Result<usize, FillError> {
         Err(FillError::NotPresent)
     }
-
-    /// All words. One that is not UTF-8 is an error.
-    fn words(&self) -> io::Result<Vec<String>> {
-        let mut words = Vec::new();
-        let mut room = std::vec![0; 64];
-        loop {
-            match self.arg(words.len(), &mut room) {
-                Ok(length) => words.push(text(&room[..length])?),
-                Err(FillError::TooLong) => room.resize(2 * room.len(), 0),
-                Err(FillError::NotPresent) => return Ok(words),
-            }
-        }
-    }
 }
 
 impl<R: Env> Env for (R, Global) {
     fn arg(&self, i: usize, buf: &mut [u8]) -> Result<usize, FillError> {
         self.0.arg(i, buf)
     }
+}
 
-    fn words(&self) -> io::Result<Vec<String>> {
-        self.0.words()
+/// The words of the command line, the program's own name first. One that is not UTF-8 is an error.
+pub fn args<R: Env>(of: &R) -> io::Result<IntoIter<String>> {
+    let (mut words, mut room) = (Vec::new(), Vec::new());
+    grow(&mut room)?;
+    loop {
+        match of.arg(words.len(), &mut room) {
+            Ok(length) => push(&mut words, text(&room[..length])?)?,
+            Err(FillError::TooLong) => grow(&mut room)?,
+            Err(FillError::NotPresent) => return Ok(words.into_iter()),
+        }
     }
 }
 
 /// A copy of these bytes, which have to be UTF-8.
-pub(crate) fn text(bytes: &[u8]) -> io::Result<String> {
+fn text(bytes: &[u8]) -> io::Result<String> {
     match core::str::from_utf8(bytes) {
         Ok(text) => Ok(String::from_str(Global, text)?),
         Err(_) => Err(io::ErrorKind::InvalidData.into()),
     }
 }
 
-/// The words of the command line, the program's own name first. One that is not UTF-8 is an error.
-pub fn args<R: Env>(of: &R) -> io::Result<IntoIter<String>> {
-    Ok(of.words()?.into_iter())
+fn push(words: &mut Vec<String>, word: String) -> Result<(), AllocError> {
+    words.try_reserve(1)?;
+    words.push(word);
+    Ok(())
+}
+
+/// Makes room for twice as many bytes.
+fn grow(room: &mut Vec<u8>) -> Result<(), AllocError> {
+    let more = room.len().max(64);
+    room.try_reserve(more)?;
+    room.resize(room.len() + more, 0);
+    Ok(())
 }

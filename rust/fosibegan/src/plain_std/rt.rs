@@ -1,12 +1,19 @@
 //! What a program may use of the system: its standard streams, its words, memory.
-use crate::plain_std::alloc::Global;
-use crate::plain_std::env::{FillError, text};
+use crate::plain_std::alloc::{Global, has_memory};
+use crate::plain_std::env::FillError;
+#[cfg(unix)]
+use crate::plain_std::streams::Stream;
 use crate::plain_std::string::String;
+use crate::plain_std::words;
 use core::fmt::Arguments;
-use std::io::{self, IsTerminal as _, Read, Write};
-use std::vec::Vec;
+#[cfg(not(unix))]
+use std::io::IsTerminal as _;
+use std::io::{self, BufRead as _, Read, Write};
 
 pub use crate::plain_std::env::Env;
+
+/// The most bytes that an environment variable has on Linux, with its name.
+const VALUE_MAX: usize = 131_072;
 
 /// Stands for what the sources' own runtime gives leave to.
 #[derive(Debug)]
@@ -39,24 +46,22 @@ impl<R> Alloc for (R, Global) {
 
 impl Env for HostRuntime {
     fn arg(&self, i: usize, buf: &mut [u8]) -> Result<usize, FillError> {
-        let word = std::env::args_os().nth(i).ok_or(FillError::NotPresent)?;
-        let bytes = word.as_encoded_bytes();
-        let room = buf.get_mut(..bytes.len()).ok_or(FillError::TooLong)?;
-        room.copy_from_slice(bytes);
-        Ok(bytes.len())
+        filled(buf, words::word(i).ok_or(FillError::NotPresent)?)
     }
 
     fn var(&self, name: &str, buf: &mut [u8]) -> Result<usize, FillError> {
-        let value = std::env::var_os(name).ok_or(FillError::NotPresent)?;
-        let bytes = value.as_encoded_bytes();
-        let room = buf.get_mut(..bytes.len()).ok_or(FillError::TooLong)?;
-        room.copy_from_slice(bytes);
-        Ok(bytes.len())
+        // Rust's std copies a value, and ends the program if there is no memory for it.
+        if !has_memory::<u8>(VALUE_MAX) {
+            return Err(FillError::TooLong);
+        }
+        filled(buf, std::env::var_os(name).ok_or(FillError::NotPresent)?.as_encoded_bytes())
     }
+}
 
-    fn words(&self) -> io::Result<Vec<String>> {
-        std::env::args_os().map(|word| text(word.as_encoded_bytes())).collect()
-    }
+/// Copies a value to the front of a buffer, and returns its length.
+fn filled(buf: &mut [u8], value: &[u8]) -> Result<usize, FillError> {
+    buf.get_mut(..value.len()).ok_or(FillError::TooLong)?.copy_from_slice(value);
+    Ok(value.len())
 }
 
 #[allow(clippy::new_without_default)]
@@ -88,70 +93,42 @@ impl HostRuntime {
 
     /// The lines of standard input, without their ends.
     pub fn lines(&self, _: Global) -> impl Iterator<Item = io::Result<String>> {
-        io::stdin().lines().map(|line| Ok(String::from_str(Global, &line?)?))
+        io::BufReader::new(self.stdin()).lines().map(|line| Ok(String::from_str(Global, &line?)?))
     }
 
     /// Prints a line to standard error.
     pub fn eprintln(&self, text: &str) -> io::Result<()> {
-        writeln!(io::stderr(), "{text}")
+        writeln!(self.stderr(), "{text}")
     }
 }
 
 /// Prints to standard output.
 pub fn print(_: &HostRuntime, text: Arguments<'_>) -> io::Result<()> {
-    io::stdout().write_fmt(text)
+    Stdout::new().write_fmt(text)
 }
 
 /// Prints a line to standard output.
 pub fn print_line(_: &HostRuntime, text: Arguments<'_>) -> io::Result<()> {
-    writeln!(io::stdout(), "{text}")
-}
-
-/// A copy of the descriptor of a stream, as a file: a read or a write of it is one of the system, and says what that says.
-/// Rust's own streams would keep what is written, and take a closed one for an empty one.
-#[cfg(unix)]
-fn descriptor(stream: impl std::os::fd::AsFd) -> io::Result<std::fs::File> {
-    Ok(std::fs::File::from(stream.as_fd().try_clone_to_owned()?))
+    writeln!(Stdout::new(), "{text}")
 }
 
 macro_rules! streams {
-    ($($(#[$doc:meta])* $name:ident $call:ident)*) => {$(
+    ($($(#[$doc:meta])* $name:ident $descriptor:literal $call:ident)*) => {$(
         $(#[$doc])*
-        #[cfg(unix)]
         #[derive(Debug)]
-        pub struct $name(io::Result<std::fs::File>);
+        pub struct $name(#[cfg(unix)] Stream, #[cfg(not(unix))] io::$name);
 
-        #[cfg(unix)]
         impl $name {
             fn new() -> Self {
-                $name(descriptor(io::$call()))
+                #[cfg(unix)]
+                return $name(Stream::of($descriptor));
+                #[cfg(not(unix))]
+                return $name(io::$call());
             }
 
-            fn device(&mut self) -> io::Result<&mut std::fs::File> {
-                self.0.as_mut().map_err(|error| error.kind().into())
-            }
-        }
-
-        $(#[$doc])*
-        #[cfg(not(unix))]
-        #[derive(Debug)]
-        pub struct $name(io::$name);
-
-        #[cfg(not(unix))]
-        impl $name {
-            fn new() -> Self {
-                $name(io::$call())
-            }
-
-            fn device(&mut self) -> io::Result<&mut io::$name> {
-                Ok(&mut self.0)
-            }
-        }
-
-        impl $name {
             /// Whether the stream is a terminal.
             pub fn is_terminal(&self) -> bool {
-                io::$call().is_terminal()
+                self.0.is_terminal()
             }
         }
     )*};
@@ -159,35 +136,35 @@ macro_rules! streams {
 
 streams!(
     /// Standard input.
-    Stdin stdin
+    Stdin 0 stdin
     /// Standard output.
-    Stdout stdout
+    Stdout 1 stdout
     /// Standard error.
-    Stderr stderr
+    Stderr 2 stderr
 );
 
 impl Read for Stdin {
     fn read(&mut self, room: &mut [u8]) -> io::Result<usize> {
-        self.device()?.read(room)
+        self.0.read(room)
     }
 }
 
 impl Write for Stdout {
     fn write(&mut self, bytes: &[u8]) -> io::Result<usize> {
-        self.device()?.write(bytes)
+        self.0.write(bytes)
     }
 
     fn flush(&mut self) -> io::Result<()> {
-        self.device()?.flush()
+        self.0.flush()
     }
 }
 
 impl Write for Stderr {
     fn write(&mut self, bytes: &[u8]) -> io::Result<usize> {
-        self.device()?.write(bytes)
+        self.0.write(bytes)
     }
 
     fn flush(&mut self) -> io::Result<()> {
-        self.device()?.flush()
+        self.0.flush()
     }
 }
