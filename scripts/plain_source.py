@@ -61,8 +61,8 @@ class Layout:
         return first if own == crate else [*first, crate]
 
     def is_without_std(self, package):
-        """Whether a package needs no std: the one with the stand-in."""
-        return package == self.stand_in.split("::")[0]
+        """Whether a package needs no std: the one with the stand-in, and a static library."""
+        return package == self.stand_in.split("::")[0] or package in self.static
 
     def stand_in_from(self, package):
         own, *rest = self.stand_in.split("::")

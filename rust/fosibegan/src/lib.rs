@@ -33,6 +33,20 @@ extern crate alloc as rust_alloc;
 #[cfg(feature = "std")]
 extern crate std;
 
+/// Items that are there only if this library does not link std.
+#[doc(hidden)]
+#[macro_export]
+#[cfg(not(feature = "std"))]
+macro_rules! without_std {
+    ($($item:item)*) => { $($item)* };
+}
+#[doc(hidden)]
+#[macro_export]
+#[cfg(feature = "std")]
+macro_rules! without_std {
+    ($($item:item)*) => {};
+}
+
 #[doc(hidden)]
 pub mod byte_search;
 pub mod ipnetwork;
