@@ -115,15 +115,22 @@ library:
 	scripts/prove ipnetwork_c
 	$(MAKE) shared
 
-# The shared library, of the static one that is there.
+# How a shared library is linked: with no symbols but those that it exports, which are bound as it is loaded, and with
+# nothing that they do not need.
+LINKED = -shared -s -Wl,--gc-sections -Wl,-z,relro -Wl,-z,now -Wl,--no-undefined
+
+# The shared library, of the static one that is there. It exports the functions of the header.
 shared:
 	mkdir -p $(OUT)
-	cc -shared -Wl,-soname,$(SONAME) -Wl,--whole-archive $(ARCHIVE) -Wl,--no-whole-archive -o $(SHARED)
+	bindings/c/names --map > $(SHARED).map
+	cc $(LINKED) -Wl,-soname,$(SONAME) -Wl,--version-script=$(SHARED).map \
+	    -Wl,--whole-archive $(ARCHIVE) -Wl,--no-whole-archive -o $(SHARED)
+	rm $(SHARED).map
 
 # The extension of SQLite, of the static library that is there. It needs sqlite3ext.h (Debian: libsqlite3-dev).
 sqlite:
 	mkdir -p $(OUT)
-	cc -std=c11 -O2 -Wall -Wextra -fPIC -fvisibility=hidden -shared -I bindings/c bindings/sqlite/cidr.c $(ARCHIVE) \
+	cc -std=c11 -O2 -Wall -Wextra -fPIC -fvisibility=hidden $(LINKED) -I bindings/c bindings/sqlite/cidr.c $(ARCHIVE) \
 	    -Wl,--exclude-libs,ALL -o $(EXTENSION)
 
 # The library for C as WebAssembly. It needs wasm-opt and wasm-metadce (Debian: binaryen). What is proved here first is
@@ -212,6 +219,7 @@ install-library:
 	$(INSTALL) -d "$(DESTDIR)$(INCLUDEDIR)" "$(DESTDIR)$(LIBDIR)/pkgconfig"
 	$(INSTALL) -m 644 bindings/c/ipnetwork.h "$(DESTDIR)$(INCLUDEDIR)/ipnetwork.h"
 	$(INSTALL) -m 644 $(ARCHIVE) "$(DESTDIR)$(LIBDIR)/libipnetwork_c.a"
+	$(if $(PLAIN),bindings/c/one_object "$(DESTDIR)$(LIBDIR)/libipnetwork_c.a")
 	$(INSTALL) -m 755 $(SHARED) "$(DESTDIR)$(LIBDIR)/libipnetwork_c.so.$(VERSION)"
 	ln -sf libipnetwork_c.so.$(VERSION) "$(DESTDIR)$(LIBDIR)/$(SONAME)"
 	ln -sf $(SONAME) "$(DESTDIR)$(LIBDIR)/libipnetwork_c.so"

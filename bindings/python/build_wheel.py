@@ -48,6 +48,8 @@ PLAIN = "plain Rust, made of the proved sources, and tested; not proved"
 ARCHIVE = "libipnetwork_c.a"
 SHARED = {"darwin": "libipnetwork_c.dylib", "win32": "ipnetwork_c.dll"}.get(sys.platform, "libipnetwork_c.so")
 NAME, VERSION = "ipnetwork", (TOP / "VERSION").read_text().strip()
+# No symbols but those that are exported, which are bound as the file is loaded, and nothing that they do not need.
+LINKED = ("-shared", "-s", "-Wl,--gc-sections", "-Wl,-z,relro", "-Wl,-z,now")
 LICENSES = ("LICENSE-MIT", "LICENSE-APACHE", "NOTICE")
 METADATA = f"""Metadata-Version: 2.1
 Name: {NAME}
@@ -121,7 +123,12 @@ def link_shared(folder: pathlib.Path) -> pathlib.Path:
     """The shared library in a folder: on Linux linked from the static one, else that of cargo."""
     shared, library = folder / SHARED, _library()
     if LINUX:
-        _cc("-shared", "-Wl,--whole-archive", str(library), "-Wl,--no-whole-archive", "-o", str(shared))
+        names = folder / "names.map"
+        functions = sorted(set(re.findall(r"\bipnetwork_[a-z0-9_]+(?=\()", (HEADERS / "ipnetwork.h").read_text())))
+        names.write_text(f"{{ global: {'; '.join(functions)}; local: *; }};\n")
+        whole = ["-Wl,--whole-archive", str(library), "-Wl,--no-whole-archive"]
+        _cc(*LINKED, f"-Wl,--version-script={names}", "-Wl,--no-undefined", *whole, "-o", str(shared))
+        names.unlink()
     else:
         shutil.copyfile(library, shared)
     return shared
@@ -137,7 +144,8 @@ def compile_native(folder: pathlib.Path) -> pathlib.Path:
     suffix = ".abi3.so" if STABLE else sysconfig.get_config_var("EXT_SUFFIX")
     native = folder / f"_native{suffix}"
     stable = ["-DPy_LIMITED_API=0x030B0000"] if STABLE else []
-    flags = ["-std=c11", "-O2", "-Wall", "-Wextra", "-Werror", "-Wno-cast-function-type", "-fPIC", "-shared", "-fvisibility=hidden"]
+    flags = ["-std=c11", "-O2", "-Wall", "-Wextra", "-Werror", "-Wno-cast-function-type", "-fPIC", "-fvisibility=hidden"]
+    flags += [*LINKED, "-Wl,--exclude-libs,ALL"]
     paths = [f"-I{sysconfig.get_paths()['include']}", f"-I{HEADERS}", str(HERE / "ipnetwork" / "_native.c")]
     _cc(*flags, *stable, *paths, str(_library()), "-o", str(native))
     return native
