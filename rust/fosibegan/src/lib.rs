@@ -26,9 +26,6 @@
 #![allow(unused_imports, unused_labels, unused_variables, dead_code)]
 #![allow(clippy::complexity, clippy::style, clippy::large_enum_variant, clippy::non_canonical_clone_impl)]
 
-#[cfg(not(target_pointer_width = "64"))]
-compile_error!("this library is made of sources that are proved for a `usize` of 64 bits, and of no other width");
-
 extern crate alloc as rust_alloc;
 #[cfg(feature = "std")]
 extern crate std;
