@@ -11,7 +11,8 @@
 #   make try                              the answers of the example from a program that is not proved, and not kept
 #   make sqlite                           builds the extension of SQLite, of the library for C that is built
 #   make wasm                             proves the library for C for WebAssembly, and builds its modules
-#   make js                               builds the package for JavaScript, of the module that make wasm makes
+#   make js                               builds the package for JavaScript, of the module that make wasm makes; with PLAIN=1
+#                                         of plain Rust, which is built for WebAssembly
 #   make go                               writes the package for Go as a module, which can be vendored, with the libraries for
 #                                         Linux that are built, or with the one of cargo; into bindings/out/go
 #   make calculator                       does both, and writes the page web/out/subnets.html over the package
@@ -140,11 +141,12 @@ wasm:
 	scripts/prove ipnetwork_c
 	bindings/wasm/build
 
-# The package for JavaScript, of the library as WebAssembly that is there.
+# The package for JavaScript, of the library as WebAssembly that is there, or with PLAIN=1 of plain Rust.
 js:
-	$(call tools,node)
+	$(call tools,node $(if $(PLAIN),python3 wasm-opt wasm-metadce))
+	$(if $(PLAIN),bindings/wasm/build --plain)
 	rm -rf $(OUT)/js
-	node bindings/js/build.mjs $(OUT)/ipnetwork_js.wasm $(OUT)/js
+	node bindings/js/build.mjs $(OUT)/ipnetwork_js$(if $(PLAIN),_plain).wasm $(OUT)/js
 
 # The package for Go with its libraries, as scripts/go_module says.
 .PHONY: go
