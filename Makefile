@@ -12,7 +12,8 @@
 #   make try                              shows the example by a program that is not proved, and not kept
 #   make sqlite                           builds the extension of SQLite over the library for C that is built
 #   make wasm                             proves the library for C for WebAssembly, and builds its modules
-#   make js                               builds the package for JavaScript, of the module that make wasm makes
+#   make js                               builds the package for JavaScript, of the module that make wasm makes; with PLAIN=1
+#                                         of plain Rust, which is built for WebAssembly
 #   make go                               writes the package for Go as a module, which can be vendored, with the libraries for
 #                                         Linux that are built, or with the one of cargo; into bindings/out/go
 #   make calculator                       does both, and writes the page web/out/subnets.html over the package
@@ -141,15 +142,22 @@ library:
 	scripts/prove ipnetwork_c
 	$(MAKE) PLAIN= shared
 
-# The shared library, of the static one that is there.
+# How a shared library is linked: with no symbols but those that it exports, which are bound as it is loaded, and with
+# nothing that they do not need.
+LINKED = -shared -s -Wl,--gc-sections -Wl,-z,relro -Wl,-z,now -Wl,--no-undefined
+
+# The shared library, of the static one that is there. It exports the functions of the header.
 shared:
 	$(call over_library,$(SHARED))
-	cc -shared -Wl,-soname,$(SONAME) -Wl,--whole-archive $(ARCHIVE) -Wl,--no-whole-archive -o $(SHARED)
+	bindings/c/names --map > $(SHARED).map
+	cc $(LINKED) -Wl,-soname,$(SONAME) -Wl,--version-script=$(SHARED).map \
+	    -Wl,--whole-archive $(ARCHIVE) -Wl,--no-whole-archive -o $(SHARED)
+	rm $(SHARED).map
 
 # The extension of SQLite, of the static library that is there. It needs sqlite3ext.h (Debian: libsqlite3-dev).
 sqlite:
 	$(call over_library,$(EXTENSION))
-	cc -std=c11 -O2 -Wall -Wextra -fPIC -fvisibility=hidden -shared -I bindings/c bindings/sqlite/cidr.c $(ARCHIVE) \
+	cc -std=c11 -O2 -Wall -Wextra -fPIC -fvisibility=hidden $(LINKED) -I bindings/c bindings/sqlite/cidr.c $(ARCHIVE) \
 	    -Wl,--exclude-libs,ALL -o $(EXTENSION)
 
 # The library for C as WebAssembly. It needs wasm-opt and wasm-metadce (Debian: binaryen). What is proved here first is
@@ -159,11 +167,12 @@ wasm:
 	scripts/prove ipnetwork_c
 	bindings/wasm/build
 
-# The package for JavaScript, of the library as WebAssembly that is there.
+# The package for JavaScript, of the library as WebAssembly that is there, or with PLAIN=1 of plain Rust.
 js:
-	$(call tools,node)
+	$(call tools,node $(if $(PLAIN),python3 wasm-opt wasm-metadce))
+	$(if $(PLAIN),bindings/wasm/build --plain)
 	rm -rf $(OUT)/js
-	node bindings/js/build.mjs $(OUT)/ipnetwork_js.wasm $(OUT)/js
+	node bindings/js/build.mjs $(OUT)/ipnetwork_js$(if $(PLAIN),_plain).wasm $(OUT)/js
 
 # The package for Go with its libraries, as scripts/go_module says.
 .PHONY: go
@@ -250,6 +259,7 @@ install-library:
 	$(INSTALL) -d "$(DESTDIR)$(INCLUDEDIR)" "$(DESTDIR)$(LIBDIR)/pkgconfig"
 	$(INSTALL) -m 644 bindings/c/ipnetwork.h "$(DESTDIR)$(INCLUDEDIR)/ipnetwork.h"
 	$(INSTALL) -m 644 $(ARCHIVE) "$(DESTDIR)$(LIBDIR)/libipnetwork_c.a"
+	$(if $(PLAIN),bindings/c/one_object "$(DESTDIR)$(LIBDIR)/libipnetwork_c.a")
 	$(INSTALL) -m 755 $(SHARED) "$(DESTDIR)$(LIBDIR)/libipnetwork_c.so.$(VERSION)"
 	ln -sf libipnetwork_c.so.$(VERSION) "$(DESTDIR)$(LIBDIR)/$(SONAME)"
 	ln -sf $(SONAME) "$(DESTDIR)$(LIBDIR)/libipnetwork_c.so"

@@ -145,12 +145,11 @@ class Machine:
             self.programs.append(program)
         library = folder / "libipnetwork_c.a"
         built = shared / self.target / "release" / library.name
+        run(["bindings/c/one_object", built, self.tools])
         if self.tools:
-            run([self.tool("strip"), "-D", "--strip-debug", built])
             self.arm64().build_library(built.parent)
         else:
             shutil.copy(built, library)
-            run([self.tool("strip"), "-D", "--strip-debug", library])
             run(["make", "-s", "shared", "PLAIN=1", f"PLAIN_OUT={folder}", f"OUT={folder}"])
         self.extension(told)
         for name in [SHARED, "cidr.so"]:

@@ -12,6 +12,8 @@ REAL = {"process"}
 UNSTABLE = re.compile(r"^ *ErrorKind::(?:FilesystemLoop|InProgress|InvalidFilename|Uncategorized),\n", re.M)
 # What a constant says of the build, and what is so of this one.
 BUILD = re.compile(r'^((?:pub\(crate\) )?const \w+: &str = ".*) \(proved\)(?=(?:\\n)?";$)', re.M)
+# Casts that cut a number of 64 bits to the 32 of a smaller usize, which no proof covers: there it is the greatest usize.
+CUT = re.compile(r"\((self\.saturating_sub\(base\) >> shift)\) as usize;|(most_in\(.*\)\.unwrap_or\(1\)) as usize$", re.M)
 # What a source has in scope by itself, and where the stand-in has it.
 IN_SCOPE = {
     r"\bVec\b": "vec::Vec",
@@ -67,8 +69,8 @@ class Layout:
         return first if own == crate else [*first, crate]
 
     def is_without_std(self, package):
-        """Whether a package needs no std: the one with the stand-in."""
-        return package == self.stand_in.split("::")[0]
+        """Whether a package needs no std: the one with the stand-in, and a static library."""
+        return package == self.stand_in.split("::")[0] or package in self.static
 
     def stand_in_from(self, package):
         own, *rest = self.stand_in.split("::")
@@ -88,6 +90,12 @@ class Layout:
                 return ["core" if self.is_without_std(package) else "std", *rest]
             return [*self.stand_in_from(package), *rest]
         return path
+
+
+def uncut(found):
+    """A number as a usize, if that has room for it."""
+    end = ";" if found[1] else ""
+    return f"usize::try_from({found[1] or found[2]}).unwrap_or(usize::MAX){end}"
 
 
 # Paths
@@ -345,6 +353,7 @@ class Source:
         self.modules()
         self.laws()
         self.text = code_sub(r"\bprove!\(", "debug_assert!(", self.text)
+        self.text = CUT.sub(uncut, self.text)
         self.text = BUILD.sub(r"\1 (plain Rust, made of proved sources)", self.text)
         self.paths()
         self.examples()

@@ -4,7 +4,7 @@
  *     node bindings/js/build.mjs MODULE FOLDER [INSTANCE]
  *
  * MODULE is the library for C as WebAssembly, with a memory of 32 bits (bindings/wasm/build makes
- * it), FOLDER what is written. INSTANCE takes the place of src/instance.mjs: the tests have one for
+ * it, proved or of plain Rust, which the page of the package says), FOLDER what is written. INSTANCE takes the place of src/instance.mjs: the tests have one for
  * a memory of 64 bits.
  *
  * The sources import one another by their own names, so that the package is these files one after
@@ -112,12 +112,21 @@ copyFileSync(join(here, 'package.json'), join(folder, 'package.json'));
 const { size: codeLength } = statSync(join(folder, 'index.mjs'));
 const SIZES = { 'a file of': codeLength, 'a module of': bytes.length };
 let page = readFileSync(join(here, 'README.md'), 'utf8');
+/* The module of plain Rust says how many bytes its size_t has. */
+const isPlain = WebAssembly.Module.exports(new WebAssembly.Module(bytes))
+  .some(({ name }) => name === 'size_t_bytes');
+const KIND = 'a library that is proved for\nWebAssembly; what `wasm-opt` makes of it, and the code around it, is tested.';
+if (!page.includes(KIND)) throw new Error('README.md does not say that the library is proved');
+if (isPlain) {
+  page = page.replace(KIND, 'a library of plain Rust, made of\nproved sources. It is tested, with a `size_t` of 32 bits, '
+    + 'and not proved, as is the code around it.');
+}
 for (const [words, size] of Object.entries(SIZES)) {
   const found = new RegExp(`\\b${words} (\\d+) KB`);
   const built = Math.round(size / 1000);
   if (!found.test(page)) throw new Error(`README.md does not say: ${words} .. KB`);
   const [, said] = page.match(found);
-  if (Number(said) !== built && instancePath === undefined) {
+  if (Number(said) !== built && instancePath === undefined && !isPlain) {
     console.log(`README.md says ${words} ${said} KB: it has ${built}`);
   }
   page = page.replace(found, `${words} ${built} KB`);

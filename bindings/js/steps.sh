@@ -8,7 +8,8 @@ if [ "$(node -p 'process.versions.node.split(".")[0]')" -lt 18 ]; then
 fi
 
 rm -rf out/js out/js_wide
-node js/build.mjs out/ipnetwork_js.wasm out/js
+js_module="out/ipnetwork_js${plain:+_plain}.wasm"
+node js/build.mjs "$js_module" out/js
 node --expose-gc --test js/test/*.test.mjs > out/js.log 2>&1 || { cat out/js.log >&2; exit 1; }
 echo "JavaScript: $(sed -n 's/^# pass //p' out/js.log) tests of the package"
 echo "JavaScript: the package has $(cat out/js/* | wc -c) bytes"
@@ -51,7 +52,9 @@ takes_wide() {
 }
 wide=""
 takes_wide || wide=--experimental-wasm-memory64
-if takes_wide $wide; then
+if [ "$plain" ]; then
+    skip "JavaScript: the module with a memory of 64 bits" "proved library"
+elif takes_wide $wide; then
     node js/build.mjs out/ipnetwork64.wasm out/js_wide js/test/wide_instance.mjs
     echo "JavaScript: by the module with a memory of 64 bits, as it was before binaryen lowered it:"
     IPNETWORK_JS=out/js_wide node $wide js/test/against_c.mjs out/js_answers "$js_rows"

@@ -3,10 +3,10 @@
 
 step "WebAssembly"
 module=no
-if [ "$plain" ]; then
-    skip "WebAssembly, JavaScript and the subnet calculator" "proved library"
-elif ! command -v wasm-opt > /dev/null || ! command -v wasm-metadce > /dev/null; then
+if ! command -v wasm-opt > /dev/null || ! command -v wasm-metadce > /dev/null; then
     skip "WebAssembly, JavaScript and the subnet calculator" wasm-opt binaryen
+elif [ "$plain" ]; then
+    . wasm/steps.sh
 else
     wasm/build
     module=yes
@@ -18,7 +18,7 @@ if [ "$module" = yes ] && here JavaScript node; then
 fi
 
 step "the subnet calculator"
-if [ "$module" = yes ] && here "the subnet calculator" node; then
+if [ "$module" = yes ] && [ ! "$plain" ] && here "the subnet calculator" node; then
     ../web/build
     if command -v chromium > /dev/null; then
         node ../web/test.mjs $([ "$measure" = no ] || echo --times)

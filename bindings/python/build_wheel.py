@@ -54,6 +54,8 @@ BUILDS = {
     b"(plain Rust, made of proved sources)": f"The library in this wheel is {PLAIN}.",
 }
 NAME = "ipnetwork"
+# No symbols but those that are exported, which are bound as the file is loaded, and nothing that they do not need.
+LINKED = ("-shared", "-s", "-Wl,--gc-sections", "-Wl,-z,relro", "-Wl,-z,now")
 LICENSES = ("LICENSE-MIT", "LICENSE-APACHE", "NOTICE")
 MODULES = sorted(path.name for path in (HERE / "ipnetwork").glob("*.py")) + ["_native.pyi", "py.typed"]
 THREADED = bool(sysconfig.get_config_var("Py_GIL_DISABLED"))  # a Python with free threads, which has no stable ABI
@@ -153,7 +155,12 @@ def link_shared(folder: pathlib.Path) -> pathlib.Path:
     """The shared library in a folder: on Linux linked from the static one, else that of cargo."""
     shared, library = folder / SHARED, _library()
     if LINUX:
-        _cc("-shared", "-Wl,--whole-archive", str(library), "-Wl,--no-whole-archive", "-o", str(shared))
+        names = folder / "names.map"
+        functions = sorted(set(re.findall(r"\bipnetwork_[a-z0-9_]+(?=\()", (HEADERS / "ipnetwork.h").read_text())))
+        names.write_text(f"{{ global: {'; '.join(functions)}; local: *; }};\n")
+        whole = ["-Wl,--whole-archive", str(library), "-Wl,--no-whole-archive"]
+        _cc(*LINKED, f"-Wl,--version-script={names}", "-Wl,--no-undefined", *whole, "-o", str(shared))
+        names.unlink()
     else:
         shutil.copyfile(library, shared)
     return shared
@@ -169,7 +176,8 @@ def compile_native(folder: pathlib.Path) -> pathlib.Path:
     suffix = ".abi3.so" if STABLE else sysconfig.get_config_var("EXT_SUFFIX")
     native = folder / f"_native{suffix}"
     stable = ["-DPy_LIMITED_API=0x030B0000"] if STABLE else []
-    flags = ["-std=c11", "-O2", "-Wall", "-Wextra", "-Werror", "-Wno-cast-function-type", "-fPIC", "-shared", "-fvisibility=hidden"]
+    flags = ["-std=c11", "-O2", "-Wall", "-Wextra", "-Werror", "-Wno-cast-function-type", "-fPIC", "-fvisibility=hidden"]
+    flags += [*LINKED, "-Wl,--exclude-libs,ALL"]
     paths = [f"-I{sysconfig.get_paths()['include']}", f"-I{HEADERS}", str(HERE / "ipnetwork" / "_native.c")]
     _cc(*flags, *stable, *paths, str(_library()), "-o", str(native))
     return native

@@ -4,11 +4,7 @@
 cc $strict -I c -fsyntax-only sqlite/cidr.c
 make -s -C .. sqlite OUT="bindings/$out"
 # Nothing of it is seen by other libraries of the process but the function by which SQLite loads it.
-seen="$(nm -D --defined-only $out/cidr.so | sed 's/.* //')"
-if [ "$seen" != sqlite3_cidr_init ]; then
-    echo "SQLite: the extension shows more than it should:" $seen >&2
-    exit 1
-fi
+./check_exports $out/cidr.so sqlite3_cidr_init
 # It keeps nothing but the pointer to the functions of SQLite.
 cc $strict -I c -fno-pic -c sqlite/cidr.c -o $out/cidr.o
 kept="$(nm $out/cidr.o | sed -n 's/.* [BbCDdGgSs] //p')"

@@ -41,6 +41,7 @@ least="$(echo "$versions" | head -n 1)"
     "rustc-web, which rust/unpack_rustc unpacks"
 for version in $versions; do
     by "$version" quiet compiler.log cargo check --offline --locked --workspace
+    checks/beside_another "$library.a" "$out" "$rustcs/$version/rustc"
     if [ "$serde" = yes ]; then
         by "$version" all_units
         echo "rustc $version: the packages are built, $passed unit tests passed"
@@ -49,16 +50,39 @@ for version in $versions; do
     fi
 done
 
-step "a usize of 32 bits"
-width=i686-unknown-linux-gnu
-if [ -n "$least" ] && [ -d "$rustcs/$least/root/usr/lib/rustlib/$width" ]; then
-    if by "$least" cargo check --offline --locked -p fosibegan --target "$width" > "$out/width.log" 2>&1; then
-        fail "the library should not be built for a usize of 32 bits"
+# NAME TOOLS QEMU TARGET: where a `usize` has 32 bits, the casts to it, and the library for C. TOOLS is what precedes the
+# names of gcc and ld for the machine, and QEMU the name of its qemu.
+narrow() {
+    local name="$1" tools="$2" qemu="$3" target="$4" variable library="$out/target_$least/$4/release/libipnetwork_c.a" test
+    step "$name"
+    if [ -z "$least" ] || [ ! -d "$rustcs/$least/root/usr/lib/rustlib/$target" ]; then
+        skip "$name" "std of $target in $rustcs" "libstd-rust-web-dev, which rust/unpack_rustc unpacks"
+        return
     fi
-    grep -o 'error: this library is made of.*' "$out/width.log" || { cat "$out/width.log" >&2; fail "rustc should say why"; }
-else
-    skip "a usize of 32 bits" "std of $width in $rustcs" "libstd-rust-web-dev:i386, which rust/unpack_rustc unpacks"
-fi
+    here "$name" "$tools-gcc" "gcc-$tools" || return 0
+    here "$name" "qemu-$qemu-static" qemu-user-static || return 0
+    variable="CARGO_TARGET_$(echo "$target" | tr 'a-z-' 'A-Z_')"
+    export "${variable}_LINKER=$tools-gcc" "${variable}_RUNNER=qemu-$qemu-static -L /usr/$tools"
+    if [ "$serde" = yes ]; then
+        passed=0
+        by "$least" units fosibegan --test widths --target "$target"
+        echo "$name: $passed tests of casts passed"
+    else
+        skip "$name: casts" "serde_json in $registry" librust-serde-json-dev
+    fi
+    # Without an optimisation at the link the library would have parts of core that unwind.
+    CARGO_PROFILE_RELEASE_LTO=fat CARGO_PROFILE_RELEASE_CODEGEN_UNITS=1 by "$least" quiet narrow.log \
+        cargo build --offline --locked --release --target "$target" -p ipnetwork_c
+    ../bindings/c/one_object "$library" "$tools-"
+    ../bindings/check_exports "$library"
+    for test in ../bindings/c/test.c checks/narrow.c; do
+        "$tools-gcc" $strict -O2 -static -I ../bindings/c "$test" "$library" -o "$out/narrow"
+        "qemu-$qemu-static" "$out/narrow"
+    done
+    echo "$name: tested, not proved, for this width"
+}
+narrow "i686, of 32 bits" i686-linux-gnu i386 i686-unknown-linux-gnu
+narrow "armv7, of 32 bits" arm-linux-gnueabihf arm armv7-unknown-linux-gnueabihf
 
 # Runs of the programs, in examples/recipes.
 runs='cidr_merge union allowed.txt denied.txt

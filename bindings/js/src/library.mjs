@@ -7,6 +7,9 @@ import { unspelled } from './spelling.mjs';
 /** The library for C, compiled for WebAssembly: its functions and its memory. */
 export const library = instanceOf(inflated(unspelled(MODULE), MODULE_LENGTH));
 
+/** The bytes of a size_t in its memory: 8 in the proved module, and in that of plain Rust 4. */
+export const SIZE = library.size_t_bytes ? library.size_t_bytes.value : 8;
+
 /* Its functions, which c/ipnetwork.h describes, and those of words.wat. Each pointer and each size
  * is two numbers: the low 32 bits and 0. */
 export const {

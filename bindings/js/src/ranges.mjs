@@ -1,4 +1,4 @@
-import { indexSize } from './library.mjs';
+import { SIZE, indexSize } from './library.mjs';
 import { ANSWER, NUMBER, bytes, view } from './memory.mjs';
 import { never } from './errors.mjs';
 import { Standing } from './standing.mjs';
@@ -7,7 +7,7 @@ import { eachChunkOf } from './columns.mjs';
 
 /** `count` numbers of the library's size_t from this place on. */
 const numbersAt = (place, count) => Uint32Array.from(
-  { length: count }, (_, at) => view.getUint32(place + 8 * at, true),
+  { length: count }, (_, at) => view.getUint32(place + SIZE * at, true),
 );
 
 /**
@@ -39,7 +39,7 @@ class Ranges extends Standing {
   /** The place of the longest block with the address at this place, or -1. */
   find(address) {
     const { start, kind, count, indexCount } = this;
-    const index = start + 8 * count;
+    const index = start + SIZE * count;
     const fault = kind.rangesFind(
       index + 4 * indexCount, 0, count, 0, start, 0, count, 0, index, 0, indexCount, 0,
       address, 0, NUMBER, 0,
@@ -53,9 +53,9 @@ class Ranges extends Standing {
     const found = new Array(rows.packedOf(kind).length / kind.octets);
     if (found.length === 0) return found;
     const { start } = this;
-    const index = start + 8 * count;
-    eachChunkOf(rows, kind, (addresses, length, first) => withRoom(length * 9, (room) => {
-      const faults = room + 8 * length;
+    const index = start + SIZE * count;
+    eachChunkOf(rows, kind, (addresses, length, first) => withRoom(length * (SIZE + 1), (room) => {
+      const faults = room + SIZE * length;
       never(kind.rangesFindColumn(
         index + 4 * indexCount, 0, count, 0, start, 0, count, 0, index, 0, indexCount, 0,
         addresses, 0, length, 0, room, 0, length, 0, faults, 0, length, 0,
@@ -63,7 +63,7 @@ class Ranges extends Standing {
       const [places, refused] = [view, bytes];
       for (let i = 0; i < length; i += 1) {
         found[first + i] = refused[faults + i] === 0
-          ? values[places.getUint32(room + 8 * i, true)] : undefined;
+          ? values[places.getUint32(room + SIZE * i, true)] : undefined;
       }
     }));
     return found;
@@ -86,9 +86,9 @@ export function tableOf(kind, packed) {
   const count = packed.length / struct;
   never(indexSize(count, 0, ANSWER, 0));
   const indexCount = counted();
-  return withRoom((24 + 4 * struct) * count + 4 * indexCount, (numbers) => {
-    const places = numbers + 8 * count;
-    const index = places + 16 * count;
+  return withRoom((3 * SIZE + 4 * struct) * count + 4 * indexCount, (numbers) => {
+    const places = numbers + SIZE * count;
+    const index = places + 2 * SIZE * count;
     const networks = index + 4 * indexCount;
     const blocks = networks + struct * count;
     const ranges = blocks + struct * count;
@@ -103,7 +103,7 @@ export function tableOf(kind, packed) {
       blocks: bytes.slice(blocks, ranges),
       numbers: numbersAt(numbers, count),
       ranges: new Ranges(
-        kind, bytes.slice(ranges, ranges + struct * made), bytes.slice(places, places + 8 * made),
+        kind, bytes.slice(ranges, ranges + struct * made), bytes.slice(places, places + SIZE * made),
       ),
     };
   });

@@ -257,7 +257,7 @@ pub(crate) fn prefix_in(text: &str) -> Option<u8> {
 
 // The greatest number of networks that are printed.
 fn most_of(items: &[Item<'_>]) -> usize {
-    most_in(value_of(items, MOST)).unwrap_or(1) as usize
+    usize::try_from(most_in(value_of(items, MOST)).unwrap_or(1)).unwrap_or(usize::MAX)
 }
 
 /// The number from 1 that a text is.

@@ -26,12 +26,23 @@
 #![allow(unused_imports, unused_labels, unused_variables, dead_code)]
 #![allow(clippy::complexity, clippy::style, clippy::large_enum_variant, clippy::non_canonical_clone_impl)]
 
-#[cfg(not(target_pointer_width = "64"))]
-compile_error!("this library is made of sources that are proved for a `usize` of 64 bits, and of no other width");
-
 extern crate alloc as rust_alloc;
 #[cfg(feature = "std")]
 extern crate std;
+
+/// Items that are there only if this library does not link std.
+#[doc(hidden)]
+#[macro_export]
+#[cfg(not(feature = "std"))]
+macro_rules! without_std {
+    ($($item:item)*) => { $($item)* };
+}
+#[doc(hidden)]
+#[macro_export]
+#[cfg(feature = "std")]
+macro_rules! without_std {
+    ($($item:item)*) => {};
+}
 
 #[doc(hidden)]
 pub mod byte_search;

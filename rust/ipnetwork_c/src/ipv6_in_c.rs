@@ -13,7 +13,7 @@ use crate::text_columns::ReadsRow;
 use fosibegan::plain_std::arrayvec::ArrayString;
 use fosibegan::ipnetwork::{Ipv6Addr, Ipv6Network, NETWORK_TEXT_CAPACITY};
 use fosibegan::ipnetwork_blocks::HoldsNetwork;
-use std::cmp::Ordering;
+use core::cmp::Ordering;
 
 impl Ipv6InC {
     /// Returns the struct that holds a network.

@@ -3,7 +3,7 @@
 //! Orders as numbers.
 
 use fosibegan::ipnetwork::IpNetwork;
-use std::cmp::Ordering;
+use core::cmp::Ordering;
 
 /// Returns -1, 0 or 1 for less, equal or greater.
 pub(crate) fn number_of_order(order: Ordering) -> i32 {

@@ -44,7 +44,7 @@ impl Key for u32 {
     }
 
     fn part_of(self, base: u32, shift: u32, last: usize) -> usize {
-        let part = (self.saturating_sub(base) >> shift) as usize;
+        let part = usize::try_from(self.saturating_sub(base) >> shift).unwrap_or(usize::MAX);
         part.min(last)
     }
 
@@ -60,7 +60,7 @@ impl Key for u64 {
     }
 
     fn part_of(self, base: u64, shift: u32, last: usize) -> usize {
-        let part = (self.saturating_sub(base) >> shift) as usize;
+        let part = usize::try_from(self.saturating_sub(base) >> shift).unwrap_or(usize::MAX);
         part.min(last)
     }
 
