@@ -60,10 +60,15 @@ def measure_by(program):
 def slowness():
     """How many times START a program takes to start here, at the longest of some; at least 1."""
     longest = 0
+    how = {"stdin": subprocess.DEVNULL, "stdout": subprocess.DEVNULL, "stderr": subprocess.DEVNULL, "timeout": LIMIT}
     for _ in range(5):
         began = time.monotonic()
-        with contextlib.suppress(OSError):
-            subprocess.run(started_to_measure, stdin=subprocess.DEVNULL, stdout=subprocess.DEVNULL, stderr=subprocess.DEVNULL)
+        try:
+            subprocess.run(started_to_measure, **how)
+        except OSError:
+            pass
+        except subprocess.TimeoutExpired:
+            sys.exit(f"{started_to_measure}: no end within {LIMIT} seconds")
         longest = max(longest, time.monotonic() - began)
     return max(1, longest / START)
 
