@@ -137,19 +137,12 @@ class Machine:
         folder.mkdir()
         settings = self.settings()
         static, shared = CARGO / "static", CARGO / "shared"
-        self.cargo(static, ["-C", "target-feature=+crt-static"], [each for each in PROGRAMS if each != "cidr_merge"], settings)
-        try:
-            self.cargo(static, ["-C", "target-feature=+crt-static"], ["cidr_merge"], settings)
-        except SystemExit as why:
-            shutil.rmtree(static / self.target / "release/cidr_merge", ignore_errors=True)
-            told(f"cidr_merge for {self.name}", str(why).splitlines()[-1])
+        self.cargo(static, ["-C", "target-feature=+crt-static"], PROGRAMS, settings)
         self.cargo(shared, [], ["ipnetwork_c"], settings)
         for program in PROGRAMS:
-            built = static / self.target / "release" / program
-            if built.is_file():
-                shutil.copy(built, folder)
-                run([self.tool("strip"), folder / program])
-                self.programs.append(program)
+            shutil.copy(static / self.target / "release" / program, folder)
+            run([self.tool("strip"), folder / program])
+            self.programs.append(program)
         library = folder / "libipnetwork_c.a"
         built = shared / self.target / "release" / library.name
         if self.tools:

@@ -35,15 +35,21 @@ IN_TESTS = {
 }
 
 
+# The lines of `rust.txt` that are of no package.
+KEYS = {"stand_in", "optional", "instead", "left_out"}
+
+
 class Layout:
     """What `rust.txt` and `crates.txt` say."""
 
     def __init__(self, listing, crates):
         lines = re.findall(r"^(\w+):(.*)$", listing, re.M)
-        self.packages = {package: words.split() for package, words in lines if package not in ("stand_in", "optional", "left_out")}
+        self.packages = {package: words.split() for package, words in lines if package not in KEYS}
         said = {key: words.split() for key, words in lines}
         self.stand_in, *self.stood_for = said["stand_in"]
         self.optional = dict(zip(said["optional"][::2], said["optional"][1::2]))
+        package, crate, module = said["instead"]
+        self.instead = {(package, crate): module}
         self.left_out = set(said["left_out"])
         self.package_of = {crate: package for package, names in self.packages.items() for crate in names}
         listing = re.findall(r"^(\w+)( staticlib)?:(.*)$", crates, re.M)
@@ -75,7 +81,7 @@ class Layout:
             return [*self.place(crate, package), *rest]
         if head in self.below[crate] or head == crate:
             if head in self.stood_for:
-                return [*self.stand_in_from(package), *path]
+                return [*self.stand_in_from(package), self.instead.get((package, head), head), *rest]
             return [*self.place(head, package), *rest]
         if head == "std":
             if rest and rest[0] in CORE | REAL:
@@ -198,7 +204,7 @@ class Source:
             name = found[2]
             if name in self.layout.left_out:
                 return ""
-            gate = self.book.gate_of_module(self.file, name)
+            gate = self.book.gate_of_module(self.file, name, self.package)
             return (f'#[cfg(feature = "{gate}")]\n' if gate else "") + found[0]
 
         self.text = re.sub(r"^((?:pub(?:\([^)]*\))? )?mod (\w+);\n)", new, self.text, flags=re.M)
@@ -306,6 +312,7 @@ class Source:
         code = re.sub(r"//[^\n]*", "", self.text)
         lead = "::".join(self.layout.stand_in_from(self.package))
         wanted = {path.split("::")[-1]: path for pattern, path in in_scope.items() if re.search(pattern, code)}
+        wanted = {name: path for name, path in wanted.items() if (self.package, path.split("::")[0]) not in self.layout.instead}
         named = {alias or path[-1] for found in USE.finditer(code) for path, alias in use_paths(found[4])}
         named |= set(re.findall(r"\b(?:struct|enum|type|trait) (\w+)", code))
         lines = "".join(f"use {lead}::{path};\n" for name, path in wanted.items() if name not in named)
@@ -331,7 +338,7 @@ class Source:
     def written(self):
         """The source as Rust, in its package."""
         self.hidden()
-        for name in self.book.gated_items(self.text):
+        for name in self.book.gated_items(self.text, self.package):
             gate = self.book.gate_of(name, self.package)
             self.text = re.sub(rf"^((?:pub )?fn {name}\b)", rf'#[cfg(feature = "{gate}")]\n\1', self.text, flags=re.M)
         self.uses()

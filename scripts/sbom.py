@@ -11,8 +11,6 @@ from packing import TOP, digest, moment, run
 
 VERSION = (TOP / "VERSION").read_text().strip()
 OWN = ("fosibegan", VERSION, "MIT OR Apache-2.0", "the sources of this repository")
-# What a crate of Rust says of its licence, in the words of SPDX.
-LICENCES = {"MIT/Apache-2.0": "MIT OR Apache-2.0"}
 
 
 def version_of(package):
@@ -45,13 +43,6 @@ def host():
 
 def standard_library(machine):
     return "rust-std", machine.version_of_rustc(), "MIT OR Apache-2.0", "the standard library of Rust"
-
-
-def crates(package):
-    """The crates of others in a package of rust/."""
-    said = run(["scripts/with_serde", "tree", package, "-e", "normal", "--prefix", "none", "--format", "{p}|{l}"])
-    found = re.findall(r"^(\S+) v(\S+)\|(.*)$", said, re.M)
-    return [(name, version, LICENCES.get(licence, licence), "a crate of Rust, in cidr_merge") for name, version, licence in found]
 
 
 def spdx_of(row):

@@ -200,6 +200,29 @@ def refused(program, folder):
         yield f"no document, {place}: {text}", run(program, ["union", "--json", "google", "none"], folder), (2, b"", told)
 
 
+# The first byte of a document and what follows it for a megabyte, which takes much memory in a tree of values. Plain Rust
+# gets 32 bytes for each byte, and 16 MiB for the program and the bytes themselves; or little, too little for strings.
+HEAVY = [
+    (b"[", b"0,"), (b"[", b"[],"), (b"[", b'"",'), (b"[", b'[""],'), (b"[", b"[" * 125 + b'""' + b"]" * 125 + b","),
+    (b"[", b'"\\n",'), (b"[", b'{"":""},'), (b"[", b'{"a":1},'), (b"{", b'"":0,'), (b"{", b'"":"",'),
+]  # fmt: skip
+HEAVY_LENGTH = 1 << 20
+HEAVY_KIB, LITTLE_KIB = (16 + 32) << 10, 8 << 10
+
+
+def of_memory(program, folder):
+    """Long documents, which plain Rust reads in limited memory, or says that it is too little."""
+    for first, item in HEAVY:
+        last = b'"10.0.0.0/8"]' if first == b"[" else b'"a":"10.0.0.0/8"}'
+        write(folder, "heavy", first + item * (HEAVY_LENGTH // len(item)) + last)
+        is_kept = b'""' in item or b"\\" in item
+        whole, out_of_memory = (0, b"10.0.0.0/8\n", b""), (2, b"", b"out of memory\n")
+        for kib, wanted in [(HEAVY_KIB, whole), (LITTLE_KIB, out_of_memory if is_kept else whole)]:
+            limited = f'ulimit -v {kib}; exec "$0" "$@"'
+            got = run("sh", ["-c", limited, program, "union", "--json", "heavy"], folder)
+            yield f"{kib} KiB for {item[:20]}", got, wanted
+
+
 def of_length(program, folder):
     """The longest document, and one that is longer by a byte."""
     text = b'["10.0.0.0/8"]'

@@ -41,7 +41,7 @@ def cargo(folder, *words, serde, profile):
 
 def has_serde():
     """Whether serde is to be had."""
-    command = [TOP / "scripts/with_serde", "metadata", "cidr_merge", "--format-version", "1"]
+    command = [TOP / "scripts/with_serde", "metadata", "fosibegan", "--format-version", "1"]
     return subprocess.run(command, stdout=subprocess.DEVNULL, stderr=subprocess.DEVNULL).returncode == 0
 
 
@@ -68,10 +68,7 @@ def program(name, crates, profile):
     """The program of this name, of other crates: a copy of what is built."""
     with workspace(crates) as (sources, to):
         written(sources, to)
-        if name == "cidr_merge":
-            cargo(to / name, serde=True, profile=profile)
-        else:
-            cargo(to, "-p", name, serde=False, profile=profile)
+        cargo(to, "-p", name, serde=False, profile=profile)
     kept = TARGET / f"{name}_of_tests"
     shutil.copy2(TARGET / FOLDER_OF[profile] / name, kept)
     return kept

@@ -16,25 +16,21 @@ rm -f "$tests"/*/Cargo.lock
 # In tests `str` is a type, as from Rust 1.87 on, and not a module.
 grep -rlE '(^|[^:])\bstr::from_utf8\(' "$tests"/*/src/tests* "$tests"/*/tests |
     xargs sed -i -E 's/(^|[^:])\bstr::from_utf8\(/\1std::str::from_utf8(/'
-# PACKAGE ARGUMENT..: the unit tests of a package that has serde, and how many passed. The hash of an IPv6 address is the
-# same on each machine, and that of a u128 is not, so that a test of both is for little-endian ones.
+# MANIFEST ARGUMENT..: the unit tests of a manifest, and how many passed. The hash of an IPv6 address is the same on each
+# machine, and that of a u128 is not, so that a test of both is for little-endian ones.
 units() {
-    local package="$1"
+    local manifest="$1"
     shift
-    crates_in "$registry"
-    quiet units.log cargo test --offline --config "$out/sources.toml" --manifest-path "$tests/$package/Cargo.toml" "$@"
+    quiet units.log cargo test --offline --config "$out/sources.toml" --manifest-path "$tests/$manifest" "$@"
     passed=$((passed + $(awk '/^test result: ok/ { count += $4 } END { print count + 0 }' "$out/units.log")))
 }
 # ARGUMENT..: the unit tests of all packages.
 all_units() {
     passed=0
-    for package in fosibegan cidr_programs; do
-        units "$package" --features serde --tests "$@"
-    done
-    units cidr_merge "$@"
-    for package in cidr cidr_filter cidr_join cidr_info; do
-        quiet units.log cargo test --offline --manifest-path "$tests/Cargo.toml" -p "$package" "$@"
-        passed=$((passed + $(awk '/^test result: ok/ { count += $4 } END { print count + 0 }' "$out/units.log")))
+    crates_in "$registry"
+    units fosibegan/Cargo.toml --features serde --tests "$@"
+    for package in cidr_programs cidr cidr_merge cidr_filter cidr_join cidr_info; do
+        units Cargo.toml -p "$package" --lib --bins --tests "$@"
     done
 }
 
@@ -94,7 +90,6 @@ same_answers() {
     done <<< "$runs"
 }
 cargo build --offline --locked --quiet
-[ "$serde" = no ] || of_package build cidr_merge
 
 # NAME ARCHITECTURE TARGET ARGUMENT..: unit tests and programs for another machine. The arguments go to the unit tests.
 machine() {
@@ -119,7 +114,6 @@ machine() {
     local programs="$out/programs_$architecture" program at
     mkdir -p "$programs"
     by "$least" quiet programs.log cargo build --offline --locked --release --target "$target"
-    by "$least" quiet programs.log of_package build cidr_merge --release --target "$target"
     for program in cidr cidr_merge cidr_filter cidr_join cidr_info; do
         at="$out/target_$least/$target/release/$program"
         printf '#!/bin/sh\nexec qemu-%s-static -L /usr/%s-linux-gnu %s "$@"\n' "$architecture" "$architecture" "$at" \

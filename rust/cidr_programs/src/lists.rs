@@ -8,7 +8,6 @@
 
 mod bytes;
 mod comment;
-#[cfg(feature = "serde")]
 mod document;
 mod encoding;
 mod entry;
@@ -21,12 +20,10 @@ mod opening;
 mod range;
 mod read;
 mod refusals;
-#[cfg(feature = "serde")]
 mod strings;
 mod trimming;
 
 pub use bytes::{BytesFault, read_bytes};
-#[cfg(feature = "serde")]
 pub use document::{DOCUMENT_MAX, read_document};
 pub use encoding::{Encoding, encoding_of};
 pub use entry::{Entry, EntryFault, read_entry};

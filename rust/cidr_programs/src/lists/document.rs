@@ -2,14 +2,12 @@
 
 //! Reads a JSON document as a list.
 
-use fosibegan::plain_std::serde_json::OfKit;
 use crate::lists::bytes::{BytesFault, read_bytes};
 use crate::lists::list_reader::ListReader;
 use crate::lists::named::ReadFault;
 use crate::lists::open_lists::OpenLists;
-#[cfg(feature = "serde")]
 use crate::lists::strings::take_value;
-use fosibegan::plain_std::serde_json::Value;
+use fosibegan::plain_std::json::Value;
 use fosibegan::plain_std::alloc::Global;
 
 /// The most bytes of a document.

@@ -4,7 +4,7 @@
 
 use fosibegan::plain_std::string::String;
 use crate::lists::list_reader::ListReader;
-use fosibegan::plain_std::serde_json::{Map, Value};
+use fosibegan::plain_std::json::{Map, Value};
 
 /// Takes the strings of a value. Those that name no entry are refused if the reading is strict.
 pub(crate) fn take_value(lists: &mut ListReader, value: &Value, is_strict: bool) {

@@ -5,6 +5,7 @@
 //! The memory that is asked for is at most 32 bytes for each byte of the document, and a lack of it is an error.
 
 use crate::plain_std::alloc::{AllocError, Global};
+use crate::plain_std::string::String;
 use core::fmt;
 use core::marker::PhantomData;
 use rust_alloc::boxed::Box;
@@ -26,16 +27,12 @@ pub enum Value<'a> {
     /// The elements of an array that have strings in them.
     Array(Box<[Value<'a>]>),
     /// The members of an object whose values have strings in them.
-    Object(Map<Key, Value<'a>>),
+    Object(Map<String, Value<'a>>),
 }
 
 /// A number that the range of `f64` holds. Which one is not kept.
 #[derive(Debug, PartialEq)]
 pub struct Number(());
-
-/// A key of an object, which is not kept.
-#[derive(Debug, PartialEq)]
-pub struct Key(());
 
 /// The values of the members of an object, in the order of their keys, which are not kept. If a key occurs more than
 /// once, only its last value is here.

@@ -265,7 +265,7 @@ fn is_plain(byte: u8) -> bool {
 /// Whether no finite `f64` is near to the number of this text.
 fn is_out_of_range(text: &[u8]) -> bool {
     let text = core::str::from_utf8(text).unwrap_or_default();
-    text.parse::<f64>().is_ok_and(f64::is_infinite)
+    matches!(text.parse::<f64>(), Ok(number) if number.is_infinite())
 }
 
 /// Sorts members by their keys. Of a key that occurs more than once, only the last member keeps its value.
