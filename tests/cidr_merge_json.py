@@ -217,7 +217,7 @@ def of_memory(program, folder):
         last = b'"10.0.0.0/8"]' if first == b"[" else b'"a":"10.0.0.0/8"}'
         write(folder, "heavy", first + item * (HEAVY_LENGTH // len(item)) + last)
         is_kept = b'""' in item or b"\\" in item
-        whole, out_of_memory = (0, b"10.0.0.0/8\n", b""), (2, b"", b"cidr_merge: out of memory\n")
+        whole, out_of_memory = (0, b"10.0.0.0/8\n", b""), (2, b"", b"out of memory\n")
         for kib, wanted in [(HEAVY_KIB, whole), (LITTLE_KIB, out_of_memory if is_kept else whole)]:
             limited = f'ulimit -v {kib}; exec "$0" "$@"'
             got = run("sh", ["-c", limited, program, "union", "--json", "heavy"], folder)
