@@ -227,7 +227,8 @@ def in_parts(program, folder):
     """What `in_parts.sh` prints of a log of several parts, what it reports, once or for each part, and
     its status are those of the whole log. Once it uses GNU parallel, if that is there."""
     for path in (os.environ["PATH"], without_parallel(folder)):
-        others = {"env": {**os.environ, "PATH": path}}
+        # GNU parallel warns if there is no home.
+        others = {"env": {**os.environ, "PATH": path, "HOME": folder}}
         for options in WHOLE:
             whole = of_made_log([program, *options.split()], folder)
             output, error, status = of_made_log([IN_PARTS, *options.split()], folder, **others)
