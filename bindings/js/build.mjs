@@ -115,12 +115,13 @@ let page = readFileSync(join(here, 'README.md'), 'utf8');
 /* The module of plain Rust says how many bytes its size_t has. */
 const isPlain = WebAssembly.Module.exports(new WebAssembly.Module(bytes))
   .some(({ name }) => name === 'size_t_bytes');
-const KIND = 'a library that is proved for\nWebAssembly; what `wasm-opt` makes of it, and the code around it, is tested.';
-if (!page.includes(KIND)) throw new Error('README.md does not say that the library is proved');
-if (isPlain) {
-  page = page.replace(KIND, 'a library of plain Rust, made of\nproved sources. It is tested, with a `size_t` of 32 bits, '
-    + 'and not proved, as is the code around it.');
-}
+const EITHER = 'a library that is proved for\nWebAssembly, or is plain Rust, made of proved sources: `build` says which. '
+  + 'What `wasm-opt` makes of the proved one, and\nthe code around the library, is tested.';
+if (!page.includes(EITHER)) throw new Error('README.md does not say which library there may be');
+page = page.replace(EITHER, isPlain
+  ? 'a library of plain Rust, made of\nproved sources. It is tested, with a `size_t` of 32 bits, and not proved, as is '
+    + 'the code around it.'
+  : 'a library that is proved for\nWebAssembly; what `wasm-opt` makes of it, and the code around it, is tested.');
 for (const [words, size] of Object.entries(SIZES)) {
   const found = new RegExp(`\\b${words} (\\d+) KB`);
   const built = Math.round(size / 1000);
