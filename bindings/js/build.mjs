@@ -112,8 +112,8 @@ copyFileSync(join(here, 'package.json'), join(folder, 'package.json'));
 const { size: codeLength } = statSync(join(folder, 'index.mjs'));
 const SIZES = { 'a file of': codeLength, 'a module of': bytes.length };
 let page = readFileSync(join(here, 'README.md'), 'utf8');
-/* The module of plain Rust says how many bytes its size_t has. */
-const isPlain = WebAssembly.Module.exports(new WebAssembly.Module(bytes))
+/* The module of plain Rust says how many bytes its size_t has. An engine may not compile one with an instance of its own. */
+const isPlain = instancePath === undefined && WebAssembly.Module.exports(new WebAssembly.Module(bytes))
   .some(({ name }) => name === 'size_t_bytes');
 const EITHER = 'a library that is proved for\nWebAssembly, or is plain Rust, made of proved sources: `build` says which. '
   + 'What `wasm-opt` makes of the proved one, and\nthe code around the library, is tested.';
