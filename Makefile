@@ -4,7 +4,7 @@
 #   make example                          shows examples/cidr/questions.txt with the answers of cidr as plain Rust or, if
 #                                         there is no cargo, of the proved one
 #   make plain                            builds the five programs and the library for C as plain Rust, in rust/target
-#   make test                             the same, and every test by its script, as tests/verdict says
+#   make test                             the same, and the tests by their scripts, as tests/verdict says
 #   make check                            the same, and a part of the tests, for a first verdict
 #   make proved                           proves and builds cidr, and shows the example by it
 #   make                                  proves and builds the five programs and the library for C
@@ -124,7 +124,7 @@ plain:
 test:
 	$(call tools,python3)
 	@scripts/least_rust cidr_merge ipnetwork ipnetwork_c
-	@tests/verdict plain
+	@tests/verdict test
 
 check:
 	$(call tools,python3)

@@ -68,11 +68,6 @@ if here "C: the header as C++" c++; then
         c++ -std=$standard -pedantic-errors -Wall -Wextra -Werror -x c++ -fsyntax-only c/ipnetwork.h
     done
 fi
-if here "C: valgrind" valgrind; then
-    valgrind -q --error-exitcode=1 $out/test > /dev/null
-    valgrind -q --error-exitcode=1 $out/allow ../examples/cidr/allow_list.txt < c/allowed.txt > /dev/null
-    echo "C: valgrind sees no byte read or written out of place"
-fi
 if sanitizers_work; then
     cc -std=c11 -O1 -g $watch c/test.c "$library" -o $out/test_watched
     $out/test_watched > /dev/null
