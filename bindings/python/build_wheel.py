@@ -94,8 +94,8 @@ def _say(words: str) -> None:
 def _by_cargo() -> pathlib.Path:
     """The folder of the library of plain Rust, which cargo builds."""
     command = ["cargo", "build", "--quiet", "--release", "--offline", "--locked", "-p", "ipnetwork_c"]
-    # Where cargo puts the library, whatever the environment says of other builds.
-    target = RUST / "target"
+    # Where cargo puts the library, whatever the environment says of other builds, and apart from that of make plain.
+    target = RUST / "target/of_wheel"
     settings = {name: value for name, value in os.environ.items() if name != "CARGO_BUILD_TARGET"}
     try:
         subprocess.run([*command, "--target-dir", str(target)], cwd=RUST, env=settings, check=True, stdout=sys.stderr)
