@@ -1,8 +1,7 @@
 """The runs of `tests/refusals` on the plain Rust build: a library that is loaded before the C library refuses a request.
 
-Rust's own std ends a program that is refused memory where it cannot report that, as in a sort: there the sources' std
-requests as much before, in one piece that is given back, and this request is refused. A run of serde_json that is ended
-so is not judged: the next request takes its place."""
+Rust's own std ends a program that is refused memory if it cannot report that, as in a sort: there the sources' std
+requests as much before, in one piece that is given back, and this request is refused. No run may be ended so."""
 
 import os
 import pathlib
@@ -15,11 +14,6 @@ import limits  # noqa: E402
 import plain_programs  # noqa: E402
 
 HERE = pathlib.Path(__file__).resolve().parent
-ENDED = "memory allocation of "
-# More than std has.
-MOST_ENDED = 200
-
-ended_runs = 0
 
 
 def built(crate_in, repository, room):
@@ -49,7 +43,6 @@ def once(command, text, folder, library, number):
 
 def runs_of(repository, run_of, crate_in, inputs, words, files, refused):
     """As `runs_of` of tests/refusals, which hands over its functions."""
-    global ended_runs
     with tempfile.TemporaryDirectory(prefix="refusals-") as name:
         room = pathlib.Path(name)
         program, library = built(crate_in, repository, room), refusing(room)
@@ -57,22 +50,10 @@ def runs_of(repository, run_of, crate_in, inputs, words, files, refused):
         data.mkdir()
         for file, text in (files or {}).items():
             (data / file).write_text(text)
-        runs, offsets = {}, {}
-        # The first line of an input says how many requests come before those of the program.
-        ascending = sorted(inputs, key=lambda case: -int(inputs[case].split("\n", 1)[0].split(" ")[0] or 0))
-        for case in ascending:
-            own = tuple((words or {}).get(case, ()))
-            group = own or case.rpartition("-")[0]
-            offset = offsets.get(group, 0)
-            while True:
-                ran = once([program, *own], inputs[case], data, library, refused + offset)
-                if ran.returncode != -6 or ENDED not in ran.stderr or "--json" not in own:
-                    break
-                offset += 1
-                ended_runs += 1
-                if offset > MOST_ENDED:
-                    sys.exit(f"tests/refusals: {program.name} is ended by Rust's std more than {MOST_ENDED} times")
-            offsets[group] = offset
+        runs = {}
+        for case, text in inputs.items():
+            own = (words or {}).get(case, ())
+            ran = once([program, *own], text, data, library, refused)
             told, _, count = ran.stderr.rpartition("allocations: ")
-            runs[case] = run_of(ran.stdout.rstrip("\n").split("\n"), int(count), told, ran.returncode, offset)
+            runs[case] = run_of(ran.stdout.rstrip("\n").split("\n"), int(count), told, ran.returncode)
         return runs
