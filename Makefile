@@ -27,7 +27,7 @@
 #                                         programs of make static
 #   make uninstall PREFIX=/usr DESTDIR=/tmp/package
 #   make deb                              Debian packages of what is built, in bindings/out/deb
-#   make dist                             what is handed out, of what stands proved, in the folder dist: archives and packages for
+#   make dist                             the files of a release, of what is proved, in the folder dist: archives and packages for
 #                                         Linux on x86-64 and ARM64, wheels, crates and more, with checksums (scripts/dist)
 #   make dist-plain                       the same as plain Rust, which is built for it
 #   make tools                            installs the packages of Debian that tests need (tests/debian-packages.txt)
@@ -92,7 +92,7 @@ programs_there = $(strip $(foreach program,$(PROGRAMS),$(if $(wildcard $(call bu
 over_library = @[ -f $(ARCHIVE) ] || { echo "make $@ needs $(ARCHIVE)," \
     "which make $(if $(PLAIN_LIBRARY),plain,library (or, for plain Rust, make plain)) builds" >&2; exit 1; }; \
     mkdir -p $(dir $(1)) && rm -f $(1) && echo "$(call kind,$(PLAIN_LIBRARY))" > $(1).kind && \
-    echo "make $@: over $(ARCHIVE), which is $(call kind,$(PLAIN_LIBRARY))" >&2
+    echo "make $@: of $(ARCHIVE), which is $(call kind,$(PLAIN_LIBRARY))" >&2
 
 # Says by name what is not here, before anything is proved.
 tools = @missing=; for tool in $(1); do command -v $$tool > /dev/null || missing="$$missing $$tool"; done; \
@@ -128,6 +128,7 @@ test:
 
 check:
 	$(call tools,python3)
+	@scripts/least_rust cidr_merge ipnetwork ipnetwork_c
 	@tests/verdict check
 
 test-proved: all
@@ -207,11 +208,11 @@ static:
 # Copies what is built, and builds nothing. What could stop it is looked at before the first file is copied.
 install:
 	@[ -n "$(programs_there)$(wildcard $(ARCHIVE) $(EXTENSION))" ] || { \
-	    echo "make install: nothing is built: run make plain first, or make, which proves and needs rt" >&2; exit 1; }
+	    echo "make install: nothing $(if $(filter-out undefined,$(origin PLAIN)),of this build )is built: run make plain first, or make, which proves and needs rt" >&2; exit 1; }
 	@for made in shared:$(SHARED) sqlite:$(EXTENSION); do \
 	    file=$${made#*:}; [ ! -f $$file ] || [ ! -f $$file.kind ] || \
 	    [ "$$(cat $$file.kind)" = "$(call kind,$(PLAIN_LIBRARY))" ] || { \
-	        echo "make install: $$file is of another build than $(ARCHIVE): run make $${made%%:*}, or remove it" >&2; \
+	        echo "make install: $$file is not of the same build as $(ARCHIVE): run make $${made%%:*}, or remove $$file" >&2; \
         exit 1; }; \
 	done
 	@scripts/writable "$(DESTDIR)$(BINDIR)" "$(DESTDIR)$(MANDIR)/man1" "$(DESTDIR)$(BASHDIR)" "$(DESTDIR)$(ZSHDIR)" \
@@ -243,7 +244,7 @@ install:
 	@if [ -f $(ARCHIVE) ] && [ -f $(SHARED) ]; then \
 	    $(MAKE) -s install-library; \
 	else \
-	    echo "make install: without the library for C, which is not built" >&2; \
+	    echo "make install: without the library for C: run make $(if $(wildcard $(ARCHIVE)),shared,plain or make library)" >&2; \
 	fi
 	@$(if $(DESTDIR),,case ":$$PATH:" in (*":$(BINDIR):"*) ;; \
 	    (*) echo "make install: the programs are now in $(BINDIR), which is not on your PATH" >&2 ;; esac)
@@ -259,7 +260,7 @@ install-library:
 	$(INSTALL) -d "$(DESTDIR)$(INCLUDEDIR)" "$(DESTDIR)$(LIBDIR)/pkgconfig"
 	$(INSTALL) -m 644 bindings/c/ipnetwork.h "$(DESTDIR)$(INCLUDEDIR)/ipnetwork.h"
 	$(INSTALL) -m 644 $(ARCHIVE) "$(DESTDIR)$(LIBDIR)/libipnetwork_c.a"
-	$(if $(PLAIN),bindings/c/one_object "$(DESTDIR)$(LIBDIR)/libipnetwork_c.a")
+	$(if $(PLAIN_LIBRARY),bindings/c/one_object "$(DESTDIR)$(LIBDIR)/libipnetwork_c.a")
 	$(INSTALL) -m 755 $(SHARED) "$(DESTDIR)$(LIBDIR)/libipnetwork_c.so.$(VERSION)"
 	ln -sf libipnetwork_c.so.$(VERSION) "$(DESTDIR)$(LIBDIR)/$(SONAME)"
 	ln -sf $(SONAME) "$(DESTDIR)$(LIBDIR)/libipnetwork_c.so"
@@ -283,7 +284,7 @@ uninstall:
 deb:
 	$(call tools,python3 $(if $(ARM64),aarch64-linux-gnu-gcc,cc objdump) dpkg-deb)
 	@$(if $(and $(programs_there),$(wildcard $(ARCHIVE))),[ "$(if $(PLAIN_PROGRAMS),1)" = "$(if $(PLAIN_LIBRARY),1)" ],true) || { \
-	    echo "make deb: programs and library for C are not of one build: PLAIN=1 packs plain Rust, PLAIN= what is proved" >&2; \
+	    echo "make deb: programs and library for C are not of one build: run make deb PLAIN=1 for plain Rust, or make deb PLAIN= for what is proved" >&2; \
 	    exit 1; }
 	scripts/deb $(if $(ARM64),$(OUT)/deb/arm64 arm64,$(OUT)/deb $(if $(PLAIN_PROGRAMS)$(PLAIN_LIBRARY),--plain))
 

@@ -115,8 +115,8 @@ let page = readFileSync(join(here, 'README.md'), 'utf8');
 /* The module of plain Rust says how many bytes its size_t has. An engine may not compile one with an instance of its own. */
 const isPlain = instancePath === undefined && WebAssembly.Module.exports(new WebAssembly.Module(bytes))
   .some(({ name }) => name === 'size_t_bytes');
-const EITHER = 'a library that is proved for\nWebAssembly, or is plain Rust, made of proved sources: `build` says which. '
-  + 'What `wasm-opt` makes of the proved one, and\nthe code around the library, is tested.';
+const EITHER = 'a library that is proved for\nWebAssembly, or is plain Rust, made of proved sources and tested: `build` says '
+  + 'which. What `wasm-opt` makes of the proved\none, and the code around the library, is tested.';
 if (!page.includes(EITHER)) throw new Error('README.md does not say which library there may be');
 page = page.replace(EITHER, isPlain
   ? 'a library of plain Rust, made of\nproved sources. It is tested, with a `size_t` of 32 bits, and not proved, as is '
