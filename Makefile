@@ -91,7 +91,7 @@ programs_there = $(strip $(foreach program,$(PROGRAMS),$(if $(wildcard $(call bu
 # Says which library for C is taken for a file, and notes it in FILE.kind, which make install reads.
 over_library = @[ -f $(ARCHIVE) ] || { echo "make $@ needs $(ARCHIVE)," \
     "which make $(if $(PLAIN_LIBRARY),plain,library (or, for plain Rust, make plain)) builds" >&2; exit 1; }; \
-    mkdir -p $(dir $(1)) && rm -f $(1) && echo "$(call kind,$(PLAIN_LIBRARY))" > $(1).kind && \
+    mkdir -p $(dir $(1)) && rm -f $(1) && echo "$(call kind,$(PLAIN_LIBRARY)) $$(cksum < $(ARCHIVE))" > $(1).kind && \
     echo "make $@: of $(ARCHIVE), which is $(call kind,$(PLAIN_LIBRARY))" >&2
 
 # Says by name what is not here, before anything is proved.
@@ -210,8 +210,8 @@ install:
 	@[ -n "$(programs_there)$(wildcard $(ARCHIVE) $(EXTENSION))" ] || { \
 	    echo "make install: nothing $(if $(filter-out undefined,$(origin PLAIN)),of this build )is built: run make plain first, or make, which proves and needs rt" >&2; exit 1; }
 	@for made in shared:$(SHARED) sqlite:$(EXTENSION); do \
-	    file=$${made#*:}; [ ! -f $$file ] || [ ! -f $$file.kind ] || \
-	    [ "$$(cat $$file.kind)" = "$(call kind,$(PLAIN_LIBRARY))" ] || { \
+	    file=$${made#*:}; [ ! -f $$file ] || [ ! -f $$file.kind ] || [ ! -f $(ARCHIVE) ] || \
+	    [ "$$(cat $$file.kind)" = "$(call kind,$(PLAIN_LIBRARY)) $$(cksum < $(ARCHIVE))" ] || { \
 	        echo "make install: $$file is not of the same build as $(ARCHIVE): run make $${made%%:*}, or remove $$file" >&2; \
         exit 1; }; \
 	done
@@ -220,7 +220,7 @@ install:
 	    "$(DESTDIR)$(LIBDIR)/pkgconfig" || { \
 	    echo "make install: run sudo make install, or make install PREFIX=~/.local, or name another PREFIX" >&2; exit 1; }
 	@echo "make install:$(if $(programs_there), programs: $(call kind,$(PLAIN_PROGRAMS));)$(if \
-	    $(wildcard $(ARCHIVE)), library for C: $(call kind,$(PLAIN_LIBRARY)))" >&2
+	    $(and $(wildcard $(ARCHIVE)),$(wildcard $(SHARED))), library for C: $(call kind,$(PLAIN_LIBRARY)))" >&2
 	@for program in $(PROGRAMS); do \
 	    if [ -f $(call built,$$program) ]; then \
 	        $(INSTALL) -d "$(DESTDIR)$(BINDIR)" "$(DESTDIR)$(MANDIR)/man1" && \
