@@ -14,16 +14,16 @@ _cidr_merge() {
         return
     fi
     case "${COMP_WORDS[at]}" in
-        union | common | minus | differ | list) options="-e --ranges --count --format --set --table --line-prefix --line-suffix --skip-bad --json --strict" ;;
+        union | common | minus | differ | list) options="-e --ranges --count --format --set --table --maxelem --line-prefix --line-suffix --skip-bad --json --strict" ;;
         split) options="-e --prefix --line-prefix --line-suffix --skip-bad --json --strict" ;;
-        reduce) options="-e --ranges --count --format --set --table --line-prefix --line-suffix --skip-bad --json --strict --most" ;;
+        reduce) options="-e --ranges --count --format --set --table --maxelem --line-prefix --line-suffix --skip-bad --json --strict --most" ;;
         check) options="-e --strict" ;;
         overlaps) options="-e" ;;
         find) options="-e --from" ;;
     esac
     case "$before" in
         --format) COMPREPLY=($(compgen -W "plain range netmask wildcard csv nft ipset json addresses" -- "$word")) ;;
-        --set | --table | --line-prefix | --line-suffix | --prefix | -e | --most) COMPREPLY=() ;;
+        --set | --table | --line-prefix | --line-suffix | --prefix | -e | --most | --maxelem) COMPREPLY=() ;;
         --from) ;;
         *)
             if [[ "$word" == -* ]]; then

@@ -28,3 +28,4 @@ complete -c cidr_merge -n "__fish_seen_subcommand_from split" -l prefix -x -d "T
 complete -c cidr_merge -n "__fish_seen_subcommand_from find" -l from -r -F -d "Or one of FILE"
 complete -c cidr_merge -n "__fish_seen_subcommand_from union common minus differ list split reduce check overlaps find" -s e -x -d "Take this network or range as a FILE"
 complete -c cidr_merge -n "__fish_seen_subcommand_from reduce" -l most -x -d "At most N networks with all of union, few others"
+complete -c cidr_merge -n "__fish_seen_subcommand_from union common minus differ list reduce" -l maxelem -x -d "The sets have or get this limit of elements"

@@ -146,11 +146,11 @@ static int make_fours(struct fours *list) {
     list->index = memory(list->index_length, sizeof *list->index);
     return list->blocks && list->places && list->ranges && list->beside && list->index &&
            ipnetwork_v4_table_make(list->networks, count, list->blocks, count, list->places, count) == IPNETWORK_OK &&
-           ipnetwork_v4_index_make(list->blocks, count, list->index, list->index_length) == IPNETWORK_OK &&
+           ipnetwork_v4_table_index_make(list->blocks, count, list->index, list->index_length) == IPNETWORK_OK &&
            ipnetwork_v4_ranges_make_numbered(list->blocks, count, list->places, count, list->index, list->index_length,
                                              list->ranges, most, list->beside, most,
                                              &list->range_count) == IPNETWORK_OK &&
-           ipnetwork_v4_index_make(list->ranges, list->range_count, list->index, list->index_length) == IPNETWORK_OK;
+           ipnetwork_v4_table_index_make(list->ranges, list->range_count, list->index, list->index_length) == IPNETWORK_OK;
 }
 
 static int make_sixes(struct sixes *list) {
@@ -164,11 +164,11 @@ static int make_sixes(struct sixes *list) {
     list->index = memory(list->index_length, sizeof *list->index);
     return list->blocks && list->places && list->ranges && list->beside && list->index &&
            ipnetwork_v6_table_make(list->networks, count, list->blocks, count, list->places, count) == IPNETWORK_OK &&
-           ipnetwork_v6_index_make(list->blocks, count, list->index, list->index_length) == IPNETWORK_OK &&
+           ipnetwork_v6_table_index_make(list->blocks, count, list->index, list->index_length) == IPNETWORK_OK &&
            ipnetwork_v6_ranges_make_numbered(list->blocks, count, list->places, count, list->index, list->index_length,
                                              list->ranges, most, list->beside, most,
                                              &list->range_count) == IPNETWORK_OK &&
-           ipnetwork_v6_index_make(list->ranges, list->range_count, list->index, list->index_length) == IPNETWORK_OK;
+           ipnetwork_v6_table_index_make(list->ranges, list->range_count, list->index, list->index_length) == IPNETWORK_OK;
 }
 
 static int make_ranges(struct list *list) {

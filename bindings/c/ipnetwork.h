@@ -39,8 +39,8 @@ extern "C" {
 /* The version of the names, structs and numbers below, which changes if any of them changes. ipnetwork_abi_version()
  * returns that of the library. Each added call raises the minor version, which ipnetwork_abi_minor_version() returns. A
  * program needs a library of the version that it was compiled with, and of the same or a later minor version. */
-#define IPNETWORK_ABI_VERSION 3
-#define IPNETWORK_ABI_MINOR_VERSION 1
+#define IPNETWORK_ABI_VERSION 4
+#define IPNETWORK_ABI_MINOR_VERSION 0
 
 /* The size of a buffer that is enough for each text of a network of the family, and a zero byte. */
 #define IPNETWORK_V4_TEXT 19
@@ -246,7 +246,8 @@ IPNETWORK_CHECKED_AT((3)) ipnetwork_fault ipnetwork_address_read(const char *tex
 
 /* Writes the IPv4 address in an IPv4-mapped address, one of ::ffff:0:0/96 (RFC 4291, section 2.5.5.2), and any other
  * address as it is. A socket for both families reports its IPv4 peers as mapped addresses, which are found in lists of
- * IPv4 networks only after this. IPNETWORK_NO_FAMILY if the length in the struct is neither 4 nor 16. */
+ * IPv4 networks only after this. An entry such as ::ffff:10.0.0.0/104 or ::/0 has the IPv6 address as it stands: ask
+ * about both, so that what is said of either form counts. IPNETWORK_NO_FAMILY if the length in the struct is neither 4 nor 16. */
 IPNETWORK_CHECKED ipnetwork_fault ipnetwork_address_unmapped(const ipnetwork_address *address,
                                                              ipnetwork_address *IPNETWORK_ALONE unmapped);
 
@@ -319,11 +320,13 @@ IPNETWORK_CHECKED_AT((3)) ipnetwork_fault ipnetwork_v6_aggregate(ipnetwork_v6 *I
                                                                 size_t network_count,
                                                                 size_t *IPNETWORK_ALONE block_count);
 
-/* Whether an address is in the set of block_count blocks, as aggregate leaves them: *answer is 1 or 0. For any other
- * list, 1 is right too, but 0 says nothing; use ipnetwork_v4_list_contains or ipnetwork_v6_list_contains for such a
- * list. Not every struct is read: if the structs ascend, the search ends at the last one whose own address is at or
- * before this address. IPNETWORK_PREFIX exactly if the prefix length of the struct at which the search ends is greater
- * than the width, which never occurs in the list of a set. */
+/* Whether an address is in the set of block_count blocks, as aggregate leaves them: *answer is 1 or 0. It is not checked
+ * that the list is that of a set. Of an unsorted list, or of one in which a block lies in another, 1 is right too, but 0
+ * says nothing: aggregate it first, or ask ipnetwork_v4_list_contains or ipnetwork_v6_list_contains, which take any
+ * list. ipnetwork_v4_index_make and ipnetwork_v6_index_make refuse a list that is not that of a set. Not every struct is
+ * read: if the structs ascend, the search ends at the last one whose own address is at or before this address.
+ * IPNETWORK_PREFIX exactly if the prefix length of the struct at which the search ends is greater than the width, which
+ * never occurs in the list of a set. */
 IPNETWORK_CHECKED_AT((3, 4)) ipnetwork_fault ipnetwork_v4_set_contains(const ipnetwork_v4 *blocks, size_t block_count,
     const uint8_t address[4], uint8_t *IPNETWORK_ALONE answer);
 IPNETWORK_CHECKED_AT((3, 4)) ipnetwork_fault ipnetwork_v6_set_contains(const ipnetwork_v6 *blocks, size_t block_count,
@@ -367,19 +370,26 @@ IPNETWORK_CHECKED_FAULT ipnetwork_fault ipnetwork_v6_table_find_column(const ipn
     const uint8_t *addresses, size_t address_count, size_t *IPNETWORK_ALONE indexes, size_t index_count,
     uint8_t *IPNETWORK_ALONE faults, size_t fault_count);
 
-/* Makes an index of a list of blocks: index_length numbers of 32 bits in the caller's memory, by which the next calls
- * search the list in a few steps. The addresses from the first of the list to the last are divided into index_length
- * parts of equal size, the least possible power of two. index[0] is the exponent of that power, and each other index[i]
- * is the number of blocks that begin before part i, at most 2^32 - 1. The list is that of a set, as aggregate leaves
- * it, a table, as ipnetwork_v4_table_make and ipnetwork_v6_table_make leave it, or ranges, as the calls below make
- * them; an index can also be made of any other list. No struct is refused. ipnetwork_index_size writes how long the
- * index of block_count blocks should be: four numbers for each block, but at most 2^20. A shorter index makes a search
- * slower, a longer one hardly faster; with none (NULL and length 0), a search takes as long as without an index. If the
- * list changes, make its index again. */
+/* Makes an index of the list of a set, as aggregate leaves it: index_length numbers of 32 bits in the caller's memory,
+ * by which the next calls search the list in a few steps. IPNETWORK_PREFIX if a prefix length is greater than the
+ * width, else IPNETWORK_NO_SET if the list is not that of a set: in such a list, the search of an address may miss it.
+ * Then nothing is written. The addresses from the first of the list to the last are divided into index_length parts of
+ * equal size, the least possible power of two. index[0] is the exponent of that power, and each other index[i] is the
+ * number of blocks that begin before part i, at most 2^32 - 1. ipnetwork_index_size writes how long the index of
+ * block_count blocks should be: four numbers for each block, but at most 2^20. A shorter index makes a search slower, a
+ * longer one hardly faster; with none (NULL and length 0), a search takes as long as without an index. If the list
+ * changes, make its index again. */
 IPNETWORK_CHECKED ipnetwork_fault ipnetwork_index_size(size_t block_count, size_t *IPNETWORK_ALONE index_length);
 IPNETWORK_CHECKED_FAULT ipnetwork_fault ipnetwork_v4_index_make(const ipnetwork_v4 *blocks, size_t block_count,
     uint32_t *IPNETWORK_ALONE index, size_t index_length);
 IPNETWORK_CHECKED_FAULT ipnetwork_fault ipnetwork_v6_index_make(const ipnetwork_v6 *blocks, size_t block_count,
+    uint32_t *IPNETWORK_ALONE index, size_t index_length);
+
+/* The same for a table, as ipnetwork_v4_table_make and ipnetwork_v6_table_make leave it, or for ranges, as the calls
+ * below make them. It is not checked that the list is one of these: an index is made of any list. */
+IPNETWORK_CHECKED_FAULT ipnetwork_fault ipnetwork_v4_table_index_make(const ipnetwork_v4 *blocks, size_t block_count,
+    uint32_t *IPNETWORK_ALONE index, size_t index_length);
+IPNETWORK_CHECKED_FAULT ipnetwork_fault ipnetwork_v6_table_index_make(const ipnetwork_v6 *blocks, size_t block_count,
     uint32_t *IPNETWORK_ALONE index, size_t index_length);
 
 /* Do the same as ipnetwork_v4_set_contains, ipnetwork_v6_set_contains, ipnetwork_v4_table_find and
@@ -452,8 +462,8 @@ IPNETWORK_CHECKED_AT((11)) ipnetwork_fault ipnetwork_v6_ranges_make_numbered(con
     size_t *IPNETWORK_ALONE range_count);
 
 /* Find what ipnetwork_v4_table_find and ipnetwork_v6_table_find find in a table, but by its ranges and their places, as
- * the calls above make them, and by an index of the ranges, as ipnetwork_v4_index_make and ipnetwork_v6_index_make make
- * it. *place is the place of the last range that begins at or before the address. IPNETWORK_NO_MEMBER if there is no
+ * the calls above make them, and by an index of the ranges, as ipnetwork_v4_table_index_make and
+ * ipnetwork_v6_table_index_make make it. *place is the place of the last range that begins at or before the address. IPNETWORK_NO_MEMBER if there is no
  * such range, or if its place is IPNETWORK_NO_PLACE or missing: then *place is not written. The index only says where
  * the search begins: if the ranges ascend, the result is the same whatever it holds. Ranges and places are not checked:
  * of any others, *place is what the places say, and if the ranges do not ascend, it may be the place of another range.

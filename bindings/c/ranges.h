@@ -47,8 +47,8 @@ static inline size_t list_index_size(size_t count) {
 /* Writes the index of a list. */
 static inline ipnetwork_fault list_index(size_t width, const uint8_t *structs, size_t count, uint32_t *index,
                                          size_t length) {
-    if (width == 4) return ipnetwork_v4_index_make((const ipnetwork_v4 *)structs, count, index, length);
-    return ipnetwork_v6_index_make((const ipnetwork_v6 *)structs, count, index, length);
+    if (width == 4) return ipnetwork_v4_table_index_make((const ipnetwork_v4 *)structs, count, index, length);
+    return ipnetwork_v6_table_index_make((const ipnetwork_v6 *)structs, count, index, length);
 }
 
 /* Divides a table into ranges. There is room for two ranges for each block. Writes to beside the number of the longest

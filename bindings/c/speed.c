@@ -194,8 +194,8 @@ static void make_ranges(const ipnetwork_v6 *networks) {
         abort();
     index_ranges = make_index(range_count, &length_ranges);
     index_ranges_six = make_index(range_count_six, &length_ranges_six);
-    if (ipnetwork_v4_index_make(ranges, range_count, index_ranges, length_ranges) != IPNETWORK_OK ||
-        ipnetwork_v6_index_make(ranges_six, range_count_six, index_ranges_six, length_ranges_six) != IPNETWORK_OK)
+    if (ipnetwork_v4_table_index_make(ranges, range_count, index_ranges, length_ranges) != IPNETWORK_OK ||
+        ipnetwork_v6_table_index_make(ranges_six, range_count_six, index_ranges_six, length_ranges_six) != IPNETWORK_OK)
         abort();
 }
 static uint64_t ranges_by(size_t i) {
@@ -232,7 +232,7 @@ static void make_indexes(void) {
     index_table = make_index(MANY, &length_table);
     index_six = make_index(set_six_count, &length_six);
     if (ipnetwork_v4_index_make(set_blocks, set_count, index_set, length_set) != IPNETWORK_OK ||
-        ipnetwork_v4_index_make(table_blocks, MANY, index_table, length_table) != IPNETWORK_OK ||
+        ipnetwork_v4_table_index_make(table_blocks, MANY, index_table, length_table) != IPNETWORK_OK ||
         ipnetwork_v6_index_make(set_six, set_six_count, index_six, length_six) != IPNETWORK_OK)
         abort();
 }

@@ -688,7 +688,8 @@ static void operate(size_t which, const struct within_256 *a, const struct withi
     leave_edge(made_six, blocks * sizeof *made_six);
 }
 
-/* Each of two lists in place of the other, which is that of a set: nothing is written, and the fault is returned. */
+/* Each of two lists in place of the other, which is that of a set, and for an index: nothing is written, and the fault is
+ * returned. */
 static void refused_operands(ipnetwork_fault wanted, const ipnetwork_v4 *bad, const ipnetwork_v6 *bad_six, size_t count) {
     ipnetwork_v4 all = v4("0.0.0.0/0"), made = {{77}, 77};
     ipnetwork_v6 all_six = v6("::/0"), made_six = {{77}, 77};
@@ -700,6 +701,12 @@ static void refused_operands(ipnetwork_fault wanted, const ipnetwork_v4 *bad, co
         CHECK("no set", operations_v6[which](&all_six, 1, bad_six, count, &made_six, 1, &told) == wanted);
         CHECK("no set", told == 77 && made.prefix == 77 && made_six.prefix == 77);
     }
+    uint32_t index[2] = {77, 77};
+    CHECK("no set", ipnetwork_v4_index_make(bad, count, index, 2) == wanted);
+    CHECK("no set", ipnetwork_v6_index_make(bad_six, count, index, 2) == wanted);
+    CHECK("no set", ipnetwork_v4_index_make(bad, count, NULL, 0) == wanted);
+    CHECK("no set", ipnetwork_v6_index_make(bad_six, count, NULL, 0) == wanted);
+    CHECK("no set", index[0] == 77 && index[1] == 77);
 }
 
 static void operations(void) {
@@ -992,8 +999,13 @@ static void indexes(void) {
         for (size_t i = 0; i < told; i++)
             starts[i] = (uint32_t)fours[i].address[0] << 24 | (uint32_t)fours[i].address[1] << 16 | (uint32_t)fours[i].address[2] << 8 | fours[i].address[3];
         plain_index(starts, told, wanted, length);
-        CHECK("index", ipnetwork_v4_index_make(fours, told, index, length) == YES);
-        CHECK("index", ipnetwork_v6_index_make(sixes, told_six, index_six, length) == YES);
+        if (round % 2 == 0) {
+            CHECK("index", ipnetwork_v4_index_make(fours, told, index, length) == YES);
+            CHECK("index", ipnetwork_v6_index_make(sixes, told_six, index_six, length) == YES);
+            CHECK("index", memcmp(index, wanted, length * sizeof *index) == 0);
+        }
+        CHECK("index", ipnetwork_v4_table_index_make(fours, told, index, length) == YES);
+        CHECK("index", ipnetwork_v6_table_index_make(sixes, told_six, index_six, length) == YES);
         CHECK("index", memcmp(index, wanted, length * sizeof *index) == 0);
         asked_by(fours, sixes, told, index, length, addresses, addresses_six, 258);
         if (told_six == told) asked_by(fours, sixes, told, index_six, length, addresses, addresses_six, 258);
@@ -1142,8 +1154,8 @@ static void asked_ranges(const uint8_t *blocks, size_t count, size_t width, cons
     memset(of.places, 77, room * sizeof *of.places);
     /* Without an index, with that of the table, and with one of arbitrary numbers. */
     for (size_t i = 0; i < 20; i++) of.index[i] = number() % 4 == 0 ? number() * 65537u : number() % 24;
-    if (count % 3 == 1) CHECK("ranges", (width == 4 ? ipnetwork_v4_index_make((const ipnetwork_v4 *)blocks, count, of.index, 20)
-                                                    : ipnetwork_v6_index_make((const ipnetwork_v6 *)blocks, count, of.index, 20)) == YES);
+    if (count % 3 == 1) CHECK("ranges", (width == 4 ? ipnetwork_v4_table_index_make((const ipnetwork_v4 *)blocks, count, of.index, 20)
+                                                    : ipnetwork_v6_table_index_make((const ipnetwork_v6 *)blocks, count, of.index, 20)) == YES);
     size_t by = count % 3 == 0 ? 0 : 20;
     ipnetwork_fault made = width == 4
         ? ipnetwork_v4_ranges_make((const ipnetwork_v4 *)blocks, count, of.index, by, (ipnetwork_v4 *)of.structs, room, of.places, 2 * count, &of.count)
@@ -1159,8 +1171,8 @@ static void asked_ranges(const uint8_t *blocks, size_t count, size_t width, cons
     for (int turn = 0; turn < 3; turn++) {
         if (turn == 0) of.index_length = 0;
         if (turn == 1) of.index_length = 20;
-        if (turn == 1) CHECK("ranges", (width == 4 ? ipnetwork_v4_index_make((const ipnetwork_v4 *)of.structs, of.count, of.index, 20)
-                                                  : ipnetwork_v6_index_make((const ipnetwork_v6 *)of.structs, of.count, of.index, 20)) == YES);
+        if (turn == 1) CHECK("ranges", (width == 4 ? ipnetwork_v4_table_index_make((const ipnetwork_v4 *)of.structs, of.count, of.index, 20)
+                                                  : ipnetwork_v6_table_index_make((const ipnetwork_v6 *)of.structs, of.count, of.index, 20)) == YES);
         if (turn == 2)
             for (size_t i = 0; i < 20; i++) of.index[i] = number() % 4 == 0 ? number() * 65537u : number() % 24;
         memset(found, 77, sizeof found);

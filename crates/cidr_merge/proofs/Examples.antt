@@ -47,7 +47,7 @@ ten = record { address = 167772160; prefix = 8 }
 
 -- `[` before each line, and `;` after it
 abbrev pub around : Names
-around = record { table = []; set = []; before = codes "["; after = codes ";" }
+around = record { table = []; set = []; limit = []; before = codes "["; after = codes ";" }
 
 pub block_of_a_union : block_line usual_names Union v4_family
     (record { side = First; part = ten }) ≡ codes "10.0.0.0/8\n"

@@ -3,7 +3,7 @@ use Rattle.std.proofs.Common.{◌≡◌, ℕ, List, [], ◌∷◌, ◌++◌, tru
 use Rattle.std.specs.Fmt.{digits}
 use Rattle.ipnetwork_family.specs.Network.{Network, count_up}
 use Rattle.cidr_merge.specs.Exports.{export_text}
-use Rattle.cidr_merge.specs.SetNames.{Names, usual_names, is_set_name}
+use Rattle.cidr_merge.specs.SetNames.{Names, usual_names, is_set_name, is_limit}
 use Rattle.cidr_merge.specs.declared.exports.Export.TheVariants.{Netmask, Wildcard, Csv, Nft, Ipset}
 use Rattle.cidr_merge.specs.declared.exports.Export.TheVariants.{Json, Addresses}
 use Rattle.cidr_merge.proofs.Examples.{ten}
@@ -30,7 +30,13 @@ values = (refl, refl)
 
 -- the input for `nft -f`, and that for `ipset restore` with the block of all IPv6 addresses
 abbrev blocked : Names
-blocked = record { table = codes "fw"; set = codes "blocked"; before = codes "deny "; after = codes ";" }
+blocked = record {
+  table = codes "fw";
+  set = codes "blocked";
+  limit = codes "65536";
+  before = codes "deny ";
+  after = codes ";";
+}
 
 pub sets : (export_text blocked Nft (ten ∷ one ∷ []) []
     ≡ codes "add table inet fw\n"
@@ -40,14 +46,22 @@ pub sets : (export_text blocked Nft (ten ∷ one ∷ []) []
     × (export_text usual_names Ipset (ten ∷ []) (record { address = 0; prefix = 0 } ∷ [])
     ≡ codes "create cidr_merge_ipv4 hash:net family inet maxelem 4294967295 -exist\n"
     ++ codes "create cidr_merge_ipv4_new hash:net family inet maxelem 4294967295 -exist\n"
-    ++ codes "flush cidr_merge_ipv4_new\nadd cidr_merge_ipv4_new 10.0.0.0/8\n"
-    ++ codes "swap cidr_merge_ipv4_new cidr_merge_ipv4\ndestroy cidr_merge_ipv4_new\n"
     ++ codes "create cidr_merge_ipv6 hash:net family inet6 maxelem 4294967295 -exist\n"
     ++ codes "create cidr_merge_ipv6_new hash:net family inet6 maxelem 4294967295 -exist\n"
+    ++ codes "flush cidr_merge_ipv4_new\nadd cidr_merge_ipv4_new 10.0.0.0/8\n"
     ++ codes "flush cidr_merge_ipv6_new\nadd cidr_merge_ipv6_new ::/1\nadd cidr_merge_ipv6_new 8000::/1\n"
-    ++ codes "swap cidr_merge_ipv6_new cidr_merge_ipv6\ndestroy cidr_merge_ipv6_new\n")
+    ++ codes "swap cidr_merge_ipv4_new cidr_merge_ipv4\nswap cidr_merge_ipv6_new cidr_merge_ipv6\n"
+    ++ codes "destroy cidr_merge_ipv4_new\ndestroy cidr_merge_ipv6_new\n")
+    × (export_text blocked Ipset [] []
+    ≡ codes "create blocked_ipv4 hash:net family inet maxelem 65536 -exist\n"
+    ++ codes "create blocked_ipv4_new hash:net family inet maxelem 65536 -exist\n"
+    ++ codes "create blocked_ipv6 hash:net family inet6 maxelem 65536 -exist\n"
+    ++ codes "create blocked_ipv6_new hash:net family inet6 maxelem 65536 -exist\n"
+    ++ codes "flush blocked_ipv4_new\nflush blocked_ipv6_new\n"
+    ++ codes "swap blocked_ipv4_new blocked_ipv4\nswap blocked_ipv6_new blocked_ipv6\n"
+    ++ codes "destroy blocked_ipv4_new\ndestroy blocked_ipv6_new\n")
 unfolding digits
-sets = (refl, refl)
+sets = (refl, refl, refl)
 
 -- names of 1 and of 22 bytes are valid; one of 23 bytes and others are not
 abbrev twenty_two : List ℕ
@@ -57,6 +71,12 @@ pub names_of_sets : (map is_set_name (codes "b" ∷ codes "Z-9_.a" ∷ twenty_tw
     × (map is_set_name ([] ∷ codes "9a" ∷ codes "_a" ∷ codes "a b" ∷ codes "a;" ∷ (twenty_two ++ codes "w") ∷ [])
     ≡ false ∷ false ∷ false ∷ false ∷ false ∷ false ∷ [])
 names_of_sets = (refl, refl)
+
+-- numbers of elements: not 0, none with a zero in front, none above 2^32 - 1, none above 2^64, nothing but digits
+pub limits : (map is_limit (codes "1" ∷ codes "65536" ∷ codes "4294967295" ∷ []) ≡ true ∷ true ∷ true ∷ [])
+    × (map is_limit ([] ∷ codes "0" ∷ codes "01" ∷ codes "4294967296" ∷ codes "18446744073709551617" ∷ codes "+1"
+    ∷ codes "1 " ∷ codes "x" ∷ []) ≡ false ∷ false ∷ false ∷ false ∷ false ∷ false ∷ false ∷ false ∷ [])
+limits = (refl, refl)
 
 -- JSON arrays with blocks of both families, of one, and of neither
 pub arrays : (export_text usual_names Json (ten ∷ one ∷ []) (half ∷ [])

@@ -56,20 +56,21 @@ same_letter_place letter (row ∷ rows) =
     ap (λ (b : Bool). cond (not b) (1 + position_or_len (has_letter letter) rows) 0) (same_letter letter row)
     ∙ ap (λ (n : ℕ). cond (not (bytes_eq (letter_text row.letter) (letter ∷ []))) (1 + n) 0) (same_letter_place letter rows)
 
--- the operations take only options of the first ten rows, and `-e`
-behind_ten : (operation : Operation) (row : ℕ) → 10 ≤ row → row ≢ 12 → takes (tasks.Merge operation) row ≡ false
-behind_ten operation row far other =
-    rw (ne_eqb 12 row (λ e. other (sym e)))
+-- the operations take only options of the first ten rows, `-e` and `--maxelem`
+behind_ten : (operation : Operation) (row : ℕ) → 10 ≤ row → row ≢ 12 → row ≢ 14 → takes (tasks.Merge operation) row ≡ false
+behind_ten operation row far other apart =
+    rw (ne_eqb 12 row (λ e. other (sym e)), ne_eqb 14 row (λ e. apart (sym e)))
     (rw (ne_eqb 0 row (λ e. omega (arith, far, e)), ne_eqb 1 row (λ e. omega (arith, far, e)), ne_eqb 2 row (λ e. omega (arith, far, e)))
     (rw (ne_eqb 3 row (λ e. omega (arith, far, e)), ne_eqb 4 row (λ e. omega (arith, far, e)), ne_eqb 5 row (λ e. omega (arith, far, e)))
     (rw (ne_eqb 6 row (λ e. omega (arith, far, e)), ne_eqb 7 row (λ e. omega (arith, far, e)), ne_eqb 8 row (λ e. omega (arith, far, e)))
     (rw (ne_eqb 9 row (λ e. omega (arith, far, e))) refl))))
 
 of_another : (operation : Operation) (test : Row → Bool) (rows : List Row) → 10 ≤ position_or_len test rows
-    → position_or_len test rows ≢ 12 → is_of (tasks.Merge operation) (position test rows) ≡ false
-of_another operation test rows far other = by (nat_lt (position_or_len test rows) (length rows)) where
+    → position_or_len test rows ≢ 12 → position_or_len test rows ≢ 14
+    → is_of (tasks.Merge operation) (position test rows) ≡ false
+of_another operation test rows far other apart = by (nat_lt (position_or_len test rows) (length rows)) where
   by : (b : Bool) → is_of (tasks.Merge operation) (cond b (Some (position_or_len test rows)) None) ≡ false
-  by true = behind_ten operation (position_or_len test rows) far other
+  by true = behind_ten operation (position_or_len test rows) far other apart
   by false = refl
 
 -- behind ten other options, and `--prefix` and `--from`, stands that of `-e`, which has no long name
@@ -79,11 +80,19 @@ not_twelve true from rest e = omega (arith, e)
 not_twelve false true rest e = omega (arith, e)
 not_twelve false false rest e = omega (arith, e)
 
+-- behind these and `--most` stands `--maxelem`
+not_fourteen : (prefix from most : Bool) (rest : ℕ)
+    → 1 + (1 + (1 + (1 + (1 + (1 + (1 + (1 + (1 + (1 + cond (not prefix) (1 + cond (not from) (1 + (1 + cond (not most) (1 + (1 + rest)) 0)) 0) 0))))))))) ≢ 14
+not_fourteen true from most rest e = omega (arith, e)
+not_fourteen false true most rest e = omega (arith, e)
+not_fourteen false false true rest e = omega (arith, e)
+not_fourteen false false false rest e = omega (arith, e)
+
 no_other_name : (table : Table) → IsOptions table → NoOtherName table.rows.now
-no_other_name table options operation text empty ranges count format set name skip json strict before after =
+no_other_name table options operation text empty ranges count format set name skip json strict before after most =
     let place = same_place text table.rows.now ∙ ap (place_among text) options.has_options in
     of_another operation (has_name text) table.rows.now (subst (λ (n : ℕ). 10 ≤ n) (sym place) far)
-    (subst (λ (n : ℕ). n ≢ 12) (sym place) other) where
+    (subst (λ (n : ℕ). n ≢ 12) (sym place) other) (subst (λ (n : ℕ). n ≢ 14) (sym place) last) where
       far : 10 ≤ place_among text entries
       far = rw (apart_from ranges, apart_from count, apart_from format, apart_from skip, apart_from json, apart_from strict, apart_from set, apart_from name, apart_from before, apart_from after) (grind arith)
 
@@ -91,13 +100,18 @@ no_other_name table options operation text empty ranges count format set name sk
       other = rw (apart_from ranges, apart_from count, apart_from format, apart_from skip, apart_from json, apart_from strict, apart_from set, apart_from name, apart_from before, apart_from after, apart_from empty)
           (not_twelve (bytes_eq (codes "--prefix") text) (bytes_eq (codes "--from") text) (place_among text (drop 13 entries)))
 
+      last : place_among text entries ≢ 14
+      last = rw (apart_from ranges, apart_from count, apart_from format, apart_from skip, apart_from json, apart_from strict, apart_from set, apart_from name, apart_from before, apart_from after, apart_from empty, apart_from most)
+          (not_fourteen (bytes_eq (codes "--prefix") text) (bytes_eq (codes "--from") text) (bytes_eq (codes "--most") text) (place_among text (drop 15 entries)))
+
 no_other_letter : (table : Table) → IsOptions table → NoOtherLetter table.rows.now
 no_other_letter table options operation letter another =
     let e : bytes_eq (codes "e") (letter ∷ []) ≡ false =
     apart_from {text = letter ∷ []} {other = codes "e"} (λ same. another (ap (λ (ls : List ℕ). get_or ls 0 0) same)) in
-    let place : position_or_len (has_letter letter) table.rows.now ≡ 17 = same_letter_place letter table.rows.now
+    let place : position_or_len (has_letter letter) table.rows.now ≡ 18 = same_letter_place letter table.rows.now
     ∙ ap (position_or_len (λ (entry : Entry). bytes_eq entry.letter (letter ∷ []))) options.has_options ∙ rw e refl in
     of_another operation (has_letter letter) table.rows.now (omega (arith, place)) (λ same. omega (arith, place, same))
+    (λ same. omega (arith, place, same))
 
 pub no_other_option : (table : Table) → IsOptions table → NoOtherOption table.rows.now
 no_other_option table options = (no_other_name table options, no_other_letter table options)

@@ -19,7 +19,7 @@ use Rattle.options.specs.declared.table.Row.{Row}
 use Rattle.options.specs.declared.table.Table.{Table}
 use Rattle.cidr_merge.specs.NamedLists.{lists_of}
 use Rattle.cidr_merge.specs.CommandLines.{asked_for, command_if, command_of, first_said, second_said, unless}
-use Rattle.cidr_merge.specs.Faults.{cannot_print, fault_of, files_among, from_of, files_fault, is_exported, is_value, item_fault, items_fault, lacks_json, lacks_fault, names_fault, option_fault, sides_fault, takes, times_named, together_fault, value_fault, has_lines, has_sets, has_table}
+use Rattle.cidr_merge.specs.Faults.{cannot_print, fault_of, files_among, from_of, files_fault, is_exported, is_value, item_fault, items_fault, lacks_json, lacks_fault, names_fault, option_fault, sides_fault, takes, times_named, together_fault, value_fault, has_lines, has_sets, has_limit, has_table}
 use Rattle.cidr_merge.specs.Forms.{form_of}
 use Rattle.cidr_merge.specs.Options as own
 use Rattle.cidr_merge.specs.RightWords.{AFile, AFlag, AJoined, AValue, AreRight, AskFor, IsRightItem, IsValue, RightWordsAreTaken, SaySides}
@@ -91,22 +91,24 @@ to_value row text h = record {
   most = λ e. subst (λ (r : ℕ). is_value r text ≡ true) e h;
   set = λ e. subst (λ (r : ℕ). is_value r text ≡ true) e h;
   table = λ e. subst (λ (r : ℕ). is_value r text ≡ true) e h;
+  maxelem = λ e. subst (λ (r : ℕ). is_value r text ≡ true) e h;
   from = λ e. some_of text (absent _ (subst (λ (r : ℕ). is_value r text ≡ true) e h));
   entry = λ e. some_of text (absent _ (subst (λ (r : ℕ). is_value r text ≡ true) e h));
 }
 
 is_of_value : (row : ℕ) (text : List ℕ) → IsValue row text → is_value row text ≡ true
-is_of_value row text v = by (row == own.format) (row == own.prefix) (row == own.most) (row == own.set) (row == own.table) (row == own.from) (row == own.text) refl refl refl refl refl refl refl where
-  by : (f p m s t r x : Bool) → (row == own.format) ≡ f → (row == own.prefix) ≡ p → (row == own.most) ≡ m → (row == own.set) ≡ s → (row == own.table) ≡ t
-      → (row == own.from) ≡ r → (row == own.text) ≡ x → is_value row text ≡ true
-  by true p m s t r x e g l h i j k = rw e (v.form (eqb-true row own.format e))
-  by false true m s t r x e g l h i j k = rw (e, g) (v.prefix (eqb-true row own.prefix g))
-  by false false true s t r x e g l h i j k = rw (e, g, l) (v.most (eqb-true row own.most l))
-  by false false false true t r x e g l h i j k = rw (e, g, l, h) (v.set (eqb-true row own.set h))
-  by false false false false true r x e g l h i j k = rw (e, g, l, h, i) (v.table (eqb-true row own.table i))
-  by false false false false false true x e g l h i j k = rw (e, g, l, h, i) (rw (j, none_is text (v.from (eqb-true row own.from j))) refl)
-  by false false false false false false true e g l h i j k = rw (e, g, l, h, i) (rw (j, k, none_is text (v.entry (eqb-true row own.text k))) refl)
-  by false false false false false false false e g l h i j k = rw (e, g, l, h, i) (rw (j, k) refl)
+is_of_value row text v = by (row == own.format) (row == own.prefix) (row == own.most) (row == own.set) (row == own.table) (row == own.maxelem) (row == own.from) (row == own.text) refl refl refl refl refl refl refl refl where
+  by : (f p m s t n r x : Bool) → (row == own.format) ≡ f → (row == own.prefix) ≡ p → (row == own.most) ≡ m → (row == own.set) ≡ s → (row == own.table) ≡ t
+      → (row == own.maxelem) ≡ n → (row == own.from) ≡ r → (row == own.text) ≡ x → is_value row text ≡ true
+  by true p m s t n r x e g l h i q j k = rw e (v.form (eqb-true row own.format e))
+  by false true m s t n r x e g l h i q j k = rw (e, g) (v.prefix (eqb-true row own.prefix g))
+  by false false true s t n r x e g l h i q j k = rw (e, g, l) (v.most (eqb-true row own.most l))
+  by false false false true t n r x e g l h i q j k = rw (e, g, l, h) (v.set (eqb-true row own.set h))
+  by false false false false true n r x e g l h i q j k = rw (e, g, l, h, i) (v.table (eqb-true row own.table i))
+  by false false false false false true r x e g l h i q j k = rw (e, g, l, h, i) (rw q (v.maxelem (eqb-true row own.maxelem q)))
+  by false false false false false false true x e g l h i q j k = rw (e, g, l, h, i) (rw (q, j, none_is text (v.from (eqb-true row own.from j))) refl)
+  by false false false false false false false true e g l h i q j k = rw (e, g, l, h, i) (rw (q, j, k, none_is text (v.entry (eqb-true row own.text k))) refl)
+  by false false false false false false false false e g l h i q j k = rw (e, g, l, h, i) (rw (q, j, k) refl)
 
 module _ (rows : List Row) (task : Task) where
   valued : (row : ℕ) (text : List ℕ) → option_or (option_fault rows task row) (value_fault rows row text) ≡ None
@@ -248,7 +250,8 @@ module _ (table : Table) (task : Task) (name : List ℕ) (dashes : ℕ) (items :
       let s = no_or (lacks_fault task items) (names_fault items (form_of Blocks items)) r.1 in
       let u = fails (is_given items own.set && not (has_sets (form_of Blocks items))) _ _ s.1 in
       let v = fails (is_given items own.table && not (has_table (form_of Blocks items))) _ _ u.1 in
-      let x = fails (is_given items own.before && not (has_lines (form_of Blocks items))) _ _ v.1 in
+      let w = fails (is_given items own.maxelem && not (has_limit (form_of Blocks items))) _ _ v.1 in
+      let x = fails (is_given items own.before && not (has_lines (form_of Blocks items))) _ _ w.1 in
       let y = fails (is_given items own.after && not (has_lines (form_of Blocks items))) _ _ x.1 in
       let t = right_sides task name dashes (firsts ++ froms) seconds (subst (λ (n : ℕ). sides_fault task name dashes n (length seconds) ≡ None) ahead
       (subst (λ (n : ℕ). sides_fault task name dashes (length firsts + length froms) n ≡ None) behind b.1)) in
@@ -263,6 +266,7 @@ module _ (table : Table) (task : Task) (name : List ℕ) (dashes : ℕ) (items :
           most = λ e. passes (is_given items own.most) _ (subst (λ (o : Task). lacks_fault o items ≡ None) e s.0);
           sets = implied (is_given items own.set) (has_sets (form_of Blocks items)) u.0;
           sets_table = implied (is_given items own.table) (has_table (form_of Blocks items)) v.0;
+          limit = implied (is_given items own.maxelem) (has_limit (form_of Blocks items)) w.0;
           before = implied (is_given items own.before) (has_lines (form_of Blocks items)) x.0;
           after = implied (is_given items own.after) (has_lines (form_of Blocks items)) y.0;
           some = t.some;
@@ -286,8 +290,9 @@ module _ (table : Table) (task : Task) (name : List ℕ) (dashes : ℕ) (items :
       (rw (
         not_lacking (is_given items own.set) (has_sets (form_of Blocks items)) r.sets,
         not_lacking (is_given items own.table) (has_table (form_of Blocks items)) r.sets_table,
-        not_lacking (is_given items own.before) (has_lines (form_of Blocks items)) r.before,
+        not_lacking (is_given items own.maxelem) (has_limit (form_of Blocks items)) r.limit,
       ) (rw (
+        not_lacking (is_given items own.before) (has_lines (form_of Blocks items)) r.before,
         not_lacking (is_given items own.after) (has_lines (form_of Blocks items)) r.after,
         sides,
       ) (no_files_fault (files_among task (length firsts) all) r.named r.input))))

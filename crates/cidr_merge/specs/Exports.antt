@@ -13,7 +13,7 @@ use Rattle.cidr_merge.specs.declared.exports.Frame.TheVariants.{Head, FamilyHead
 use Rattle.cidr_merge.specs.declared.exports.Version.{Version}
 use Rattle.cidr_merge.specs.declared.exports.Version.TheVariants.{V4, V6}
 
--- for a family: the suffix of its set's name, the type of the nftables set, and the options of the ipset set
+-- for a family: the suffix of its set's name, and the type of the nftables set
 abbrev pub family_word : Version → List ℕ
 family_word V4 = codes "_ipv4"
 family_word V6 = codes "_ipv6"
@@ -22,14 +22,10 @@ abbrev pub address_type : Version → List ℕ
 address_type V4 = codes "ipv4_addr"
 address_type V6 = codes "ipv6_addr"
 
-abbrev pub made : Version → List ℕ
-made V4 = codes " hash:net family inet maxelem 4294967295 -exist\n"
-made V6 = codes " hash:net family inet6 maxelem 4294967295 -exist\n"
-
 -- the text at a place around the blocks; empty in all cases not listed. For nftables, it creates the table and the sets
--- if they do not exist, and flushes the sets before elements are added. For ipset, it creates the set if it does not
--- exist, and an empty new set, which replaces the old one once it is filled. An `Opening` has `true` if blocks of the
--- other family come before it
+-- if they do not exist, and flushes the sets before elements are added. For ipset, it creates the sets of both families
+-- if they do not exist, and new sets, which replace the old ones once both are filled. An `Opening` has `true` if blocks
+-- of the other family come before it
 abbrev pub frame_text : Names → Export → Frame → List ℕ
 frame_text names Csv Head = codes "family,network,first,last\n"
 frame_text names Json Head = codes "["
@@ -43,13 +39,18 @@ frame_text names Nft (FamilyHead version) = concat
     ∷ family_word version ∷ codes "\n" ∷ [])
 frame_text names Nft (Opening version follows) = concat
     (codes "add element inet " ∷ names.table ∷ codes " " ∷ names.set ∷ family_word version ∷ codes " {\n\t" ∷ [])
+frame_text names Ipset Head = concat
+    (codes "create " ∷ names.set ∷ codes "_ipv4 hash:net family inet maxelem " ∷ names.limit
+    ∷ codes " -exist\ncreate " ∷ names.set ∷ codes "_ipv4_new hash:net family inet maxelem " ∷ names.limit
+    ∷ codes " -exist\ncreate " ∷ names.set ∷ codes "_ipv6 hash:net family inet6 maxelem " ∷ names.limit
+    ∷ codes " -exist\ncreate " ∷ names.set ∷ codes "_ipv6_new hash:net family inet6 maxelem " ∷ names.limit
+    ∷ codes " -exist\n" ∷ [])
 frame_text names Ipset (FamilyHead version) = concat
-    (codes "create " ∷ names.set ∷ family_word version ∷ made version ∷ codes "create " ∷ names.set
-    ∷ family_word version ∷ codes "_new" ∷ made version ∷ codes "flush " ∷ names.set ∷ family_word version
-    ∷ codes "_new\n" ∷ [])
-frame_text names Ipset (FamilyFoot version) = concat
-    (codes "swap " ∷ names.set ∷ family_word version ∷ codes "_new " ∷ names.set ∷ family_word version
-    ∷ codes "\ndestroy " ∷ names.set ∷ family_word version ∷ codes "_new\n" ∷ [])
+    (codes "flush " ∷ names.set ∷ family_word version ∷ codes "_new\n" ∷ [])
+frame_text names Ipset Foot = concat
+    (codes "swap " ∷ names.set ∷ codes "_ipv4_new " ∷ names.set ∷ codes "_ipv4\nswap " ∷ names.set
+    ∷ codes "_ipv6_new " ∷ names.set ∷ codes "_ipv6\ndestroy " ∷ names.set ∷ codes "_ipv4_new\ndestroy "
+    ∷ names.set ∷ codes "_ipv6_new\n" ∷ [])
 frame_text names _ _ = []
 
 -- the text between two blocks of a family

@@ -19,7 +19,7 @@ use Rattle.cidr_merge.specs.Forms.{form_called, form_of, most_in, prefix_in}
 use Rattle.cidr_merge.specs.NamedLists.{file_name}
 use Rattle.cidr_merge.specs.Options as own
 use Rattle.cidr_merge.specs.Options.{taken}
-use Rattle.cidr_merge.specs.SetNames.{is_set_name}
+use Rattle.cidr_merge.specs.SetNames.{is_limit, is_set_name}
 use Rattle.cidr_merge.specs.Tasks.{is_two_sided, no_option, no_first, one_side}
 use Rattle.cidr_merge.specs.declared.command_line.Form.{Form}
 use Rattle.cidr_merge.specs.declared.command_line.Form.TheVariants.{Blocks, Counts, Exported}
@@ -69,6 +69,7 @@ is_value row text =
     else if row == own.prefix then is_some (prefix_in text)
     else if row == own.most then is_some (most_in text)
     else if row == own.set || row == own.table then is_set_name text
+    else if row == own.maxelem then is_limit text
     else if row == own.from || row == own.text then not (length text == 0)
     else true
 
@@ -111,7 +112,7 @@ abbrev pub cannot_print : Task → Form → Bool
 cannot_print (tasks.Merge operations.Differ) form = is_exported form
 cannot_print task form = false
 
--- whether a form has sets, and whether it has a table, which an option can name
+-- whether a form has sets, and whether it has a table, which an option can name; and whether its sets have a limit
 abbrev pub has_sets : Form → Bool
 has_sets (Exported Nft) = true
 has_sets (Exported Ipset) = true
@@ -120,6 +121,10 @@ has_sets form = false
 abbrev pub has_table : Form → Bool
 has_table (Exported Nft) = true
 has_table form = false
+
+abbrev pub has_limit : Form → Bool
+has_limit (Exported Ipset) = true
+has_limit form = false
 
 -- whether a form has lines with a text before and after each, and the problem if an option gives one in another form
 abbrev pub has_lines : Form → Bool
@@ -139,6 +144,8 @@ names_fault items form =
     then Some (about (subjects.Option own.set) (codes "only together with --format nft or ipset"))
     else if is_given items own.table && not (has_table form)
     then Some (about (subjects.Option own.table) (codes "only together with --format nft"))
+    else if is_given items own.maxelem && not (has_limit form)
+    then Some (about (subjects.Option own.maxelem) (codes "only together with --format ipset"))
     else if is_given items own.before && not (has_lines form) then Some (about (subjects.Option own.before) no_lines)
     else if is_given items own.after && not (has_lines form) then Some (about (subjects.Option own.after) no_lines)
     else None

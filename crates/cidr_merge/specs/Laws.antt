@@ -34,14 +34,14 @@ abbrev pub is_of : Task → Option ℕ → Bool
 is_of task None = false
 is_of task (Some row) = takes task row
 
--- no text but these ten is the long name of an option of a merge; the empty text, which `-e` has in place of a long
+-- no text but these eleven is the long name of an option of a merge; the empty text, which `-e` has in place of a long
 -- name, is left out
 abbrev pub NoOtherName : List Row → Type 0
 NoOtherName rows =
     (operation : Operation) (text : List ℕ) → text ≢ [] → text ≢ codes "--ranges" → text ≢ codes "--count"
     → text ≢ codes "--format" → text ≢ codes "--set" → text ≢ codes "--table" → text ≢ codes "--skip-bad"
     → text ≢ codes "--json" → text ≢ codes "--strict" → text ≢ codes "--line-prefix" → text ≢ codes "--line-suffix"
-    → is_of (tasks.Merge operation) (named text rows) ≡ false
+    → text ≢ codes "--maxelem" → is_of (tasks.Merge operation) (named text rows) ≡ false
 
 -- no letter but `e` (byte 101) is the letter of an option of a merge
 abbrev pub NoOtherLetter : List Row → Type 0

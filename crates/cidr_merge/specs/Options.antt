@@ -49,6 +49,9 @@ text = 12
 abbrev pub most : ℕ
 most = 13
 
+abbrev pub maxelem : ℕ
+maxelem = 14
+
 -- the message for a value of `--set` or `--table` that is not a name
 abbrev pub no_name : List ℕ
 no_name = codes "not a name of 1 to 22 letters, digits, _, - and ., the first a letter"
@@ -66,6 +69,7 @@ entries =
     ∷ long (codes "--from") kinds.File true (codes "not a file name")
     ∷ valued (codes "e") kinds.Text (codes "not a network or range")
     ∷ long (codes "--most") kinds.Number true (codes "not a number from 1")
+    ∷ long (codes "--maxelem") kinds.Number true (codes "not a number from 1 to 4294967295")
     ∷ alone (codes "--help") (codes "not the only argument")
     ∷ alone (codes "--version") (codes "not the only argument")
     ∷ alone (codes "--quiet") (codes "taken only once, as the first word") ∷ []
@@ -80,7 +84,8 @@ pairs = (ranges, count, codes "--ranges: not together with --count") ∷ (format
     ∷ (prefix, prefix, codes "--prefix: given twice")
     ∷ (set, set, codes "--set: given twice") ∷ (table, table, codes "--table: given twice")
     ∷ (before, before, codes "--line-prefix: given twice") ∷ (after, after, codes "--line-suffix: given twice")
-    ∷ (from, from, codes "--from: given twice") ∷ (most, most, codes "--most: given twice") ∷ []
+    ∷ (from, from, codes "--from: given twice") ∷ (most, most, codes "--most: given twice")
+    ∷ (maxelem, maxelem, codes "--maxelem: given twice") ∷ []
 
 -- the table has these options and pairs
 abbrev pub IsOptions : Table → Type 0
@@ -89,12 +94,13 @@ IsOptions options = IsTable options entries pairs [] []
 -- the options that a task takes, by the indices of their rows
 abbrev pub taken : Task → List ℕ
 taken (tasks.Merge operation) =
-    text ∷ ranges ∷ count ∷ format ∷ set ∷ table ∷ before ∷ after ∷ skip_bad ∷ json ∷ strict ∷ []
+    text ∷ ranges ∷ count ∷ format ∷ set ∷ table ∷ maxelem ∷ before ∷ after ∷ skip_bad ∷ json ∷ strict ∷ []
 taken tasks.List =
-    text ∷ ranges ∷ count ∷ format ∷ set ∷ table ∷ before ∷ after ∷ skip_bad ∷ json ∷ strict ∷ []
+    text ∷ ranges ∷ count ∷ format ∷ set ∷ table ∷ maxelem ∷ before ∷ after ∷ skip_bad ∷ json ∷ strict ∷ []
 taken tasks.Split = text ∷ prefix ∷ before ∷ after ∷ skip_bad ∷ json ∷ strict ∷ []
 taken tasks.Reduce =
-    text ∷ ranges ∷ count ∷ format ∷ set ∷ table ∷ before ∷ after ∷ skip_bad ∷ json ∷ strict ∷ most ∷ []
+    text ∷ ranges ∷ count ∷ format ∷ set ∷ table ∷ maxelem ∷ before ∷ after ∷ skip_bad ∷ json ∷ strict ∷ most
+    ∷ []
 taken tasks.Check = text ∷ strict ∷ []
 taken tasks.Overlaps = text ∷ []
 taken tasks.Find = text ∷ from ∷ []

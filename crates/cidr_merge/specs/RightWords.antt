@@ -15,11 +15,11 @@ use Rattle.options.specs.declared.table.Table.{Table}
 use Rattle.program.specs.Words.{count}
 use Rattle.cidr_merge.specs.NamedLists.{lists_of}
 use Rattle.cidr_merge.specs.CommandLines.{asked_for, command_of}
-use Rattle.cidr_merge.specs.Faults.{is_exported, files_among, from_of, has_lines, has_sets, has_table, takes}
-use Rattle.cidr_merge.specs.Faults.{times_named}
+use Rattle.cidr_merge.specs.Faults.{is_exported, files_among, from_of, has_limit, has_lines, has_sets, has_table}
+use Rattle.cidr_merge.specs.Faults.{takes, times_named}
 use Rattle.cidr_merge.specs.Forms.{form_called, form_of, most_in, prefix_in}
 use Rattle.cidr_merge.specs.Options as own
-use Rattle.cidr_merge.specs.SetNames.{is_set_name}
+use Rattle.cidr_merge.specs.SetNames.{is_limit, is_set_name}
 use Rattle.cidr_merge.specs.Tasks.{is_two_sided, task_called}
 use Rattle.cidr_merge.specs.declared.command_line.Command.{Command}
 use Rattle.cidr_merge.specs.declared.command_line.Form.TheVariants.{Blocks}
@@ -43,6 +43,7 @@ pub record IsValue (row : ℕ) (text : List ℕ) : Type 0 where
   pub most : row ≡ own.most → IsTrue (is_some (most_in text))
   pub set : row ≡ own.set → IsTrue (is_set_name text)
   pub table : row ≡ own.table → IsTrue (is_set_name text)
+  pub maxelem : row ≡ own.maxelem → IsTrue (is_limit text)
   pub from : row ≡ own.from → text ≢ []
   pub entry : row ≡ own.text → text ≢ []
 
@@ -67,6 +68,7 @@ pub record AreRight (table : Table) (task : Task) (items : List Item) (first sec
   pub most : task ≡ tasks.Reduce → IsTrue (is_given items own.most)
   pub sets : IsTrue (is_given items own.set) → IsTrue (has_sets (form_of Blocks items))
   pub sets_table : IsTrue (is_given items own.table) → IsTrue (has_table (form_of Blocks items))
+  pub limit : IsTrue (is_given items own.maxelem) → IsTrue (has_limit (form_of Blocks items))
   pub before : IsTrue (is_given items own.before) → IsTrue (has_lines (form_of Blocks items))
   pub after : IsTrue (is_given items own.after) → IsTrue (has_lines (form_of Blocks items))
   pub some : first ++ from_of task items ≢ []

@@ -1,15 +1,18 @@
--- The names of the sets that an export fills, and the texts around each line.
-use Rattle.std.specs.Prelude.{ℕ, ◌==◌, ◌&&◌, ◌||◌, Bool, false, List, [], ◌∷◌, ◌++◌, length, nat_lt, nat_le}
-use Rattle.std.specs.Prelude.{codes, if◌then◌else◌}
+-- The names of the sets that an export fills, their limit, and the texts around each line.
+use Rattle.std.specs.Prelude.{ℕ, ◌==◌, ◌&&◌, ◌||◌, Bool, false, not, List, [], ◌∷◌, ◌++◌, length, nat_lt, nat_le}
+use Rattle.std.specs.Prelude.{codes, if◌then◌else◌, Option, None, Some}
 use Rattle.std.specs.List.{concat, list_all}
 use Rattle.options.specs.Given.{is_given, value_of}
+use Rattle.options.specs.Values.{number_in}
 use Rattle.options.specs.declared.items.Item.{Item}
 use Rattle.cidr_merge.specs.Options as own
 
--- the table of nftables, the beginning of the names of both sets, and the texts before and after each line
+-- the table of nftables, the beginning of the names of both sets, the number of elements that a set of ipset is made
+-- for, and the texts before and after each line
 pub record Names : Type 0 where
   pub table : List ℕ
   pub set : List ℕ
+  pub limit : List ℕ
   pub before : List ℕ
   pub after : List ℕ
 
@@ -21,10 +24,15 @@ name_in text = if nat_le (length text) 22 then text else []
 abbrev pub name_by : ℕ → List Item → List ℕ
 name_by row items = if is_given items row then name_in (value_of items row) else name_in (codes "cidr_merge")
 
+-- the number that `--maxelem` gives, else the greatest
+abbrev pub limit_by : List Item → List ℕ
+limit_by items = if is_given items own.maxelem then value_of items own.maxelem else codes "4294967295"
+
 abbrev pub names_of : List Item → Names
 names_of items = record {
   table = name_by own.table items;
   set = name_by own.set items;
+  limit = limit_by items;
   before = value_of items own.before;
   after = value_of items own.after;
 }
@@ -48,3 +56,12 @@ is_name_byte byte =
 abbrev pub is_set_name : List ℕ → Bool
 is_set_name [] = false
 is_set_name (first ∷ others) = (list_all is_name_byte others && is_letter first) && nat_lt (length others) 22
+
+-- a number of elements: 1 to 4,294,967,295, in decimal digits of which the first is not 0 (byte 48)
+abbrev pub is_within : Option ℕ → Bool
+is_within None = false
+is_within (Some number) = nat_le number 4294967295
+
+abbrev pub is_limit : List ℕ → Bool
+is_limit [] = false
+is_limit (first ∷ others) = not (first == 48) && is_within (number_in (first ∷ others))

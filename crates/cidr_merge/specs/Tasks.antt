@@ -35,7 +35,7 @@ no_option tasks.Check = codes "not an option of check; it takes -e TEXT and --st
 no_option tasks.Overlaps = codes "not an option of overlaps; it takes -e TEXT"
 no_option tasks.Find = codes "not an option of find; it takes -e TEXT and --from FILE"
 no_option task = codes "not an option of union, common, minus, differ or list; they take -e TEXT, --ranges, --count, "
-    ++ codes "--format FORM, --set NAME, --table NAME, --line-prefix TEXT, --line-suffix TEXT, --skip-bad, "
+    ++ codes "--format FORM, --set NAME, --table NAME, --maxelem N, --line-prefix TEXT, --line-suffix TEXT, --skip-bad, "
     ++ codes "--json and --strict"
 
 -- the messages for a `--` of a task with one side, and for a `--` with nothing before it

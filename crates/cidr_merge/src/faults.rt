@@ -4,15 +4,16 @@ ghost use Rattle.std.specs.String.{string_bytes};
 ghost use Rattle.cidr_merge.specs.Faults.{at, problem_of_row, no_task_fault, takes, option_fault};
 ghost use Rattle.cidr_merge.specs.Faults.{is_value, value_fault, item_fault, items_fault};
 ghost use Rattle.cidr_merge.specs.Faults.{lacks_json, lacks_fault, cannot_print, has_sets};
-ghost use Rattle.cidr_merge.specs.Faults.{has_table, has_lines, names_fault, together_fault};
+ghost use Rattle.cidr_merge.specs.Faults.{has_table, has_limit, has_lines, names_fault};
+ghost use Rattle.cidr_merge.specs.Faults.{together_fault};
 ghost use Rattle.cidr_merge.specs.Faults.{sides_fault, files_fault, files_among, from_of, fault_of};
 
 use crate::command_line::{Form, Operation, form_called, form_of, most_in, prefix_in};
 use crate::exports::Export;
 use crate::rows::{
-    AFTER, BEFORE, FORMAT, FROM, JSON, MOST, PREFIX, SET, STRICT, TABLE, TEXT, taken,
+    AFTER, BEFORE, FORMAT, FROM, JSON, MAXELEM, MOST, PREFIX, SET, STRICT, TABLE, TEXT, taken,
 };
-use crate::set_names::is_set_name;
+use crate::set_names::{is_limit, is_set_name};
 use crate::tasks::{ONE_SIDE, Task, is_two_sided, no_first, no_option};
 use options::faults::{Fault, Subject, about, pair_fault, problem_at};
 use options::given::is_given;
@@ -79,6 +80,7 @@ fn is_value(row: usize, text: &str) -> bool
         PREFIX => prefix_in(text).is_some(),
         MOST => most_in(text).is_some(),
         SET | TABLE => is_set_name(text),
+        MAXELEM => is_limit(text),
         FROM | TEXT => !text.is_empty(),
         _ => true,
     }
@@ -162,7 +164,7 @@ fn cannot_print(task: Task, form: Form) -> bool
     }
 }
 
-// Whether a form has sets, and a table.
+// Whether a form has sets, a table, and a limit for its sets.
 fn has_sets(form: Form) -> bool
     ensures { result ≡ has_sets form }
 {
@@ -173,6 +175,12 @@ fn has_table(form: Form) -> bool
     ensures { result ≡ has_table form }
 {
     matches!(form, Form::Exported(Export::Nft))
+}
+
+fn has_limit(form: Form) -> bool
+    ensures { result ≡ has_limit form }
+{
+    matches!(form, Form::Exported(Export::Ipset))
 }
 
 // Whether a form has lines with a text before and after each.
@@ -200,6 +208,12 @@ fn names_fault<'a>(items: &[Item<'a>], form: Form) -> Option<Fault<'a>>
     }
     if is_given(items, TABLE) && !has_table(form) {
         return Some(about(Subject::Option(TABLE), "only together with --format nft"));
+    }
+    if is_given(items, MAXELEM) && !has_limit(form) {
+        return Some(about(
+            Subject::Option(MAXELEM),
+            "only together with --format ipset",
+        ));
     }
     if is_given(items, BEFORE) && !has_lines(form) {
         return Some(about(Subject::Option(BEFORE), NO_LINES));

@@ -31,9 +31,9 @@ pub fn no_other_tasks()
     ensures { NoOtherTask }
 {}
 
-/// No long option but `--ranges`, `--count`, `--format`, `--set`, `--table`, `--line-prefix`,
-/// `--line-suffix`, `--skip-bad`, `--json` and `--strict`, and no letter but `e`, is an option of a
-/// merge.
+/// No long option but `--ranges`, `--count`, `--format`, `--set`, `--table`, `--maxelem`,
+/// `--line-prefix`, `--line-suffix`, `--skip-bad`, `--json` and `--strict`, and no letter but `e`,
+/// is an option of a merge.
 pub fn no_other_options(table: &Table<'_>)
     ensures { IsOptions table.now → NoOtherOption table.now.rows.now }
 {

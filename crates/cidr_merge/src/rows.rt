@@ -47,8 +47,11 @@ pub(crate) const TEXT: usize = 12;
 /// The row of `--most`.
 pub(crate) const MOST: usize = 13;
 
+/// The row of `--maxelem`.
+pub(crate) const MAXELEM: usize = 14;
+
 // The options.
-const ROWS: [Row; 17] = [
+const ROWS: [Row; 18] = [
     long!("--ranges", Flag, false, ""),
     long!("--count", Flag, false, ""),
     long!(
@@ -69,6 +72,12 @@ const ROWS: [Row; 17] = [
     long!("--from", File, true, "not a file name"),
     letter!(b'e', Text, "not a network or range"),
     long!("--most", Number, true, "not a number from 1"),
+    long!(
+        "--maxelem",
+        Number,
+        true,
+        "not a number from 1 to 4294967295"
+    ),
     long!("--help", Alone, false, "not the only argument"),
     long!("--version", Alone, false, "not the only argument"),
     long!(
@@ -86,7 +95,7 @@ const NO_NAME: &str = "not a name of 1 to 22 letters, digits, _, - and ., the fi
 const ANOTHER_FORM: &str = "--format: given twice, or together with --ranges or --count";
 
 // The pairs of options that exclude each other.
-const PAIRS: [Pair; 11] = [
+const PAIRS: [Pair; 12] = [
     pair!(RANGES, COUNT, "--ranges: not together with --count"),
     pair!(FORMAT, FORMAT, ANOTHER_FORM),
     pair!(FORMAT, RANGES, ANOTHER_FORM),
@@ -98,6 +107,7 @@ const PAIRS: [Pair; 11] = [
     pair!(AFTER, AFTER, "--line-suffix: given twice"),
     pair!(FROM, FROM, "--from: given twice"),
     pair!(MOST, MOST, "--most: given twice"),
+    pair!(MAXELEM, MAXELEM, "--maxelem: given twice"),
 ];
 
 /// The options.
@@ -113,14 +123,14 @@ pub(crate) fn table() -> Table<'static>
 }
 
 // The options of a merge, a `split`, a `reduce` and a `check`, by the indices of their rows.
-const OF_MERGES: [usize; 11] = [
-    TEXT, RANGES, COUNT, FORMAT, SET, TABLE, BEFORE, AFTER, SKIP_BAD, JSON, STRICT,
+const OF_MERGES: [usize; 12] = [
+    TEXT, RANGES, COUNT, FORMAT, SET, TABLE, MAXELEM, BEFORE, AFTER, SKIP_BAD, JSON, STRICT,
 ];
 
 const OF_SPLIT: [usize; 7] = [TEXT, PREFIX, BEFORE, AFTER, SKIP_BAD, JSON, STRICT];
 
-const OF_REDUCE: [usize; 12] = [
-    TEXT, RANGES, COUNT, FORMAT, SET, TABLE, BEFORE, AFTER, SKIP_BAD, JSON, STRICT, MOST,
+const OF_REDUCE: [usize; 13] = [
+    TEXT, RANGES, COUNT, FORMAT, SET, TABLE, MAXELEM, BEFORE, AFTER, SKIP_BAD, JSON, STRICT, MOST,
 ];
 
 const OF_CHECK: [usize; 2] = [TEXT, STRICT];

@@ -1,16 +1,17 @@
-//! The names of the sets that an export fills, and the texts around each line.
+//! The names of the sets that an export fills, their limit, and the texts around each line.
 ghost use Rattle.std.specs.Prelude.{◌≡◌, ◌∷◌, []};
 ghost use Rattle.std.specs.List.{list_all};
 ghost use Rattle.cidr_merge.specs.SetNames.{is_letter, is_name_byte, is_set_name, name_by};
-ghost use Rattle.cidr_merge.specs.SetNames.{line_of, name_in, names_of};
+ghost use Rattle.cidr_merge.specs.SetNames.{is_limit, limit_by, line_of, name_in, names_of};
 ghost use Rattle.program.specs.Putting.{PutsOrFails};
 
-use crate::rows::{AFTER, BEFORE, SET, TABLE};
+use crate::rows::{AFTER, BEFORE, MAXELEM, SET, TABLE};
 use arrayvec::ArrayString;
 use lines::fault::RunFault;
 use lines::output::Output;
 use options::given::{is_given, value_of};
 use options::items::Item;
+use options::values::number_in;
 use program::putting::put_all;
 use std::io::Write;
 use std::marker::Model;
@@ -18,16 +19,22 @@ use std::marker::Model;
 /// The greatest length of a name, in bytes: ipset takes 31, and `_ipv4_new` needs nine of them.
 const NAME_MAX: usize = 22;
 
+/// The greatest number of elements that a set of ipset can be made for.
+const MOST_ELEMENTS: u64 = 4_294_967_295;
+
 /// The name of a set or a table.
 pub(crate) type Name = ArrayString<NAME_MAX>;
 
-/// The table of nftables, the beginning of both sets' names, and the texts around each line.
+/// The table of nftables, the beginning of both sets' names, how many elements a set of ipset is
+/// made for, and the texts around each line.
 #[derive(Debug, Drop)]
 pub struct SetNames<'a> {
     /// The table.
     pub table: Name,
     /// The beginning of `NAME_ipv4` and `NAME_ipv6`.
     pub set: Name,
+    /// The number after `maxelem`, in decimal digits.
+    pub limit: &'a str,
     /// The text before each line.
     pub before: &'a str,
     /// The text after each line.
@@ -43,6 +50,7 @@ impl<'a> Model for SetNames<'a> {
     ghost view = { λ names. record {
       table = names.table.bytes;
       set = names.set.bytes;
+      limit = names.limit.now;
       before = names.before.now;
       after = names.after.now;
     } };
@@ -55,6 +63,7 @@ pub(crate) fn names_of<'a>(items: &[Item<'a>]) -> SetNames<'a>
     SetNames {
         table: name_by(items, TABLE),
         set: name_by(items, SET),
+        limit: limit_by(items),
         before: value_of(items, BEFORE),
         after: value_of(items, AFTER),
     }
@@ -69,6 +78,28 @@ pub(crate) fn put_line<W: Write>(
     ensures { PutsOrFails result output.old output.new (line_of names.now (text.now ∷ [])) }
 {
     put_all(&[names.before, text, names.after, "\n"], output)
+}
+
+// Returns the number that `--maxelem` gives, else the greatest.
+fn limit_by<'a>(items: &[Item<'a>]) -> &'a str
+    ensures { result.now ≡ limit_by items.now }
+{
+    if is_given(items, MAXELEM) {
+        value_of(items, MAXELEM)
+    } else {
+        "4294967295"
+    }
+}
+
+/// Returns whether a text is a number from 1 to 4,294,967,295, in decimal digits of which the first
+/// is not 0.
+pub(crate) fn is_limit(text: &str) -> bool
+    ensures { result ≡ is_limit text.now }
+{
+    match (text.as_bytes(), number_in(text)) {
+        ([first, ..], Some(number)) => *first != b'0' && number <= MOST_ELEMENTS,
+        _ => false,
+    }
 }
 
 // Returns the name that the option of a row gives, else `cidr_merge`.

@@ -60,7 +60,7 @@ pub(crate) fn no_option(task: Task) -> &'static str
     match task {
         Task::Merge(_) | Task::List => {
             "not an option of union, common, minus, differ or list; they take -e TEXT, --ranges, \
-             --count, --format FORM, --set NAME, --table NAME, --line-prefix TEXT, \
+             --count, --format FORM, --set NAME, --table NAME, --maxelem N, --line-prefix TEXT, \
              --line-suffix TEXT, --skip-bad, --json and --strict"
         }
         Task::Split => {

@@ -2,9 +2,13 @@
 -- begins.
 use Rattle.std.specs.Prelude.{◌≡◌, ℕ, ◌+◌, ◌-◌, ◌*◌, ◌/◌, ◌^◌, ◌<◌, ◌≤◌, min, List, [], length, map, get_or, slice_get}
 use Rattle.std.specs.Prelude.{Some}
+use Rattle.std.specs.List.{All}
 use Rattle.ipnetwork_family.specs.Network.{Network}
-use Rattle.ipnetwork_c.specs.Held.{number_of_octets}
-use Rattle.ipnetwork_c.specs.Outcomes.{Writes}
+use Rattle.ipnetwork_sets.specs.Sets.{IsAddressSet}
+use Rattle.ipnetwork_c.specs.Answers.{IfFit}
+use Rattle.ipnetwork_c.specs.Held.{number_of_octets, PrefixFits}
+use Rattle.ipnetwork_c.specs.Numbers.{no_set}
+use Rattle.ipnetwork_c.specs.Outcomes.{Needs, Writes}
 use Rattle.ipnetwork_c.specs.Columns.{AsksEach}
 use Rattle.ipnetwork_c.specs.Lists.{SetQuery}
 
@@ -39,6 +43,12 @@ pub record IsIndexOf (networks : List Network) (index : List ℕ) : Type 0 where
 -- the index of a list is written over the whole of the index memory
 abbrev pub MakesIndex : {C : Type 0} → (C → Network) → List C → List ℕ → List ℕ → ℕ → Type 0
 MakesIndex held list before = Writes (λ index. (length index ≡ length before) × IsIndexOf (map held list) index) before
+
+-- the same if the list is that of a set; else the index memory is unchanged, with `prefix` if a prefix length is greater
+-- than w, and otherwise `no_set`
+abbrev pub MakesSetIndex : {C : Type 0} → ℕ → (C → Network) → List C → List ℕ → List ℕ → ℕ → Type 0
+MakesSetIndex w held list = IfFit (All (λ c. PrefixFits w (held c)) list)
+    (Needs (IsAddressSet w (map held list)) no_set (MakesIndex held list))
 
 -- each address gets the result and fault of the call for one address, if there is room for all of them
 abbrev pub SetRows : {C : Type 0} → ℕ → (C → Network) → List C → List (List ℕ) → List ℕ × List ℕ → List ℕ × List ℕ → ℕ

@@ -2,14 +2,17 @@
 ghost use Rattle.std.specs.Prelude.{◌≡◌, ◌↔◌, ◌+◌, ◌*◌, ◌^◌, ◌<◌, ◌≤◌, IsTrue, length, map, min};
 ghost use Rattle.ipnetwork_c.specs.Held.{v4_in, v6_in};
 ghost use Rattle.ipnetwork_c.specs.Indexes.{address_at, AreLeastParts, BeginBefore, IsIndexOf, MakesIndex};
+ghost use Rattle.ipnetwork_c.specs.Indexes.{MakesSetIndex};
 ghost use Rattle.ipnetwork_c.specs.Outcomes.{Writes};
 ghost use Rattle.ipnetwork_c.specs.Private.Indexes.{LastBefore};
 
-use crate::fault::OK;
+use crate::fault::{NO_SET, OK, PREFIX};
+use crate::listed::all_fit;
 use crate::numbered::Numbered;
 use crate::structs::{Ipv4InC, Ipv6InC};
 use ipnetwork::{Ipv4Network, Ipv6Network};
 use ipnetwork_blocks::AddressSpace;
+use ipnetwork_sets::is_address_set;
 
 /// Writes to `index_length` how many numbers an index of `block_count` blocks should have: four for
 /// each block, but at most 2^20. A shorter index makes a search slower, a longer one hardly faster.
@@ -22,13 +25,32 @@ pub extern "C" fn ipnetwork_index_size(block_count: usize, index_length: &mut us
     OK
 }
 
-/// Writes the index of a list over all of `index`, so that a search of the list by
-/// `ipnetwork_v4_index_contains` or `ipnetwork_v4_index_find` takes few steps. The addresses from
-/// the first of the list to the last are divided into parts of equal size, the least possible power
-/// of two: the index has the exponent of that power, and then, for each part but the first, how
-/// many structs of the list begin before it. No struct is refused.
+/// Writes the index of the blocks of a set over all of `index`, so that a search of the set by
+/// `ipnetwork_v4_index_contains` takes few steps. The addresses from the first of the list to the
+/// last are divided into parts of equal size, the least possible power of two: the index has the
+/// exponent of that power, and then, for each part but the first, how many structs of the list
+/// begin before it. Returns `PREFIX` if a prefix length is greater than 32, else `NO_SET` if the
+/// list is not that of a set.
 #[unsafe(no_mangle)]
 pub extern "C" fn ipnetwork_v4_index_make(blocks: &[Ipv4InC], index: &mut [u32]) -> u32
+    ensures { MakesSetIndex 32 v4_in blocks.now index.old index.new result }
+{
+    make_of_set::<Ipv4Network, Ipv4InC>(blocks, index)
+}
+
+/// The same for IPv6, with prefix lengths up to 128.
+#[unsafe(no_mangle)]
+pub extern "C" fn ipnetwork_v6_index_make(blocks: &[Ipv6InC], index: &mut [u32]) -> u32
+    ensures { MakesSetIndex 128 v6_in blocks.now index.old index.new result }
+{
+    make_of_set::<Ipv6Network, Ipv6InC>(blocks, index)
+}
+
+/// Writes the index of a list that need not be that of a set, so that a search of a table by
+/// `ipnetwork_v4_index_find`, or of its ranges by `ipnetwork_v4_ranges_find`, takes few steps. No
+/// struct is refused.
+#[unsafe(no_mangle)]
+pub extern "C" fn ipnetwork_v4_table_index_make(blocks: &[Ipv4InC], index: &mut [u32]) -> u32
     ensures { MakesIndex v4_in blocks.now index.old index.new result }
 {
     make::<Ipv4Network, Ipv4InC>(blocks, index);
@@ -37,10 +59,24 @@ pub extern "C" fn ipnetwork_v4_index_make(blocks: &[Ipv4InC], index: &mut [u32])
 
 /// The same for IPv6.
 #[unsafe(no_mangle)]
-pub extern "C" fn ipnetwork_v6_index_make(blocks: &[Ipv6InC], index: &mut [u32]) -> u32
+pub extern "C" fn ipnetwork_v6_table_index_make(blocks: &[Ipv6InC], index: &mut [u32]) -> u32
     ensures { MakesIndex v6_in blocks.now index.old index.new result }
 {
     make::<Ipv6Network, Ipv6InC>(blocks, index);
+    OK
+}
+
+// Makes the index if the list is that of a set.
+fn make_of_set<N: AddressSpace, H: Numbered<N>>(list: &[H], index: &mut [u32]) -> u32
+    ensures { MakesSetIndex N.WIDTH H.held list.now index.old index.new result }
+{
+    if !all_fit::<N, H>(list) {
+        return PREFIX;
+    }
+    if !is_address_set::<N, H>(list) {
+        return NO_SET;
+    }
+    make::<N, H>(list, index);
     OK
 }
 

@@ -19,7 +19,8 @@ pub enum Export {
     Csv,
     /// Input for `nft -f` that replaces the elements of both families' sets by these blocks.
     Nft,
-    /// Input for `ipset restore` that does the same.
+    /// Input for `ipset restore` that does the same: what creates the sets comes first, and what
+    /// replaces them last, so that nothing is changed if a set is another or too small.
     Ipset,
     /// A JSON array of strings.
     Json,
@@ -36,12 +37,6 @@ pub enum Version {
     V6,
 }
 
-/// The options that create an IPv4 set of ipset, after its name.
-const MADE_V4: &str = " hash:net family inet maxelem 4294967295 -exist\n";
-
-/// The options that create an IPv6 set of ipset, after its name.
-const MADE_V6: &str = " hash:net family inet6 maxelem 4294967295 -exist\n";
-
 /// Returns the suffix of the name of a family's set.
 pub(crate) fn family_word(version: Version) -> &'static str {
     match version {
@@ -55,14 +50,6 @@ fn address_type(version: Version) -> &'static str {
     match version {
         Version::V4 => "ipv4_addr",
         Version::V6 => "ipv6_addr",
-    }
-}
-
-// Returns the options that create a set of ipset, after its name.
-fn made(version: Version) -> &'static str {
-    match version {
-        Version::V4 => MADE_V4,
-        Version::V6 => MADE_V6,
     }
 }
 
@@ -126,30 +113,50 @@ pub(crate) fn put_frame<W: Write>(
                 output,
             )
         }
-        (Export::Ipset, Frame::FamilyHead(version)) => {
-            let (word, made) = (family_word(version), made(version));
+        (Export::Ipset, Frame::Head) => {
+            let limit = names.limit;
             put_all(
                 &[
-                    "create ", set, word, made, "create ", set, word, "_new", made, "flush ", set,
-                    word, "_new\n",
+                    "create ",
+                    set,
+                    "_ipv4 hash:net family inet maxelem ",
+                    limit,
+                    " -exist\ncreate ",
+                    set,
+                    "_ipv4_new hash:net family inet maxelem ",
+                    limit,
+                    " -exist\ncreate ",
+                    set,
+                    "_ipv6 hash:net family inet6 maxelem ",
+                    limit,
+                    " -exist\ncreate ",
+                    set,
+                    "_ipv6_new hash:net family inet6 maxelem ",
+                    limit,
+                    " -exist\n",
                 ],
                 output,
             )
         }
-        (Export::Ipset, Frame::FamilyFoot(version)) => {
-            let word = family_word(version);
+        (Export::Ipset, Frame::FamilyHead(version)) => {
+            put_all(&["flush ", set, family_word(version), "_new\n"], output)
+        }
+        (Export::Ipset, Frame::Foot) => {
             put_all(
                 &[
                     "swap ",
                     set,
-                    word,
-                    "_new ",
+                    "_ipv4_new ",
                     set,
-                    word,
-                    "\ndestroy ",
+                    "_ipv4\nswap ",
                     set,
-                    word,
-                    "_new\n",
+                    "_ipv6_new ",
+                    set,
+                    "_ipv6\ndestroy ",
+                    set,
+                    "_ipv4_new\ndestroy ",
+                    set,
+                    "_ipv6_new\n",
                 ],
                 output,
             )

@@ -5,8 +5,10 @@
 use fosibegan::plain_std::string::String;
 use crate::command_line::{Form, Operation, form_called, form_of, most_in, prefix_in};
 use crate::exports::Export;
-use crate::rows::{AFTER, BEFORE, FORMAT, FROM, JSON, MOST, PREFIX, SET, STRICT, TABLE, TEXT, taken};
-use crate::set_names::is_set_name;
+use crate::rows::{
+    AFTER, BEFORE, FORMAT, FROM, JSON, MAXELEM, MOST, PREFIX, SET, STRICT, TABLE, TEXT, taken,
+};
+use crate::set_names::{is_limit, is_set_name};
 use crate::tasks::{ONE_SIDE, Task, is_two_sided, no_first, no_option};
 use cidr_programs::options::faults::{Fault, Subject, about, pair_fault, problem_at};
 use cidr_programs::options::given::is_given;
@@ -61,6 +63,7 @@ fn is_value(row: usize, text: &str) -> bool {
         PREFIX => prefix_in(text).is_some(),
         MOST => most_in(text).is_some(),
         SET | TABLE => is_set_name(text),
+        MAXELEM => is_limit(text),
         FROM | TEXT => !text.is_empty(),
         _ => true,
     }
@@ -132,13 +135,17 @@ fn cannot_print(task: Task, form: Form) -> bool {
     }
 }
 
-// Whether a form has sets, and a table.
+// Whether a form has sets, a table, and a limit for its sets.
 fn has_sets(form: Form) -> bool {
     matches!(form, Form::Exported(Export::Nft | Export::Ipset))
 }
 
 fn has_table(form: Form) -> bool {
     matches!(form, Form::Exported(Export::Nft))
+}
+
+fn has_limit(form: Form) -> bool {
+    matches!(form, Form::Exported(Export::Ipset))
 }
 
 // Whether a form has lines with a text before and after each.
@@ -162,6 +169,12 @@ fn names_fault<'a>(items: &[Item<'a>], form: Form) -> Option<Fault<'a>> {
     }
     if is_given(items, TABLE) && !has_table(form) {
         return Some(about(Subject::Option(TABLE), "only together with --format nft"));
+    }
+    if is_given(items, MAXELEM) && !has_limit(form) {
+        return Some(about(
+            Subject::Option(MAXELEM),
+            "only together with --format ipset",
+        ));
     }
     if is_given(items, BEFORE) && !has_lines(form) {
         return Some(about(Subject::Option(BEFORE), NO_LINES));

@@ -1,29 +1,36 @@
 // Written by scripts/plain out of crates/cidr_merge/src/set_names.rt
 
-//! The names of the sets that an export fills, and the texts around each line.
+//! The names of the sets that an export fills, their limit, and the texts around each line.
 
-use crate::rows::{AFTER, BEFORE, SET, TABLE};
+use crate::rows::{AFTER, BEFORE, MAXELEM, SET, TABLE};
 use fosibegan::plain_std::arrayvec::ArrayString;
 use cidr_programs::lines::fault::RunFault;
 use cidr_programs::lines::output::Output;
 use cidr_programs::options::given::{is_given, value_of};
 use cidr_programs::options::items::Item;
+use cidr_programs::options::values::number_in;
 use cidr_programs::program::putting::put_all;
 use fosibegan::plain_std::io::Write;
 
 /// The greatest length of a name, in bytes: ipset takes 31, and `_ipv4_new` needs nine of them.
 const NAME_MAX: usize = 22;
 
+/// The greatest number of elements that a set of ipset can be made for.
+const MOST_ELEMENTS: u64 = 4_294_967_295;
+
 /// The name of a set or a table.
 pub(crate) type Name = ArrayString<NAME_MAX>;
 
-/// The table of nftables, the beginning of both sets' names, and the texts around each line.
+/// The table of nftables, the beginning of both sets' names, how many elements a set of ipset is
+/// made for, and the texts around each line.
 #[derive(Debug)]
 pub struct SetNames<'a> {
     /// The table.
     pub table: Name,
     /// The beginning of `NAME_ipv4` and `NAME_ipv6`.
     pub set: Name,
+    /// The number after `maxelem`, in decimal digits.
+    pub limit: &'a str,
     /// The text before each line.
     pub before: &'a str,
     /// The text after each line.
@@ -35,6 +42,7 @@ pub(crate) fn names_of<'a>(items: &[Item<'a>]) -> SetNames<'a> {
     SetNames {
         table: name_by(items, TABLE),
         set: name_by(items, SET),
+        limit: limit_by(items),
         before: value_of(items, BEFORE),
         after: value_of(items, AFTER),
     }
@@ -47,6 +55,24 @@ pub(crate) fn put_line<W: Write>(
     output: &mut Output<'_, W>,
 ) -> Result<(), RunFault> {
     put_all(&[names.before, text, names.after, "\n"], output)
+}
+
+// Returns the number that `--maxelem` gives, else the greatest.
+fn limit_by<'a>(items: &[Item<'a>]) -> &'a str {
+    if is_given(items, MAXELEM) {
+        value_of(items, MAXELEM)
+    } else {
+        "4294967295"
+    }
+}
+
+/// Returns whether a text is a number from 1 to 4,294,967,295, in decimal digits of which the first
+/// is not 0.
+pub(crate) fn is_limit(text: &str) -> bool {
+    match (text.as_bytes(), number_in(text)) {
+        ([first, ..], Some(number)) => *first != b'0' && number <= MOST_ELEMENTS,
+        _ => false,
+    }
 }
 
 // Returns the name that the option of a row gives, else `cidr_merge`.

@@ -2,11 +2,13 @@
 
 //! Makes indexes of lists in the caller's memory.
 
-use crate::fault::OK;
+use crate::fault::{NO_SET, OK, PREFIX};
+use crate::listed::all_fit;
 use crate::numbered::Numbered;
 use crate::structs::{Ipv4InC, Ipv6InC};
 use fosibegan::ipnetwork::{Ipv4Network, Ipv6Network};
 use fosibegan::ipnetwork_blocks::AddressSpace;
+use fosibegan::ipnetwork_sets::is_address_set;
 
 /// Writes to `index_length` how many numbers an index of `block_count` blocks should have: four for
 /// each block, but at most 2^20. A shorter index makes a search slower, a longer one hardly faster.
@@ -23,15 +25,15 @@ const _: () = {
     }
 };
 
-/// Writes the index of a list over all of `index`, so that a search of the list by
-/// `ipnetwork_v4_index_contains` or `ipnetwork_v4_index_find` takes few steps. The addresses from
-/// the first of the list to the last are divided into parts of equal size, the least possible power
-/// of two: the index has the exponent of that power, and then, for each part but the first, how
-/// many structs of the list begin before it. No struct is refused.
+/// Writes the index of the blocks of a set over all of `index`, so that a search of the set by
+/// `ipnetwork_v4_index_contains` takes few steps. The addresses from the first of the list to the
+/// last are divided into parts of equal size, the least possible power of two: the index has the
+/// exponent of that power, and then, for each part but the first, how many structs of the list
+/// begin before it. Returns `PREFIX` if a prefix length is greater than 32, else `NO_SET` if the
+/// list is not that of a set.
 #[inline]
 pub fn ipnetwork_v4_index_make(blocks: &[Ipv4InC], index: &mut [u32]) -> u32 {
-    make::<Ipv4Network, Ipv4InC>(blocks, index);
-    OK
+    make_of_set::<Ipv4Network, Ipv4InC>(blocks, index)
 }
 
 const _: () = {
@@ -41,11 +43,10 @@ const _: () = {
     }
 };
 
-/// The same for IPv6.
+/// The same for IPv6, with prefix lengths up to 128.
 #[inline]
 pub fn ipnetwork_v6_index_make(blocks: &[Ipv6InC], index: &mut [u32]) -> u32 {
-    make::<Ipv6Network, Ipv6InC>(blocks, index);
-    OK
+    make_of_set::<Ipv6Network, Ipv6InC>(blocks, index)
 }
 
 const _: () = {
@@ -54,6 +55,48 @@ const _: () = {
         unsafe { ipnetwork_v6_index_make(crate::lent::lent(blocks, blocks_length), crate::lent::lent_mut(index, index_length)) }
     }
 };
+
+/// Writes the index of a list that need not be that of a set, so that a search of a table by
+/// `ipnetwork_v4_index_find`, or of its ranges by `ipnetwork_v4_ranges_find`, takes few steps. No
+/// struct is refused.
+#[inline]
+pub fn ipnetwork_v4_table_index_make(blocks: &[Ipv4InC], index: &mut [u32]) -> u32 {
+    make::<Ipv4Network, Ipv4InC>(blocks, index);
+    OK
+}
+
+const _: () = {
+    #[export_name = "ipnetwork_v4_table_index_make"]
+    unsafe extern "C" fn called(blocks: *const Ipv4InC, blocks_length: usize, index: *mut u32, index_length: usize) -> u32 {
+        unsafe { ipnetwork_v4_table_index_make(crate::lent::lent(blocks, blocks_length), crate::lent::lent_mut(index, index_length)) }
+    }
+};
+
+/// The same for IPv6.
+#[inline]
+pub fn ipnetwork_v6_table_index_make(blocks: &[Ipv6InC], index: &mut [u32]) -> u32 {
+    make::<Ipv6Network, Ipv6InC>(blocks, index);
+    OK
+}
+
+const _: () = {
+    #[export_name = "ipnetwork_v6_table_index_make"]
+    unsafe extern "C" fn called(blocks: *const Ipv6InC, blocks_length: usize, index: *mut u32, index_length: usize) -> u32 {
+        unsafe { ipnetwork_v6_table_index_make(crate::lent::lent(blocks, blocks_length), crate::lent::lent_mut(index, index_length)) }
+    }
+};
+
+// Makes the index if the list is that of a set.
+fn make_of_set<N: AddressSpace, H: Numbered<N>>(list: &[H], index: &mut [u32]) -> u32 {
+    if !all_fit::<N, H>(list) {
+        return PREFIX;
+    }
+    if !is_address_set::<N, H>(list) {
+        return NO_SET;
+    }
+    make::<N, H>(list, index);
+    OK
+}
 
 // Makes the index in one pass over the list.
 fn make<N: AddressSpace, H: Numbered<N>>(list: &[H], index: &mut [u32]) {

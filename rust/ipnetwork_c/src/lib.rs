@@ -57,7 +57,7 @@ pub use structs::{IpInC, IpWithCauseInC, Ipv4InC, Ipv6InC, PlaceInC};
 /// of them changes the version.
 #[inline]
 pub fn ipnetwork_abi_version() -> u32 {
-    3
+    4
 }
 
 const _: () = {
@@ -71,7 +71,7 @@ const _: () = {
 /// resets it to 0.
 #[inline]
 pub fn ipnetwork_abi_minor_version() -> u32 {
-    1
+    0
 }
 
 const _: () = {

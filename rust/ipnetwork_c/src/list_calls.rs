@@ -160,8 +160,8 @@ const _: () = {
 };
 
 /// Writes to `place` what `ipnetwork_v4_table_find` finds, with the same faults, by an index of the
-/// blocks, as `ipnetwork_v4_index_make` makes it. Whatever the index holds, the result is the same
-/// if the blocks ascend.
+/// blocks, as `ipnetwork_v4_table_index_make` makes it. Whatever the index holds, the result is the
+/// same if the blocks ascend.
 #[inline(always)]
 pub fn ipnetwork_v4_index_find(
     blocks: &[Ipv4InC],
@@ -198,7 +198,7 @@ const _: () = {
 };
 
 /// Writes to `place` the place of the last range that begins at or before an address, by an index
-/// of the ranges, as `ipnetwork_v4_index_make` makes it, or by none. For the ranges and places of a
+/// of the ranges, as `ipnetwork_v4_table_index_make` makes it, or by none. For the ranges and places of a
 /// table, as `ipnetwork_v4_ranges_make` makes them, it is the place that `ipnetwork_v4_table_find`
 /// finds in the table. Returns `NO_MEMBER` if there is no such range, or if its place is missing or
 /// `NO_PLACE`. Whatever the index holds, the result is the same if the ranges ascend.
