@@ -20,7 +20,7 @@ Merges lists of IP networks, and prints the shortest list with exactly the resul
     -e TEXT        take this network or range as a FILE, with --json too
     --ranges       print FIRST - LAST of each run; --count: v4 BLOCKS ADDRESSES, v6 BLOCKS ADDRESSES
     --format FORM  print plain, range, netmask, wildcard, csv, nft, ipset, json or addresses
-    --set NAME     fill NAME_ipv4, NAME_ipv6; --table NAME: table of nft; --maxelem N: limit of ipset
+    --set NAME     fill NAME_ipv4 and NAME_ipv6; --table NAME: that of nft; --maxelem N: ipset limit
     --line-prefix TEXT  print TEXT before each line; --line-suffix TEXT: print TEXT after it
     --skip-bad     report refused lines, and print the result for the others
     --json         each FILE is JSON: use its strings that are entries; --strict refuses others
