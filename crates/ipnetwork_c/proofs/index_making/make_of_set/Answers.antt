@@ -10,6 +10,6 @@ returns g c =
       fit _ (c.all_fit.ensures.0 c.if-not-all_fit.false),
       On (
         c.is_address_set.ensures.0 c.if-not-is_address_set.false,
-        (refl, c.make.ensures.size, c.make.ensures.made),
+        (refl, (c.make.ensures.size, c.make.ensures.made)),
       ),
     )
