@@ -134,19 +134,20 @@ static int stop(sqlite3_vtab *table, char *message) {
 /* SQLite also asks for plans without the arguments, such as those for the parts of an OR. They cost so much that it
  * takes one only if no plan has both: then longest_find refuses the statement. */
 static int longest_plan(sqlite3_vtab *table, sqlite3_index_info *info) {
-    int given[2] = {-1, -1};
+    int given[2] = {-1, -1}, is_later = 0;
     (void)table;
     for (int i = 0; i < info->nConstraint; i++) {
         int at = info->aConstraint[i].iColumn - LIST_GIVEN;
         if (at < 0 || info->aConstraint[i].op != SQLITE_INDEX_CONSTRAINT_EQ)
             continue;
-        if (!info->aConstraint[i].usable)
-            return SQLITE_CONSTRAINT;
-        given[at] = i;
+        if (info->aConstraint[i].usable)
+            given[at] = i;
+        else
+            is_later = 1;
     }
     if (given[0] < 0 || given[1] < 0) {
         info->estimatedCost = 1e99;
-        return SQLITE_OK;
+        return is_later ? SQLITE_CONSTRAINT : SQLITE_OK;
     }
     for (int at = 0; at < 2; at++) {
         info->aConstraintUsage[given[at]].argvIndex = at + 1;

@@ -272,6 +272,8 @@ static void longest_in_statements(sqlite3 *database) {
                " WHERE found.number = 1 OR found.prefix = 48"), TWO},
         {FOUND("SELECT client, found.number FROM nets, cidr_longest('nets', address) AS found, log"
                " WHERE nets.rowid = found.number AND (nets.name = 'a' OR found.prefix = 48)"), TWO},
+        {FOUND("SELECT client, number FROM cidr_longest('nets', '10.200.0.1') CROSS JOIN log"
+               " WHERE asked_address = client AND asked_list IN ('nets', client)"), "'10.200.0.1 1'"},
         {FOUND("SELECT client, number FROM log LEFT JOIN cidr_longest('nets', address) AS found"
                " ON found.number = 1 OR found.prefix = 48"), "'10.1.9.32 -,10.200.0.1 1,2001:db8::1 6'"},
         {FOUND("SELECT client, number FROM log LEFT JOIN cidr_longest('nets', address) AS found"
