@@ -210,14 +210,39 @@ export class Ipv6Network extends IpNetwork<Ipv6Address> {
   subnetAt(prefix: number, number: number | bigint): Ipv6Network | undefined;
 }
 
-/** An option for the addresses that are asked about. */
+/** An option of sets and tables. An option of any other name is a TypeError. */
 export interface Mapped {
   /**
-   * Whether an IPv4-mapped address, such as ::ffff:10.1.9.32, counts as the IPv4 address in it,
-   * which `unmapped` returns. A server that listens on IPv6 sees its IPv4 peers so. The networks of
-   * a list are not changed. The default is false.
+   * With `{ mapped: true }`, what is said of either form counts: an IPv4-mapped IPv6 address is a
+   * member if the IPv4 address, or the IPv6 address as it stands, is one; its longest network is
+   * that of the IPv4 address, and if there is none that of the IPv6 address; and so for a network
+   * within ::ffff:0:0/96.
+   *
+   * A server that listens on IPv6 sees its IPv4 peers as such addresses, as ::ffff:10.1.9.32. The
+   * networks of a list stay as they are, and so do those that `union` and the like make. The
+   * default is false.
    */
   readonly mapped?: boolean;
+}
+
+/** An option of `AddressColumn.read`. An option of any other name is a TypeError. */
+export interface Unmapped {
+  /**
+   * Whether each IPv4-mapped address is replaced by the IPv4 address in it, which `unmapped` of an
+   * address returns. What a list says of the IPv6 address is then not asked: to ask for both, leave
+   * this out, and make the set or the table with `{ mapped: true }`. The default is false.
+   */
+  readonly unmapped?: boolean;
+}
+
+/** An option of questions about a column. An option of any other name is a TypeError. */
+export interface Invalid<T extends 'raise' | false | 'null' = 'raise' | false> {
+  /**
+   * What is done if the text of a row names no address. By default, `'raise'`, it is an
+   * IpNetworkError with the text as its `input` and the row as its `index`; with false, the row
+   * counts as one whose address no network has; with `'null'`, its answer is null.
+   */
+  readonly invalid?: T;
 }
 
 /**
@@ -227,7 +252,7 @@ export interface Mapped {
 export class AddressColumn implements Iterable<Ipv4Address | Ipv6Address | undefined> {
   private constructor();
   /** Reads a column. A text that names no address does not stop the call. */
-  static read(texts: readonly string[], options?: Mapped): AddressColumn;
+  static read(texts: readonly string[], options?: Unmapped): AddressColumn;
   /** The number of rows. */
   readonly length: number;
   /** How many of them name no address. */
@@ -284,13 +309,14 @@ export class AddressSet implements Iterable<Ipv4Network | Ipv6Network> {
   readonly mapped: boolean;
   /** Whether an address is in the set, by a binary search. */
   contains(address: IpAddress | string): boolean;
-  /** Whether each member of a network is in the set. */
+  /** Whether each member of a network is in the set; in one of its forms, if the set is mapped. */
   covers(network: IpNetwork | string): boolean;
-  /**
-   * For each row 1 if its address is in the set, else 0. A row without an address has 0: `codeAt`
-   * tells which do.
-   */
-  containsColumn(addresses: AddressColumn | readonly string[]): Uint8Array;
+  /** For each row 1 if its address is in the set, else 0. A row must have an address. */
+  containsColumn(addresses: AddressColumn | readonly string[], options?: Invalid): Uint8Array;
+  /** The same, with null for a row without an address. */
+  containsColumn(
+    addresses: AddressColumn | readonly string[], options: Invalid<'null'>,
+  ): (0 | 1 | null)[];
   /** The addresses that are in at least one of the two sets. */
   union(other: AddressSet): AddressSet;
   /** The addresses that are in both sets. */
@@ -335,10 +361,16 @@ export class PrefixTable<V> implements Iterable<[Ipv4Network | Ipv6Network, V]> 
    */
   lookup(address: IpAddress | string): { network: Ipv4Network | Ipv6Network; value: V } | undefined;
   /**
-   * For each row the value that `lookup` finds for its address; undefined if it finds none, or the
-   * row has no address.
+   * For each row the value that `lookup` finds for its address; undefined if it finds none. A row
+   * must have an address.
    */
-  lookupColumn(addresses: AddressColumn | readonly string[]): (V | undefined)[];
+  lookupColumn(
+    addresses: AddressColumn | readonly string[], options?: Invalid,
+  ): (V | undefined)[];
+  /** The same, with null for a row without an address. */
+  lookupColumn(
+    addresses: AddressColumn | readonly string[], options: Invalid<'null'>,
+  ): (V | null | undefined)[];
   /** The value of the network with exactly these members. */
   get(network: IpNetwork | string): V | undefined;
   /** Whether the table has the network with exactly these members. */

@@ -17,11 +17,11 @@ SQLITE_EXTENSION_INIT1
 /* The number of bytes of a refused text that a message shows. */
 #define SHOWN 60
 
-/* The size of a buffer for these bytes, each as \xHH, and a zero byte. */
-#define SHOWN_TEXT (4 * SHOWN + 1)
+/* The size of a buffer for these bytes, each as \xHH, in quotes, for how many there are, and for a zero byte. */
+#define SHOWN_TEXT (4 * SHOWN + 50)
 
 /* The size of a buffer for a message: most of it is the name of a function, the text of a fault and the bytes shown. */
-#define MESSAGE (SHOWN_TEXT + IPNETWORK_FAULT_TEXT + 120)
+#define MESSAGE (SHOWN_TEXT + IPNETWORK_FAULT_TEXT + 80)
 
 struct text {
     const char *bytes;
@@ -40,9 +40,11 @@ static const char *name_of_call(sqlite3_context *context) {
     return function->name;
 }
 
-/* The front of a text, for a message. A byte that is not printable ASCII, a quote or a backslash is shown as \xHH. */
+/* The front of a text in quotes, for a message. A byte that is not printable ASCII, a quote or a backslash is shown as
+ * \xHH. */
 static void show(struct text text, char shown[SHOWN_TEXT]) {
     char *end = shown;
+    *end++ = '\'';
     for (size_t i = 0; i < text.length && i < SHOWN; i++) {
         unsigned char byte = (unsigned char)text.bytes[i];
         if (byte >= ' ' && byte <= '~' && byte != '\'' && byte != '\\') {
@@ -52,7 +54,11 @@ static void show(struct text text, char shown[SHOWN_TEXT]) {
             end += 4;
         }
     }
+    *end++ = '\'';
     *end = '\0';
+    if (text.length > SHOWN)
+        sqlite3_snprintf(SHOWN_TEXT - (int)(end - shown), end, ", the first %d of %llu bytes", SHOWN,
+                         (unsigned long long)text.length);
 }
 
 /* The text of a fault, and a zero byte. */
@@ -68,11 +74,7 @@ static void refuse(sqlite3_context *context, int argument, ipnetwork_fault fault
     const char *name = name_of_call(context);
     tell(fault, words);
     show(text, shown);
-    if (text.length <= SHOWN)
-        sqlite3_snprintf(MESSAGE, message, "%s, argument %d: %s: '%s'", name, argument + 1, words, shown);
-    else
-        sqlite3_snprintf(MESSAGE, message, "%s, argument %d: %s: '%s', the first %d of %llu bytes", name, argument + 1,
-                         words, shown, SHOWN, (unsigned long long)text.length);
+    sqlite3_snprintf(MESSAGE, message, "%s, argument %d: %s: %s", name, argument + 1, words, shown);
     sqlite3_result_error(context, message, -1);
 }
 

@@ -73,16 +73,22 @@
 LIST(v4)
 LIST(v6)
 
+/* There is one for each connection. */
 struct longest {
     sqlite3_vtab base;
     sqlite3 *database;
+    int is_reading;
 };
 
-/* The row that was found, unless the cursor is at its end; and the name of the list, which is NULL before one is
- * read. */
+/* The size of the longest text of an address: six groups of four digits, and four octets of three. */
+#define GIVEN_TEXT 45
+
+/* The row that was found, unless the cursor is at its end; the name of the list, which is NULL before one is read; and
+ * the address as it was given. */
 struct cursor {
     sqlite3_vtab_cursor base;
-    char *name;
+    char *name, given[GIVEN_TEXT];
+    int given_type, given_length;
     struct list_v4 v4;
     struct list_v6 v6;
     int is_end;
@@ -91,6 +97,9 @@ struct cursor {
 };
 
 enum { NUMBER, NETWORK, PREFIX, LIST_GIVEN, ADDRESS_GIVEN };
+
+/* The number of the plan that has both arguments. */
+enum { BOTH_GIVEN = 1 };
 
 static int longest_connect(sqlite3 *database, void *nothing, int count, const char *const *words, sqlite3_vtab **made,
                            char **message) {
@@ -105,7 +114,8 @@ static int longest_connect(sqlite3 *database, void *nothing, int count, const ch
     memset(table, 0, sizeof *table);
     table->database = database;
     *made = &table->base;
-    /* It reads any table that it is given, so a schema may not use it. */
+    /* It reads any table that it is given, so no view or trigger may use it but TEMP ones, which are of the
+     * connection. */
     return sqlite3_vtab_config(database, SQLITE_VTAB_DIRECTONLY);
 }
 
@@ -121,23 +131,29 @@ static int stop(sqlite3_vtab *table, char *message) {
     return message == NULL ? SQLITE_NOMEM : SQLITE_ERROR;
 }
 
-/* Both arguments must be given, in this order. */
+/* SQLite also asks for plans without the arguments, such as those for the parts of an OR. They cost so much that it
+ * takes one only if no plan has both: then longest_find refuses the statement. */
 static int longest_plan(sqlite3_vtab *table, sqlite3_index_info *info) {
-    int given[2] = {-1, -1};
+    int given[2] = {-1, -1}, is_later = 0;
+    (void)table;
     for (int i = 0; i < info->nConstraint; i++) {
         int at = info->aConstraint[i].iColumn - LIST_GIVEN;
         if (at < 0 || info->aConstraint[i].op != SQLITE_INDEX_CONSTRAINT_EQ)
             continue;
-        if (!info->aConstraint[i].usable)
-            return SQLITE_CONSTRAINT;
-        given[at] = i;
+        if (info->aConstraint[i].usable)
+            given[at] = i;
+        else
+            is_later = 1;
+    }
+    if (given[0] < 0 || given[1] < 0) {
+        info->estimatedCost = 1e99;
+        return is_later ? SQLITE_CONSTRAINT : SQLITE_OK;
     }
     for (int at = 0; at < 2; at++) {
-        if (given[at] < 0)
-            return stop(table, sqlite3_mprintf("cidr_longest takes a list and an address"));
         info->aConstraintUsage[given[at]].argvIndex = at + 1;
         info->aConstraintUsage[given[at]].omit = 1;
     }
+    info->idxNum = BOTH_GIVEN;
     info->estimatedCost = 1;
     info->estimatedRows = 1;
     info->idxFlags = SQLITE_INDEX_SCAN_UNIQUE;
@@ -167,57 +183,148 @@ static int longest_close(sqlite3_vtab_cursor *base) {
     return SQLITE_OK;
 }
 
+/* Stops a statement because of the name of a list. */
+static int stop_at(struct cursor *cursor, const char *cause, struct text name) {
+    char shown[SHOWN_TEXT];
+    show(name, shown);
+    return stop(cursor->base.pVtab, sqlite3_mprintf("cidr_longest: %s: %s", cause, shown));
+}
+
 /* Adds the network in the current row of a statement. A row with NULL instead of a network is skipped. */
-static int add_row(struct cursor *cursor, sqlite3_stmt *rows, const char *name) {
+static int add_row(struct cursor *cursor, sqlite3_stmt *rows, struct text name) {
     sqlite3_int64 row = sqlite3_column_int64(rows, 0);
     int type = sqlite3_column_type(rows, 1);
-    char words[IPNETWORK_FAULT_TEXT], shown[SHOWN_TEXT];
+    char words[IPNETWORK_FAULT_TEXT], list[SHOWN_TEXT], shown[SHOWN_TEXT];
     ipnetwork_ip network;
     if (type == SQLITE_NULL)
         return SQLITE_OK;
-    if (type != SQLITE_TEXT)
-        return stop(cursor->base.pVtab, sqlite3_mprintf("cidr_longest, row %lld of %s: %s, not a text", row, name,
-                                                        name_of_type(type)));
-    struct text text = {(const char *)sqlite3_column_text(rows, 1), 0};
-    if (text.bytes == NULL)
-        return SQLITE_NOMEM;
-    text.length = (size_t)sqlite3_column_bytes(rows, 1);
-    ipnetwork_fault fault = ipnetwork_read_with_cause(text.bytes, text.length, &network);
-    if (fault == IPNETWORK_OK)
-        return network.family == 4 ? add_v4(&cursor->v4, &network.v4, row) : add_v6(&cursor->v6, &network.v6, row);
-    tell(fault, words);
+    struct text text = {NULL, 0};
+    if (type == SQLITE_TEXT) {
+        text.bytes = (const char *)sqlite3_column_text(rows, 1);
+        if (text.bytes == NULL)
+            return SQLITE_NOMEM;
+        text.length = (size_t)sqlite3_column_bytes(rows, 1);
+        ipnetwork_fault fault = ipnetwork_read_with_cause(text.bytes, text.length, &network);
+        if (fault == IPNETWORK_OK)
+            return network.family == 4 ? add_v4(&cursor->v4, &network.v4, row) : add_v6(&cursor->v6, &network.v6, row);
+        tell(fault, words);
+    }
+    show(name, list);
     show(text, shown);
     return stop(cursor->base.pVtab,
-                sqlite3_mprintf("cidr_longest, row %lld of %s: %s: '%s'", row, name, words, shown));
+                type != SQLITE_TEXT
+                    ? sqlite3_mprintf("cidr_longest, row %lld of %s: %s, not a text", row, list, name_of_type(type))
+                    : sqlite3_mprintf("cidr_longest, row %lld of %s: %s: %s", row, list, words, shown));
 }
 
-/* Reads the networks of a list: the first column of the table of this name. */
-static int read_list(struct cursor *cursor, const char *name) {
+/* A table of a schema, or of the first that has it if that is NULL. */
+struct place {
+    char *schema;
+    const char *table;
+};
+
+/* SQLITE_OK if there is this table, with this column if it is not NULL; SQLITE_ERROR if not. A view is no table. */
+static int ask_table(sqlite3 *database, struct place place, const char *column) {
+    return sqlite3_table_column_metadata(database, place.schema, place.table, column, NULL, NULL, NULL, NULL, NULL);
+}
+
+/* Finds the table of this name, or of the name after its first dot in the schema before it. The caller frees the
+ * schema. */
+static int find_list(struct cursor *cursor, struct text name, struct place *place) {
     sqlite3 *database = ((struct longest *)cursor->base.pVtab)->database;
+    const char *dot = strchr(name.bytes, '.');
+    int whole = ask_table(database, *place, NULL), part = SQLITE_ERROR;
+    if (dot != NULL) {
+        struct place other = {sqlite3_mprintf("%.*s", (int)(dot - name.bytes), name.bytes), dot + 1};
+        if (other.schema == NULL)
+            return SQLITE_NOMEM;
+        part = ask_table(database, other, NULL);
+        if (whole == SQLITE_ERROR)
+            *place = other;
+        else
+            sqlite3_free(other.schema);
+    }
+    if (whole == SQLITE_OK && part == SQLITE_OK)
+        return stop_at(cursor, "a table of this name, and one of the schema before its dot", name);
+    if (whole == SQLITE_ERROR && part == SQLITE_ERROR)
+        return stop_at(cursor, "no such table (a view is no list)", name);
+    return whole == SQLITE_ERROR || part > SQLITE_ERROR ? part : whole;
+}
+
+/* Whether a column of a statement but the first has this name, or the statement has no other; or that there is no
+ * memory, which is SQLITE_NOMEM. */
+static int hides(sqlite3_stmt *rows, const char *rowid) {
+    int count = sqlite3_column_count(rows);
+    for (int column = 1; column < count; column++) {
+        const char *name = sqlite3_column_name(rows, column);
+        if (name == NULL)
+            return SQLITE_NOMEM;
+        if (sqlite3_stricmp(name, rowid) == 0)
+            return 1;
+    }
+    return count < 2;
+}
+
+/* Prepares the statement that returns the rowid of each row of a list and its columns. The rowid has three names, and
+ * not the one that a column has. */
+static int prepare_rows(struct cursor *cursor, struct text name, struct place place, sqlite3_stmt **rows) {
+    static const char *const rowids[] = {"rowid", "_rowid_", "oid"};
+    sqlite3 *database = ((struct longest *)cursor->base.pVtab)->database;
+    for (size_t i = 0; i < sizeof rowids / sizeof *rowids; i++) {
+        int status = ask_table(database, place, rowids[i]);
+        if (status == SQLITE_ERROR)
+            break;
+        if (status != SQLITE_OK)
+            return status;
+        char *sql = place.schema == NULL
+                        ? sqlite3_mprintf("SELECT %s, * FROM \"%w\"", rowids[i], place.table)
+                        : sqlite3_mprintf("SELECT %s, * FROM \"%w\".\"%w\"", rowids[i], place.schema, place.table);
+        if (sql == NULL)
+            return SQLITE_NOMEM;
+        status = sqlite3_prepare_v2(database, sql, -1, rows, NULL);
+        sqlite3_free(sql);
+        if (status != SQLITE_OK)
+            return status;
+        int hidden = hides(*rows, rowids[i]);
+        if (hidden != 1)
+            return hidden;
+        sqlite3_finalize(*rows);
+        *rows = NULL;
+    }
+    return stop_at(cursor, "a table without rowids", name);
+}
+
+/* Reads the networks of a list: the first column of its table. */
+static int read_list(struct cursor *cursor, struct text name) {
+    struct longest *table = (struct longest *)cursor->base.pVtab;
+    struct place place = {NULL, name.bytes};
     sqlite3_stmt *rows = NULL;
     drop_list(cursor);
-    char *sql = sqlite3_mprintf("SELECT rowid, * FROM \"%w\"", name);
-    if (sql == NULL)
-        return SQLITE_NOMEM;
-    int status = sqlite3_prepare_v2(database, sql, -1, &rows, NULL);
-    sqlite3_free(sql);
-    int is_own = 0;
+    if (strlen(name.bytes) != name.length)
+        return stop_at(cursor, "a name with a zero byte", name);
+    /* A table may have a column, or a module of its own, that asks for a list again. */
+    if (table->is_reading)
+        return stop_at(cursor, "asked for while a list is read", name);
+    table->is_reading = 1;
+    int status = find_list(cursor, name, &place);
+    if (status == SQLITE_OK)
+        status = prepare_rows(cursor, name, place, &rows);
     while (status == SQLITE_OK) {
         status = sqlite3_step(rows);
-        if (status == SQLITE_ROW) {
+        if (status == SQLITE_ROW)
             status = add_row(cursor, rows, name);
-            is_own = status != SQLITE_OK;
-        }
     }
-    if (status != SQLITE_DONE && status != SQLITE_NOMEM && !is_own)
-        status = stop(cursor->base.pVtab, sqlite3_mprintf("cidr_longest: %s", sqlite3_errmsg(database)));
+    table->is_reading = 0;
+    if (status != SQLITE_DONE && status != SQLITE_NOMEM && table->base.zErrMsg == NULL)
+        stop(&table->base, sqlite3_mprintf("cidr_longest: %s", sqlite3_errmsg(table->database)));
     sqlite3_finalize(rows);
+    sqlite3_free(place.schema);
     if (status != SQLITE_DONE)
         return status;
     status = make_v4(&cursor->v4);
     if (status == SQLITE_OK)
         status = make_v6(&cursor->v6);
-    if (status == SQLITE_OK && (cursor->name = sqlite3_mprintf("%s", name)) == NULL)
+    if (status == SQLITE_OK && (cursor->name = sqlite3_mprintf("%s", name.bytes)) == NULL)
         status = SQLITE_NOMEM;
     return status;
 }
@@ -232,29 +339,41 @@ static int read_address(struct cursor *cursor, sqlite3_value *value, ipnetwork_a
     text.length = (size_t)sqlite3_value_bytes(value);
     if (text.bytes == NULL && (type == SQLITE_TEXT || text.length > 0))
         return SQLITE_NOMEM;
-    if (type == SQLITE_BLOB ? address_of_blob((const uint8_t *)text.bytes, text.length, address)
-                            : ipnetwork_address_read(text.bytes, text.length, address) == IPNETWORK_OK)
+    if ((type == SQLITE_BLOB ? address_of_blob((const uint8_t *)text.bytes, text.length, address)
+                             : ipnetwork_address_read(text.bytes, text.length, address) == IPNETWORK_OK) &&
+        text.length <= GIVEN_TEXT) {
+        memcpy(cursor->given, text.bytes, text.length);
+        cursor->given_type = type;
+        cursor->given_length = (int)text.length;
         return SQLITE_OK;
+    }
     char shown[SHOWN_TEXT];
     if (type == SQLITE_BLOB)
         return stop(table, sqlite3_mprintf("cidr_longest, argument 2: a blob of %d bytes that is no address",
                                            (int)text.length));
     show(text, shown);
-    return stop(table, sqlite3_mprintf("cidr_longest, argument 2: no address: '%s'", shown));
+    return stop(table, sqlite3_mprintf("cidr_longest, argument 2: no address: %s", shown));
 }
 
 /* No row if an argument is NULL, or no network of the list has the address. */
 static int longest_find(sqlite3_vtab_cursor *base, int plan, const char *plan_text, int count, sqlite3_value **values) {
-    (void)plan, (void)plan_text, (void)count;
+    (void)plan_text, (void)count;
     struct cursor *cursor = (struct cursor *)base;
     ipnetwork_address address;
     cursor->is_end = 1;
-    if (sqlite3_value_type(values[0]) == SQLITE_NULL || sqlite3_value_type(values[1]) == SQLITE_NULL)
+    if (plan != BOTH_GIVEN)
+        return stop(base->pVtab, sqlite3_mprintf("cidr_longest takes a list and an address"));
+    int type = sqlite3_value_type(values[0]);
+    if (type == SQLITE_NULL || sqlite3_value_type(values[1]) == SQLITE_NULL)
         return SQLITE_OK;
-    const char *name = (const char *)sqlite3_value_text(values[0]);
-    if (name == NULL)
+    if (type != SQLITE_TEXT)
+        return stop(base->pVtab, sqlite3_mprintf("cidr_longest, argument 1: %s, not a text", name_of_type(type)));
+    struct text name = {(const char *)sqlite3_value_text(values[0]), 0};
+    if (name.bytes == NULL)
         return SQLITE_NOMEM;
-    if (cursor->name == NULL || strcmp(cursor->name, name) != 0) {
+    name.length = (size_t)sqlite3_value_bytes(values[0]);
+    int is_read = cursor->name != NULL && strlen(cursor->name) == name.length && strcmp(cursor->name, name.bytes) == 0;
+    if (!is_read) {
         int status = read_list(cursor, name);
         if (status != SQLITE_OK)
             return status;
@@ -287,6 +406,14 @@ static int longest_row(sqlite3_vtab_cursor *base, sqlite3_int64 *row) {
     return SQLITE_OK;
 }
 
+/* The address as it was given. */
+static void give_given(sqlite3_context *context, const struct cursor *cursor) {
+    if (cursor->given_type == SQLITE_TEXT)
+        sqlite3_result_text(context, cursor->given, cursor->given_length, SQLITE_TRANSIENT);
+    else
+        sqlite3_result_blob(context, cursor->given, cursor->given_length, SQLITE_TRANSIENT);
+}
+
 static int longest_column(sqlite3_vtab_cursor *base, sqlite3_context *context, int column) {
     const struct cursor *cursor = (const struct cursor *)base;
     const ipnetwork_ip *network = &cursor->network;
@@ -298,6 +425,10 @@ static int longest_column(sqlite3_vtab_cursor *base, sqlite3_context *context, i
         sqlite3_result_int(context, network->family == 4 ? network->v4.prefix : network->v6.prefix);
     else if (column == NETWORK && ipnetwork_canonical(network, text, sizeof text, &length) == IPNETWORK_OK)
         sqlite3_result_text(context, text, (int)length, SQLITE_TRANSIENT);
+    else if (column == LIST_GIVEN)
+        sqlite3_result_text(context, cursor->name, -1, SQLITE_TRANSIENT);
+    else if (column == ADDRESS_GIVEN)
+        give_given(context, cursor);
     return SQLITE_OK;
 }
 

@@ -250,6 +250,104 @@ static void schemas(sqlite3 *database) {
     free(said);
 }
 
+/* Statements with cidr_longest, in whatever order SQLite plans them, and whatever it asks of its columns. */
+static void longest_in_statements(sqlite3 *database) {
+#define FOUND(from) "(SELECT group_concat(client || ' ' || ifnull(number, '-')) FROM (" from " ORDER BY client))"
+#define JOINED(where) FOUND("SELECT client, number FROM log JOIN cidr_longest('nets', address) AS found " where)
+#define ALL "'10.1.9.32 4,10.200.0.1 1,2001:db8::1 6'"
+#define TWO "'10.200.0.1 1,2001:db8::1 6'"
+    static const struct row asked[] = {
+        {JOINED(""), ALL},
+        {JOINED("WHERE found.number = 1 OR found.prefix = 48"), TWO},
+        {JOINED("WHERE (found.number = 1 AND prefix = 8) OR (prefix = 48 AND network > '2')"), TWO},
+        {JOINED("WHERE found.number = 1 OR client = '2001:db8::1'"), TWO},
+        {JOINED("WHERE found.number = 4 OR found.number = 1 OR found.prefix > 40"), ALL},
+        {JOINED("WHERE found.number IN (1, 6)"), TWO},
+        {JOINED("WHERE found.number IN (SELECT 1 UNION SELECT 6) OR found.network IN ('::/0')"), TWO},
+        {JOINED("WHERE asked_list = 'nets' AND asked_address = address AND prefix <> 16"), TWO},
+        {JOINED("WHERE asked_list = 'nets' OR prefix = 48"), ALL},
+        {JOINED("WHERE asked_list = 'none' OR asked_address <> x'040A010920'"), TWO},
+        {JOINED("JOIN nets ON nets.rowid = found.number WHERE name = 'a' OR found.prefix = 48"), TWO},
+        {FOUND("SELECT client, found.number FROM cidr_longest('nets', address) AS found, log"
+               " WHERE found.number = 1 OR found.prefix = 48"), TWO},
+        {FOUND("SELECT client, found.number FROM nets, cidr_longest('nets', address) AS found, log"
+               " WHERE nets.rowid = found.number AND (nets.name = 'a' OR found.prefix = 48)"), TWO},
+        {FOUND("SELECT client, number FROM cidr_longest('nets', '10.200.0.1') CROSS JOIN log"
+               " WHERE asked_address = client AND asked_list IN ('nets', client)"), "'10.200.0.1 1'"},
+        {FOUND("SELECT client, number FROM log LEFT JOIN cidr_longest('nets', address) AS found"
+               " ON found.number = 1 OR found.prefix = 48"), "'10.1.9.32 -,10.200.0.1 1,2001:db8::1 6'"},
+        {FOUND("SELECT client, number FROM log LEFT JOIN cidr_longest('nets', address) AS found"
+               " WHERE found.number = 1 OR found.number IS NULL OR found.prefix = 48"), TWO},
+        {FOUND("SELECT client, 0 AS number FROM log WHERE EXISTS (SELECT 1 FROM cidr_longest('nets', address)"
+               " WHERE number = 1 OR prefix = 48)"), "'10.200.0.1 0,2001:db8::1 0'"},
+        {FOUND("SELECT client, (SELECT number FROM cidr_longest('nets', address) WHERE number = 1 OR prefix = 48)"
+               " AS number FROM log"), "'10.1.9.32 -,10.200.0.1 1,2001:db8::1 6'"},
+        {FOUND("WITH found AS (SELECT * FROM log JOIN cidr_longest('nets', address))"
+               " SELECT client, number FROM found WHERE number = 1 OR prefix = 48"), TWO},
+        {FOUND("WITH list(name) AS (VALUES ('nets'), ('empty')) SELECT client, number FROM list"
+               " JOIN log JOIN cidr_longest(name, address) WHERE number = 1 OR prefix = 48"), TWO},
+        {"(SELECT sum(number) FROM cidr_longest WHERE asked_list = 'nets'"
+         " AND asked_address IN ('10.2.0.0', '10.1.0.0'))", "5"},
+        {"(SELECT sum(number) FROM cidr_longest WHERE (asked_list = 'nets' AND asked_address = '10.2.0.0')"
+         " OR (asked_list = 'nets' AND asked_address = '10.1.0.0'))", "5"},
+        {"(SELECT sum(number) FROM cidr_longest WHERE asked_address = '::' OR asked_list = 'nets')",
+         "error: cidr_longest takes a list and an address"},
+        {"(SELECT 1 FROM cidr_longest)", "error: cidr_longest takes a list and an address"},
+    };
+    for (size_t i = 0; i < sizeof asked / sizeof *asked; i++)
+        expect(database, asked[i].expression, asked[i].answer);
+    /* A statement reads its list once, and sees no change of it. */
+    run(database, "CREATE TABLE grown(net); INSERT INTO grown VALUES ('10.0.0.0/8');"
+        "INSERT INTO grown SELECT column1 FROM (VALUES ('10.1.2.3'), ('10.1.2.3'))"
+        " JOIN cidr_longest('grown', column1) WHERE prefix = 8");
+    expect(database, "(SELECT count(*) FROM grown)", "3");
+}
+
+/* A column of a list that asks for its list. */
+static void again(sqlite3_context *context, int count, sqlite3_value **values) {
+    (void)count, (void)values;
+    char *said = answer(sqlite3_context_db_handle(context), "SELECT number FROM cidr_longest('loops', '::')", NULL, 0);
+    sqlite3_result_text(context, said, -1, SQLITE_TRANSIENT);
+    free(said);
+}
+
+/* Views and triggers of a connection's own that use cidr_longest, and what would make it read without an end. */
+static void longest_in_schemas(sqlite3 *database) {
+    expect(database, "(SELECT number FROM hidden)", "error: unsafe use of virtual table \"cidr_longest\"");
+    run(database, "CREATE TEMP VIEW seen AS SELECT client, number FROM log JOIN cidr_longest('nets', address);"
+        "CREATE TEMP VIEW itself AS SELECT network FROM cidr_longest('itself', '::') UNION ALL SELECT '::/0';"
+        "CREATE TEMP VIEW first_of_two AS SELECT network FROM cidr_longest('second_of_two', '::');"
+        "CREATE TEMP VIEW second_of_two AS SELECT network FROM cidr_longest('first_of_two', '::');"
+        "CREATE TEMP TABLE came(client); CREATE TEMP TABLE went(number);"
+        "CREATE TEMP TRIGGER came AFTER INSERT ON came BEGIN"
+        " INSERT INTO went SELECT number FROM cidr_longest('nets', new.client); END;"
+        "INSERT INTO came VALUES ('10.1.2.3'), ('10.2.0.0');"
+        "CREATE TEMP TRIGGER gone AFTER DELETE ON came BEGIN"
+        " INSERT INTO went SELECT network FROM cidr_longest('itself', '::'); END;");
+    expect(database, "(SELECT number FROM seen WHERE client = '10.200.0.1' OR number = 1)", "1");
+    expect(database, "(SELECT group_concat(number) FROM went)", "'4,1'");
+    expect(database, "(SELECT network FROM itself)",
+           "error: cidr_longest: no such table (a view is no list): 'itself'");
+    expect(database, "(SELECT network FROM first_of_two)",
+           "error: cidr_longest: no such table (a view is no list): 'second_of_two'");
+    char *said = answer(database, "DELETE FROM came", NULL, 0);
+    if (strcmp(said, "error: cidr_longest: no such table (a view is no list): 'itself'") != 0) {
+        fprintf(stderr, "test.c: a trigger over a view: %s\n", said);
+        failures++;
+    }
+    free(said);
+    need(sqlite3_create_function(database, "again", 1, SQLITE_UTF8 | SQLITE_DETERMINISTIC, NULL, again, NULL, NULL) ==
+         SQLITE_OK, "no function");
+    run(database, "CREATE TEMP TABLE loops(net AS (again(row)), row); INSERT INTO loops(row) VALUES (1)");
+    expect(database, "(SELECT number FROM cidr_longest('loops', '::'))", "error: cidr_longest, row 1 of 'loops': "
+           "no address: 'error: cidr_longest: asked for while a list is read: \\x27loops\\x27'");
+    if (sqlite3_compileoption_used("ENABLE_FTS5")) {
+        run(database, "CREATE VIRTUAL TABLE temp.words USING fts5(net);"
+            "INSERT INTO words(rowid, net) VALUES (7, '10.0.0.0/8')");
+        expect(database, "(SELECT number FROM cidr_longest('words', '10.1.2.3'))", "7");
+    }
+}
+
 /* The longest network of a list: of both families, of equal ones the last, with rows that have none. */
 static void longest_of_list(sqlite3 *database) {
     static const struct row asked[] = {
@@ -265,14 +363,51 @@ static void longest_of_list(sqlite3 *database) {
         {"NULL, '::'", "NULL"},
         {"'no \"list\"', '10.1.2.3'", "'1 10.0.0.0/7 7'"},
         {"'empty', '10.1.2.3'", "NULL"},
-        {"'none', '10.1.2.3'", "error: cidr_longest: no such table: none"},
+        {"'none', '10.1.2.3'", "error: cidr_longest: no such table (a view is no list): 'none'"},
+        {"x'6e657473', '10.1.2.3'", "error: cidr_longest, argument 1: a blob, not a text"},
+        {"'nets' || char(0), '10.1.2.3'", "error: cidr_longest: a name with a zero byte: 'nets\\x00'"},
+        {"'" NINES "9', '::'", "error: cidr_longest: no such table (a view is no list): '" NINES "', the first 60 of "
+                               "61 bytes"},
         {"'nets', '10.1.2.3/32'", "error: cidr_longest, argument 2: no address: '10.1.2.3/32'"},
         {"'nets', 167772160", "error: cidr_longest, argument 2: an integer, not a text or a blob"},
         {"'nets', x'0a010203'", "error: cidr_longest, argument 2: a blob of 4 bytes that is no address"},
         {"'nets', x''", "error: cidr_longest, argument 2: a blob of 0 bytes that is no address"},
-        {"'wrong', '10.1.2.3'", "error: cidr_longest, row 2 of wrong: no address: '10/8'"},
-        {"'numbers', '10.1.2.3'", "error: cidr_longest, row 1 of numbers: an integer, not a text"},
+        {"'nets', '" NINES "9'",
+         "error: cidr_longest, argument 2: no address: '" NINES "', the first 60 of 61 bytes"},
+        {"'wrong', '10.1.2.3'", "error: cidr_longest, row 2 of 'wrong': no address: '10/8'"},
+        {"'" NINES "8', '::'", "error: cidr_longest, row 1 of '" NINES "', the first 60 of 61 bytes: no address: "
+                               "'" NINES "', the first 60 of 61 bytes"},
+        {"'numbers', '10.1.2.3'", "error: cidr_longest, row 1 of 'numbers': an integer, not a text"},
         {"'nets'", "error: cidr_longest takes a list and an address"},
+        {"'nets') WHERE (number = 1 OR prefix = 8", "error: cidr_longest takes a list and an address"},
+        /* The schema of a list, and the dot in the name of one. */
+        {"'main.nets', '10.1.2.3'", "'4 10.1.0.0/16 16'"},
+        {"'MAIN.Nets', '10.1.2.3'", "'4 10.1.0.0/16 16'"},
+        {"'main.no \"list\"', '10.1.2.3'", "'1 10.0.0.0/7 7'"},
+        {"'other.far', '10.1.2.3'", "'3 10.0.0.0/9 9'"},
+        {"'far', '10.1.2.3'", "'3 10.0.0.0/9 9'"},
+        {"'main.far', '10.1.2.3'", "error: cidr_longest: no such table (a view is no list): 'main.far'"},
+        {"'shade', '10.1.2.3'", "'1 10.0.0.0/11 11'"},
+        {"'main.shade', '10.1.2.3'", "'1 10.0.0.0/10 10'"},
+        {"'temp.shade', '10.1.2.3'", "'1 10.0.0.0/11 11'"},
+        {"'dot.ted', '10.1.2.3'", "'1 10.0.0.0/12 12'"},
+        {"'main.dot.ted', '10.1.2.3'", "'1 10.0.0.0/12 12'"},
+        {"'other.two', '10.1.2.3'", "error: cidr_longest: a table of this name, and one of the schema before its dot: "
+                                    "'other.two'"},
+        {"'main.other.two', '10.1.2.3'", "'1 10.0.0.0/13 13'"},
+        {"'other.other.two', '10.1.2.3'", "error: cidr_longest: no such table (a view is no list): 'other.other.two'"},
+        {"'two', '10.1.2.3'", "'1 10.0.0.0/14 14'"},
+        {"'.nets', '10.1.2.3'", "error: cidr_longest: no such table (a view is no list): '.nets'"},
+        {"'main.', '10.1.2.3'", "error: cidr_longest: no such table (a view is no list): 'main.'"},
+        {"'main.nets.nets', '10.1.2.3'", "error: cidr_longest: no such table (a view is no list): 'main.nets.nets'"},
+        /* What has rowids: a table, whatever the names of its columns are, but for all three. */
+        {"'hidden', '10.1.2.3'", "error: cidr_longest: no such table (a view is no list): 'hidden'"},
+        {"'json_each', '10.1.2.3'", "error: cidr_longest: no such table (a view is no list): 'json_each'"},
+        {"'keyed', '10.1.2.3'", "error: cidr_longest: a table without rowids: 'keyed'"},
+        {"'named', '10.1.2.3'", "error: cidr_longest: a table without rowids: 'named'"},
+        {"'one', '10.1.2.3'", "'1 10.0.0.0/8 8'"},
+        {"'all', '10.1.2.3'", "error: cidr_longest: a table without rowids: 'all'"},
+        {"'primary', '10.1.2.3'", "'40 10.0.0.0/8 8'"},
     };
     run(database, "CREATE TABLE nets(net TEXT, name TEXT);"
         "INSERT INTO nets VALUES ('10.0.0.0/8', 'a'), ('10.1.9.32/16', 'b'), (NULL, 'none'), ('10.1.0.0/16', 'c'),"
@@ -280,7 +415,20 @@ static void longest_of_list(sqlite3 *database) {
         "CREATE TABLE \"no \"\"list\"\"\"(net); INSERT INTO \"no \"\"list\"\"\" VALUES ('10.0.0.0/7');"
         "CREATE TABLE empty(net); CREATE TABLE numbers(net); INSERT INTO numbers VALUES (10);"
         "CREATE TABLE wrong(net); INSERT INTO wrong VALUES ('::'), ('10/8');"
-        "CREATE VIEW hidden AS SELECT number FROM cidr_longest('nets', '::');");
+        "CREATE TABLE '" NINES "8'(net); INSERT INTO '" NINES "8' VALUES ('" NINES "8');"
+        "CREATE VIEW hidden AS SELECT number FROM cidr_longest('nets', '::');"
+        "ATTACH ':memory:' AS other; CREATE TABLE other.far(net);"
+        "INSERT INTO far VALUES (NULL), (NULL), ('10.0.0.0/9');"
+        "CREATE TABLE shade(net); INSERT INTO shade VALUES ('10.0.0.0/10');"
+        "CREATE TEMP TABLE shade(net); INSERT INTO temp.shade VALUES ('10.0.0.0/11');"
+        "CREATE TABLE 'dot.ted'(net); INSERT INTO 'dot.ted' VALUES ('10.0.0.0/12');"
+        "CREATE TABLE 'other.two'(net); INSERT INTO 'other.two' VALUES ('10.0.0.0/13');"
+        "CREATE TABLE other.two(net); INSERT INTO other.two VALUES ('10.0.0.0/14');"
+        "CREATE TABLE keyed(net PRIMARY KEY) WITHOUT ROWID; INSERT INTO keyed VALUES ('::/0');"
+        "CREATE TABLE named(net PRIMARY KEY, rowid) WITHOUT ROWID; INSERT INTO named VALUES ('::/0', 9);"
+        "CREATE TABLE one(net, RowID, oid INTEGER); INSERT INTO one VALUES ('10.0.0.0/8', 5, 6);"
+        "CREATE TABLE 'all'(net, rowid, _rowid_, oid); INSERT INTO 'all' VALUES ('10.0.0.0/8', 5, 6, 7);"
+        "CREATE TABLE 'primary'(net, rowid INTEGER PRIMARY KEY); INSERT INTO 'primary' VALUES ('10.0.0.0/8', 40);");
     for (size_t i = 0; i < sizeof asked / sizeof *asked; i++) {
         char *expression = sqlite3_mprintf("(SELECT number || ' ' || network || ' ' || prefix FROM cidr_longest(%s))",
                                            asked[i].expression);
@@ -297,8 +445,9 @@ static void longest_of_list(sqlite3 *database) {
            " JOIN cidr_longest(list, '10.1.2.3'))", "'nets 4,no \"list\" 1,nets 4'");
     run(database, "UPDATE nets SET net = '10.1.2.0/24' WHERE name = 'a'");
     expect(database, "(SELECT number FROM cidr_longest('nets', '10.1.2.3'))", "1");
-    expect(database, "(SELECT number FROM hidden)", "error: unsafe use of virtual table \"cidr_longest\"");
-    run(database, "UPDATE nets SET net = '10.0.0.0/8' WHERE name = 'a'; DROP VIEW hidden");
+    run(database, "UPDATE nets SET net = '10.0.0.0/8' WHERE name = 'a'");
+    longest_in_statements(database);
+    longest_in_schemas(database);
 }
 
 /* Requests for memory, of which one can be refused: the number left before it, or -1 for none. */
@@ -309,8 +458,9 @@ static int is_refused(void) { return left >= 0 && left-- == 0; }
 static void *request(int size) { return is_refused() ? NULL : memory.xMalloc(size); }
 static void *request_more(void *block, int size) { return is_refused() ? NULL : memory.xRealloc(block, size); }
 
-/* Sees that a call, of which each request for memory is refused in turn, says so or has the right answer. In a database
- * in UTF-16 SQLite asks for memory as a function asks for the bytes of a text. */
+/* Sees that a call, of which each request for memory is refused in turn, says so or has the right answer; without
+ * memory for a message SQLite tells a status. In a database in UTF-16 SQLite asks for memory as a function asks for the
+ * bytes of a text. */
 static void short_of_memory(sqlite3 *database) {
     static const struct row asked[] = {
         {"cidr_text('10.1.9.32/255.255.0.0')", "'10.1.9.32/16'"},
@@ -329,11 +479,13 @@ static void short_of_memory(sqlite3 *database) {
         {"cidr_addr_or_null('10.1.9.32')", "X'040A010920'"},
         {"(SELECT number || network FROM cidr_longest('nets', '10.1.2.3'))", "'410.1.0.0/16'"},
         {"(SELECT number FROM cidr_longest('nets', cidr_addr('2001:db8::')))", "6"},
-        {"(SELECT number FROM cidr_longest('wrong', '::'))", "error: cidr_longest, row 2 of wrong: no address: '10/8'"},
+        {"(SELECT number FROM cidr_longest('main.nets', '10.1.2.3') WHERE number = 4 OR prefix = 8)", "4"},
+        {"(SELECT number FROM cidr_longest('one', '10.1.2.3') WHERE asked_address = '10.1.2.3')", "1"},
+        {"(SELECT number FROM cidr_longest('wrong', '::'))",
+         "error: cidr_longest, row 2 of 'wrong': no address: '10/8'"},
+        {"(SELECT number FROM cidr_longest('none', '::'))",
+         "error: cidr_longest: no such table (a view is no list): 'none'"},
     };
-    /* A connection keeps the room of a message. Without room it tells a status: a longer message comes first. */
-    expect(database, "cidr_text('" NINES "/')",
-           "error: cidr_text, argument 1: no address: '" NINES "', the first 60 of 61 bytes");
     for (size_t i = 0; i < sizeof asked / sizeof *asked; i++) {
         char *sql = sqlite3_mprintf("SELECT quote(%s)", asked[i].expression);
         need(sql != NULL, "no memory");
@@ -342,7 +494,10 @@ static void short_of_memory(sqlite3 *database) {
             char *said = answer(database, sql, NULL, 0);
             is_all = left >= 0;
             left = -1;
-            if (strcmp(said, asked[i].answer) != 0 && (is_all || strcmp(said, "error: out of memory") != 0)) {
+            int is_short = !is_all && (strcmp(said, "error: out of memory") == 0 ||
+                                       (strncmp(asked[i].answer, "error: ", 7) == 0 &&
+                                        strcmp(said, "error: SQL logic error") == 0));
+            if (strcmp(said, asked[i].answer) != 0 && !is_short) {
                 fprintf(stderr, "test.c: %s, where request %d is refused: %s\n", asked[i].expression, first, said);
                 failures++;
             }

@@ -1,5 +1,5 @@
 import { ADDRESS, LITTLE, NUMBER, view } from './memory.mjs';
-import { prefixError, wrongType } from './errors.mjs';
+import { prefixError, shownText, wrongType } from './errors.mjs';
 import { addressOf, familyOf, putAddress } from './address.mjs';
 
 /** The integer that an argument is, or an error that names the argument. */
@@ -8,20 +8,42 @@ export function wholeNumber(value, name) {
     throw wrongType(name, 'a number or a bigint', value);
   }
   if (value < 0 || (typeof value === 'number' && !Number.isSafeInteger(value))) {
-    throw new RangeError(`${name} is ${value}, not a whole number from 0 on`);
+    throw new RangeError(`${name} is ${shownText(String(value))}, not a whole number from 0 on`);
   }
   return value;
 }
 
-/** Whether the options say that IPv4-mapped addresses count as IPv4 addresses. */
-export function mappedOf(options) {
-  if (options === undefined) return false;
+/**
+ * The value of the option that a call has, or what it is if it is not given. Any other option is an
+ * error: a call that overlooked `maped` would answer as without the option.
+ */
+function optionOf(options, name, otherwise) {
+  if (options === undefined) return otherwise;
   if (typeof options !== 'object' || options === null) {
     throw wrongType('options', 'an object', options);
   }
-  const { mapped = false } = options;
-  if (typeof mapped !== 'boolean') throw wrongType('options.mapped', 'a boolean', mapped);
-  return mapped;
+  const other = Object.keys(options).find((key) => key !== name);
+  if (other !== undefined) {
+    throw new TypeError(`options.${shownText(other)} is no option here, only options.${name}`);
+  }
+  const given = options[name];
+  return given === undefined ? otherwise : given;
+}
+
+/** Whether the option of this name is true. */
+export function flagOf(options, name) {
+  const flag = optionOf(options, name, false);
+  if (typeof flag !== 'boolean') throw wrongType(`options.${name}`, 'a boolean', flag);
+  return flag;
+}
+
+/** What a call does about texts that name no address. */
+export function invalidOf(options) {
+  const invalid = optionOf(options, 'invalid', 'raise');
+  if (invalid !== 'raise' && invalid !== false && invalid !== 'null') {
+    throw new TypeError(`options.invalid must be 'raise', false or 'null'`);
+  }
+  return invalid;
 }
 
 /** Writes a number to NUMBER as the calls of a family take it, and returns whether it fits. */

@@ -145,6 +145,17 @@ export function combined(one, other, name) {
   }));
 }
 
+/** The shortest list of an IPv6 list and of the IPv4-mapped networks of an IPv4 list. */
+export function withMapped(fours, sixes) {
+  const packed = new Uint8Array(fours.count * SIX.struct);
+  for (let at = 0, from = 0; at < packed.length; at += SIX.struct, from += FOUR.struct) {
+    packed[at + 10] = packed[at + 11] = 0xff;
+    for (let i = 0; i < 4; i += 1) packed[at + 12 + i] = fours.packed[from + i];
+    packed[at + 16] = 96 + fours.packed[from + 4];
+  }
+  return combined(new Blocks(SIX, packed), sixes, 'union');
+}
+
 /** Whether a value is an iterable other than a string. */
 export const isIterable = (value) => (
   typeof value === 'object' && value !== null && typeof value[Symbol.iterator] === 'function');

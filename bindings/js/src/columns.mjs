@@ -1,7 +1,7 @@
 import { addressReadColumn, readWithCauseColumn } from './library.mjs';
 import { ADDRESS, ANSWER, OTHER, bytes, view } from './memory.mjs';
-import { codeOf, never, wrongType } from './errors.mjs';
-import { mappedOf } from './arguments.mjs';
+import { addressError, codeOf, never, wrongType } from './errors.mjs';
+import { flagOf } from './arguments.mjs';
 import { MADE, addressAt } from './address.mjs';
 import { networkAt } from './network.mjs';
 import { KINDS, withCopy, withRoom } from './blocks.mjs';
@@ -42,9 +42,9 @@ export class AddressColumn {
   }
 
   static read(texts, options = undefined) {
-    const mapped = mappedOf(options);
+    const unmapped = flagOf(options, 'unmapped');
     const rows = readRows(texts, ADDRESSES);
-    return new AddressColumn(MADE, mapped ? rows.unmapped : rows);
+    return new AddressColumn(MADE, unmapped ? rows.unmapped() : rows);
   }
 
   get length() {
@@ -175,12 +175,16 @@ function printedAll(kind, packed) {
 }
 
 /**
- * The rows of a column of addresses, or of texts that are read as one; if mapped, with each
- * IPv4-mapped address replaced by the IPv4 address.
+ * The rows of a column of addresses, or of texts that are read as one. If invalid is 'raise', each
+ * must have an address.
  */
-export function rowsOfAddresses(value, mapped) {
+export function rowsOfAddresses(value, invalid) {
   const rows = addressRows(value) ?? addressRows(columnOf(value));
-  return mapped ? rows.unmapped : rows;
+  if (invalid === 'raise' && rows.refused > 0) {
+    const { text, row } = rows.firstRefused;
+    throw addressError(text, 'IP address', row);
+  }
+  return rows;
 }
 
 /** The column of an array of texts. */
@@ -195,11 +199,10 @@ function columnOf(value) {
 export const rowsOfNetworks = (value) => networkRows(value);
 
 /**
- * Calls `ask` for the addresses of a family, some thousands at a time, with the place of the
+ * Calls `ask` for packed addresses of a family, some thousands at a time, with the place of the
  * addresses of a chunk, their number, and the number of the first one.
  */
-export function eachChunkOf(rows, kind, ask) {
-  const packed = rows.packedOf(kind);
+export function eachChunkOf(packed, kind, ask) {
   const step = 4096 * kind.octets;
   for (let from = 0; from < packed.length; from += step) {
     const part = packed.subarray(from, from + step);
@@ -223,3 +226,8 @@ export function eachRow(rows, lists, Kind, none) {
   }
   return target;
 }
+
+/** The answers of rows, with null for each one without an address. */
+export const withNulls = ({ families }, answers) => Array.from(
+  answers, (answer, row) => (families[row] === 0 ? null : answer),
+);

@@ -1,15 +1,24 @@
+import { encoder } from './texts.mjs';
+
 const MESSAGES = {
   format: 'there is more than one slash',
   address: 'what stands before the slash, or the whole text, is no address',
   prefix: 'what stands after the slash is no prefix length',
 };
 const CODES = [undefined, 'format', 'address', 'prefix'];
-const SHOWN = 64;
+/* A message shows at most this many bytes of a text. */
+const SHOWN = 60;
 
 /** The code of a fault of the library: undefined, format, address or prefix. */
 export const codeOf = (fault) => CODES[fault];
 
-const quoted = (text) => JSON.stringify(text.length > SHOWN ? `${text.slice(0, SHOWN)}…` : text);
+/** A text for a message, or its front. */
+export function shownText(text) {
+  const { read } = encoder.encodeInto(text, new Uint8Array(SHOWN));
+  return read < text.length ? `${text.slice(0, read)}…` : text;
+}
+
+const quoted = (text) => JSON.stringify(shownText(text));
 
 /**
  * The error that this package throws for what it refuses: it says why there is no network, address
@@ -27,12 +36,15 @@ Object.defineProperty(
   IpNetworkError.prototype, 'name', { value: 'IpNetworkError', configurable: true, writable: true },
 );
 
+/** The place of a text in a list, for a message. */
+const placeOf = (index) => (index === undefined ? '' : ` at ${index}`);
+
 /** The error for a text that names no network, with its index if it is in a list. */
 export function networkError(fault, text, wanted, index) {
   const code = CODES[fault];
-  const at = index === undefined ? '' : ` at ${index}`;
-  const shown = text === undefined ? '' : `${quoted(text)}: `;
-  return new IpNetworkError(`no ${wanted}${at}: ${shown}${MESSAGES[code]}`, code, text, index);
+  return new IpNetworkError(
+    `no ${wanted}${placeOf(index)}: ${quoted(text)}: ${MESSAGES[code]}`, code, text, index,
+  );
 }
 
 /** The message if a network is given where an address is expected. */
@@ -41,13 +53,15 @@ export const networkGiven = (name) => (
   + 'covers whether in a set'
 );
 
-/** The error for a text that names no address. */
-export function addressError(text, wanted) {
+/** The error for a text that names no address, with its index if it is in a list. */
+export function addressError(text, wanted, index) {
   const more = text.includes('/')
     ? ': with a slash it is no address; isSubnetOf tells whether a network lies in another, and '
       + 'covers whether in a set'
     : '';
-  return new IpNetworkError(`no ${wanted}: ${quoted(text)}${more}`, 'address', text);
+  return new IpNetworkError(
+    `no ${wanted}${placeOf(index)}: ${quoted(text)}${more}`, 'address', text, index,
+  );
 }
 
 /** The error for a prefix length that is not from least to most. */

@@ -383,14 +383,10 @@ export function elementOf(value, name, index) {
   return eitherAt(OTHER);
 }
 
-/**
- * The address that is looked up in a list; if addresses are mapped, with an IPv4-mapped one
- * replaced by the IPv4 address.
- */
-export function memberOf(value, mapped) {
+/** The address that is looked up in a list. */
+export function memberOf(value) {
   if (isNetwork(value)) throw new TypeError(networkGiven('address'));
-  const member = addressOf(value, 'address');
-  return mapped ? member.unmapped : member;
+  return addressOf(value, 'address');
 }
 
 /* A network of either family is its family, the struct of IPv4 and the struct of IPv6. */

@@ -47,14 +47,14 @@ class Ranges extends Standing {
     return fault === 0 ? view.getUint32(NUMBER, true) : -1;
   }
 
-  /** For each address of the family the value that belongs to that block, or undefined. */
-  findColumn(rows, values) {
+  /** For each of these packed addresses the value that belongs to that block, or another one. */
+  findColumn(packed, values, none) {
     const { kind, count, indexCount } = this;
-    const found = new Array(rows.packedOf(kind).length / kind.octets);
+    const found = new Array(packed.length / kind.octets);
     if (found.length === 0) return found;
     const { start } = this;
     const index = start + SIZE * count;
-    eachChunkOf(rows, kind, (addresses, length, first) => withRoom(length * (SIZE + 1), (room) => {
+    const ask = (addresses, length, first) => withRoom(length * (SIZE + 1), (room) => {
       const faults = room + SIZE * length;
       never(kind.rangesFindColumn(
         index + 4 * indexCount, 0, count, 0, start, 0, count, 0, index, 0, indexCount, 0,
@@ -63,9 +63,10 @@ class Ranges extends Standing {
       const [places, refused] = [view, bytes];
       for (let i = 0; i < length; i += 1) {
         found[first + i] = refused[faults + i] === 0
-          ? values[places.getUint32(room + SIZE * i, true)] : undefined;
+          ? values[places.getUint32(room + SIZE * i, true)] : none;
       }
-    }));
+    });
+    eachChunkOf(packed, kind, ask);
     return found;
   }
 

@@ -2,14 +2,12 @@ import { v6Unmapped } from './library.mjs';
 import { NUMBER, OTHER, bytes, view } from './memory.mjs';
 import { never, wrongType } from './errors.mjs';
 import { withRoom } from './blocks.mjs';
-import { putText } from './texts.mjs';
+import { encoder, putText } from './texts.mjs';
 
 /* A column goes through the memory in chunks of at most this many rows, and of about this many
  * units of text. */
 const CHUNK_ROWS = 4096;
 const CHUNK_UNITS = 65536;
-
-const encoder = new TextEncoder();
 
 /** Packed structs of one family, of equal length, one after the other. */
 class Packed {
@@ -57,20 +55,22 @@ class Packed {
  * and its length.
  */
 export class Rows {
-  #unmapped;
+  #mapped;
 
   constructor(count, form) {
     this.count = count;
     this.form = form;
     this.refused = 0;
+    this.firstRefused = undefined;
     this.faults = new Uint8Array(count);
     this.families = new Uint8Array(count);
     this.places = new Uint32Array(count);
     this.packed = form.lengths.map((length) => new Packed(length));
   }
 
-  /** Copies rows from the memory, the first of which has this number. */
-  take(first, count, structs, faults) {
+  /** Copies the rows of these texts from the memory, the first of which has this number. */
+  take(first, texts, structs, faults) {
+    const count = texts.length;
     const { struct, tag, starts } = this.form;
     const [fours, sixes] = this.packed;
     fours.reserve(count);
@@ -78,6 +78,7 @@ export class Rows {
     for (let i = 0; i < count; i += 1) {
       const fault = bytes[faults + i];
       if (fault !== 0) {
+        this.firstRefused ??= { fault, text: texts[i], row: first + i };
         this.faults[first + i] = fault;
         this.refused += 1;
         continue;
@@ -92,15 +93,12 @@ export class Rows {
    * For a column of addresses, these rows with each IPv4-mapped address replaced by the IPv4
    * address.
    */
-  get unmapped() {
-    this.#unmapped ??= this.packed[1].count === 0 ? this : this.#unmap();
-    return this.#unmapped;
-  }
-
-  #unmap() {
+  unmapped() {
+    if (this.packed[1].count === 0) return this;
     const { count, families, places, packed: [fours, sixes] } = this;
     const made = new Rows(count, this.form);
     made.refused = this.refused;
+    made.firstRefused = this.firstRefused;
     made.faults = this.faults;
     made.packed[0].reserve(fours.count + sixes.count);
     made.packed[1].reserve(sixes.count);
@@ -111,8 +109,30 @@ export class Rows {
       if (isMapped) made.#push(row, 4, NUMBER);
       else made.#push(row, families[row], OTHER);
     }
-    made.#unmapped = made;
     return made;
+  }
+
+  /**
+   * For a column of addresses, the IPv4 addresses in the IPv4-mapped ones, packed, and the places of
+   * these among the IPv6 addresses.
+   */
+  get mapped() {
+    this.#mapped ??= this.#findMapped();
+    return this.#mapped;
+  }
+
+  #findMapped() {
+    const sixes = this.packed[1];
+    const fours = new Packed(4);
+    const places = [];
+    fours.reserve(sixes.count);
+    for (let place = 0; place < sixes.count; place += 1) {
+      sixes.put(place, OTHER);
+      if (v6Unmapped(OTHER, 0, NUMBER, 0) !== 0) continue;
+      fours.push(NUMBER);
+      places.push(place);
+    }
+    return { packed: fours.packed, places };
   }
 
   /** Copies the struct of a row and a family from the memory. There must be room for it. */
@@ -135,7 +155,7 @@ export function readRows(texts, form) {
   const rows = new Rows(texts.length, form);
   for (let from = 0; from < rows.count; ) {
     const chunk = chunkOf(texts, from, rows.count);
-    readChunk(chunk, form, (structs, faults) => rows.take(from, chunk.length, structs, faults));
+    readChunk(chunk, form, (structs, faults) => rows.take(from, chunk, structs, faults));
     from += chunk.length;
   }
   return rows;

@@ -1,13 +1,16 @@
 import { v4IndexContains, v4IsSubnetOf, v6IndexContains, v6IsSubnetOf } from './library.mjs';
 import { ADDRESS, ANSWER, NUMBER, OTHER, bitsOf, bytes, view } from './memory.mjs';
 import { IpNetworkError, networkError, never, wrongType } from './errors.mjs';
-import { mappedOf } from './arguments.mjs';
+import { flagOf, invalidOf } from './arguments.mjs';
 import { MADE, addressOf, familyOf, putAddress } from './address.mjs';
 import { familyOfNetwork, memberOf, networkAt, networkOf, putNetwork } from './network.mjs';
 import {
-  Blocks, KINDS, aggregated, combined, eachOf, networksOf, packedOf, sameBlocks, withRoom,
+  Blocks, KINDS, aggregated, combined, eachOf, networksOf, packedOf, sameBlocks, withMapped,
+  withRoom,
 } from './blocks.mjs';
-import { eachChunkOf, eachRow, rowsOfAddresses, rowsOfNetworks } from './columns.mjs';
+import {
+  eachChunkOf, eachRow, rowsOfAddresses, rowsOfNetworks, withNulls,
+} from './columns.mjs';
 import { INSPECT, SENT, shownList } from './shown.mjs';
 
 /**
@@ -21,8 +24,8 @@ export function packedNetworks(value, name) {
     return KINDS.map((kind) => packedOf(networks, kind));
   }
   if (rows.refused > 0) {
-    const row = rows.faults.findIndex((fault) => fault !== 0);
-    throw networkError(rows.faults[row], undefined, 'IP network', row);
+    const { fault, text, row } = rows.firstRefused;
+    throw networkError(fault, text, 'IP network', row);
   }
   return KINDS.map((kind) => rows.packedOf(kind));
 }
@@ -39,6 +42,7 @@ let isMapped;
 export class AddressSet {
   sent = SENT;
   #lists;
+  #both;
   #mapped;
   #freed = false;
 
@@ -54,7 +58,7 @@ export class AddressSet {
       this.#mapped = options;
       this.#lists = lists;
     } else {
-      this.#mapped = mappedOf(options);
+      this.#mapped = flagOf(options, 'mapped');
       const packed = packedNetworks(networks, 'networks');
       this.#lists = KINDS.map((kind, which) => aggregated(kind, packed[which]));
     }
@@ -62,35 +66,35 @@ export class AddressSet {
   }
 
   contains(address) {
-    const member = memberOf(address, this.#mapped);
-    const list = this.#used()[familyOf(member) === 4 ? 0 : 1];
-    const { index, indexCount, place, count } = list;
-    putAddress(member, ADDRESS);
-    never(list.kind.family === 4
-      ? v4IndexContains(place, 0, count, 0, index, 0, indexCount, 0, ADDRESS, 0, ANSWER, 0)
-      : v6IndexContains(place, 0, count, 0, index, 0, indexCount, 0, ADDRESS, 0, ANSWER, 0));
-    return bytes[ANSWER] === 1;
+    const member = memberOf(address);
+    const first = this.#mapped ? member.unmapped : member;
+    return this.#has(first) || (first !== member && this.#has(member));
   }
 
   covers(network) {
     const inner = networkOf(network, 'network');
-    const four = familyOfNetwork(inner) === 4;
-    const list = this.#used()[four ? 0 : 1];
-    const { index, indexCount, place, count, kind } = list;
+    const { index, indexCount, place, count, kind } = this.#listOf(familyOfNetwork(inner));
     putNetwork(inner, OTHER);
     /* The set has the network's addresses if one of its blocks has them, because no two blocks are
      * the halves of one. */
     const found = kind.indexFind(place, 0, count, 0, index, 0, indexCount, 0, OTHER, 0, NUMBER, 0);
     if (found !== 0) return false;
     const block = place + view.getUint32(NUMBER, true) * kind.struct;
-    never((four ? v4IsSubnetOf : v6IsSubnetOf)(OTHER, 0, block, 0, ANSWER, 0));
+    never((kind.family === 4 ? v4IsSubnetOf : v6IsSubnetOf)(OTHER, 0, block, 0, ANSWER, 0));
     return bytes[ANSWER] === 1;
   }
 
-  containsColumn(addresses) {
-    const rows = rowsOfAddresses(addresses, this.#mapped);
+  containsColumn(addresses, options = undefined) {
+    const invalid = invalidOf(options);
+    const rows = rowsOfAddresses(addresses, invalid);
     const lists = this.#used();
-    return eachRow(rows, lists.map((list) => answersOf(list, rows)), Uint8Array, 0);
+    const found = lists.map((list) => answersOf(list, rows.packedOf(list.kind)));
+    if (this.#mapped) {
+      const { packed, places } = rows.mapped;
+      answersOf(lists[0], packed).forEach((answer, at) => { found[1][places[at]] |= answer; });
+    }
+    const answers = eachRow(rows, found, Uint8Array, 0);
+    return invalid === 'null' ? withNulls(rows, answers) : answers;
   }
 
   union(other) {
@@ -166,11 +170,31 @@ export class AddressSet {
   free() {
     this.#freed = true;
     this.#lists.forEach((list) => list.free());
+    this.#both?.free();
   }
 
   #used() {
     if (this.#freed) throw new IpNetworkError('this AddressSet is freed', 'freed');
     return this.#lists;
+  }
+
+  #has(member) {
+    const list = this.#used()[familyOf(member) === 4 ? 0 : 1];
+    const { index, indexCount, place, count } = list;
+    putAddress(member, ADDRESS);
+    never(list.kind.family === 4
+      ? v4IndexContains(place, 0, count, 0, index, 0, indexCount, 0, ADDRESS, 0, ANSWER, 0)
+      : v6IndexContains(place, 0, count, 0, index, 0, indexCount, 0, ADDRESS, 0, ANSWER, 0));
+    return bytes[ANSWER] === 1;
+  }
+
+  /** The list of a family; for IPv6, in a mapped set, with the IPv4-mapped addresses of IPv4. */
+  #listOf(family) {
+    const [fours, sixes] = this.#used();
+    if (family === 4) return fours;
+    if (!this.#mapped) return sixes;
+    this.#both ??= withMapped(fours, sixes);
+    return this.#both;
   }
 
   #combined(other, name) {
@@ -193,13 +217,13 @@ function requireLists(value) {
   return lists;
 }
 
-/** For each address of a list's family, 1 or 0. */
-function answersOf(list, rows) {
+/** For each of these packed addresses of a list's family, 1 or 0. */
+function answersOf(list, packed) {
   const { kind } = list;
-  const answers = new Uint8Array(rows.packedOf(kind).length / kind.octets);
+  const answers = new Uint8Array(packed.length / kind.octets);
   if (answers.length === 0) return answers;
   const { index, indexCount, place, count } = list;
-  eachChunkOf(rows, kind, (addresses, length, first) => withRoom(2 * length, (room) => {
+  eachChunkOf(packed, kind, (addresses, length, first) => withRoom(2 * length, (room) => {
     never(kind.indexContainsColumn(
       place, 0, count, 0, index, 0, indexCount, 0, addresses, 0, length, 0,
       room + length, 0, length, 0, room, 0, length, 0,

@@ -1,15 +1,17 @@
 import { ADDRESS, OTHER, bytes } from './memory.mjs';
 import { IpNetworkError, never, wrongType } from './errors.mjs';
-import { mappedOf } from './arguments.mjs';
+import { flagOf, invalidOf } from './arguments.mjs';
 import { familyOf, putAddress } from './address.mjs';
 import {
   elementOf, familyOfNetwork, isNetwork, memberOf, networkOf, putNetwork,
 } from './network.mjs';
 import { KINDS, blockAt, isIterable, packedOf, withCopy } from './blocks.mjs';
-import { eachRow, rowsOfAddresses } from './columns.mjs';
+import { eachRow, rowsOfAddresses, withNulls } from './columns.mjs';
 import { tableOf } from './ranges.mjs';
 import { INSPECT, SENT, shownList } from './shown.mjs';
 import { textAt } from './texts.mjs';
+
+const NONE = Symbol('no block');
 
 /**
  * The blocks of a family with their values, in ascending order; equal ones are in the order of the
@@ -81,7 +83,7 @@ export class PrefixTable {
     if (isNetwork(entries) || !isIterable(entries)) {
       throw wrongType('entries', 'an iterable of pairs of a network and a value', entries);
     }
-    this.#mapped = mappedOf(options);
+    this.#mapped = flagOf(options, 'mapped');
     const pairs = [];
     for (const entry of entries) pairs.push(pairOf(entry, pairs.length));
     this.#tables = KINDS.map((kind) => new FamilyTable(kind, pairs));
@@ -89,18 +91,27 @@ export class PrefixTable {
   }
 
   lookup(address) {
-    const member = memberOf(address, this.#mapped);
-    const table = this.#used()[familyOf(member) === 4 ? 0 : 1];
-    putAddress(member, ADDRESS);
-    const place = table.ranges.find(ADDRESS);
-    return place < 0 ? undefined : { network: table.at(place), value: table.values[place] };
+    const member = memberOf(address);
+    const first = this.#mapped ? member.unmapped : member;
+    return this.#longest(first) ?? (first === member ? undefined : this.#longest(member));
   }
 
-  lookupColumn(addresses) {
-    const rows = rowsOfAddresses(addresses, this.#mapped);
+  lookupColumn(addresses, options = undefined) {
+    const invalid = invalidOf(options);
+    const rows = rowsOfAddresses(addresses, invalid);
     const tables = this.#used();
-    const found = tables.map((table) => table.ranges.findColumn(rows, table.values));
-    return eachRow(rows, found, Array, undefined);
+    const found = tables.map(({ kind, ranges, values }) => (
+      ranges.findColumn(rows.packedOf(kind), values, undefined)
+    ));
+    if (this.#mapped) {
+      const { packed, places } = rows.mapped;
+      const [{ ranges, values }] = tables;
+      ranges.findColumn(packed, values, NONE).forEach((value, at) => {
+        if (value !== NONE) found[1][places[at]] = value;
+      });
+    }
+    const each = eachRow(rows, found, Array, undefined);
+    return invalid === 'null' ? withNulls(rows, each) : each;
   }
 
   get(network) {
@@ -151,6 +162,13 @@ export class PrefixTable {
   #used() {
     if (this.#freed) throw new IpNetworkError('this PrefixTable is freed', 'freed');
     return this.#tables;
+  }
+
+  #longest(member) {
+    const table = this.#used()[familyOf(member) === 4 ? 0 : 1];
+    putAddress(member, ADDRESS);
+    const place = table.ranges.find(ADDRESS);
+    return place < 0 ? undefined : { network: table.at(place), value: table.values[place] };
   }
 
   #exactly(network) {

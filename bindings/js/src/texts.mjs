@@ -1,5 +1,7 @@
 import { ANSWER, TEXT, TEXT_ROOM, bytes, giveBack, take } from './memory.mjs';
 
+export const encoder = new TextEncoder();
+
 /** A byte that is in no text of a network. It replaces each unit of a text that is not ASCII. */
 const NOT_ASCII = 0xff;
 

@@ -233,6 +233,31 @@ test('texts of any length and any units', () => {
   assert.ok(code('10.0.0.0/\ud800') === 'prefix');
 });
 
+test('no message has more than 60 bytes of what is refused', () => {
+  const set = new AddressSet();
+  for (const [text, shown] of [
+    ['x'.repeat(61), 'x'.repeat(60)], ['\u20ac'.repeat(21), '\u20ac'.repeat(20)],
+    [`x${'\u{1f600}'.repeat(15)}`, `x${'\u{1f600}'.repeat(14)}`],
+  ]) {
+    for (const call of [
+      () => IpNetwork.parse(text), () => IpAddress.parse(text), () => new AddressSet([text]),
+      () => new AddressSet(NetworkColumn.read([text])), () => set.contains(text),
+      () => set.containsColumn([text]), () => set.containsColumn(AddressColumn.read([text])),
+    ]) {
+      assert.throws(call, ({ message, input }) => (
+        input === text && message.includes(`"${shown}\u2026"`) && !message.includes(text)
+      ));
+    }
+    assert.throws(() => new AddressSet([], { [text]: true }), ({ message }) => (
+      message.startsWith(`options.${shown}\u2026 is no option`)
+    ));
+  }
+  assert.throws(() => IpNetwork.parse('x'.repeat(60)), { message: new RegExp(`"x{60}"`) });
+  assert.throws(() => IpNetwork.parse('::/0').nth(-(10n ** 99n)), ({ name, message }) => (
+    name === 'RangeError' && message.includes(`number is -1${'0'.repeat(58)}\u2026,`)
+  ));
+});
+
 test('lists whose elements are made while they are looked at', () => {
   /* An element that asks the package while the list that it stands in is read. */
   const texts = ['10.0.0.1', 'x', '10.0.0.3'];

@@ -257,14 +257,12 @@ test('columns', () => {
   assert.deepEqual([...column].map(String), column.toStrings().map(String));
   assert.equal(column.at(9), undefined);
   assert.equal(column.at(-1), undefined);
-  assert.throws(
-    () => new AddressSet(column), { name: 'IpNetworkError', code: 'address', index: 1 },
-  );
+  assert.throws(() => new AddressSet(column), {
+    name: 'IpNetworkError', code: 'address', index: 1, input: 'x',
+    message: /^no IP network at 1: "x": /,
+  });
   const set = new AddressSet(NetworkColumn.read(['10.0.0.0/9', '10.128.0.0/9', '::1']));
   assert.deepEqual(set.toJSON(), ['10.0.0.0/8', '::1/128']);
-  assert.deepEqual(
-    [...set.containsColumn(['10.9.9.9', 'x', '::1', '::2', '10.0.0.0/8'])], [1, 0, 1, 0, 0],
-  );
   /* More rows than go through the memory at once, and rows that are long. */
   const many = Array.from({ length: 10000 }, (_, row) => (
     row % 1000 === 999 ? `10.0.0.0/${'0'.repeat(50000)}8` : `10.0.${row % 256}.0/24`
@@ -275,6 +273,44 @@ test('columns', () => {
   assert.equal(
     AddressColumn.read(many.map((text) => text.split('/')[0])).at(5).toString(), '10.0.5.0',
   );
+});
+
+test('rows that name no address are refused, unless it is said what they are', () => {
+  const texts = ['10.9.9.9', '9.9.9.9', ' 10.0.0.1', '::1', '10.0.0.1:443', '010.0.0.5', '::2'];
+  const set = new AddressSet(['10.0.0.0/8', '::1']);
+  const table = new PrefixTable([['10.0.0.0/8', 'four'], ['::1', 'six']]);
+  for (const column of [texts, AddressColumn.read(texts)]) {
+    for (const ask of [
+      (options) => set.containsColumn(column, options),
+      (options) => table.lookupColumn(column, options),
+    ]) {
+      for (const options of [undefined, {}, { invalid: 'raise' }]) {
+        assert.throws(() => ask(options), {
+          name: 'IpNetworkError', code: 'address', index: 2, input: ' 10.0.0.1',
+          message: 'no IP address at 2: " 10.0.0.1"',
+        });
+      }
+    }
+    const answers = set.containsColumn(column, { invalid: false });
+    assert.ok(answers instanceof Uint8Array);
+    assert.deepEqual([...answers], [1, 0, 0, 1, 0, 0, 0]);
+    assert.deepEqual(
+      set.containsColumn(column, { invalid: 'null' }), [1, 0, null, 1, null, null, 0],
+    );
+    assert.deepEqual(table.lookupColumn(column, { invalid: false }), [
+      'four', undefined, undefined, 'six', undefined, undefined, undefined,
+    ]);
+    assert.deepEqual(table.lookupColumn(column, { invalid: 'null' }), [
+      'four', undefined, null, 'six', null, null, undefined,
+    ]);
+  }
+  assert.deepEqual(set.containsColumn(['10.0.0.1'], { invalid: 'null' }), [1]);
+  assert.deepEqual(table.lookupColumn([], { invalid: 'null' }), []);
+  for (const invalid of [null, true, 'coerce', 0, '']) {
+    assert.throws(
+      () => set.containsColumn([], { invalid }), /^TypeError: options\.invalid must be /,
+    );
+  }
 });
 
 test('the ranges of a set', () => {

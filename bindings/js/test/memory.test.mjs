@@ -49,8 +49,8 @@ test('long texts and columns', () => {
   const texts = Array.from({ length: 1000 }, (_, i) => (
     i % 3 === 0 ? `2001:db8::${i}` : `10.0.${i & 255}.1`
   ));
-  const set = new AddressSet(['10.0.0.0/9', '2001:db8::/33']);
-  const table = new PrefixTable([['10.0.0.0/9', 1]]);
+  const set = new AddressSet(['10.0.0.0/9', '2001:db8::/33'], { mapped: true });
+  const table = new PrefixTable([['10.0.0.0/9', 1]], { mapped: true });
   flat(300, 4, () => {
     set.containsColumn(AddressColumn.read(texts));
     table.lookupColumn(texts);
@@ -84,8 +84,9 @@ test('what is freed is used again', () => {
     { length: 5_000 }, (_, i) => `${10 + (i >> 15)}.${(i >> 7) & 255}.${(i << 1) & 255}.0/24`,
   );
   flat(20, 2, () => {
-    const set = new AddressSet(networks);
-    assert.ok(set.contains('10.0.0.1') && set.blockCount === 5_000);
+    const set = new AddressSet(networks, { mapped: true });
+    assert.ok(['10.0.0.1', '::ffff:10.0.0.1'].every((text) => set.contains(text)));
+    assert.equal(set.blockCount, 5_000);
     set.free();
   });
 });

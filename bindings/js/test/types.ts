@@ -20,13 +20,15 @@ const peer: Ipv4Address | Ipv6Address = six.unmapped;
 first.unmapped.number.toFixed();
 const mapped = new AddressSet(['10.0.0.0/8'], { mapped: true }).mapped;
 new PrefixTable([['10.0.0.0/8', 1]], { mapped: true }).lookup(peer);
-AddressColumn.read(['::1'], { mapped });
+AddressColumn.read(['::1'], { unmapped: mapped });
 const relation: 'same' | 'inside' | 'around' | 'apart' = network.relationTo(four);
 const sorted: IpNetwork[] = [network, four].sort(IpNetwork.compare);
 const set = new AddressSet([network, '10.0.0.0/8']).union(
   new AddressSet(NetworkColumn.read(['::/0']))
 );
 const flags: Uint8Array = set.containsColumn(AddressColumn.read(['::1']));
+const plainFlags: Uint8Array = set.containsColumn(['x'], { invalid: false });
+const nullFlags: (0 | 1 | null)[] = set.containsColumn(['x'], { invalid: 'null' });
 const range: IpAddress = [...set.complement().symmetricDifference(set).ranges()][0].first;
 for (const block of set) block.prefix.toFixed();
 const texts: (string | null)[] = AddressColumn.read(['x']).toJSON();
@@ -34,6 +36,7 @@ const table = new PrefixTable([['10.0.0.0/8', { name: 'x' }]]);
 const rows: [string, { name: string }][] = table.toJSON();
 const name: string | undefined = table.lookup('10.0.0.1')?.value.name;
 const names: (string | undefined)[] = table.lookupColumn(['10.0.0.1']).map((value) => value?.name);
+const nulls: ({ name: string } | null | undefined)[] = table.lookupColumn(['x'], { invalid: 'null' });
 const keyed = new Map<string, number>([[String(four.block), 1]]);
 const blocks: IpNetwork[] = [...aggregate(set.blocks()), ...summarizeRange('10.0.0.0', first)];
 if (network.family === 4) network.last.number.toFixed();
@@ -42,7 +45,10 @@ try {
 } catch (error) {
   if (error instanceof IpNetworkError && error.code === 'prefix') error.index?.toFixed();
 }
-export { range, texts, rows, either, numbers, size, nothing, relation, sorted, flags, name, names, keyed, blocks };
+export {
+  range, texts, rows, either, numbers, size, nothing, relation, sorted, flags, plainFlags, nullFlags, name, names,
+  nulls, keyed, blocks,
+};
 
 // @ts-expect-error a number is no text
 IpNetwork.parse(10);
@@ -60,6 +66,10 @@ new AddressSet('10.0.0.0/8');
 new AddressSet([], { mapped: 1 });
 // @ts-expect-error there is no such option
 new PrefixTable([], { map: true });
+// @ts-expect-error a column replaces, and does not ask
+AddressColumn.read([], { mapped: true });
+// @ts-expect-error there is no such answer
+set.containsColumn([], { invalid: true });
 // @ts-expect-error a column is an array of texts
 set.containsColumn([1]);
 // @ts-expect-error the value of this table is no number
