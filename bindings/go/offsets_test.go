@@ -3,37 +3,37 @@
 package ipnetwork
 
 import (
+	"fmt"
 	"sync"
+	"sync/atomic"
 	"testing"
 	"time"
 )
 
 // Another goroutine writes the offsets, which is wrong, while they are read: the calls use what they have checked.
 func TestOffsetsWrittenMeanwhile(t *testing.T) {
-	texts, offsets := []byte("10.0.0.0/8"), make([]uint32, 5001)
-	networks, faults := make([]Network, 5000), make([]byte, 5000)
-	var wait sync.WaitGroup
-	end := make(chan struct{})
+	texts, offsets := []byte("10.0.0.0/8"), make([]uint32, 1001)
+	offsets[1000] = 10
+	networks, faults := make([]Network, 1000), make([]byte, 1000)
+	var begun, wait sync.WaitGroup
+	var ended atomic.Bool
+	begun.Add(1)
 	wait.Add(1)
 	go func() {
 		defer wait.Done()
-		for {
-			select {
-			case <-end:
-				return
-			default:
-				for row := 1; row < 5001; row += 7 {
-					offsets[row] = 0xffffff00
-					offsets[row] = 0
-				}
-			}
+		begun.Done()
+		for value := uint32(0); !ended.Load(); value ^= 0xffffff00 {
+			atomic.StoreUint32(&offsets[999], value)
 		}
 	}()
-	for start := time.Now(); time.Since(start) < time.Second/2; {
-		_ = ReadColumn(texts, offsets, networks, faults)
+	begun.Wait()
+	for start := time.Now(); time.Since(start) < time.Second; {
+		if ReadColumn(texts, offsets, networks, faults) == nil {
+			equal(t, "rows", fmt.Sprint(faults[997:]), "[2 2 0]")
+		}
 		_, _, _ = ParseColumn(texts, offsets)
 		_, _ = ParseAddrColumn(texts, offsets)
 	}
-	close(end)
+	ended.Store(true)
 	wait.Wait()
 }
