@@ -86,7 +86,7 @@ func ParseColumn(texts []byte, offsets []uint32) ([]Network, []Fault, error) {
 }
 
 // ParseAddrColumn reads a column of texts as addresses, as ParseColumn reads networks. For a text that names no
-// address, it returns the zero netip.Addr.
+// address, it returns the zero netip.Addr, which is in no set, so not in a deny list either: ask its IsValid first.
 func ParseAddrColumn(texts []byte, offsets []uint32) ([]netip.Addr, error) {
 	rows := rowsOf(offsets)
 	held, told, offsets := make([]C.ipnetwork_address, rows), make([]byte, rows), own(offsets)

@@ -19,11 +19,11 @@
 // A network keeps the host bits of its address. Its members are the addresses that share the first bits of its address,
 // as many as the prefix length says, and the questions are about the members.
 //
-// The library is called by cgo: to read and print texts, to make and combine sets and tables, and by the functions whose
-// names end in Column. It is not called for a question about one network, or about addresses in a set or table, by
-// Contains, Find, Covers and the functions whose names end in Each: these take a few nanoseconds in Go, and allocate
-// nothing but the slice that they return. So they are not proved: the search in Go is tested against the proved one,
-// which ContainsColumn and FindColumn call, and the rest against net/netip.
+// The library is called by cgo: to read and print texts, to make and combine sets and tables, and by the functions
+// whose names end in Column. It is not called for a question about one network, nor by Contains, Covers, ContainsEach,
+// Find and FindEach, which take a few nanoseconds in Go, and allocate nothing but what they return. These are not
+// proved: the search in Go is tested against the proved one, which ContainsColumn and FindColumn call, and the rest
+// against net/netip.
 //
 // While a call has a slice, no other goroutine may write it. Offsets are copied before they are checked, so that a
 // program that breaks this rule still reads no memory beyond its texts.

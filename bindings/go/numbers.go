@@ -130,7 +130,9 @@ func (number integer) shifted(by uint) uint64 {
 }
 
 // has reports whether an address is one of those that share all but the host bits with this one.
-func (number integer) has(hosts, address integer) bool { return number.or(hosts) == address.or(hosts) }
+func (number integer) has(hosts, address integer) bool {
+	return (number.high^address.high)&^hosts.high|(number.low^address.low)&^hosts.low == 0
+}
 
 // startOfFour and startOfSix return the address of a block.
 func startOfFour(block *C.ipnetwork_v4) uint32 {
