@@ -53,8 +53,8 @@ func NewSet(networks []Network) (Set, error) {
 // address is a member if the IPv4 address, or the IPv6 address as it stands, is one; and so for a network within
 // ::ffff:0:0/96.
 //
-// It takes as long as Union: make it once. Of the sets of an operation, if one is of Mapped, the other one is taken as
-// Mapped too, and so is the result.
+// It takes as long as Union, and 33 bytes for each IPv4 network: make it once. Networks, Ranges and JSON have the added
+// addresses too. If one of the sets of an operation is of Mapped, the other one is taken as Mapped, and so is the result.
 func (set Set) Mapped() Set {
 	if set.mapped {
 		return set
