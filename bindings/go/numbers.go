@@ -106,16 +106,16 @@ func (number integer) or(other integer) integer {
 	return integer{number.high | other.high, number.low | other.low}
 }
 
-// minus returns the difference to a number that is not greater.
-func (number integer) minus(other integer) integer {
+// minus returns the difference to another number, and whether that is greater.
+func (number integer) minus(other integer) (difference integer, isLess bool) {
 	low, borrow := bits.Sub64(number.low, other.low, 0)
-	return integer{number.high - other.high - borrow, low}
+	high, borrow := bits.Sub64(number.high, other.high, borrow)
+	return integer{high, low}, borrow != 0
 }
 
 func (number integer) isLess(other integer) bool {
-	_, borrow := bits.Sub64(number.low, other.low, 0)
-	_, borrow = bits.Sub64(number.high, other.high, borrow)
-	return borrow != 0
+	_, isLess := number.minus(other)
+	return isLess
 }
 
 // shifted returns the number without its last bits, or the greatest one that has 64 bits if it has more.

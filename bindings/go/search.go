@@ -55,11 +55,11 @@ func (held *lists) placeOfFour(address uint32) int {
 func (held *lists) placeOfSix(number integer) int {
 	first, last := 0, len(held.sixes)
 	if len(held.sixIndex) > 0 {
-		start := startOfSix(&held.sixes[0])
-		if number.isLess(start) {
+		beyond, isLess := number.minus(startOfSix(&held.sixes[0]))
+		if isLess {
 			return -1
 		}
-		first, last = bounds(held.sixIndex, last, number.minus(start).shifted(uint(held.sixIndex[0])))
+		first, last = bounds(held.sixIndex, last, beyond.shifted(uint(held.sixIndex[0])))
 	}
 	for last-first > few {
 		if middle := int(uint(first+last) / 2); number.isLess(startOfSix(&held.sixes[middle])) {
