@@ -189,18 +189,16 @@ def from_go(run, rows):
     run.without("a current table for Go, such as bart (no package of Debian)")
     environment = {**os.environ, "GOFLAGS": "-mod=mod", "GOPROXY": "off", "GOCACHE": str(TOP / "bindings/out/go")}
     times = {}
-    for tags in ("cgo", "ipnetwork_direct"):
-        words = ["go", "test", "-tags", tags, "-run", "none", "-bench", ".", "-benchtime", "20ms" if run.quick else "60ms"]
-        printed = said([*words, "-count", "2" if run.quick else "3"], cwd=TOP / "bindings/go", env=environment)
-        for name, time in re.findall(r"^Benchmark(\w+?)(?:-\d+)?\s+\d+\s+([\d.]+) ns/op", printed, re.M):
-            times[tags, name] = min(float(time), times.get((tags, name), 1e300))
+    words = ["go", "test", "-run", "none", "-bench", ".", "-benchtime", "20ms" if run.quick else "60ms"]
+    printed = said([*words, "-count", "2" if run.quick else "3"], cwd=TOP / "bindings/go", env=environment)
+    for name, time in re.findall(r"^Benchmark(\w+?)(?:-\d+)?\s+\d+\s+([\d.]+) ns/op", printed, re.M):
+        times[name] = min(float(time), times.get(name, 1e300))
     calls = {"read4": "Parse4", "read6": "Parse6", "has4": "Contains4", "has6": "Contains6", "print6": "AppendTo6",
              "column4": "ParseAddrColumn", "set": "ContainsOfSet", "set_column4": "ContainsColumnOfSet", "find": "Find",
              "find_column": "FindColumn"}
     peers = {column: f"{call}OfNetip" for column, call in calls.items()} | {"column4": "ParseAddrsOfNetip"}
-    for name, tags in (("Go, by cgo", "cgo"), ("Go, `ipnetwork_direct`", "ipnetwork_direct")):
-        rows.add_own(name, {column: times.get((tags, call)) for column, call in calls.items()})
-    rows.add_peer("`net/netip`", {column: times.get(("ipnetwork_direct", call)) for column, call in peers.items()})
+    rows.add_own("Go", {column: times.get(call) for column, call in calls.items()})
+    rows.add_peer("`net/netip`", {column: times.get(call) for column, call in peers.items()})
     return ["Go's column of addresses is of both families."]
 
 

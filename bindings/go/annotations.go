@@ -22,10 +22,6 @@ package ipnetwork
 #cgo nocallback ipnetwork_v4_aggregate
 #cgo noescape ipnetwork_v6_aggregate
 #cgo nocallback ipnetwork_v6_aggregate
-#cgo noescape ipnetwork_go_contains_each
-#cgo nocallback ipnetwork_go_contains_each
-#cgo noescape ipnetwork_go_find_each
-#cgo nocallback ipnetwork_go_find_each
 #cgo noescape ipnetwork_go_contains_column
 #cgo nocallback ipnetwork_go_contains_column
 #cgo noescape ipnetwork_go_find_column
@@ -40,5 +36,11 @@ package ipnetwork
 #cgo nocallback ipnetwork_go_operate_v4
 #cgo noescape ipnetwork_go_operate_v6
 #cgo nocallback ipnetwork_go_operate_v6
+#cgo noescape ipnetwork_go_read
+#cgo nocallback ipnetwork_go_read
+#cgo noescape ipnetwork_go_read_address
+#cgo nocallback ipnetwork_go_read_address
+#cgo noescape ipnetwork_go_text
+#cgo nocallback ipnetwork_go_text
 */
 import "C"

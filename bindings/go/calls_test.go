@@ -39,7 +39,6 @@ func TestNoAllocations(t *testing.T) {
 			sink = table.FindColumn(packed, 4, numbers) != set.ContainsColumn(packed, 16, answers)
 		},
 		"no address":  func() { sink = table.Find(netip.Addr{}) == 0 || set.Contains(netip.Addr{}) },
-		"no network":  func() { _, _ = Parse("10.1.9.32/33") },
 		"of a prefix": func() { read, _ = FromPrefix(netip.PrefixFrom(other, 64)) },
 	} {
 		equal(t, "allocations of "+name, testing.AllocsPerRun(100, ask), 0.0)
@@ -70,18 +69,18 @@ func TestLengths(t *testing.T) {
 		} {
 			network, err := Parse(text)
 			equal(t, "length", len(text), length)
-			equal(t, "the cause of "+text, err, error(wanted))
+			equal(t, "the cause of "+text, err, wanted)
 			equal(t, "no network", network, Network{})
 			address, err := ParseAddr(text)
-			equal(t, "the cause as an address of "+text, err, error(Address))
+			equal(t, "the cause as an address of "+text, err, Address)
 			equal(t, "no address", address, netip.Addr{})
 		}
 	}
-	equal(t, "allocations of 64 bytes", testing.AllocsPerRun(100, func() { _, _ = Parse(nines[:64]) }), 0.0)
-	long := "10.0.0.0/" + nines
+	long := "10.0.0.0/" + strings.Repeat("0", 80) + "8"
+	short := long[:9] + long[len(long)-55:]
+	equal(t, "allocations of 64 bytes", testing.AllocsPerRun(100, func() { _, _ = Parse(short) }), 0.0)
 	equal(t, "allocations of a long text", testing.AllocsPerRun(100, func() { _, _ = Parse(long) }), 1.0)
-	equal(t, "allocations of a long address", testing.AllocsPerRun(100, func() { _, _ = ParseAddr(long) }), 1.0)
-	equal(t, "a long text", MustParse("10.0.0.0/"+strings.Repeat("0", 80)+"8").String(), "10.0.0.0/8")
+	equal(t, "a long text", fmt.Sprint(len(short), MustParse(short), MustParse(long)), "64 10.0.0.0/8 10.0.0.0/8")
 	longest := "ffff:ffff:ffff:ffff:ffff:ffff:255.255.255.255/128"
 	equal(t, "the longest of net/netip", MustParse(longest).Prefix(), netip.MustParsePrefix(longest))
 }

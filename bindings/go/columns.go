@@ -6,7 +6,6 @@ package ipnetwork
 import "C"
 
 import (
-	"bytes"
 	"net/netip"
 	"unsafe"
 )
@@ -15,20 +14,22 @@ import (
 // other. The column has packed addresses of the network's family, one after the other. The error is NoFamily for the
 // zero Network or if the column ends within an address, and NoRoom if there are fewer answers than addresses.
 func (network Network) ContainsColumn(packed []byte, answers []byte) error {
-	width := len(network.held.v4.address)
-	if network.held.family == 6 {
-		width = len(network.held.v6.address)
-	}
-	if network.Bits() < 0 || len(packed)%width != 0 {
+	if network.width == 0 || len(packed)%int(network.width/8) != 0 {
 		return NoFamily
 	}
-	rows, addresses := C.size_t(len(packed)/width), bytesOf(packed)
+	rows, addresses := C.size_t(len(packed)/int(network.width/8)), bytesOf(packed)
 	told, room := bytesOf(answers), C.size_t(len(answers))
-	if network.held.family == 4 {
-		return faultOf(C.ipnetwork_v4_contains_column(&network.held.v4, addresses, rows, told, room))
+	if network.width == 32 {
+		four := network.four()
+		return faultOf(C.ipnetwork_v4_contains_column(&four, addresses, rows, told, room))
 	}
-	return faultOf(C.ipnetwork_v6_contains_column(&network.held.v6, addresses, rows, told, room))
+	six := network.six()
+	return faultOf(C.ipnetwork_v6_contains_column(&six, addresses, rows, told, room))
 }
+
+// own returns a copy of the offsets of a column, which is what the library checks and what it uses, whatever another
+// goroutine writes meanwhile.
+func own(offsets []uint32) []uint32 { return append([]uint32(nil), offsets...) }
 
 // offsetsOf returns a pointer to the first of some offsets, or nil.
 func offsetsOf(offsets []uint32) *C.uint32_t { return (*C.uint32_t)(unsafe.Pointer(start(offsets))) }
@@ -45,37 +46,38 @@ func rowsOf(offsets []uint32) int {
 // zero Network, and faults[i] is the cause, as from Parse. The error is NoOffsets if the offsets decrease or go past
 // the end of the texts, and NoRoom if there are fewer networks or faults than texts: then nothing is written.
 func ReadColumn(texts []byte, offsets []uint32, networks []Network, faults []byte) error {
-	if err := readInto(texts, offsets, networks, faults); err != nil {
-		return err
+	if len(networks) < rowsOf(offsets) {
+		return NoRoom
 	}
-	told := faults[:rowsOf(offsets)]
-	if bytes.Count(told, []byte{C.IPNETWORK_OK}) == len(told) {
-		return nil
+	made := make([]C.ipnetwork_ip, rowsOf(offsets))
+	err := readInto(texts, own(offsets), made, faults)
+	if err == nil {
+		fill(networks, made, faults)
 	}
-	for row, fault := range told {
-		if fault != C.IPNETWORK_OK {
-			networks[row] = Network{}
+	return err
+}
+
+// readInto leaves made[i] unchanged if text i names no network.
+func readInto(texts []byte, offsets []uint32, made []C.ipnetwork_ip, faults []byte) error {
+	return faultOf(C.ipnetwork_read_with_cause_column((*C.char)(unsafe.Pointer(start(texts))), size(texts), offsetsOf(offsets),
+		size(offsets), start(made), size(made), bytesOf(faults), size(faults)))
+}
+
+// fill converts the networks that were read, and writes the zero Network where there is a fault.
+func fill(networks []Network, made []C.ipnetwork_ip, faults []byte) {
+	for row := range made {
+		networks[row] = Network{}
+		if faults[row] == C.IPNETWORK_OK {
+			networks[row] = networkOf(&made[row])
 		}
 	}
-	return nil
-}
-
-// readInto is like ReadColumn, but leaves networks[i] unchanged if text i names no network.
-func readInto(texts []byte, offsets []uint32, networks []Network, faults []byte) error {
-	return faultOf(C.ipnetwork_read_with_cause_column((*C.char)(unsafe.Pointer(start(texts))), size(texts), offsetsOf(offsets),
-		size(offsets), held(networks), size(networks), bytesOf(faults), size(faults)))
-}
-
-// held returns a pointer to the first of some networks as the library holds it, or nil.
-func held(networks []Network) *C.ipnetwork_ip {
-	return (*C.ipnetwork_ip)(unsafe.Pointer(start(networks)))
 }
 
 // ParseColumn is like ReadColumn, but returns new slices.
 func ParseColumn(texts []byte, offsets []uint32) ([]Network, []Fault, error) {
 	rows := rowsOf(offsets)
 	networks, told := make([]Network, rows), make([]byte, rows)
-	if err := readInto(texts, offsets, networks, told); err != nil {
+	if err := ReadColumn(texts, offsets, networks, told); err != nil {
 		return nil, nil, err
 	}
 	faults := make([]Fault, rows)
@@ -84,10 +86,10 @@ func ParseColumn(texts []byte, offsets []uint32) ([]Network, []Fault, error) {
 }
 
 // ParseAddrColumn reads a column of texts as addresses, as ParseColumn reads networks. For a text that names no
-// address, it returns the zero netip.Addr.
+// address, it returns the zero netip.Addr, which is in no set, so not in a deny list either: ask its IsValid first.
 func ParseAddrColumn(texts []byte, offsets []uint32) ([]netip.Addr, error) {
 	rows := rowsOf(offsets)
-	held, told := make([]C.ipnetwork_address, rows), make([]byte, rows)
+	held, told, offsets := make([]C.ipnetwork_address, rows), make([]byte, rows), own(offsets)
 	number := C.ipnetwork_address_read_column((*C.char)(unsafe.Pointer(start(texts))), size(texts), offsetsOf(offsets), size(offsets),
 		start(held), size(held), bytesOf(told), size(told))
 	if number != C.IPNETWORK_OK {
@@ -108,7 +110,11 @@ func ParseAddrColumn(texts []byte, offsets []uint32) ([]netip.Addr, error) {
 func PrintColumn(networks []Network) ([]byte, []uint32, error) {
 	texts, offsets := make([]byte, len(networks)*(C.IPNETWORK_V6_TEXT-1)), make([]uint32, len(networks)+1)
 	var length C.size_t
-	number := C.ipnetwork_print_column(held(networks), size(networks), (*C.char)(unsafe.Pointer(start(texts))), size(texts),
+	rows := make([]C.ipnetwork_ip, len(networks))
+	for row, network := range networks {
+		rows[row] = network.held()
+	}
+	number := C.ipnetwork_print_column(start(rows), size(rows), (*C.char)(unsafe.Pointer(start(texts))), size(texts),
 		offsetsOf(offsets), size(offsets), &length)
 	if number != C.IPNETWORK_OK {
 		return nil, nil, Fault(number)

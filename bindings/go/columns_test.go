@@ -117,7 +117,7 @@ func TestEach(t *testing.T) {
 			equal(t, text, networks[row], one)
 			equal(t, text, faults[row] == 0, err == nil)
 			if err != nil {
-				equal(t, text, faults[row], err)
+				equal(t, text, err, faults[row])
 			}
 		}
 	}

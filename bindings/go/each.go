@@ -10,14 +10,18 @@ import (
 	"sync"
 )
 
+// portion is the maximum number of texts in one call.
+const portion = 1024
+
 // longest is the maximum length in bytes of a text that is copied into a textRoom, and kept the maximum number of bytes
 // that a textRoom keeps for the next call.
 const longest, kept = 4096, 1 << 17
 
-// A textRoom has texts, one after the other, their offsets, and the fault of each.
+// A textRoom has texts, one after the other, their offsets, and the network or the fault of each.
 type textRoom struct {
 	bytes   []byte
 	offsets [portion + 1]uint32
+	made    [portion]C.ipnetwork_ip
 	told    [portion]byte
 }
 
@@ -44,17 +48,15 @@ func ParseEach(texts []string) ([]Network, []Fault) {
 	room := textRooms.Get().(*textRoom)
 	for from := 0; from < len(texts); {
 		rows := room.take(texts[from:])
-		if err := readInto(room.bytes, room.offsets[:rows+1], networks[from:from+rows], room.told[:rows]); err != nil {
+		made := room.made[:rows]
+		if err := readInto(room.bytes, room.offsets[:rows+1], made, room.told[:rows]); err != nil {
 			panic(err)
 		}
+		fill(networks[from:], made, room.told[:])
 		widen(room.told[:rows], faults[from:])
 		from += rows
 		if from < len(texts) && len(texts[from]) > longest {
-			network, err := Parse(texts[from])
-			if err != nil {
-				faults[from] = err.(Fault)
-			}
-			networks[from] = network
+			networks[from], faults[from] = read(texts[from])
 			from++
 		}
 	}
@@ -72,43 +74,18 @@ func widen(told []byte, faults []Fault) {
 	}
 }
 
-// ContainsEach reports for each address whether it is a member of the network, as Contains does, with one call of the
-// library for every 1,024 addresses.
+// ContainsEach reports for each address whether it is a member of the network, as Contains does.
 func (network Network) ContainsEach(addresses []netip.Addr) []bool {
 	answers := make([]bool, len(addresses))
-	if network.Bits() < 0 {
-		return answers
-	}
-	width := 16
-	if network.Is4() {
-		width = 4
-	}
-	packed, told := make([]byte, width*least(len(addresses), portion)), make([]byte, least(len(addresses), portion))
-	for from := 0; from < len(addresses); from += portion {
-		some := addresses[from:least(from+portion, len(addresses))]
-		for row, address := range some {
-			// If the address cannot be a member, the octets from an earlier one are checked, and the answer is ignored.
-			answers[from+row] = address.Is4() == network.Is4() && pack(address, packed[row*width:])
-		}
-		if err := network.ContainsColumn(packed[:len(some)*width], told); err != nil {
-			panic(err)
-		}
-		for row, answer := range told[:len(some)] {
-			answers[from+row] = answers[from+row] && answer == 1
-		}
+	for row, address := range addresses {
+		answers[row] = network.Contains(address)
 	}
 	return answers
 }
 
-// pack writes the octets of an address, and returns whether it is valid and has no zone.
-func pack(address netip.Addr, octets []byte) bool {
-	if address.Is4() {
-		*(*[4]byte)(octets) = address.As4()
-		return true
+func least(one, other int) int {
+	if one < other {
+		return one
 	}
-	if !address.IsValid() || address.Zone() != "" {
-		return false
-	}
-	*(*[16]byte)(octets) = address.As16()
-	return true
+	return other
 }

@@ -1,3 +1,3 @@
-module ipnetwork
+module fosibegan.example/ipnetwork
 
 go 1.19

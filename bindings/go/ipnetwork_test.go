@@ -2,6 +2,7 @@ package ipnetwork
 
 import (
 	"encoding/json"
+	"errors"
 	"fmt"
 	"math/big"
 	"math/rand"
@@ -20,9 +21,12 @@ func rows() int {
 	return 10000
 }
 
+// equal compares two values, or the cause of an error with a Fault.
 func equal(t *testing.T, what string, own, wanted any) {
 	t.Helper()
-	if own != wanted {
+	err, isError := own.(error)
+	fault, isFault := wanted.(Fault)
+	if own != wanted && !(isError && isFault && errors.Is(err, fault)) {
 		t.Fatalf("%s: here %v, wanted %v", what, own, wanted)
 	}
 }
@@ -41,9 +45,11 @@ func TestRows(t *testing.T) {
 	equal(t, "all", MustParse("::/0").Size().String(), new(big.Int).Lsh(big.NewInt(1), 128).String())
 	member, err := network.Nth(big.NewInt(257))
 	equal(t, "member", fmt.Sprint(member, err), "10.1.1.1 <nil>")
-	for _, n := range []int64{-1, 65536} {
-		_, err = network.Nth(big.NewInt(n))
+	for _, n := range []*big.Int{big.NewInt(-1), big.NewInt(65536), nil} {
+		_, err = network.Nth(n)
 		equal(t, "no member", err, NoMember)
+		_, err = network.SubnetAt(32, n)
+		equal(t, "no block", err, NoMember)
 	}
 	_, err = network.Nth(new(big.Int).Lsh(big.NewInt(1), 32))
 	equal(t, "no member past 32 bits", err, NoMember)

@@ -7,7 +7,8 @@ import (
 	"fmt"
 )
 
-// An ElementError says which element of a list, counted from 0, names no network, and why: it wraps the Fault.
+// An ElementError says which element of a list, counted from 0, is no network, and why: it wraps the Fault. The text is
+// that of an Error, and empty for the zero Network.
 type ElementError struct {
 	Index int
 	Text  string
@@ -37,13 +38,15 @@ func (set *Set) UnmarshalJSON(list []byte) error {
 	networks, faults := ParseEach(texts)
 	for row, fault := range faults {
 		if fault != 0 {
-			return &ElementError{row, texts[row], fault}
+			return &ElementError{row, shortened(texts[row]), fault}
 		}
 	}
-	read, err := NewSet(networks)
+	made, err := NewSet(networks)
+	if err == nil && set.mapped {
+		made = made.Mapped()
+	}
 	if err == nil {
-		read.mapped = set.mapped
-		*set = read
+		*set = made
 	}
 	return err
 }

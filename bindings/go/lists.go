@@ -5,11 +5,7 @@ package ipnetwork
 // #include "calls.h"
 import "C"
 
-import (
-	"net/netip"
-	"sync"
-	"unsafe"
-)
+import "unsafe"
 
 // lists has the blocks of a set, or the ranges of a table, separately for each family, with the indexes by which they
 // are searched. They do not change, so several goroutines may search them at the same time.
@@ -17,25 +13,6 @@ type lists struct {
 	fours               []C.ipnetwork_v4
 	sixes               []C.ipnetwork_v6
 	fourIndex, sixIndex []C.uint32_t
-	// Whether an IPv4-mapped address that is asked about counts as the IPv4 address.
-	mapped bool
-}
-
-// asMapped returns mapped as the C functions take it.
-func (held *lists) asMapped() C.uint8_t {
-	if held.mapped {
-		return 1
-	}
-	return 0
-}
-
-// addressesOf returns packed IPv6 addresses, of 16 octets each, as addresses.
-func addressesOf(packed []byte) []netip.Addr {
-	addresses := make([]netip.Addr, len(packed)/16)
-	for row := range addresses {
-		addresses[row] = netip.AddrFrom16(*(*[16]byte)(packed[16*row:]))
-	}
-	return addresses
 }
 
 // start returns a pointer to the first element of a slice, or nil.
@@ -54,6 +31,22 @@ func trimmed[Struct any](structs []Struct) []Struct { return append([]Struct(nil
 // bytesOf returns a pointer to the first byte of some elements, or nil.
 func bytesOf[Element any](elements []Element) *C.uint8_t {
 	return (*C.uint8_t)(unsafe.Pointer(start(elements)))
+}
+
+// split returns the networks of each family, and their numbers in the list. The error is an ElementError with the cause
+// NoFamily if one is the zero Network.
+func split(networks []Network) (held lists, fourNumbers, sixNumbers []int, err error) {
+	for number, network := range networks {
+		switch network.width {
+		case 32:
+			held.fours, fourNumbers = append(held.fours, network.four()), append(fourNumbers, number)
+		case 128:
+			held.sixes, sixNumbers = append(held.sixes, network.six()), append(sixNumbers, number)
+		default:
+			return lists{}, nil, nil, &ElementError{Index: number, Fault: NoFamily}
+		}
+	}
+	return held, fourNumbers, sixNumbers, nil
 }
 
 // indexed returns the index of a list of structs, with addresses of width octets: four 32-bit numbers for each struct,
@@ -79,33 +72,4 @@ func packedRows(packed []byte, length int) (int, error) {
 		return 0, NoFamily
 	}
 	return len(packed) / length, nil
-}
-
-// portion is the maximum number of rows of a slice in one call.
-const portion = 1024
-
-// addressRooms holds memory for addresses in the library's form, for reuse.
-var addressRooms = sync.Pool{New: func() any { return new([portion]C.ipnetwork_address) }}
-
-// inPortions passes the addresses to a call in the library's form, at most 1,024 at a time, with the number of the
-// first.
-func inPortions(addresses []netip.Addr, call func(from int, held []C.ipnetwork_address)) {
-	room := addressRooms.Get().(*[portion]C.ipnetwork_address)
-	for from := 0; from < len(addresses); from += portion {
-		some := addresses[from:least(from+portion, len(addresses))]
-		for row, address := range some {
-			if !give(address, &room[row]) {
-				room[row].length = 0
-			}
-		}
-		call(from, room[:len(some)])
-	}
-	addressRooms.Put(room)
-}
-
-func least(one, other int) int {
-	if one < other {
-		return one
-	}
-	return other
 }

@@ -186,7 +186,7 @@ func TestNested(t *testing.T) {
 
 // Goroutines that use one table and one set at the same time, while others are made from the same networks.
 func TestAskedAtOnce(t *testing.T) {
-	networks, addresses := networks10000()
+	networks, addresses := networks10000(true)
 	table, _ := NewTable(networks)
 	set, _ := NewSet(networks)
 	found, has := table.FindEach(addresses), set.ContainsEach(addresses)
@@ -249,62 +249,9 @@ func panics(ask func()) (told bool) {
 // A fault that no set or table can have causes a panic, and is not taken for an answer.
 func TestFaultsPanic(t *testing.T) {
 	set, _ := NewSet([]Network{MustParse("10.0.0.0/8")})
-	address := netip.MustParseAddr("10.1.2.3")
-	set.fours[0].prefix = 33
-	for name, ask := range map[string]func(){
-		"Contains":       func() { set.Contains(address) },
-		"ContainsEach":   func() { set.ContainsEach([]netip.Addr{{}, address}) },
-		"ContainsColumn": func() { _ = set.ContainsColumn([]byte{10, 1, 2, 3}, 4, make([]byte, 1)) },
-	} {
-		equal(t, name+" panics", panics(ask), true)
-	}
+	set.held.fours[0].prefix = 33
+	equal(t, "a column", panics(func() { _ = set.ContainsColumn([]byte{10, 1, 2, 3}, 4, make([]byte, 1)) }), true)
 	equal(t, "no address", panics(func() { set.Contains(netip.Addr{}) }), false)
-}
-
-// With Mapped, an IPv4-mapped address has the result of the IPv4 address, in each question.
-func TestMapped(t *testing.T) {
-	networks := []Network{MustParse("10.0.0.0/8"), MustParse("10.1.0.0/16"), MustParse("::/0")}
-	set, _ := NewSet(networks)
-	table, _ := NewTable(networks)
-	var addresses []netip.Addr
-	var packed []byte
-	for text, wanted := range map[string]int{
-		"::ffff:10.1.2.3": 1, "::ffff:10.2.0.0": 0, "::ffff:11.0.0.0": -1, "::ffff:255.255.255.255": -1,
-		"::fffe:ffff:ffff": 2, "::1:0:0:0": 2, "::10.1.2.3": 2, "64:ff9b::10.1.2.3": 2,
-	} {
-		address := netip.MustParseAddr(text)
-		equal(t, text, table.Find(address.Unmap()), wanted)
-		equal(t, text, fmt.Sprint(table.Find(address), set.Contains(address)), fmt.Sprint(2, true))
-		equal(t, text, table.Mapped().Find(address), wanted)
-		equal(t, text, set.Mapped().Contains(address), wanted >= 0)
-		addresses, packed = append(addresses, address), append(packed, address.AsSlice()...)
-	}
-	addresses = append(addresses, netip.MustParseAddr("10.1.2.3"), netip.MustParseAddr("::ffff:10.1.2.3%eth0"), netip.Addr{})
-	found, has := table.Mapped().FindEach(addresses), set.Mapped().ContainsEach(addresses)
-	numbers, answers := make([]int, 8), make([]byte, 8)
-	equal(t, "column", table.Mapped().FindColumn(packed, 16, numbers), nil)
-	equal(t, "column", set.Mapped().ContainsColumn(packed, 16, answers), nil)
-	for row, address := range addresses {
-		wanted := table.Find(address)
-		if address.Zone() == "" {
-			wanted = table.Find(address.Unmap())
-		}
-		equal(t, address.String(), fmt.Sprint(found[row], has[row]), fmt.Sprint(wanted, wanted >= 0))
-		if row < 8 {
-			equal(t, address.String(), fmt.Sprint(numbers[row], answers[row] == 1), fmt.Sprint(wanted, wanted >= 0))
-		}
-	}
-	equal(t, "an IPv4 column", set.Mapped().ContainsColumn([]byte{10, 1, 2, 3, 11, 0, 0, 0}, 4, answers), nil)
-	equal(t, "an IPv4 column", fmt.Sprint(answers[:2]), "[1 0]")
-	some, _ := NewSet(networks[1:2])
-	for _, made := range []func(Set, Set) (Set, error){Set.Union, Set.Intersection} {
-		one, _ := made(some, set.Mapped())
-		other, _ := made(set.Mapped(), some)
-		equal(t, "kept", fmt.Sprint(one.mapped, other.mapped), fmt.Sprint(true, true))
-	}
-	left, _ := set.Mapped().Difference(some)
-	equal(t, "kept", left.Contains(netip.MustParseAddr("::ffff:10.2.0.0")), true)
-	equal(t, "kept", left.Contains(netip.MustParseAddr("::ffff:10.1.0.0")), false)
 }
 
 // A table and a set of many networks of each family, compared with a linear search of all of them.
@@ -327,9 +274,9 @@ func TestManyNetworks(t *testing.T) {
 	set, err := NewSet(networks)
 	equal(t, "set", err, nil)
 	// The memory that the comments of Table and Set state.
-	equal(t, "ranges", len(table.fours) <= 3000 && len(table.sixes) <= 3000, true)
-	equal(t, "the index of a table", len(table.fourIndex) <= 4*len(table.fours) && len(table.sixIndex) <= 4*len(table.sixes), true)
-	equal(t, "the index of a set", len(set.fourIndex) <= 4*len(set.fours) && len(set.sixIndex) <= 4*len(set.sixes), true)
+	equal(t, "ranges", len(table.held.fours) <= 3000 && len(table.held.sixes) <= 3000, true)
+	equal(t, "the index of a table", len(table.held.fourIndex) <= 4*len(table.held.fours) && len(table.held.sixIndex) <= 4*len(table.held.sixes), true)
+	equal(t, "the index of a set", len(set.held.fourIndex) <= 4*len(set.held.fours) && len(set.held.sixIndex) <= 4*len(set.held.sixes), true)
 	found, has := table.FindEach(addresses), set.ContainsEach(addresses)
 	for row, address := range addresses {
 		wanted := -1

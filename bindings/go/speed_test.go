@@ -76,6 +76,49 @@ func BenchmarkAppendTo6OfNetip(b *testing.B) {
 	}
 }
 
+func benchOverlaps(b *testing.B, prefix, other netip.Prefix) {
+	network, _ := FromPrefix(prefix)
+	second, _ := FromPrefix(other)
+	for i := 0; i < b.N; i++ {
+		sink = network.Overlaps(second)
+	}
+}
+
+func benchOverlapsOfNetip(b *testing.B, prefix, other netip.Prefix) {
+	for i := 0; i < b.N; i++ {
+		sink = prefix.Overlaps(other)
+	}
+}
+
+func BenchmarkOverlaps4(b *testing.B) { benchOverlaps(b, four, netip.PrefixFrom(oneFour, 24)) }
+func BenchmarkOverlaps4OfNetip(b *testing.B) {
+	benchOverlapsOfNetip(b, four, netip.PrefixFrom(oneFour, 24))
+}
+func BenchmarkOverlaps6(b *testing.B) { benchOverlaps(b, six, netip.PrefixFrom(oneSix, 64)) }
+func BenchmarkOverlaps6OfNetip(b *testing.B) {
+	benchOverlapsOfNetip(b, six, netip.PrefixFrom(oneSix, 64))
+}
+
+func BenchmarkCompare6(b *testing.B) {
+	network, _ := FromPrefix(six)
+	for i := 0; i < b.N; i++ {
+		sink = network.Compare(network) == 0
+	}
+}
+
+func BenchmarkIsSubnetOf6(b *testing.B) {
+	network, _ := FromPrefix(six)
+	for i := 0; i < b.N; i++ {
+		sink = network.IsSubnetOf(network)
+	}
+}
+
+func BenchmarkCompareOfNetip(b *testing.B) {
+	for i := 0; i < b.N; i++ {
+		sink = six.Addr().Compare(six.Addr()) == 0
+	}
+}
+
 func BenchmarkMasked6(b *testing.B) {
 	network, _ := FromPrefix(six)
 	for i := 0; i < b.N; i++ {
@@ -173,45 +216,55 @@ func BenchmarkParseAddrsOfNetip(b *testing.B) {
 	})
 }
 
-// networks10000 returns 10,000 random IPv4 networks with prefix lengths from 20 to 28, and as many addresses, half of
-// which are in one of them.
-func networks10000() (networks []Network, addresses []netip.Addr) {
+// networks10000 returns 10,000 random networks of a family with prefix lengths from 20 to 28, or 80 to 112, and as many
+// random addresses, half of which are in one of them.
+func networks10000(isFour bool) (networks []Network, addresses []netip.Addr) {
 	random := rand.New(rand.NewSource(1))
-	for len(networks) < 10000 {
-		one, other := pair(random, true)
-		network, _ := New(one, 20+random.Intn(9))
-		if len(networks)%2 == 0 {
-			other = network.Broadcast()
+	any := func() netip.Addr {
+		var octets [16]byte
+		random.Read(octets[:])
+		if isFour {
+			return netip.AddrFrom4(*(*[4]byte)(octets[:4]))
 		}
-		networks, addresses = append(networks, network), append(addresses, other)
+		return netip.AddrFrom16(octets)
 	}
+	for len(networks) < 10000 {
+		address := any()
+		network, _ := New(address, (20+random.Intn(9))*address.BitLen()/32)
+		if random.Intn(2) == 0 {
+			address = any()
+		}
+		networks, addresses = append(networks, network), append(addresses, address)
+	}
+	random.Shuffle(len(addresses), func(i, j int) { addresses[i], addresses[j] = addresses[j], addresses[i] })
 	return networks, addresses
 }
 
-func tableOf10000() (Table, []netip.Addr) {
-	networks, addresses := networks10000()
+func benchFind(b *testing.B, isFour bool) {
+	networks, addresses := networks10000(isFour)
 	table, _ := NewTable(networks)
-	return table, addresses
-}
-
-func BenchmarkFind(b *testing.B) {
-	table, addresses := tableOf10000()
 	b.ReportAllocs()
 	b.ResetTimer()
 	for i := 0; i < b.N; i++ {
-		sink = table.Find(addresses[i%len(addresses)]) < 0
+		sink = table.Find(addresses[i%many]) < 0
 	}
 }
 
-func BenchmarkContainsOfSet(b *testing.B) {
-	networks, addresses := networks10000()
+func BenchmarkFind(b *testing.B)  { benchFind(b, true) }
+func BenchmarkFind6(b *testing.B) { benchFind(b, false) }
+
+func benchContainsOfSet(b *testing.B, isFour bool) {
+	networks, addresses := networks10000(isFour)
 	set, _ := NewSet(networks)
 	b.ReportAllocs()
 	b.ResetTimer()
 	for i := 0; i < b.N; i++ {
-		sink = set.Contains(addresses[i%len(addresses)])
+		sink = set.Contains(addresses[i%many])
 	}
 }
+
+func BenchmarkContainsOfSet(b *testing.B)  { benchContainsOfSet(b, true) }
+func BenchmarkContainsOfSet6(b *testing.B) { benchContainsOfSet(b, false) }
 
 // packed10000 returns many of the addresses of networks10000, one after the other.
 func packed10000(addresses []netip.Addr) (packed []byte) {
@@ -222,18 +275,20 @@ func packed10000(addresses []netip.Addr) (packed []byte) {
 }
 
 func BenchmarkFindColumn(b *testing.B) {
-	table, addresses := tableOf10000()
+	networks, addresses := networks10000(true)
+	table, _ := NewTable(networks)
 	packed, numbers := packed10000(addresses), make([]int, many)
 	benchRows(b, func() { _ = table.FindColumn(packed, 4, numbers) })
 }
 
 func BenchmarkFindEach(b *testing.B) {
-	table, addresses := tableOf10000()
+	networks, addresses := networks10000(true)
+	table, _ := NewTable(networks)
 	benchRows(b, func() { sink = table.FindEach(addresses[:many])[0] < 0 })
 }
 
 func BenchmarkContainsColumnOfSet(b *testing.B) {
-	networks, addresses := networks10000()
+	networks, addresses := networks10000(true)
 	set, _ := NewSet(networks)
 	packed, answers := packed10000(addresses), make([]byte, many)
 	benchRows(b, func() { _ = set.ContainsColumn(packed, 4, answers) })
@@ -241,7 +296,7 @@ func BenchmarkContainsColumnOfSet(b *testing.B) {
 
 // A whole table.
 func BenchmarkNewTableOf10000(b *testing.B) {
-	networks, _ := networks10000()
+	networks, _ := networks10000(true)
 	b.ReportAllocs()
 	b.ResetTimer()
 	for i := 0; i < b.N; i++ {

@@ -10,51 +10,54 @@ import (
 	"unsafe"
 )
 
-var toFind = (*[0]byte)(C.ipnetwork_go_find)
-
 // A Table finds the longest of some networks of either family that has an address. It does not change, so several
-// goroutines may use it at the same time. The zero Table has no networks.
+// goroutines may use it at the same time. The zero Table has no networks. A Map has a value for each network.
 //
 // A table of n networks holds at most 2 n ranges of addresses, each with the number of its longest network, and an
 // index of them: at most 58 n bytes for IPv4 networks, and 82 n for IPv6. NewTable makes all of it, and no question
-// allocates except FindEach, and FindColumn of 16-octet addresses in a table that Mapped returned.
+// allocates except FindEach.
 //
-// An IPv4-mapped IPv6 address, such as ::ffff:10.1.9.32, is in no IPv4 network: ask about its Unmap, or use the table
-// that Mapped returns.
+// An IPv4-mapped IPv6 address, such as ::ffff:10.1.9.32, is in no IPv4 network: use the table that Mapped returns.
 type Table struct {
+	_      [0]func() // == would compare pointers
+	held   *ranges   // nil for the zero Table
+	mapped bool
+}
+
+// ranges has the number of the longest network of each range, or -1.
+type ranges struct {
 	lists
-	// The number of the longest network of each range, or -1.
 	fourNumbers, sixNumbers []int
 }
 
-// NewTable returns the table of networks, in any order and with or without host bits. The error is NoFamily if one is
-// the zero Network.
-func NewTable(networks []Network) (Table, error) {
-	var fours []C.ipnetwork_v4
-	var sixes []C.ipnetwork_v6
-	var fourNumbers, sixNumbers []int
-	for number, network := range networks {
-		switch network.held.family {
-		case 4:
-			fours, fourNumbers = append(fours, network.held.v4), append(fourNumbers, number)
-		case 6:
-			sixes, sixNumbers = append(sixes, network.held.v6), append(sixNumbers, number)
-		default:
-			return Table{}, NoFamily
-		}
+var noRanges ranges
+
+func (table Table) ranges() *ranges {
+	if table.held == nil {
+		return &noRanges
 	}
-	var table Table
-	var err error
-	if table.fours, table.fourNumbers, table.fourIndex, err = ranged(4, fours, fourNumbers); err != nil {
-		return Table{}, err
-	}
-	if table.sixes, table.sixNumbers, table.sixIndex, err = ranged(16, sixes, sixNumbers); err != nil {
-		return Table{}, err
-	}
-	return table, nil
+	return table.held
 }
 
-// Mapped returns the same table, in which an IPv4-mapped IPv6 address that is asked about counts as the IPv4 address.
+// NewTable returns the table of networks, in any order and with or without host bits. The error is an ElementError with
+// the cause NoFamily if one is the zero Network.
+func NewTable(networks []Network) (Table, error) {
+	given, fourNumbers, sixNumbers, err := split(networks)
+	if err != nil {
+		return Table{}, err
+	}
+	var made ranges
+	if made.fours, made.fourNumbers, made.fourIndex, err = ranged(4, given.fours, fourNumbers); err != nil {
+		return Table{}, err
+	}
+	if made.sixes, made.sixNumbers, made.sixIndex, err = ranged(16, given.sixes, sixNumbers); err != nil {
+		return Table{}, err
+	}
+	return Table{held: &made}, nil
+}
+
+// Mapped returns the same table, in which what is said of either form of an IPv4-mapped IPv6 address counts: its longest
+// network is that of the IPv4 address, and if there is none that of the IPv6 address as it stands.
 func (table Table) Mapped() Table {
 	table.mapped = true
 	return table
@@ -93,12 +96,30 @@ func int64s(numbers []int) *C.int64_t { return (*C.int64_t)(unsafe.Pointer(start
 // Find returns the number, counted from 0, of the longest network that has an address, and of networks with the same
 // block that of the last one. It returns -1 if no network has the address, as for an address with a zone.
 func (table Table) Find(address netip.Addr) int {
-	told := table.search(toFind, table.fourNumbers, table.sixNumbers, address)
-	if told.fault == C.IPNETWORK_NO_FAMILY {
+	held := table.ranges()
+	number, width := numbered(address)
+	if width == 32 || width == 128 && table.mapped && number.isMapped() {
+		if found := held.findFour(number); found >= 0 {
+			return found
+		}
+	}
+	if width != 128 {
 		return -1
 	}
-	mustBe(told.fault)
-	return int(told.number)
+	place := held.placeOfSix(number)
+	if place < 0 {
+		return -1
+	}
+	return held.sixNumbers[place]
+}
+
+// findFour is Find for the IPv4 address, or the IPv4 form of the IPv4-mapped address, of a number.
+func (held *ranges) findFour(number integer) int {
+	place := held.placeOfFour(uint32(number.low))
+	if place < 0 {
+		return -1
+	}
+	return held.fourNumbers[place]
 }
 
 // FindColumn writes to numbers what Find returns for each address of a column. The column has packed addresses of one
@@ -112,26 +133,29 @@ func (table Table) FindColumn(packed []byte, length int, numbers []int) error {
 	if len(numbers) < rows {
 		return NoRoom
 	}
-	addresses, told := bytesOf(packed), int64s(numbers)
-	if length == 16 && table.mapped {
-		copy(numbers, table.FindEach(addressesOf(packed)))
-	} else if length == 4 {
-		mustBe(C.ipnetwork_go_find_column(4, bytesOf(table.fours), size(table.fours), start(table.fourIndex),
-			size(table.fourIndex), int64s(table.fourNumbers), addresses, C.size_t(rows), told))
-	} else {
-		mustBe(C.ipnetwork_go_find_column(16, bytesOf(table.sixes), size(table.sixes), start(table.sixIndex),
-			size(table.sixIndex), int64s(table.sixNumbers), addresses, C.size_t(rows), told))
+	held, addresses, told := table.ranges(), bytesOf(packed), int64s(numbers)
+	if length == 4 {
+		mustBe(C.ipnetwork_go_find_column(4, bytesOf(held.fours), size(held.fours), start(held.fourIndex),
+			size(held.fourIndex), int64s(held.fourNumbers), addresses, C.size_t(rows), told))
+		return nil
+	}
+	mustBe(C.ipnetwork_go_find_column(16, bytesOf(held.sixes), size(held.sixes), start(held.sixIndex),
+		size(held.sixIndex), int64s(held.sixNumbers), addresses, C.size_t(rows), told))
+	for row := 0; table.mapped && row < rows; row++ {
+		if number := ofOctets((*[16]byte)(packed[16*row:])); number.isMapped() {
+			if found := held.findFour(number); found >= 0 {
+				numbers[row] = found
+			}
+		}
 	}
 	return nil
 }
 
-// FindEach returns for each address what Find does, with one call of the library for every 1,024 addresses.
+// FindEach returns for each address what Find does.
 func (table Table) FindEach(addresses []netip.Addr) []int {
 	numbers := make([]int, len(addresses))
-	inPortions(addresses, func(from int, held []C.ipnetwork_address) {
-		mustBe(C.ipnetwork_go_find_each(start(table.fours), size(table.fours), start(table.fourIndex), size(table.fourIndex),
-			int64s(table.fourNumbers), start(table.sixes), size(table.sixes), start(table.sixIndex), size(table.sixIndex),
-			int64s(table.sixNumbers), table.asMapped(), &held[0], size(held), int64s(numbers[from:])))
-	})
+	for row, address := range addresses {
+		numbers[row] = table.Find(address)
+	}
 	return numbers
 }

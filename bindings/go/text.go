@@ -7,8 +7,6 @@ import "C"
 
 import "unsafe"
 
-var toText = (*[0]byte)(C.ipnetwork_go_text)
-
 // String returns the canonical text, which is empty for the zero Network.
 func (network Network) String() string {
 	var text [C.IPNETWORK_V6_TEXT]byte
@@ -18,9 +16,7 @@ func (network Network) String() string {
 // AppendTo appends the canonical text to some bytes, as the method of netip.Prefix does, and returns the extended
 // slice.
 func (network Network) AppendTo(bytes []byte) []byte {
-	var call C.text_call
-	call.network = network.held
-	callText(toText, &call)
+	call := C.ipnetwork_go_text(C.text_call{network: network.held()})
 	if call.fault != C.IPNETWORK_OK {
 		return bytes
 	}
@@ -40,9 +36,9 @@ func (network *Network) UnmarshalText(text []byte) error {
 		*network = Network{}
 		return nil
 	}
-	read, err := Parse(*(*string)(unsafe.Pointer(&text))) // the same bytes as a string, which Parse does not keep
+	parsed, err := Parse(*(*string)(unsafe.Pointer(&text))) // the same bytes as a string, which Parse does not keep
 	if err == nil {
-		*network = read
+		*network = parsed
 	}
 	return err
 }

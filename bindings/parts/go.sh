@@ -15,19 +15,14 @@ elif command -v go > /dev/null && command -v gofmt > /dev/null; then
         go1.19* | go1.20*) checked="GODEBUG=cgocheck=2" ;;
         *) checked="GOEXPERIMENT=cgocheck2" ;;
     esac
-    # Calls by cgo, and with the tag those on the stack of a goroutine: the same tests of both.
-    for tags in cgo ipnetwork_direct; do
-        (cd go && go vet -tags "$tags" ./... && env "$checked" go test -tags "$tags" -count=1 -v . &&
-            GOGC=1 go test -tags "$tags" -count=1 -run 'Stacks|Profiled|Each|ManyRows' .) > "$out/go_$tags.log" 2>&1 ||
-            { cat "$out/go_$tags.log" >&2; exit 1; }
-        grep '^Go:' "$out/go_$tags.log"
-        sed -nE 's/^ *--- SKIP: ([^ ]*).*/Go: \1 with the tag '"$tags"': skipped, since it says so in bindings\/out\/go\/go_'"$tags"'.log/p' "$out/go_$tags.log"
-    done
+    (cd go && go vet ./... && env "$checked" go test -count=1 -v . &&
+        GOGC=1 go test -count=1 -run 'Stacks|Profiled|Each|ManyRows' .) > "$out/go.log" 2>&1 ||
+        { cat "$out/go.log" >&2; exit 1; }
+    grep '^Go:' "$out/go.log"
+    sed -nE 's/^ *--- SKIP: ([^ ]*).*/Go: \1: skipped, since it says so in bindings\/out\/go\/go.log/p' "$out/go.log"
     if (cd go && go test -race -run NONE .) > $out/go_race.log 2>&1; then
-        for tags in cgo ipnetwork_direct; do
-            (cd go && IPNETWORK_ROWS=10000 go test -race -tags "$tags" -count=1 .) > $out/go_race.log 2>&1 ||
-                { cat $out/go_race.log >&2; exit 1; }
-        done
+        (cd go && IPNETWORK_ROWS=10000 go test -race -count=1 .) > $out/go_race.log 2>&1 ||
+            { cat $out/go_race.log >&2; exit 1; }
         echo "Go: the race detector finds nothing"
     else
         skip "Go: the race detector" "go test -race that works" "libc6-dev, gcc"
@@ -37,14 +32,9 @@ elif command -v go > /dev/null && command -v gofmt > /dev/null; then
         exit 1
     fi
     GOFLAGS='' ./check_go
-    if here "Go: the stack that C needs with the tag ipnetwork_direct" objdump "$python"; then
-        (cd go && go test -tags ipnetwork_direct -c -o "../$out/go_tests" .)
-        "$python" go/stack_needed.py "$out/go_tests"
+    if [ "$measure" = yes ]; then
+        (cd go && go test -run none -bench . -benchtime 200ms)
     fi
-    for tags in $([ "$measure" = no ] || echo cgo ipnetwork_direct); do
-        echo "Go: by the tag $tags"
-        (cd go && go test -tags "$tags" -run none -bench . -benchtime 200ms)
-    done
 else
     skip Go "go" "golang-go"
 fi
