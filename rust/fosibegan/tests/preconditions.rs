@@ -1,11 +1,12 @@
-//! What a call asks of its caller is checked, also in release: each call here is one step past the edge.
+//! What a call asks of its caller is checked, also in release: each call here is one step past the
+//! edge.
 
 use fosibegan::byte_search::{find_far, find_from};
 use fosibegan::ipnetwork::decimal::{push_decimal, push_number};
 use fosibegan::ipnetwork::{Address, IpNetwork, Ipv4Addr, Ipv4Network, Ipv6Addr, Ipv6Network};
-use fosibegan::ipnetwork_blocks::{AddressSpace, HoldsNetwork, aggregate_held};
+use fosibegan::ipnetwork_blocks::{aggregate_held, AddressSpace, HoldsNetwork};
 use fosibegan::ipnetwork_index::{AddressIndex, RouteIndex};
-use fosibegan::ipnetwork_sets::{AddressSet, Difference, Intersection, Union, is_address_set};
+use fosibegan::ipnetwork_sets::{is_address_set, AddressSet, Difference, Intersection, Union};
 use fosibegan::ipnetwork_table::PrefixTable;
 use fosibegan::plain_std::alloc::Global;
 use fosibegan::plain_std::arrayvec::ArrayString;
@@ -34,8 +35,8 @@ macro_rules! refuses {
 }
 
 refuses! {
-    a_search_past_the_end: "find_from: the place is past the end", find_from(b"10.0.0.0/8", 11, b'.');
-    a_far_search_past_the_end: "find_far: the place is past the end", find_far(b"10.0.0.0/8", 11, b'.');
+    a_search_past_the_end: "find_from: the place is past the end", find_from(b"::/0", 5, b'.');
+    a_far_search_past_the_end: "find_far: the place is past the end", find_far(b"::/0", 5, b'.');
     a_text_without_room_for_a_number_of_a_byte: "push_decimal: there is no room", {
         push_decimal(&mut ArrayString::<2>::new(), 1)
     };
@@ -78,11 +79,13 @@ refuses! {
         Difference::<'_, Ipv4Network>::of(&[], &[v4("10.0.0.0/8"), v4("10.1.0.0/16")]).next()
     };
     more_addresses_than_answers: "contains_each: there are not as many answers", {
-        let index = AddressIndex::from_set(Global, &AddressSet::<Ipv4Network>::from_networks(Vec::new(Global))).unwrap();
+        let none = AddressSet::<Ipv4Network>::from_networks(Vec::new(Global));
+        let index = AddressIndex::from_set(Global, &none).unwrap();
         index.contains_each(&[Ipv4Addr::from([10, 0, 0, 1])], &mut [])
     };
     fewer_addresses_than_answers: "lookup_each: there are not as many answers", {
-        let index = RouteIndex::<Ipv4Network, u32>::from_table(Global, PrefixTable::new(Global)).unwrap();
+        let none = PrefixTable::<Ipv4Network, u32>::new(Global);
+        let index = RouteIndex::from_table(Global, none).unwrap();
         index.lookup_each(&[], &mut [None])
     };
 }

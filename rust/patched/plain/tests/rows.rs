@@ -164,7 +164,7 @@ fn members_at_the_ends() {
     assert_eq!(wide.size(), 79_228_162_514_264_337_593_543_950_336);
     assert_eq!(wide.nth(65538), Some("ff01::1:2".parse().unwrap()));
     let mut copied = v4("10.0.0.0/31").iter();
-    let (before, _) = (copied, copied.next());
+    let (before, _) = (copied.clone(), copied.next());
     assert_eq!((before.count(), copied.count()), (2, 1));
     assert_eq!(either("::/64").into_iter().size_hint().1, None);
 }
@@ -180,7 +180,7 @@ fn sizes() {
     assert_eq!((u128::from(four), u128::from(six)), (100, 100));
     assert_eq!(
         format!("{four} {six:>5} {}", NetworkSize::V6(u128::MAX)),
-        "100   100 340282366920938463463374607431768211455"
+        "100 100 340282366920938463463374607431768211455"
     );
     assert_eq!(either("10.0.0.0/8").size(), NetworkSize::V4(1 << 24));
 }
