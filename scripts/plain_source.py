@@ -65,8 +65,9 @@ CHECKS = {
 }
 
 # What the library for C says of its structs: it has asked `is_address_set` of its lists, which takes as long as a union.
-TRUSTED = """    /// Whether `is_address_set` was asked of each list of such values that `Union::of` and its like get: they do not ask
-    /// it again. It is not so unless the type says so.
+TRUSTED = """    /// Whether each list of such values that `Union::of` and its like are given is known to be an
+    /// address set, by `is_address_set`, so that they do not ask again. A type that says so has to
+    /// see to it.
     const CHECKED: bool = false;
 
 """
@@ -363,7 +364,7 @@ class Source:
             inner = f"{found[1]}{found[2]}{path}Inner{trait}{found[3]}{{{moved}}}\n"
             whole, behind = self.text[found.start() : end], self.text[end:].strip("\n")
             if found[1] == "trait":
-                inner = f"/// What `{trait}` has for the library alone, which does not check what it needs.\npub(crate) {inner}"
+                inner = f"/// What `{trait}` has for the library alone: nothing checks what it needs.\npub(crate) {inner}"
                 whole = whole.replace(" {\n", f" + Inner{trait} {{\n", 1)
                 whole = f"#[allow(private_bounds)]\n{whole}"
             self.text = f"{self.text[: found.start()]}{whole}\n\n{inner}\n{behind}\n"

@@ -74,7 +74,7 @@ pub trait AddressSpace: CidrNetwork + InnerAddressSpace {
     fn trailing_zeros(addr: Self::Addr) -> u8;
 }
 
-/// What `AddressSpace` has for the library alone, which does not check what it needs.
+/// What `AddressSpace` has for the library alone: nothing checks what it needs.
 pub(crate) trait InnerAddressSpace: CidrNetwork {
     /// Returns the address `offset` addresses after this one. It must not be past the last address
     /// of the family.

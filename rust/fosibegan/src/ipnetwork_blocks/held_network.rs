@@ -20,8 +20,9 @@ use crate::ipnetwork_family::CidrNetwork;
 /// # });
 /// ```
 pub trait HoldsNetwork<N: CidrNetwork>: Copy + Ord {
-    /// Whether `is_address_set` was asked of each list of such values that `Union::of` and its like get: they do not ask
-    /// it again. It is not so unless the type says so.
+    /// Whether each list of such values that `Union::of` and its like are given is known to be an
+    /// address set, by `is_address_set`, so that they do not ask again. A type that says so has to
+    /// see to it.
     const CHECKED: bool = false;
 
     /// Returns the network that the value holds. The value must hold one of the family of `N`.

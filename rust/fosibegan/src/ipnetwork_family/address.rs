@@ -120,7 +120,7 @@ pub trait Address: Copy + Ord + Hash + Debug + InnerAddress {
     fn trailing_zeros(self) -> u8;
 }
 
-/// What `Address` has for the library alone, which does not check what it needs.
+/// What `Address` has for the library alone: nothing checks what it needs.
 pub(crate) trait InnerAddress: Copy + Ord + Hash + Debug {
     /// The address with the bits after the first `prefix` cleared. `prefix` must be at most
     /// `WIDTH`.

@@ -28,7 +28,7 @@ pub trait Key: Copy + InnerKey {
     fn part_size(self, base: Self, bits: u32) -> u32;
 }
 
-/// What `Key` has for the library alone, which does not check what it needs.
+/// What `Key` has for the library alone: nothing checks what it needs.
 pub(crate) trait InnerKey: Copy {
     /// The part in which this number lies, if the parts begin at `base` and have 2^`shift` numbers
     /// each: the first for the numbers before `base`, and the part `last` for those after it.
