@@ -53,8 +53,9 @@ def state(written, texts, name, trait):
     declared = [head if trait else shown for head, shown, body in found if not trait or body is None]
     if all(each.startswith("pub(crate)") for each in declared) and declared:
         return "hidden"
-    checks = re.compile(rf'\s*assert!\(|panic!\("{name}: |\b{BY_ANOTHER.get(name, "assert!")}\b|^\s*self\s*}}$')
-    is_checked = all(checks.search(body) for _, shown, body in found if body is not None and shown != "pub(crate) ")
+    by = BY_ANOTHER.get(name)
+    checks = re.compile(rf'\s*assert!\(|.*panic!\("{name}: |\s*self\s*}}$' + (rf"|.*\b{by}\b" if by else ""), re.S)
+    is_checked = all(checks.match(body) for _, shown, body in found if body is not None and shown != "pub(crate) ")
     return "checked" if is_checked else "open"
 
 
