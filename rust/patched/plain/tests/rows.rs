@@ -165,7 +165,11 @@ fn members_at_the_ends() {
     assert_eq!(wide.nth(65538), Some("ff01::1:2".parse().unwrap()));
     let mut copied = v4("10.0.0.0/31").iter();
     let (before, _) = (copied.clone(), copied.next());
+    let shown = "Ipv4NetworkIterator { next: Some(167772161), end: 167772161 }";
+    assert_eq!(format!("{copied:?}"), shown);
     assert_eq!((before.count(), copied.count()), (2, 1));
+    let shown = "IpNetworkIterator { inner: V6(Ipv6NetworkIterator { next: Some(0), end: 1 }) }";
+    assert_eq!(format!("{:?}", either("::/127").iter()), shown);
     assert_eq!(either("::/64").into_iter().size_hint().1, None);
 }
 
