@@ -3,7 +3,7 @@
 import collections
 import re
 
-from erasing import WIDTH, Refused, code_sub, leftover, tokens
+from erasing import WIDTH, Refused, code_sub, leftover, matching, tokens
 
 # Modules of Rust's std as they are, which stand in core too, and one that does not.
 CORE = {"cell", "cmp", "error", "fmt", "hash", "marker", "mem", "net", "num", "ops", "str"}
@@ -36,6 +36,45 @@ IN_TESTS = {
     r"\bassert_ne!\(": "assert_ne",
 }
 
+
+# What a caller from another package has to see to, by the function of the library: the check that is written for it, or none
+# where the body refuses by itself; why it panics; and the type whose function the library itself calls without the check,
+# where that takes long. What has a `requires` and stands not here, no other package can call.
+LENGTHS = ("answers.len() == addrs.len()", "there are not as many answers as addresses")
+PREFIX = "the prefix length is greater than `WIDTH`"
+HELD = "a value holds no network of the family"
+PLACE = ("from <= text.len()", "the place is past the end of the text")
+NO_SET = "a list is not an address set"
+SETS = "H::CHECKED || [first, {}].into_iter().all(super::check::is_address_set::<N, H>)"
+CHECKS = {
+    "byte_search::byte_search::find_from": PLACE,
+    "byte_search::byte_search::find_far": PLACE,
+    "ipnetwork_addr::decimal::push_decimal": ("N - text.len() >= 3", "there is no room for three digits"),
+    "ipnetwork_addr::decimal::push_number": ("N - text.len() >= 39", "there is no room for 39 digits"),
+    "ipnetwork_family::address::mask": ("prefix <= Self::WIDTH", PREFIX),
+    "ipnetwork_family::address::greatest": ("prefix <= Self::WIDTH", PREFIX),
+    "ipnetwork_blocks::address_space::block_at": (None, PREFIX),
+    "ipnetwork_blocks::held_network::held_network": (None, "the value holds no network of the family"),
+    "ipnetwork_blocks::aggregate::aggregate_held": (None, HELD),
+    "ipnetwork_sets::check::is_address_set": (None, HELD),
+    "ipnetwork_sets::common::of": (SETS.format("second"), NO_SET, "Intersection"),
+    "ipnetwork_sets::difference::of": (SETS.format("cut"), NO_SET, "Difference"),
+    "ipnetwork_sets::union::of": (SETS.format("second"), NO_SET, "Union"),
+    "ipnetwork_index::address_index::contains_each": LENGTHS,
+    "ipnetwork_index::route_index::lookup_each": LENGTHS,
+}
+
+# What the library for C says of its structs: it has asked `is_address_set` of its lists, which takes as long as a union.
+TRUSTED = """    /// Whether each list of such values that `Union::of` and its like are given is known to be an
+    /// address set, by `is_address_set`, so that they do not ask again. A type that says so has to
+    /// see to it.
+    const CHECKED: bool = false;
+
+"""
+HOLDERS = [
+    (re.compile(r"^(pub trait HoldsNetwork<.*\{\n)", re.M), rf"\1{TRUSTED}"),
+    (re.compile(r"^(impl HoldsNetwork<\w+> for \w+InC \{\n)", re.M), r"\1    const CHECKED: bool = true;\n\n"),
+]
 
 # The lines of `rust.txt` that are of no package.
 KEYS = {"stand_in", "optional", "instead", "left_out"}
@@ -157,6 +196,7 @@ def use_lines(head, paths, indent):
     return "\n".join(lines)
 
 
+EXAMPLE = re.compile(r"(?:^[ \t]*///\n)?^[ \t]*/// ```\n(?:[ \t]*///[^\n]*\n)*?[ \t]*/// ```\n", re.M)
 USE = re.compile(r"^([ \t]*)((?:#\[[^\]]*\]\s*)*)(pub(?:\([^)]*\))? )?use ([^;]*);[^\n]*\n", re.M)
 
 
@@ -185,7 +225,7 @@ class Source:
                     continue
                 name = path[-1]
                 shown, gate = visibility, self.book.gate_of(name, self.package)
-                if visibility == "pub " and name in self.book.private:
+                if visibility == "pub " and name in self.book.private[self.package]:
                     shown = "pub(crate) "
                 head = (f'#[cfg(feature = "{gate}")]\n{indent}' if gate and path[0] not in self.layout.optional else "") + shown
                 by_head.setdefault(head, []).append((self.mapped(path), alias))
@@ -249,24 +289,90 @@ class Source:
         return "".join(out)
 
     def hidden(self):
-        """What has a `requires` is no public call."""
+        """What has a `requires` is no public call, or one that checks it."""
         for place, name in sorted(self.book.needs[self.file].items(), reverse=True):
+            if check := self.book.check_of(self.file, name):
+                self.checked(name, *check)
+                continue
             found = re.search(rf"^([ \t]*)pub ((?:const )?fn {name}\b)", self.text, re.M)
             if not found:
                 continue
             lead = self.without_example(found.start())
-            shown = "pub(crate)" if name in self.book.private else f"#[doc(hidden)]\n{found[1]}pub"
+            shown = "pub(crate)" if name in self.book.private[self.package] else f"#[doc(hidden)]\n{found[1]}pub"
             self.text = f"{lead}{found[1]}{shown} {found[2]}{self.text[found.end():]}"
+        for head, new in HOLDERS:
+            self.text = head.sub(new, self.text)
+        if self.package == self.book.library:
+            for (file, trait), names in self.book.methods.items():
+                checks = {name: check for name in names if (check := self.book.check_of(file, name))}
+                if file != self.file and re.search(rf"^impl\b.*\b{trait} for ", self.text, re.M):
+                    for name, check in checks.items():
+                        self.checked(name, *check)
+                if not self.book.is_public and (inner := [name for name in names if name not in checks]):
+                    self.split(file, trait, inner)
+            for twin in {check[2]: None for check in CHECKS.values() if check[2:]}:
+                self.text = re.sub(rf"\b{twin}::of\(", f"{twin}::of_sets(", self.text)
+
+    def checked(self, name, check, why, twin=None):
+        """Writes the check into each body of a function, and into its comment that it panics."""
+        said = f'"{f"{twin}::" if twin else ""}{name}: {why}"'
+        for found in reversed(list(re.finditer(rf"^([ \t]*)(?:pub )?fn {name}\b[^(]*(?=\()", self.text, re.M))):
+            end = matching(self.text, found.end(), "()")
+            brace = re.compile(r"[^{;]*([{;])").match(self.text, end)
+            text, inside = self.text[brace.end() :], f"\n{found[1]}    "
+            if brace[1] == "{" and check:
+                line = f"assert!({check}, {said});"
+                if len(inside) + len(line) > WIDTH:
+                    line = f"assert!({inside}    {check},{inside}    {said}{inside});"
+                text = inside + line + text
+            elif brace[1] == "{":
+                close = matching(self.text, brace.end() - 1) - brace.end()
+                text = text[:close].replace("unreachable!()", f"panic!({said})") + text[close:]
+            if twin:
+                given = re.findall(r"(\w+):", self.text[found.end() : end])
+                text = f"{inside}{line}{inside}Self::of_sets({', '.join(given)})\n{found[1]}}}\n\n"
+                text += f"{found[1]}/// `of`, without the check.\n{found[1]}pub(crate) fn of_sets"
+                text += self.text[found.end() : brace.end()] + self.text[brace.end() :]
+            self.text = self.text[: brace.end()] + text
+            lead, comment, rest = self.with_comment(found.start())
+            if comment:
+                comment += f"{found[1]}///\n{found[1]}/// # Panics\n{found[1]}///\n{found[1]}/// Panics if {why}.\n"
+            self.text = lead + comment + rest
+
+    def with_comment(self, at):
+        """The text before the comment of the item at this place, the comment, and the text from its attributes on."""
+        lead = re.search(r"((?:^[ \t]*///[^\n]*\n)*)((?:^[ \t]*#\[[^\n]*\n)*)\Z", self.text[:at], re.M)
+        return self.text[: lead.start()], lead[1], self.text[lead.start(2) :]
+
+    def split(self, file, trait, names):
+        """Moves methods of a public trait into one that no other package sees, and that the public one stands on."""
+        head = re.compile(rf"^(?:pub )?(trait|impl)\b([^\n]*?)\b{trait}\b([^\n{{]*)\{{\n", re.M)
+        for found in reversed(list(head.finditer(self.text))):
+            if not (found[3].startswith(" for ") if found[1] == "impl" else found[2] == " "):
+                continue
+            end, moved = matching(self.text, found.end() - 2), ""
+            for name in names:
+                method = re.compile(rf"^    fn {name}\b[^(]*(?=\()", re.M).search(self.text, found.end(), end)
+                close = re.compile(r"[^{;]*([{;])").match(self.text, matching(self.text, method.end(), "()"))
+                close = matching(self.text, close.end() - 1) if close[1] == "{" else close.end()
+                lead, comment, rest = self.with_comment(method.start())
+                made = rest[: close - len(lead) - len(comment)]
+                moved += f"\n{EXAMPLE.sub('', comment)}{made}\n"
+                self.text = lead + self.text[close:].lstrip("\n")
+                end = matching(self.text, found.end() - 2)
+            path = "" if file == self.file else f"crate::{file.stem}::"
+            inner = f"{found[1]}{found[2]}{path}Inner{trait}{found[3]}{{{moved}}}\n"
+            whole, behind = self.text[found.start() : end], self.text[end:].strip("\n")
+            if found[1] == "trait":
+                inner = f"/// What `{trait}` has for the library alone: nothing checks what it needs.\npub(crate) {inner}"
+                whole = whole.replace(" {\n", f" + Inner{trait} {{\n", 1)
+                whole = f"#[allow(private_bounds)]\n{whole}"
+            self.text = f"{self.text[: found.start()]}{whole}\n\n{inner}\n{behind}\n"
 
     def without_example(self, end):
         """The text up to this place, its last comment without examples: no test can call what is not public."""
-        lines = self.text[:end].split("\n")
-        at = len(lines) - 1
-        while at > 0 and re.match(r"\s*(///|#\[)", lines[at - 1]):
-            at -= 1
-        comment = "\n".join(lines[at:])
-        comment = re.sub(r"(?:^[ \t]*///\n)?^[ \t]*/// ```\n(?:[ \t]*///[^\n]*\n)*?[ \t]*/// ```\n", "", comment, flags=re.M)
-        return "\n".join([*lines[:at], comment])
+        lead, comment, rest = self.with_comment(end)
+        return lead + EXAMPLE.sub("", comment) + rest[: end - len(lead) - len(comment)]
 
     def examples(self):
         """The examples of comments, as rustdoc runs them: with names in scope, and without a handle."""

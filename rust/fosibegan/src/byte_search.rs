@@ -8,9 +8,19 @@ use crate::plain_std::simd::prelude::*;
 
 /// Returns the index of the first byte equal to `byte` at or after the index `from`, or `None` if
 /// there is none. `from` must be at most the length of the text.
+///
+/// ```
+/// # use fosibegan::in_examples::*;
+/// let next_dot = find_from(b"10.0.0.0/8", 3, b'.');
+/// assert_eq!(next_dot, Some(4));
+/// ```
+///
+/// # Panics
+///
+/// Panics if the place is past the end of the text.
 #[inline(always)]
-#[doc(hidden)]
 pub fn find_from(text: &[u8], from: usize, byte: u8) -> Option<usize> {
+    assert!(from <= text.len(), "find_from: the place is past the end of the text");
     if text.len() >= 16 {
         find_by::<16>(text, from, byte)
     } else if text.len() >= 8 {
@@ -23,9 +33,19 @@ pub fn find_from(text: &[u8], from: usize, byte: u8) -> Option<usize> {
 /// Returns what `find_from` returns, for a byte that is likely to be far after `from`, such as a
 /// line feed. Compares 32 bytes at once and then 64 at a time, so that few branches depend on its
 /// position.
+///
+/// ```
+/// # use fosibegan::in_examples::*;
+/// let feed = find_far(b"10.0.0.0/8\n::/0", 3, b'\n');
+/// assert_eq!(feed, Some(10));
+/// ```
+///
+/// # Panics
+///
+/// Panics if the place is past the end of the text.
 #[inline(always)]
-#[doc(hidden)]
 pub fn find_far(text: &[u8], from: usize, byte: u8) -> Option<usize> {
+    assert!(from <= text.len(), "find_far: the place is past the end of the text");
     if text.len() - from < 32 {
         return find_from(text, from, byte);
     }

@@ -32,6 +32,6 @@ pub use block_index::BlockIndex;
 pub use indexed_network::IndexedNetwork;
 pub use key::Key;
 pub use route_index::RouteIndex;
-pub use search::place_of;
+pub(crate) use search::place_of;
 pub use starts::part_bits;
 pub(crate) use starts::write_starts;

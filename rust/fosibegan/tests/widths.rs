@@ -1,19 +1,8 @@
 //! Numbers of more than 32 bits that become a `usize`, which may have 32: they are cut nowhere.
 
 use fosibegan::ipnetwork::{Ipv6Addr, Ipv6Network};
-use fosibegan::ipnetwork_index::{BlockIndex, Key};
+use fosibegan::ipnetwork_index::BlockIndex;
 use fosibegan::plain_std::alloc::Global;
-
-#[test]
-fn a_part_past_the_last_is_the_last() {
-    for part in [9, 10, 1 << 32, (1 << 32) + 3, 1 << 63, u64::MAX] {
-        assert_eq!(part.part_of(0, 0, 9), 9, "{part}");
-        assert_eq!(u128::from(part).part_of(0, 0, 9), 9, "{part}");
-        let whole = u128::from(part).min(usize::MAX as u128) as usize;
-        assert_eq!(part.part_of(0, 0, usize::MAX), whole, "{part}");
-    }
-    assert_eq!(u32::MAX.part_of(0, 0, usize::MAX), u32::MAX as usize);
-}
 
 /// Blocks close together with some far from them, so that the index has parts for the first ones only.
 #[test]

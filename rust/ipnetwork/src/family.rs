@@ -45,8 +45,7 @@ fn told_v6(address: library_addr::Ipv6Addr) -> Ipv6Addr {
     address.segments().into()
 }
 
-/// `$self` is the word `self`, and `$by` the `&` of a receiver that most calls of the family take,
-/// or nothing.
+/// `$self` is the word `self`, and `$by` the `&` that a receiver has in one family only, or nothing.
 macro_rules! family {
     (
         $(#[$doc:meta])* $name:ident: $address:ident, $number:ident, $width:literal bits,
@@ -99,26 +98,26 @@ macro_rules! family {
 
             /// The mask of the prefix length.
             #[inline]
-            pub fn mask($($by)? $self) -> $address {
+            pub fn mask(&$self) -> $address {
                 $told($self.asked().mask())
             }
 
             /// The least member: the address with its host bits cleared.
             #[inline]
-            pub fn network($($by)? $self) -> $address {
+            pub fn network(&$self) -> $address {
                 $told($self.asked().network())
             }
 
             /// The greatest member: the address with its host bits set.
             #[inline]
-            pub fn broadcast($($by)? $self) -> $address {
+            pub fn broadcast(&$self) -> $address {
                 $told($self.asked().broadcast())
             }
 
             /// Whether an address is a member: whether its first bits, as many as the prefix length
             /// says, are those of the network's address.
             #[inline]
-            pub fn contains($($by)? $self, ip: $address) -> bool {
+            pub fn contains(&$self, ip: $address) -> bool {
                 $self.asked().contains($asked(ip))
             }
 
@@ -158,7 +157,7 @@ macro_rules! family {
             /// The members, each once, in ascending order.
             #[inline]
             pub fn iter($($by)? $self) -> $iterator {
-                $iterator { rest: Some(($self.network().to_bits(), $self.broadcast().to_bits())) }
+                $iterator { next: Some($self.network().to_bits()), end: $self.broadcast().to_bits() }
             }
 
             /// The network as the library has it.
@@ -235,10 +234,12 @@ macro_rules! family {
         }
 
         /// The members of a network, each once, in ascending order.
-        #[derive(Clone, Copy, Debug)]
+        #[derive(Clone, Debug)]
         pub struct $iterator {
-            /// The numbers of the first and of the last address that are still to come.
-            rest: Option<($number, $number)>,
+            /// The number of the first address that is still to come.
+            next: Option<$number>,
+            /// That of the last one, if any is to come.
+            end: $number,
         }
 
         impl Iterator for $iterator {
@@ -246,23 +247,22 @@ macro_rules! family {
 
             #[inline]
             fn next(&mut self) -> Option<$address> {
-                let (first, last) = self.rest?;
-                self.rest = if first < last { Some((first + 1, last)) } else { None };
+                let first = self.next?;
+                self.next = if first < self.end { Some(first + 1) } else { None };
                 Some($address::from_bits(first))
             }
 
             fn nth(&mut self, skipped: usize) -> Option<$address> {
-                let (first, last) = self.rest.take()?;
-                let first = first.checked_add(skipped.try_into().ok()?)?;
-                if first <= last {
-                    self.rest = Some((first, last));
+                let first = self.next.take()?.checked_add(skipped.try_into().ok()?)?;
+                if first <= self.end {
+                    self.next = Some(first);
                 }
                 self.next()
             }
 
             fn size_hint(&self) -> (usize, Option<usize>) {
-                let Some((first, last)) = self.rest else { return (0, Some(0)) };
-                match usize::try_from(last - first).ok().and_then(|more| more.checked_add(1)) {
+                let Some(first) = self.next else { return (0, Some(0)) };
+                match usize::try_from(self.end - first).ok().and_then(|more| more.checked_add(1)) {
                     Some(count) => (count, Some(count)),
                     None => (usize::MAX, None),
                 }
@@ -272,8 +272,12 @@ macro_rules! family {
         impl DoubleEndedIterator for $iterator {
             #[inline]
             fn next_back(&mut self) -> Option<$address> {
-                let (first, last) = self.rest?;
-                self.rest = if first < last { Some((first, last - 1)) } else { None };
+                let (first, last) = (self.next?, self.end);
+                if first < last {
+                    self.end = last - 1;
+                } else {
+                    self.next = None;
+                }
                 Some($address::from_bits(last))
             }
         }

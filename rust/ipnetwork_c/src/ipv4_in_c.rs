@@ -54,6 +54,8 @@ impl Eq for Ipv4InC {
 }
 
 impl HoldsNetwork<Ipv4Network> for Ipv4InC {
+    const CHECKED: bool = true;
+
     fn held_network(self) -> Ipv4Network {
         match Ipv4InC::network(&self) {
             Some(network) => network,

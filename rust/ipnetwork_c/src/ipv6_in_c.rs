@@ -72,6 +72,8 @@ impl Eq for Ipv6InC {
 }
 
 impl HoldsNetwork<Ipv6Network> for Ipv6InC {
+    const CHECKED: bool = true;
+
     fn held_network(self) -> Ipv6Network {
         match Ipv6InC::network(&self) {
             Some(network) => network,

@@ -6,9 +6,20 @@ use crate::plain_std::arrayvec::ArrayString;
 
 /// Appends the shortest decimal form of a number to a text: one to three bytes. There must be room
 /// for three.
+///
+/// ```
+/// # use fosibegan::in_examples::*;
+/// let mut text = fosibegan::plain_std::arrayvec::ArrayString::<8>::new();
+/// decimal::push_decimal(&mut text, 207);
+/// assert_eq!(text.as_str(), "207");
+/// ```
+///
+/// # Panics
+///
+/// Panics if there is no room for three digits.
 #[inline]
-#[doc(hidden)]
 pub fn push_decimal<const N: usize>(text: &mut ArrayString<N>, number: u8) {
+    assert!(N - text.len() >= 3, "push_decimal: there is no room for three digits");
     if number >= 100 {
         text.push_all([digit(number / 100), digit(number / 10 % 10), digit(number % 10)]);
     } else if number >= 10 {
@@ -30,9 +41,20 @@ const CHUNK_DIGITS: u8 = 19;
 
 /// Appends the shortest decimal form of a number to a text: one to 39 bytes. There must be room for
 /// 39.
+///
+/// ```
+/// # use fosibegan::in_examples::*;
+/// let mut text = fosibegan::plain_std::arrayvec::ArrayString::<39>::new();
+/// decimal::push_number(&mut text, 1 << 64);
+/// assert_eq!(text.as_str(), "18446744073709551616");
+/// ```
+///
+/// # Panics
+///
+/// Panics if there is no room for 39 digits.
 #[inline(always)]
-#[doc(hidden)]
 pub fn push_number<const N: usize>(text: &mut ArrayString<N>, number: u128) {
+    assert!(N - text.len() >= 39, "push_number: there is no room for 39 digits");
     let high = number / CHUNK;
     let low = (number % CHUNK) as u64;
     if high == 0 {

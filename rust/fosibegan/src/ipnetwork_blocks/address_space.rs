@@ -13,7 +13,8 @@ use crate::ipnetwork_family::{Address, CidrNetwork, Network};
 /// let next = Ipv4Network::next_address(first);
 /// assert_eq!(next, Some(Ipv4Addr::new(0, 0, 0, 1)));
 /// ```
-pub trait AddressSpace: CidrNetwork {
+#[allow(private_bounds)]
+pub trait AddressSpace: CidrNetwork + InnerAddressSpace {
     /// Returns the network of all addresses: the address 0 with the prefix length 0.
     ///
     /// ```
@@ -30,6 +31,10 @@ pub trait AddressSpace: CidrNetwork {
     /// let block = Ipv4Network::block_at(Ipv4Addr::new(192, 0, 2, 130), 25);
     /// assert_eq!(block.canonical().as_str(), "192.0.2.128/25");
     /// ```
+    ///
+    /// # Panics
+    ///
+    /// Panics if the prefix length is greater than `WIDTH`.
     fn block_at(addr: Self::Addr, prefix: u8) -> Self;
 
     /// Returns the next address, or `None` if this is the last address of the family.
@@ -50,16 +55,6 @@ pub trait AddressSpace: CidrNetwork {
     /// ```
     fn previous_address(addr: Self::Addr) -> Option<Self::Addr>;
 
-    /// Returns the address `offset` addresses after this one. It must not be past the last address
-    /// of the family.
-    ///
-    /// ```
-    /// # use fosibegan::in_examples::*;
-    /// let addr = Ipv4Network::plus(Ipv4Addr::new(10, 0, 0, 255), 257);
-    /// assert_eq!(addr, Ipv4Addr::new(10, 0, 2, 0));
-    /// ```
-    fn plus(addr: Self::Addr, offset: u128) -> Self::Addr;
-
     /// Returns the number of leading bits that two addresses share: the greatest prefix length at
     /// which one block contains both.
     ///
@@ -79,6 +74,13 @@ pub trait AddressSpace: CidrNetwork {
     fn trailing_zeros(addr: Self::Addr) -> u8;
 }
 
+/// What `AddressSpace` has for the library alone: nothing checks what it needs.
+pub(crate) trait InnerAddressSpace: CidrNetwork {
+    /// Returns the address `offset` addresses after this one. It must not be past the last address
+    /// of the family.
+    fn plus(addr: Self::Addr, offset: u128) -> Self::Addr;
+}
+
 impl<A: Address> AddressSpace for Network<A> {
     fn whole() -> Network<A> {
         Self::block_at(A::mask(0), 0)
@@ -86,7 +88,7 @@ impl<A: Address> AddressSpace for Network<A> {
 
     fn block_at(addr: A, prefix: u8) -> Network<A> {
         let Some(block) = Network::block(addr, prefix) else {
-            unreachable!()
+            panic!("block_at: the prefix length is greater than `WIDTH`")
         };
         block
     }
@@ -106,15 +108,17 @@ impl<A: Address> AddressSpace for Network<A> {
         None
     }
 
-    fn plus(addr: A, offset: u128) -> A {
-        addr.plus(offset)
-    }
-
     fn shared_bits(addr: A, other: A) -> u8 {
         addr.shared_bits(other)
     }
 
     fn trailing_zeros(addr: A) -> u8 {
         addr.trailing_zeros()
+    }
+}
+
+impl<A: Address> InnerAddressSpace for Network<A> {
+    fn plus(addr: A, offset: u128) -> A {
+        addr.plus(offset)
     }
 }

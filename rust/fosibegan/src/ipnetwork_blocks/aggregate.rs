@@ -50,7 +50,20 @@ pub fn aggregate_vec<N: CidrNetwork>(networks: &mut Vec<N>) {
 /// must hold a network of the family of `N`. The rest of the slice holds unspecified networks.
 ///
 /// Sorts the slice and makes one pass over it.
-#[doc(hidden)]
+///
+/// ```
+/// # use fosibegan::in_examples::*;
+/// # ended(|| {
+/// let mut values: [Ipv6Network; 2] = ["2001:db8:8000::/33".parse()?, "2001:db8::/33".parse()?];
+/// assert_eq!(aggregate_held::<Ipv6Network, Ipv6Network>(&mut values), 1);
+/// assert_eq!(values[0].canonical().as_str(), "2001:db8::/32");
+/// # Ok(())
+/// # });
+/// ```
+///
+/// # Panics
+///
+/// Panics if a value holds no network of the family.
 pub fn aggregate_held<N: CidrNetwork, H: HoldsNetwork<N>>(values: &mut [H]) -> usize {
     clear_host_bits::<N, H>(values);
     values.sort_unstable();

@@ -20,6 +20,11 @@ use crate::ipnetwork_family::CidrNetwork;
 /// # });
 /// ```
 pub trait HoldsNetwork<N: CidrNetwork>: Copy + Ord {
+    /// Whether each list of such values that `Union::of` and its like are given is known to be an
+    /// address set, by `is_address_set`, so that they do not ask again. A type that says so has to
+    /// see to it.
+    const CHECKED: bool = false;
+
     /// Returns the network that the value holds. The value must hold one of the family of `N`.
     ///
     /// ```
@@ -30,6 +35,10 @@ pub trait HoldsNetwork<N: CidrNetwork>: Copy + Ord {
     /// # Ok(())
     /// # });
     /// ```
+    ///
+    /// # Panics
+    ///
+    /// Panics if the value holds no network of the family.
     fn held_network(self) -> N;
 
     /// Returns the value that holds the network.
@@ -59,7 +68,7 @@ impl HoldsNetwork<Ipv4Network> for IpNetwork {
     fn held_network(self) -> Ipv4Network {
         match self {
             IpNetwork::V4(network) => network,
-            IpNetwork::V6(_) => unreachable!(),
+            IpNetwork::V6(_) => panic!("held_network: the value holds no network of the family"),
         }
     }
 
@@ -72,7 +81,7 @@ impl HoldsNetwork<Ipv6Network> for IpNetwork {
     fn held_network(self) -> Ipv6Network {
         match self {
             IpNetwork::V6(network) => network,
-            IpNetwork::V4(_) => unreachable!(),
+            IpNetwork::V4(_) => panic!("held_network: the value holds no network of the family"),
         }
     }
 

@@ -15,7 +15,8 @@ use core::hash::Hash;
 /// assert_eq!(<Ipv4Addr as Address>::WIDTH, 32);
 /// assert_eq!(<Ipv6Addr as Address>::WIDTH, 128);
 /// ```
-pub trait Address: Copy + Ord + Hash + Debug {
+#[allow(private_bounds)]
+pub trait Address: Copy + Ord + Hash + Debug + InnerAddress {
     /// The number of bits of an address, and the greatest prefix length: 32 for IPv4, 128 for IPv6.
     const WIDTH: u8;
 
@@ -73,6 +74,10 @@ pub trait Address: Copy + Ord + Hash + Debug {
     /// # use fosibegan::in_examples::*;
     /// assert_eq!(Ipv4Addr::mask(20), Ipv4Addr::new(255, 255, 240, 0));
     /// ```
+    ///
+    /// # Panics
+    ///
+    /// Panics if the prefix length is greater than `WIDTH`.
     fn mask(prefix: u8) -> Self;
 
     /// The prefix length of a mask; `None` if the address is not a mask.
@@ -84,57 +89,17 @@ pub trait Address: Copy + Ord + Hash + Debug {
     /// ```
     fn prefix_of_mask(self) -> Option<u8>;
 
-    /// The address with the bits after the first `prefix` cleared. `prefix` must be at most
-    /// `WIDTH`.
-    ///
-    /// ```
-    /// # use fosibegan::in_examples::*;
-    /// assert_eq!(Ipv4Addr::new(192, 0, 2, 77).least(26), Ipv4Addr::new(192, 0, 2, 64));
-    /// ```
-    fn least(self, prefix: u8) -> Self;
-
     /// The address with the bits after the first `prefix` set. `prefix` must be at most `WIDTH`.
     ///
     /// ```
     /// # use fosibegan::in_examples::*;
     /// assert_eq!(Ipv4Addr::new(192, 0, 2, 77).greatest(26), Ipv4Addr::new(192, 0, 2, 127));
     /// ```
+    ///
+    /// # Panics
+    ///
+    /// Panics if the prefix length is greater than `WIDTH`.
     fn greatest(self, prefix: u8) -> Self;
-
-    /// Whether two addresses agree in their first `prefix` bits. `prefix` must be at most `WIDTH`.
-    ///
-    /// ```
-    /// # use fosibegan::in_examples::*;
-    /// let address = Ipv4Addr::new(192, 0, 2, 77);
-    /// assert!(address.agrees(Ipv4Addr::new(192, 0, 2, 127), 26));
-    /// assert!(!address.agrees(Ipv4Addr::new(192, 0, 2, 128), 26));
-    /// ```
-    fn agrees(self, other: Self, prefix: u8) -> bool;
-
-    /// The next address. This one must not be the last.
-    ///
-    /// ```
-    /// # use fosibegan::in_examples::*;
-    /// assert_eq!(Ipv4Addr::new(192, 0, 2, 255).next(), Ipv4Addr::new(192, 0, 3, 0));
-    /// ```
-    fn next(self) -> Self;
-
-    /// The previous address. This one must not be the first.
-    ///
-    /// ```
-    /// # use fosibegan::in_examples::*;
-    /// assert_eq!(Ipv4Addr::new(192, 0, 3, 0).previous(), Ipv4Addr::new(192, 0, 2, 255));
-    /// ```
-    fn previous(self) -> Self;
-
-    /// The address `offset` places after this one. It must not exceed the last address of the
-    /// family.
-    ///
-    /// ```
-    /// # use fosibegan::in_examples::*;
-    /// assert_eq!(Ipv4Addr::new(192, 0, 2, 255).plus(257), Ipv4Addr::new(192, 0, 4, 0));
-    /// ```
-    fn plus(self, offset: u128) -> Self;
 
     /// The number of leading bits that two addresses share: the greatest prefix length of a block
     /// that holds both.
@@ -153,4 +118,24 @@ pub trait Address: Copy + Ord + Hash + Debug {
     /// assert_eq!(Ipv4Addr::new(255, 255, 240, 0).trailing_zeros(), 12);
     /// ```
     fn trailing_zeros(self) -> u8;
+}
+
+/// What `Address` has for the library alone: nothing checks what it needs.
+pub(crate) trait InnerAddress: Copy + Ord + Hash + Debug {
+    /// The address with the bits after the first `prefix` cleared. `prefix` must be at most
+    /// `WIDTH`.
+    fn least(self, prefix: u8) -> Self;
+
+    /// Whether two addresses agree in their first `prefix` bits. `prefix` must be at most `WIDTH`.
+    fn agrees(self, other: Self, prefix: u8) -> bool;
+
+    /// The next address. This one must not be the last.
+    fn next(self) -> Self;
+
+    /// The previous address. This one must not be the first.
+    fn previous(self) -> Self;
+
+    /// The address `offset` places after this one. It must not exceed the last address of the
+    /// family.
+    fn plus(self, offset: u128) -> Self;
 }

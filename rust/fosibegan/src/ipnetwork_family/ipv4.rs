@@ -42,6 +42,7 @@ impl Address for Ipv4Addr {
     }
 
     fn mask(prefix: u8) -> Ipv4Addr {
+        assert!(prefix <= Self::WIDTH, "mask: the prefix length is greater than `WIDTH`");
         Ipv4Addr::from(!host_ones(prefix))
     }
 
@@ -55,13 +56,24 @@ impl Address for Ipv4Addr {
         }
     }
 
-    fn least(self, prefix: u8) -> Ipv4Addr {
-        Ipv4Addr::from(u32::from(self) & !host_ones(prefix))
-    }
-
     fn greatest(self, prefix: u8) -> Ipv4Addr {
+        assert!(prefix <= Self::WIDTH, "greatest: the prefix length is greater than `WIDTH`");
         let ones = host_ones(prefix);
         Ipv4Addr::from(u32::from(self) & !ones | ones)
+    }
+
+    fn shared_bits(self, other: Ipv4Addr) -> u8 {
+        (u32::from(self) ^ u32::from(other)).leading_zeros() as u8
+    }
+
+    fn trailing_zeros(self) -> u8 {
+        u32::from(self).trailing_zeros() as u8
+    }
+}
+
+impl crate::ipnetwork_family::address::InnerAddress for Ipv4Addr {
+    fn least(self, prefix: u8) -> Ipv4Addr {
+        Ipv4Addr::from(u32::from(self) & !host_ones(prefix))
     }
 
     fn agrees(self, other: Ipv4Addr, prefix: u8) -> bool {
@@ -79,14 +91,6 @@ impl Address for Ipv4Addr {
 
     fn plus(self, offset: u128) -> Ipv4Addr {
         Ipv4Addr::from(u32::from(self) + offset as u32)
-    }
-
-    fn shared_bits(self, other: Ipv4Addr) -> u8 {
-        (u32::from(self) ^ u32::from(other)).leading_zeros() as u8
-    }
-
-    fn trailing_zeros(self) -> u8 {
-        u32::from(self).trailing_zeros() as u8
     }
 }
 

@@ -37,6 +37,7 @@ impl Address for Ipv6Addr {
     }
 
     fn mask(prefix: u8) -> Ipv6Addr {
+        assert!(prefix <= Self::WIDTH, "mask: the prefix length is greater than `WIDTH`");
         Ipv6Addr::from(*mask_segments(prefix))
     }
 
@@ -50,12 +51,23 @@ impl Address for Ipv6Addr {
         }
     }
 
-    fn least(self, prefix: u8) -> Ipv6Addr {
-        Ipv6Addr::from(kept(&self.segments(), mask_segments(prefix)))
+    fn greatest(self, prefix: u8) -> Ipv6Addr {
+        assert!(prefix <= Self::WIDTH, "greatest: the prefix length is greater than `WIDTH`");
+        Ipv6Addr::from(filled(&self.segments(), mask_segments(prefix)))
     }
 
-    fn greatest(self, prefix: u8) -> Ipv6Addr {
-        Ipv6Addr::from(filled(&self.segments(), mask_segments(prefix)))
+    fn shared_bits(self, other: Ipv6Addr) -> u8 {
+        (u128::from(self) ^ u128::from(other)).leading_zeros() as u8
+    }
+
+    fn trailing_zeros(self) -> u8 {
+        u128::from(self).trailing_zeros() as u8
+    }
+}
+
+impl crate::ipnetwork_family::address::InnerAddress for Ipv6Addr {
+    fn least(self, prefix: u8) -> Ipv6Addr {
+        Ipv6Addr::from(kept(&self.segments(), mask_segments(prefix)))
     }
 
     fn agrees(self, other: Ipv6Addr, prefix: u8) -> bool {
@@ -72,14 +84,6 @@ impl Address for Ipv6Addr {
 
     fn plus(self, offset: u128) -> Ipv6Addr {
         Ipv6Addr::from(u128::from(self) + offset)
-    }
-
-    fn shared_bits(self, other: Ipv6Addr) -> u8 {
-        (u128::from(self) ^ u128::from(other)).leading_zeros() as u8
-    }
-
-    fn trailing_zeros(self) -> u8 {
-        u128::from(self).trailing_zeros() as u8
     }
 }
 

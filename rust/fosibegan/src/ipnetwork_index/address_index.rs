@@ -99,8 +99,30 @@ impl<N: IndexedNetwork> AddressIndex<N> {
 
     /// Writes whether each address is in the set to the same place in `answers`. There must be as
     /// many answers as addresses.
-    #[doc(hidden)]
+    ///
+    /// ```
+    /// # use fosibegan::in_examples::*;
+    /// # use fosibegan::plain_std::vec;
+    /// # ended(|| {
+    /// let networks = vec![in Global; "192.0.2.0/25".parse::<Ipv4Network>()?]?;
+    /// let set = AddressSet::from_networks(networks);
+    /// let index = AddressIndex::from_set(Global, &set)?;
+    /// let mut answers = [false, true];
+    /// let addrs = [Ipv4Addr::new(192, 0, 2, 127), Ipv4Addr::new(192, 0, 2, 128)];
+    /// index.contains_each(&addrs, &mut answers);
+    /// assert_eq!(answers, [true, false]);
+    /// # Ok(())
+    /// # });
+    /// ```
+    ///
+    /// # Panics
+    ///
+    /// Panics if there are not as many answers as addresses.
     pub fn contains_each(&self, addrs: &[N::Addr], answers: &mut [bool]) {
+        assert!(
+            answers.len() == addrs.len(),
+            "contains_each: there are not as many answers as addresses"
+        );
         for place in 0..addrs.len() {
             answers[place] = self.contains(addrs[place]);
         }

@@ -91,7 +91,29 @@ impl<N: IndexedNetwork, V: Copy> RouteIndex<N, V> {
 
     /// Writes what a look-up of each address finds to the same place in `answers`. There must be as
     /// many answers as addresses.
-    pub(crate) fn lookup_each(&self, addrs: &[N::Addr], answers: &mut [Option<(N, V)>]) {
+    ///
+    /// ```
+    /// # use fosibegan::in_examples::*;
+    /// # ended(|| {
+    /// let mut table = PrefixTable::new(Global);
+    /// table.insert("10.0.0.0/8".parse::<Ipv4Network>()?, 2)?;
+    /// let index = RouteIndex::from_table(Global, table)?;
+    /// let mut answers = [None, None];
+    /// let addrs = [Ipv4Addr::new(10, 1, 9, 32), Ipv4Addr::new(11, 0, 0, 0)];
+    /// index.lookup_each(&addrs, &mut answers);
+    /// assert_eq!(answers, [Some(("10.0.0.0/8".parse()?, 2)), None]);
+    /// # Ok(())
+    /// # });
+    /// ```
+    ///
+    /// # Panics
+    ///
+    /// Panics if there are not as many answers as addresses.
+    pub fn lookup_each(&self, addrs: &[N::Addr], answers: &mut [Option<(N, V)>]) {
+        assert!(
+            answers.len() == addrs.len(),
+            "lookup_each: there are not as many answers as addresses"
+        );
         for place in 0..addrs.len() {
             answers[place] = self.lookup(addrs[place]);
         }

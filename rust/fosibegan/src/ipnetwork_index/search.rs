@@ -13,8 +13,7 @@ use crate::ipnetwork_index::simd_step::below_of_four;
 /// on within the part, in steps that shrink: if n keys lie in the part, it reads some 2 log2(n) of
 /// them.
 #[inline(always)]
-#[doc(hidden)]
-pub fn place_of<K: Key>(keys: &[K], starts: &[u32], base: K, shift: u32, key: K) -> usize {
+pub(crate) fn place_of<K: Key>(keys: &[K], starts: &[u32], base: K, shift: u32, key: K) -> usize {
     let part = key.part_of(base, shift, starts.len() - 1);
     place_from_start::<K>(keys, starts, part, starts[part] as usize, key)
 }

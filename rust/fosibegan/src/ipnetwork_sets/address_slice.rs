@@ -137,7 +137,7 @@ impl<'a, N: AddressSpace> AddressSlice<'a, N> {
     /// # });
     /// ```
     pub fn intersection(&self, other: &AddressSlice<'a, N>) -> Intersection<'a, N> {
-        Intersection::of(self.blocks(), other.blocks())
+        Intersection::of_sets(self.blocks(), other.blocks())
     }
 
     /// The blocks of the addresses that are in this set and not in the other, in ascending order.
@@ -154,7 +154,7 @@ impl<'a, N: AddressSpace> AddressSlice<'a, N> {
     /// # });
     /// ```
     pub fn difference(&self, other: &AddressSlice<'a, N>) -> Difference<'a, N> {
-        Difference::of(self.blocks(), other.blocks())
+        Difference::of_sets(self.blocks(), other.blocks())
     }
 
     /// The blocks of the addresses that are in the network and not in the set, in ascending order:
@@ -188,7 +188,7 @@ impl<'a, N: AddressSpace> AddressSlice<'a, N> {
     /// # });
     /// ```
     pub fn union_blocks(&self, other: &AddressSlice<'a, N>) -> Union<'a, N> {
-        Union::of(self.blocks(), other.blocks())
+        Union::of_sets(self.blocks(), other.blocks())
     }
 
     /// Whether each address of this set is in the other. Goes over both lists at most once.

@@ -7,7 +7,19 @@ use crate::ipnetwork_blocks::{AddressSpace, HoldsNetwork};
 
 /// Whether the networks that the values hold are the maximal blocks of their union, in ascending
 /// order. Goes over them once.
-#[doc(hidden)]
+///
+/// ```
+/// # use fosibegan::in_examples::*;
+/// # ended(|| {
+/// let halves: [Ipv4Network; 2] = ["192.0.2.0/25".parse()?, "192.0.2.128/25".parse()?];
+/// assert!(!is_address_set::<Ipv4Network, Ipv4Network>(&halves));
+/// # Ok(())
+/// # });
+/// ```
+///
+/// # Panics
+///
+/// Panics if a value holds no network of the family.
 pub fn is_address_set<N: AddressSpace, H: HoldsNetwork<N>>(list: &[H]) -> bool {
     for next in 0..list.len() {
         let block = list[next].held_network();

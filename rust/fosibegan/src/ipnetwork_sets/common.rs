@@ -31,8 +31,31 @@ pub struct Intersection<'a, N: AddressSpace, H: HoldsNetwork<N> = N> {
 impl<'a, N: AddressSpace, H: HoldsNetwork<N>> Intersection<'a, N, H> {
     /// The blocks of the addresses that are in the sets of both lists. `is_address_set` must hold
     /// for both lists.
-    #[doc(hidden)]
+    ///
+    /// ```
+    /// # use fosibegan::in_examples::*;
+    /// # ended(|| {
+    /// let list: [Ipv4Network; 1] = ["192.0.2.0/25".parse()?];
+    /// let others: [Ipv4Network; 1] = ["192.0.2.64/26".parse()?];
+    /// let common = Intersection::<'_, Ipv4Network, Ipv4Network>::of(&list, &others);
+    /// assert!(common.eq(others));
+    /// # Ok(())
+    /// # });
+    /// ```
+    ///
+    /// # Panics
+    ///
+    /// Panics if a list is not an address set.
     pub fn of(first: &'a [H], second: &'a [H]) -> Self {
+        assert!(
+            H::CHECKED || [first, second].into_iter().all(super::check::is_address_set::<N, H>),
+            "Intersection::of: a list is not an address set"
+        );
+        Self::of_sets(first, second)
+    }
+
+    /// `of`, without the check.
+    pub(crate) fn of_sets(first: &'a [H], second: &'a [H]) -> Self {
         Intersection {
             first,
             second,

@@ -37,8 +37,31 @@ struct Part<N: AddressSpace> {
 impl<'a, N: AddressSpace, H: HoldsNetwork<N>> Difference<'a, N, H> {
     /// The blocks of the addresses that are in the set of `first` and not in that of `cut`.
     /// `is_address_set` must hold for both lists.
-    #[doc(hidden)]
+    ///
+    /// ```
+    /// # use fosibegan::in_examples::*;
+    /// # ended(|| {
+    /// let list: [Ipv4Network; 1] = ["192.0.2.0/25".parse()?];
+    /// let others: [Ipv4Network; 1] = ["192.0.2.64/26".parse()?];
+    /// let left = Difference::<'_, Ipv4Network, Ipv4Network>::of(&list, &others);
+    /// assert!(left.eq(["192.0.2.0/26".parse()?]));
+    /// # Ok(())
+    /// # });
+    /// ```
+    ///
+    /// # Panics
+    ///
+    /// Panics if a list is not an address set.
     pub fn of(first: &'a [H], cut: &'a [H]) -> Self {
+        assert!(
+            H::CHECKED || [first, cut].into_iter().all(super::check::is_address_set::<N, H>),
+            "Difference::of: a list is not an address set"
+        );
+        Self::of_sets(first, cut)
+    }
+
+    /// `of`, without the check.
+    pub(crate) fn of_sets(first: &'a [H], cut: &'a [H]) -> Self {
         Difference {
             at_hand: None,
             rest: first,

@@ -25,7 +25,7 @@ impl<N: AddressSpace> AddressSet<N> {
     /// # });
     /// ```
     pub fn intersection<'a>(&'a self, other: &'a AddressSet<N>) -> Intersection<'a, N> {
-        Intersection::of(self.blocks(), other.blocks())
+        Intersection::of_sets(self.blocks(), other.blocks())
     }
 
     /// The blocks of the addresses that are in this set and not in the other, in ascending order.
@@ -42,7 +42,7 @@ impl<N: AddressSpace> AddressSet<N> {
     /// # });
     /// ```
     pub fn difference<'a>(&'a self, other: &'a AddressSet<N>) -> Difference<'a, N> {
-        Difference::of(self.blocks(), other.blocks())
+        Difference::of_sets(self.blocks(), other.blocks())
     }
 
     /// The blocks of the addresses that are in the network and not in the set, in ascending order:
@@ -79,7 +79,7 @@ impl<N: AddressSpace> AddressSet<N> {
     /// # });
     /// ```
     pub fn union_blocks<'a>(&'a self, other: &'a AddressSet<N>) -> Union<'a, N> {
-        Union::of(self.blocks(), other.blocks())
+        Union::of_sets(self.blocks(), other.blocks())
     }
 
     /// The set of the addresses that are in one of the two sets or in both. Goes over both lists

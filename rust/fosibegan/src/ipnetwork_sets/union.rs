@@ -44,8 +44,31 @@ where
 impl<'a, N: AddressSpace, H: HoldsNetwork<N>> Union<'a, N, H> {
     /// The blocks of the addresses that are in the set of one of the lists or of both.
     /// `is_address_set` must hold for both lists.
-    #[doc(hidden)]
+    ///
+    /// ```
+    /// # use fosibegan::in_examples::*;
+    /// # ended(|| {
+    /// let list: [Ipv4Network; 1] = ["192.0.2.0/25".parse()?];
+    /// let others: [Ipv4Network; 1] = ["192.0.2.128/25".parse()?];
+    /// let both = Union::<'_, Ipv4Network, Ipv4Network>::of(&list, &others);
+    /// assert!(both.eq(["192.0.2.0/24".parse()?]));
+    /// # Ok(())
+    /// # });
+    /// ```
+    ///
+    /// # Panics
+    ///
+    /// Panics if a list is not an address set.
     pub fn of(first: &'a [H], second: &'a [H]) -> Self {
+        assert!(
+            H::CHECKED || [first, second].into_iter().all(super::check::is_address_set::<N, H>),
+            "Union::of: a list is not an address set"
+        );
+        Self::of_sets(first, second)
+    }
+
+    /// `of`, without the check.
+    pub(crate) fn of_sets(first: &'a [H], second: &'a [H]) -> Self {
         Union {
             run: None,
             first,

@@ -82,10 +82,10 @@ fn calls_v4() {
     let _: fn(Ipv4Network, Ipv4Network) -> bool = Ipv4Network::is_subnet_of;
     let _: fn(Ipv4Network, Ipv4Network) -> bool = Ipv4Network::is_supernet_of;
     let _: fn(Ipv4Network, Ipv4Network) -> bool = Ipv4Network::overlaps;
-    let _: fn(Ipv4Network) -> Ipv4Addr = Ipv4Network::mask;
-    let _: fn(Ipv4Network) -> Ipv4Addr = Ipv4Network::network;
-    let _: fn(Ipv4Network) -> Ipv4Addr = Ipv4Network::broadcast;
-    let _: fn(Ipv4Network, Ipv4Addr) -> bool = Ipv4Network::contains;
+    let _: fn(&Ipv4Network) -> Ipv4Addr = Ipv4Network::mask;
+    let _: fn(&Ipv4Network) -> Ipv4Addr = Ipv4Network::network;
+    let _: fn(&Ipv4Network) -> Ipv4Addr = Ipv4Network::broadcast;
+    let _: fn(&Ipv4Network, Ipv4Addr) -> bool = Ipv4Network::contains;
     let _: fn(Ipv4Network) -> u32 = Ipv4Network::size;
     let _: fn(Ipv4Network, u32) -> Option<Ipv4Addr> = Ipv4Network::nth;
     let _: fn(Ipv4Addr) -> Made<u8> = ipv4_mask_to_prefix;

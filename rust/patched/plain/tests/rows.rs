@@ -164,8 +164,12 @@ fn members_at_the_ends() {
     assert_eq!(wide.size(), 79_228_162_514_264_337_593_543_950_336);
     assert_eq!(wide.nth(65538), Some("ff01::1:2".parse().unwrap()));
     let mut copied = v4("10.0.0.0/31").iter();
-    let (before, _) = (copied, copied.next());
+    let (before, _) = (copied.clone(), copied.next());
+    let shown = "Ipv4NetworkIterator { next: Some(167772161), end: 167772161 }";
+    assert_eq!(format!("{copied:?}"), shown);
     assert_eq!((before.count(), copied.count()), (2, 1));
+    let shown = "IpNetworkIterator { inner: V6(Ipv6NetworkIterator { next: Some(0), end: 1 }) }";
+    assert_eq!(format!("{:?}", either("::/127").iter()), shown);
     assert_eq!(either("::/64").into_iter().size_hint().1, None);
 }
 
@@ -180,7 +184,7 @@ fn sizes() {
     assert_eq!((u128::from(four), u128::from(six)), (100, 100));
     assert_eq!(
         format!("{four} {six:>5} {}", NetworkSize::V6(u128::MAX)),
-        "100   100 340282366920938463463374607431768211455"
+        "100 100 340282366920938463463374607431768211455"
     );
     assert_eq!(either("10.0.0.0/8").size(), NetworkSize::V4(1 << 24));
 }
