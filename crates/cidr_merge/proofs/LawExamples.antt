@@ -86,16 +86,19 @@ no_tasks law = (
 pub no_options : (rows : List Row) → NoOtherOption rows → (is_of (tasks.Merge Common) (named (codes "--skip") rows) ≡ false)
     × (is_of (tasks.Merge Union) (named (codes "--") rows) ≡ false) × (is_of (tasks.Merge Minus) (named (codes "--counts") rows) ≡ false)
     × (is_of (tasks.Merge Differ) (named (codes "--prefix") rows) ≡ false)
+    × (is_of (tasks.Merge Union) (named (codes "--most") rows) ≡ false)
     × (is_of (tasks.Merge Union) (lettered 102 rows) ≡ false)
 no_options rows law = (
   law.0 Common (codes "--skip") (no refl) (no refl) (no refl) (no refl) (no refl) (no refl) (no refl)
-      (no refl) (no refl) (no refl) (no refl),
+      (no refl) (no refl) (no refl) (no refl) (no refl),
   law.0 Union (codes "--") (no refl) (no refl) (no refl) (no refl) (no refl) (no refl) (no refl)
-      (no refl) (no refl) (no refl) (no refl),
+      (no refl) (no refl) (no refl) (no refl) (no refl),
   law.0 Minus (codes "--counts") (no refl) (no refl) (no refl) (no refl) (no refl) (no refl) (no refl)
-      (no refl) (no refl) (no refl) (no refl),
+      (no refl) (no refl) (no refl) (no refl) (no refl),
   law.0 Differ (codes "--prefix") (no refl) (no refl) (no refl) (no refl) (no refl) (no refl) (no refl)
-      (no refl) (no refl) (no refl) (no refl),
+      (no refl) (no refl) (no refl) (no refl) (no refl),
+  law.0 Union (codes "--most") (no refl) (no refl) (no refl) (no refl) (no refl) (no refl) (no refl)
+      (no refl) (no refl) (no refl) (no refl) (no refl),
   law.1 Union 102 (λ e. omega (arith, e)),
 )
 
@@ -132,13 +135,14 @@ module _ {Z : Type 0} (minus a dashes b ranges : String Z) (o : string_bytes min
   right : AreRight table (tasks.Merge Minus) (first ++ second) (codes "a" ∷ []) (codes "b" ∷ [])
   right = record {
     each = (AFile (codes "a"), (AFile (codes "b"), (AFlag 0 refl, tt)));
-    apart = (refl, (refl, (refl, (refl, (refl, (refl, (refl, (refl, (refl, (refl, (refl, tt)))))))))));
+    apart = (refl, (refl, (refl, (refl, (refl, (refl, (refl, (refl, (refl, (refl, (refl, (refl, tt))))))))))));
     strict = λ t s. absurd (true≢false (sym s));
     form = λ e. absurd (let x = e in cc);
     prefix = λ e. absurd (let x = e in cc);
     most = λ e. absurd (let x = e in cc);
     sets = λ s. absurd (true≢false (sym s));
     sets_table = λ s. absurd (true≢false (sym s));
+    limit = λ s. absurd (true≢false (sym s));
     before = λ s. absurd (true≢false (sym s));
     after = λ s. absurd (true≢false (sym s));
     some = λ e. absurd (let x = e in cc);

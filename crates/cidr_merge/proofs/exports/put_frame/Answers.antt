@@ -30,3 +30,21 @@ returns-in-Nft-Opening g c =
       ← c.as_str-table.ensures.value,
       ← c.as_str-set.ensures.value,
     ) c.put_all-in-Nft-Opening.ensures
+
+pub returns-in-Ipset-Head : goal.returns-in-Ipset-Head
+returns-in-Ipset-Head g c =
+    rw (
+      c.in-Ipset-Head.is-0,
+      c.in-Ipset-Head.is-1,
+      ← c.names.view_is,
+      ← c.as_str-set.ensures.value,
+    ) c.put_all-in-Ipset-Head.ensures
+
+pub returns-in-Ipset-Foot : goal.returns-in-Ipset-Foot
+returns-in-Ipset-Foot g c =
+    rw (
+      c.in-Ipset-Foot.is-0,
+      c.in-Ipset-Foot.is-1,
+      ← c.names.view_is,
+      ← c.as_str-set.ensures.value,
+    ) c.put_all-in-Ipset-Foot.ensures
