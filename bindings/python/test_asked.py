@@ -69,7 +69,8 @@ class OneAddress(unittest.TestCase):
         # So too where a key is IPv4-mapped, and an IPv4 network has the address.
         mapped = ip_network("::ffff:10.1.1.1")
         table = PrefixTable({deny: "deny", mapped: "mapped"}, mapped=True)
-        self.assertEqual((table[mapped], table[mapped.ip], list(map(table.get, table))), ("mapped", "deny", ["deny", "mapped"]))
+        self.assertEqual((table[mapped], table[mapped.ip]), ("mapped", "deny"))
+        self.assertEqual(list(map(table.get, table)), ["deny", "mapped"])
 
     def test_wider_networks(self):
         for asked in (ip_network("10.1.2.2/31"), ipaddress.ip_network("10.1.2.2/31"), ip_network("::/0")):

@@ -241,7 +241,7 @@ class Questions(unittest.TestCase):
     def test_attributes_are_read_only(self):
         of_networks = "ip prefixlen network_address broadcast_address netmask hostmask num_addresses version"
         of_networks += " max_prefixlen reverse_pointer _row other"
-        some = AddressSet(["10.0.0.0/8"])
+        some = AddressSet([ip_network("10.0.0.0/8")])
         for given, names in (
             (IPv4Network("10.1.9.32/16"), of_networks),
             (IPv6Network("2001:db8::1/32"), of_networks),

@@ -124,7 +124,8 @@ class EitherForm(unittest.TestCase):
                 whole, networks = in_parts(rng)
                 asked.append(whole)
                 seen["together"] += member(whole, networks, True) and not member(whole, networks, False)
-            plain, either = AddressSet(networks), AddressSet(networks, mapped=True)
+            held = list(map(ipnetwork.from_ipaddress, networks))
+            plain, either = AddressSet(held), AddressSet(held, mapped=True)
             for network in asked:
                 for which, mapped in ((plain, False), (either, True)):
                     wanted = member(network, networks, mapped)
@@ -149,7 +150,8 @@ class EitherForm(unittest.TestCase):
             asked = [drawn(rng) for _ in range(6)] + networks[:3]
             rows = [rng.choice((each.network_address, each.broadcast_address)) for each in asked]
             for mapped in (False, True):
-                table, routes = Table(own, range(len(own)), mapped=mapped), PrefixTable(zip(own, itertools.count()), mapped=mapped)
+                table = Table(own, range(len(own)), mapped=mapped)
+                routes = PrefixTable(zip(own, itertools.count()), mapped=mapped)
                 wanted = [longest(ipaddress.ip_network(row), networks, mapped) for row in rows]
                 for _ in range(2):  # a PrefixTable that is asked often makes an index
                     self.assertEqual([-1 if each is None else each for each in map(table.find, rows)], wanted)
